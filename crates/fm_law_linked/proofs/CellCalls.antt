@@ -3,7 +3,7 @@
 use Rattle.std.proofs.Common.{◌≡◌, refl, sym, ◌∙◌, ap, subst, ℕ, ◌<◌, ◌⊎◌, inl, inr, ◌==◌, ◌||◌, ◌&&◌, not, cond, Bool, true, false, List, [], ◌∷◌, ◌++◌, length, drop, nat_lt, nat_eq, slice_get, Option, Some, None, option_and_then, option_map, option_to_list, unwrap_or, arith, ⊎_elim}
 use Rattle.std.specs.List.{AllByRecursion}
 use Rattle.std.specs.Str.{bytes_eq}
-use Rattle.std.proofs.lemmas.Bool.{and_parts, eqb-true, false≢true, ltb-true, or_cases}
+use Rattle.std.proofs.lemmas.Bool.{and_parts, eqb-true, false≢true, ltb-true, or_cases, or_parts, or_right}
 use Rattle.std.proofs.lemmas.Option.{same_Some}
 use Rattle.fm_base.specs.declared.ids.MethodId.{MethodId}
 use Rattle.fm_base.specs.declared.ids.TypeId.{TypeId}
@@ -16,9 +16,8 @@ use Rattle.fm_code.specs.declared.class_file.ClassDef.{ClassDef}
 use Rattle.fm_code.specs.declared.code_array.Code.{Code}
 use Rattle.fm_code.specs.declared.instructions.Insn.TheVariants as insn
 use Rattle.fm_link_supers.proofs.BuiltInParents.{count_is}
-use Rattle.fm_link_supers.proofs.Downwards.{or_true}
 use Rattle.fm_link_supers.proofs.HierarchyLemmas.{interfaces_only, superinterfaces_only}
-use Rattle.fm_link_supers.proofs.ParentRefusals.{fails, tree_object_is_class}
+use Rattle.fm_link_supers.proofs.ParentRefusals.{tree_object_is_class}
 use Rattle.fm_law_linked.proofs.Calls.{call_there, IsCall}
 use Rattle.fm_law_linked.proofs.CellTypes.{above_built_in, above_seen}
 use Rattle.fm_law_linked.proofs.FieldOwners.{append_cases, binary_found, found_among}
@@ -91,7 +90,7 @@ module _ (given : List ClassDef) (main : List ℕ) (spelled : AllByRecursion Has
 
   among_drop : (x : ℕ) (xs : List ℕ) → is_among x (drop 1 xs) ≡ true → is_among x xs ≡ true
   among_drop x [] among = among
-  among_drop x (y ∷ ys) among = or_true (nat_eq x y) (is_among x ys) among
+  among_drop x (y ∷ ys) among = or_right (nat_eq x y) (is_among x ys) among
 
   -- what is called is of the own class, of one above it or of an interface of it, where the method that is named is
   special_reached : (own method owner : ℕ) (named : Option ℕ) → (method_at classes method).class ≡ owner → Reached given own owner
@@ -296,7 +295,7 @@ module _ (given : List ClassDef) (main : List ℕ) (spelled : AllByRecursion Has
   -- ---- all calls
 
   not_start : (a b : Bool) → (a || b) ≡ false → b ≡ false
-  not_start a b is = (fails a b is).1
+  not_start a b is = (or_parts a b is).1
 
   selected_by : (code : Code) (caller index method type : ℕ) (call : IsCall given (outline_of given main) code caller index method type false) (of : TypeRef)
       → is_initializer (outline_of given main) method ≡ false → (r : IsReceiver given of) (it : IsNamedMethod given call.at.member method)

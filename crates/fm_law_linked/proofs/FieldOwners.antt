@@ -4,7 +4,7 @@ use Rattle.std.specs.List.{AllByRecursion, flat_map, position}
 use Rattle.std.specs.Option.{option_map}
 use Rattle.std.specs.Str.{bytes_eq}
 use Rattle.std.specs.Cmp.Lexicographic.{same_text}
-use Rattle.std.proofs.lemmas.Bool.{and_parts, cases_lt, eqb-true, false≢true, lt-ltb}
+use Rattle.std.proofs.lemmas.Bool.{and_parts, cases_lt, eqb-true, false≢true, lt-ltb, or_cases, or_left, or_right}
 use Rattle.std.proofs.lemmas.List.{get_or-append-add, get_or-map, get_or-replicate, get_or_append_left, length-map}
 use Rattle.std.proofs.lemmas.List.FromFn.{get_or-map-range_with_len}
 use Rattle.std.proofs.lemmas.List.Quantifiers.{position-Some}
@@ -20,9 +20,9 @@ use Rattle.fm_code.specs.declared.class_file.ClassDef.{ClassDef}
 use Rattle.fm_code.specs.declared.class_file.Member.{Member}
 use Rattle.fm_code.specs.declared.constant_pool.Entry.{Entry}
 use Rattle.fm_link_supers.proofs.BuiltInParents.{count_is}
-use Rattle.fm_link_supers.proofs.Downwards.{among_head, either, or_true}
+use Rattle.fm_link_supers.proofs.Downwards.{among_head}
 use Rattle.fm_link_supers.proofs.HierarchyLemmas.{superinterfaces_only}
-use Rattle.fm_link_supers.proofs.ParentRefusals.{tree_object, first_true, length-declared, past_none, spelled_at}
+use Rattle.fm_link_supers.proofs.ParentRefusals.{tree_object, length-declared, past_none, spelled_at}
 use Rattle.fm_link_supers.specs.inner.Hierarchy.{AreSound}
 use Rattle.fm_law_linked.proofs.GivenFiles.{class_of_file}
 use Rattle.fm_types.proofs.ClassTree.{interface-within}
@@ -49,18 +49,18 @@ found_among find (x ∷ path) n is = by_first (find x) refl is (found_among find
       → (first_found find path ≡ Some n → (above : ℕ) × ((is_among above path ≡ true) × (find above ≡ Some n)))
       → (above : ℕ) × ((is_among above (x ∷ path) ≡ true) × (find above ≡ Some n))
   by_first None here e later =
-      let rest = later (rw here at e) in (rest.0, (or_true (nat_eq rest.0 x) (is_among rest.0 path) rest.1.0, rest.1.1))
+      let rest = later (rw here at e) in (rest.0, (or_right (nat_eq rest.0 x) (is_among rest.0 path) rest.1.0, rest.1.1))
   by_first (Some j) here e later = (x, (among_head x path, here ∙ (rw here at e)))
 
 pub append_cases : (x : ℕ) (xs ys : List ℕ) → is_among x (xs ++ ys) ≡ true → (is_among x xs ≡ true) ⊎ (is_among x ys ≡ true)
 append_cases x [] ys among = inr among
-append_cases x (z ∷ xs) ys among = by_first (append_cases x xs ys) (either (nat_eq x z) (is_among x (xs ++ ys)) among) where
+append_cases x (z ∷ xs) ys among = by_first (append_cases x xs ys) (or_cases (nat_eq x z) (is_among x (xs ++ ys)) among) where
   by_first : (is_among x (xs ++ ys) ≡ true → (is_among x xs ≡ true) ⊎ (is_among x ys ≡ true)) → (nat_eq x z ≡ true) ⊎ (is_among x (xs ++ ys) ≡ true)
       → (is_among x (z ∷ xs) ≡ true) ⊎ (is_among x ys ≡ true)
-  by_first later (inl same) = inl (first_true (nat_eq x z) (is_among x xs) same)
+  by_first later (inl same) = inl (or_left (nat_eq x z) (is_among x xs) same)
   by_first later (inr rest) = by_rest (later rest) where
     by_rest : (is_among x xs ≡ true) ⊎ (is_among x ys ≡ true) → (is_among x (z ∷ xs) ≡ true) ⊎ (is_among x ys ≡ true)
-    by_rest (inl there) = inl (or_true (nat_eq x z) (is_among x xs) there)
+    by_rest (inl there) = inl (or_right (nat_eq x z) (is_among x xs) there)
     by_rest (inr there) = inr there
 
 pub among_each : (f : ℕ → List ℕ) (xs : List ℕ) (x : ℕ) → is_among x (flat_map f xs) ≡ true
@@ -71,7 +71,7 @@ among_each f (z ∷ xs) x among = by_first (among_each f xs x) (append_cases x (
       → (is_among x (f z) ≡ true) ⊎ (is_among x (flat_map f xs) ≡ true)
       → (a : ℕ) × ((is_among a (z ∷ xs) ≡ true) × (is_among x (f a) ≡ true))
   by_first later (inl here) = (z, (among_head z xs, here))
-  by_first later (inr rest) = let found = later rest in (found.0, (or_true (nat_eq found.0 z) (is_among found.0 xs) found.1.0, found.1.1))
+  by_first later (inr rest) = let found = later rest in (found.0, (or_right (nat_eq found.0 z) (is_among found.0 xs) found.1.0, found.1.1))
 
 pub all_inside : {X : Type 0} (P : X → Type 0) (xs : List X) (k : ℕ) (d : X) → AllByRecursion P xs → k < length xs → P (get_or xs k d)
 all_inside P [] k d all within = absurd (omega (arith, within))
@@ -214,7 +214,7 @@ instance_above given spelled sound name descriptor class field is instance =
     let at = among_each (λ above. above ∷ superinterfaces_of classes above) (chain_of classes class) found.0 found.1.0 in
     record {
       above = found.0;
-      among = by_path found.0 plain at.0 at.1.0 (either (nat_eq found.0 at.0) (is_among found.0 (superinterfaces_of classes at.0)) at.1.1);
+      among = by_path found.0 plain at.0 at.1.0 (or_cases (nat_eq found.0 at.0) (is_among found.0 (superinterfaces_of classes at.0)) at.1.1);
       plain = ap (λ b. b || (found.0 == object_of classes)) plain ∙ not_object found.0 its (found.0 == object_of classes) refl;
       class_is = ap (λ (f : OwnedField). f.class) its.at;
     } where

@@ -5,10 +5,11 @@ use Rattle.std.specs.List.{filter_map, flat_map, range_with_len}
 use Rattle.std.proofs.lemmas.Bool.{false≢true}
 use Rattle.std.proofs.lemmas.List.Elements.{Contains-append_cases, Contains-append_left, Contains-append_right}
 use Rattle.std.proofs.lemmas.Option.{none-some, same_Some}
+use Rattle.fm_base.proofs.ContainsFacts.{Contains-cons_cases}
 use Rattle.fm_base.specs.declared.ids.TypeId.{TypeId}
 use Rattle.fm_base.specs.declared.kinds.Base.{Base}
 use Rattle.fm_base.specs.declared.kinds.TypeRef.{TypeRef}
-use Rattle.fm_code.proofs.EdgesLemmas.{Contains-cons_cases, Contains-filter, Contains-first, Contains-from_filter, Contains-later}
+use Rattle.fm_code.proofs.EdgesLemmas.{Contains-filter, Contains-first, Contains-from_filter, Contains-later}
 use Rattle.fm_code.specs.ConstantPool.{entry_at}
 use Rattle.fm_code.specs.declared.class_file.ClassDef.{ClassDef}
 use Rattle.fm_code.specs.declared.code_array.Item.{Item}

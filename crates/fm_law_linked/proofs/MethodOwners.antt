@@ -3,10 +3,11 @@
 use Rattle.std.proofs.Common.{◌≡◌, refl, sym, ◌∙◌, ap, subst, ℕ, zero, suc, ◌+◌, ◌-◌, ◌<◌, ◌≤◌, ◌⊎◌, inl, inr, ◌==◌, ◌&&◌, not, cond, Bool, true, false, List, [], ◌∷◌, ◌++◌, length, map, nat_eq, get_or, slice_get, position, codes, Option, Some, None, is_some, option_and_then, option_map, option_to_list, unwrap_or, zero-add, arith, ⊎_elim}
 use Rattle.std.specs.List.{AllByRecursion, flat_map, list_any}
 use Rattle.std.specs.Str.{bytes_eq}
-use Rattle.std.proofs.lemmas.Bool.{cases_lt, eqb-true, false≢true, or_left}
+use Rattle.std.proofs.lemmas.Bool.{cases_lt, eqb-true, false≢true, or_cases, or_left, or_right}
 use Rattle.std.proofs.lemmas.List.Quantifiers.{position-Some}
 use Rattle.std.proofs.lemmas.Option.{none-some, same_Some}
 use Rattle.std.proofs.lemmas.Slice.Eq.{bytes_eq-Decides}
+use Rattle.fm_base.proofs.ListFacts.{is_some-position}
 use Rattle.fm_base.specs.declared.kinds.TypeRef.{TypeRef}
 use Rattle.fm_code.specs.AccessFlags.{is_abstract, is_interface, is_private, is_static}
 use Rattle.fm_code.specs.ConstantPool.{MemberName}
@@ -18,13 +19,13 @@ use Rattle.fm_code.specs.declared.class_file.Member.{Member}
 use Rattle.fm_code.specs.declared.constant_pool.Entry.{Entry}
 use Rattle.fm_check_program.proofs.Trees.{no_parent_refused, tree_of}
 use Rattle.fm_link_supers.proofs.BuiltInParents.{count_is}
-use Rattle.fm_link_supers.proofs.Downwards.{among_head, among_left, either, or_true}
+use Rattle.fm_link_supers.proofs.Downwards.{among_head, among_left}
 use Rattle.fm_link_supers.proofs.HierarchyLemmas.{interfaces_only}
-use Rattle.fm_link_supers.proofs.ParentRefusals.{are_sound, first_true, spelled_at, nil_left, nil_right, none_at, past_none, refused_not, tree_object}
+use Rattle.fm_link_supers.proofs.ParentRefusals.{are_sound, spelled_at, nil_left, nil_right, none_at, past_none, refused_not, tree_object}
 use Rattle.fm_link_supers.specs.inner.Hierarchy.{AreSound}
-use Rattle.fm_link_refusals.proofs.LeftOver.{abstract_or_none, left_over_parts}
-use Rattle.fm_link_refusals.proofs.Positions.{is_some-position}
+use Rattle.fm_link_refusals.proofs.LeftOver.{left_over_parts}
 use Rattle.fm_link_refusals.specs.inner.Abstracts.{left_over_by, left_over_of}
+use Rattle.fm_link_refusals.specs.inner.LeftOver.{is_open}
 use Rattle.fm_law_linked.proofs.ClassChains.{below_object}
 use Rattle.fm_law_linked.proofs.FieldOwners.{all_inside, append_cases, binary_found, found_among}
 use Rattle.fm_law_linked.proofs.GivenFiles.{class_of_file, none_implemented, none_missing}
@@ -55,12 +56,12 @@ use Rattle.fm_law_no_fault.proofs.CallRows.{class_type as type_of_its_class}
 
 any_at : {X : Type 0} (p : X → Bool) (xs : List X) (k : ℕ) (d : X) → k < length xs → p (get_or xs k d) ≡ true → list_any p xs ≡ true
 any_at p [] k d within h = absurd (omega (arith, within))
-any_at p (x ∷ xs) zero d within h = first_true (p x) (list_any p xs) h
-any_at p (x ∷ xs) (suc k) d within h = or_true (p x) (list_any p xs) (any_at p xs k d (omega (arith, within)) h)
+any_at p (x ∷ xs) zero d within h = or_left (p x) (list_any p xs) h
+any_at p (x ∷ xs) (suc k) d within h = or_right (p x) (list_any p xs) (any_at p xs k d (omega (arith, within)) h)
 
 found_some : (find : ℕ → Option ℕ) (path : List ℕ) (x : ℕ) → is_among x path ≡ true → is_some (find x) ≡ true → is_some (first_found find path) ≡ true
 found_some find [] x among some = absurd (false≢true among)
-found_some find (y ∷ ys) x among some = by_first (find y) refl (found_some find ys x) (either (nat_eq x y) (is_among x ys) among) where
+found_some find (y ∷ ys) x among some = by_first (find y) refl (found_some find ys x) (or_cases (nat_eq x y) (is_among x ys) among) where
   by_first : (o : Option ℕ) → find y ≡ o → (is_among x ys ≡ true → is_some (find x) ≡ true → is_some (first_found find ys) ≡ true)
       → (nat_eq x y ≡ true) ⊎ (is_among x ys ≡ true) → is_some (first_found find (y ∷ ys)) ≡ true
   by_first (Some j) e later which = rw e refl
@@ -176,7 +177,7 @@ left_interface classes c class above method concrete plain left among own =
 
 not_left : (classes : List DeclaredClass) (class method : ℕ) → is_left_over classes class method ≡ false → is_some (select classes class method) ≡ true
 not_left classes class method left = by_select (select classes class method) left where
-  by_select : (o : Option ℕ) → abstract_or_none classes o ≡ false → is_some o ≡ true
+  by_select : (o : Option ℕ) → is_open classes o ≡ false → is_some o ≡ true
   by_select None none_left = absurd (false≢true (sym none_left))
   by_select (Some found) none_left = refl
 
@@ -245,7 +246,7 @@ module _ (given : List ClassDef) (main : List ℕ) (spelled : AllByRecursion Has
       (λ later. ⊎_elim higher
       (λ top. object (among_one owner 0 (sym (ap (λ x. is_among owner (option_to_list x)) (tree_object given)) ∙ top)))
       (append_cases owner (superinterfaces_of classes n) (option_to_list (object_number classes)) later))
-      (either (nat_eq owner n) (is_among owner (superinterfaces_of classes n ++ option_to_list (object_number classes)))
+      (or_cases (nat_eq owner n) (is_among owner (superinterfaces_of classes n ++ option_to_list (object_number classes)))
       (sym (ap (λ b. is_among owner (path_by b n)) is) ∙ among))
 
   top_reached : (class owner : ℕ) → class < length classes → owner ≡ 0 → Reached given class owner

@@ -2,7 +2,7 @@
 use Rattle.std.proofs.Common.{◌≡◌, refl, sym, ◌∙◌, ap, subst, ℕ, zero, suc, ◌+◌, ◌-◌, ◌<◌, ◌≤◌, ◌⊎◌, inl, inr, ◌&&◌, not, Bool, true, false, cond, List, [], ◌∷◌, ◌++◌, length, map, nat_eq, slice_get, get_or, take, position, Option, Some, None, option_map, unwrap_or, length-append, zero-add, arith}
 use Rattle.std.specs.List.{AllByRecursion, flat_map}
 use Rattle.std.specs.Str.{bytes_eq}
-use Rattle.std.proofs.lemmas.Bool.{and_parts, cases_lt, eqb-true, false≢true}
+use Rattle.std.proofs.lemmas.Bool.{and_parts, cases_lt, eqb-true, false≢true, or_cases}
 use Rattle.std.proofs.lemmas.List.{get_or-append-add, get_or-map, get_or_append_left, length-map}
 use Rattle.std.proofs.lemmas.List.Quantifiers.{position-Some}
 use Rattle.std.proofs.lemmas.List.Sums.{sum_by-cons}
@@ -15,10 +15,11 @@ use Rattle.fm_code.specs.declared.class_file.ClassDef.{ClassDef}
 use Rattle.fm_code.specs.declared.class_file.Member.{Member}
 use Rattle.fm_code.specs.declared.constant_pool.Entry.{Entry}
 use Rattle.fm_link_supers.proofs.BuiltInParents.{count_is, IsBelow}
-use Rattle.fm_link_supers.proofs.Downwards.{among_head, among_right, either}
+use Rattle.fm_link_supers.proofs.Downwards.{among_head, among_right}
 use Rattle.fm_link_supers.proofs.ParentRefusals.{tree_object, length-declared, nil_left, none_at, past_none, refused_not}
-use Rattle.fm_link_refusals.proofs.LeftOver.{abstract_or_none, left_over_parts}
+use Rattle.fm_link_refusals.proofs.LeftOver.{left_over_parts}
 use Rattle.fm_link_refusals.specs.inner.Abstracts.{left_over_by, left_over_of}
+use Rattle.fm_link_refusals.specs.inner.LeftOver.{is_open}
 use Rattle.fm_law_linked.proofs.ClassChains.{built_in_above}
 use Rattle.fm_law_linked.proofs.FieldOwners.{found_among}
 use Rattle.fm_law_linked.proofs.GivenFiles.{class_of_file}
@@ -149,7 +150,7 @@ within_count classes n step zero o below above among = absurd (false≢true amon
 within_count classes n step (suc bound) None below above among = absurd (false≢true among)
 within_count classes n step (suc bound) (Some k) below above among =
     by_first (within_count classes n step bound (parent_of classes k) (by_parent (parent_of classes k) refl) above)
-    (either (nat_eq above k) (is_among above (upwards bound classes (parent_of classes k))) among) where
+    (or_cases (nat_eq above k) (is_among above (upwards bound classes (parent_of classes k))) among) where
       by_parent : (o : Option ℕ) → parent_of classes k ≡ o → IsBelow n o
       by_parent None e = tt
       by_parent (Some p) e = step k p below e
@@ -241,7 +242,7 @@ found_concrete given none_refused name descriptor class above target objects amo
           let kept = left_none classes c class above target (sym (ap (λ (d : DeclaredClass). is_abstract d.flags) here) ∙ its.0)
           (sym (ap (λ (d : DeclaredClass). is_interface d.flags) here) ∙ its.1) left among
           (own_abstract classes is_selectable name descriptor above target own abstract) in
-          sym (ap (abstract_or_none classes) (found_itself classes name descriptor class above target found is)) ∙ kept
+          sym (ap (is_open classes) (found_itself classes name descriptor class above target found is)) ∙ kept
 
       by_place : is_abstract_method classes target ≡ true → (class < length built_in) ⊎ (length built_in ≤ class) → is_abstract_method classes target ≡ false
       by_place abstract (inl low) =

@@ -1,5 +1,6 @@
 -- No abstract method is called by invokespecial: nothing is refused of the methods that its entries name (JVMS 6.5.invokespecial).
 use Rattle.std.proofs.Common.{◌≡◌, refl, sym, ◌∙◌, ap, ℕ, zero, suc, ◌+◌, ◌||◌, Bool, false, List, [], ◌∷◌, length, slice_get, Contains, Option, Some, None, option_map, arith}
+use Rattle.std.proofs.lemmas.Bool.{or_parts}
 use Rattle.std.specs.List.{AllByRecursion, flat_map}
 use Rattle.std.proofs.lemmas.Option.{none-some, same_Some}
 use Rattle.fm_base.specs.declared.ids.MethodId.{MethodId}
@@ -30,7 +31,7 @@ use Rattle.fm_world.specs.Programs.{class_of_type, classes_of, Outline, outline_
 use Rattle.fm_world.specs.Uses.{class_items, named_class, named_member}
 use Rattle.fm_world.specs.declared.declarations.DeclaredClass.{DeclaredClass}
 use Rattle.fm_world.specs.declared.uses.Use.TheVariants as resolved
-use Rattle.fm_link_supers.proofs.ParentRefusals.{nil_left, nil_right, spelled_at, fails, refused_not}
+use Rattle.fm_link_supers.proofs.ParentRefusals.{nil_left, nil_right, spelled_at, refused_not}
 
 -- ---- what isn't refused of one file
 
@@ -96,7 +97,7 @@ call_right : (classes : List DeclaredClass) (c : ClassDef) (caller index : ℕ) 
 call_right classes c caller index item m method none insn_is named calls =
     let here = sym (ap (refused_where (call_refusals classes c caller)) named)
     ∙ sym (ap (λ i. abstract_call classes c caller (record item { insn = i })) insn_is) ∙ none in
-    fails (is_abstract_method classes method) (is_abstract_method classes (special_target classes caller (class_number classes m.class) method))
+    or_parts (is_abstract_method classes method) (is_abstract_method classes (special_target classes caller (class_number classes m.class) method))
     (calls ∙ refused_not (calls_abstract classes caller m) (refused NotImplemented c (method_text m)) here)
 
 -- no abstract method is called by invokespecial

@@ -3,7 +3,7 @@
 use Rattle.std.proofs.Common.{◌≡◌, refl, sym, ◌∙◌, subst, ℕ, ◌+◌, ◌<◌, ◌≤◌, ◌||◌, ◌&&◌, not, Bool, true, false, cond, List, [], ◌∷◌, length, map, Option, Some, None, slice_get}
 use Rattle.std.specs.List.{AllByRecursion, slice_index_or}
 use Rattle.std.specs.Option.{option_map}
-use Rattle.std.proofs.lemmas.Bool.{and_parts, false≢true}
+use Rattle.std.proofs.lemmas.Bool.{and_parts, false≢true, or_parts}
 use Rattle.std.proofs.lemmas.Option.{none-some, same_Some}
 use Rattle.fm_base.proofs.ListFacts.{AllByRecursion-append, AllByRecursion-get_or}
 use Rattle.fm_base.specs.declared.ids.FieldId.{FieldId}
@@ -42,7 +42,7 @@ use Rattle.fm_world.specs.Programs.{classes_of, codes_of, outline_of, program_of
 use Rattle.fm_world.specs.declared.declarations.Constant.{Constant}
 use Rattle.fm_world.specs.declared.uses.Use.{Use}
 use Rattle.fm_world.specs.declared.uses.Use.TheVariants as resolved
-use Rattle.fm_link_supers.proofs.ParentRefusals.{spelled_at, fails}
+use Rattle.fm_link_supers.proofs.ParentRefusals.{spelled_at}
 
 -- ---- targets
 
@@ -165,11 +165,11 @@ tested_there test alone given spelled method =
 
 static_alone : IsAlone is_static
 static_alone flags none =
-    (fails (is_static flags) (is_private flags) (fails (is_static flags || is_private flags) (is_native flags) none).0).0
+    (or_parts (is_static flags) (is_private flags) (or_parts (is_static flags || is_private flags) (is_native flags) none).0).0
 
 private_alone : IsAlone is_private
 private_alone flags none =
-    (fails (is_static flags) (is_private flags) (fails (is_static flags || is_private flags) (is_native flags) none).0).1
+    (or_parts (is_static flags) (is_private flags) (or_parts (is_static flags || is_private flags) (is_native flags) none).0).1
 
 -- a static method isn't abstract
 pub concrete_there : (given : List ClassDef) → AllByRecursion HasSpelling given → (method : ℕ) → is_static (method_at (classes_of given) method).method.flags ≡ true

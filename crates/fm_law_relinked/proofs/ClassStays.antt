@@ -11,6 +11,7 @@ use Rattle.fm_law_relinked.proofs.PassedOver.{filter_map-kept, filters_agree, no
 use Rattle.fm_law_relinked.proofs.PoolStays.{class_stays, constant_same, method_class, method_no_units, name_same, text_stays, type_same, units_same}
 use Rattle.fm_law_relinked.proofs.UsedWithin.{all_items_valid, class_below, filter_map-below, unused_past, uses_below, value_within}
 use Rattle.fm_base.proofs.OptionFacts.{IsSome-from_some, Some-from_some_and, same_value}
+use Rattle.fm_base.proofs.TestFacts.{same-nat_eq}
 use Rattle.fm_base.specs.declared.kinds.TypeRef.{TypeRef}
 use Rattle.fm_code.specs.AccessFlags.{is_interface, is_static}
 use Rattle.fm_code.specs.ConstantPool.{class_name_at, EntryIsValid, method_ref_at, utf8_at}
@@ -27,7 +28,6 @@ use Rattle.fm_code.specs.declared.code_array.Item.{Item}
 use Rattle.fm_code.specs.declared.constant_pool.Entry.{Entry}
 use Rattle.fm_code.specs.declared.instructions.Insn.{Insn}
 use Rattle.fm_code.specs.declared.instructions.Insn.TheVariants as insn
-use Rattle.fm_link_names.proofs.MarkLemmas.{same_number}
 use Rattle.fm_place.specs.Insertions.{Insertions}
 use Rattle.fm_place.specs.Rewriting.{free_index, Plans, rewritten_method, rewritten_methods}
 use Rattle.fm_pool.proofs.FreeEntriesAdded.{free_named}
@@ -52,7 +52,7 @@ abbrev pub is_other : ℕ → ℕ → Bool
 is_other free index = not (nat_eq free index)
 
 pub other_index : (free index : ℕ) → is_other free index ≡ true → index ≡ free → ⊥
-other_index free index other same = false≢true (sym (ap not (ap (nat_eq free) same ∙ same_number free)) ∙ other)
+other_index free index other same = false≢true (sym (ap not (ap (nat_eq free) same ∙ same-nat_eq free)) ∙ other)
 
 pub that_index : (free index : ℕ) → is_other free index ≡ false → free ≡ index
 that_index free index is = by_test (nat_eq free index) refl is where

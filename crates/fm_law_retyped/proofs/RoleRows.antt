@@ -4,6 +4,7 @@ use Rattle.std.specs.Prelude.{nat_lt, slice_get}
 use Rattle.std.specs.List.{AllZip}
 use Rattle.std.proofs.lemmas.Bool.{cases_lt, le-ltb}
 use Rattle.std.proofs.lemmas.List.{length-map, set-get_or}
+use Rattle.std.proofs.lemmas.List.Elements.{length_all_zip}
 use Rattle.std.proofs.lemmas.Option.{none-some}
 use Rattle.fm_base.proofs.OptionFacts.{IsSomeAnd-from_some, IsSomeAnd-weaker, Some-from_some_and}
 use Rattle.fm_base.specs.declared.kinds.TypeRef.{TypeRef}
@@ -29,7 +30,7 @@ use Rattle.fm_law_retyped.proofs.Trimmed.{trimmed}
 use Rattle.fm_types.proofs.Order.{fits-refl}
 use Rattle.fm_types.proofs.RowOrder.{rows-keep_whole}
 use Rattle.fm_types.proofs.StateOrder.{all_fit-from, Fitting}
-use Rattle.fm_types.proofs.Zips.{zip-append, zip-length, zip-refl}
+use Rattle.fm_types.proofs.Zips.{zip-append, zip-refl}
 use Rattle.fm_types.specs.Moves.{moved}
 use Rattle.fm_types.specs.NumberRows.{load_row, move_row, store_row}
 use Rattle.fm_types.specs.Rows.{row_after}
@@ -164,7 +165,7 @@ module _ (w : Retyping) (f : CanRetype w) where
       let inside = inside_of j x falls in
       let next = Some-from_some_and (state_at w.states (j + 1)) (λ s. state_fits o x.after s ≡ true) (x.each (j + 1) (edge_on j falls inside)) in
       let parts = fits-parts o x.after next.0 next.2 in
-      let same = zip-length (Fitting o) x.after.stack next.0.stack parts.stack in
+      let same = length_all_zip (Fitting o) x.after.stack next.0.stack parts.stack in
       let small = (f.typing.items (j + 1) next.0 next.1).stack in
       omega (arith, same, small)
 

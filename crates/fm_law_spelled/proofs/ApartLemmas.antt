@@ -8,9 +8,9 @@ use Rattle.std.specs.Str.{bytes_eq}
 use Rattle.std.proofs.lemmas.Bool.{false≢true, leb-true, le-ltb, ltb-true, lt-ltb}
 use Rattle.std.proofs.lemmas.Str.{encodes_same}
 use Rattle.std.proofs.lemmas.Slice.Eq.{bytes_eq-Decides}
-use Rattle.fm_code.proofs.EdgesLemmas.{Contains-cons_cases, Contains-first, Contains-later}
-use Rattle.fm_layout.proofs.BoundsLemmas.{at_index}
-use Rattle.fm_base.proofs.ListFacts.{AllByRecursion-get_or, AllByRecursion-weaker}
+use Rattle.fm_code.proofs.EdgesLemmas.{Contains-first, Contains-later}
+use Rattle.fm_base.proofs.ContainsFacts.{Contains-cons_cases}
+use Rattle.fm_base.proofs.ListFacts.{AllByRecursion-at, AllByRecursion-get_or, AllByRecursion-weaker}
 use Rattle.fm_base.proofs.OptionFacts.{IsSomeAnd-at_some, Some-from_some_and}
 use Rattle.fm_base.specs.Texts.{IsModifiedUtf8, unit_bytes, units}
 use Rattle.fm_code.specs.ConstantPool.{class_name_at, entry_at, EntryIsValid}
@@ -175,7 +175,7 @@ new_before text texts apart new (suc place) = at (slice_get texts place) refl (n
   at : (o : Option (List ℕ)) → slice_get texts place ≡ o → IfSome o (λ t. ¬ Contains (take place texts) t) → IfSome o (λ t. ¬ Contains (text ∷ take place texts) t)
   at None is own = tt
   at (Some t) is own = λ there. ⊎_elim
-      (λ (same : t ≡ text). at_index (λ other. other ≢ text) texts place t apart is same)
+      (λ (same : t ≡ text). AllByRecursion-at (λ other. other ≢ text) texts place t apart is same)
       (λ (later : Contains (take place texts) t). own later)
       (Contains-cons_cases text (take place texts) t there)
 

@@ -2,10 +2,11 @@
 use Rattle.std.proofs.Common.{◌≡◌, ℕ, zero, suc, ◌+◌, ◌-◌, not, inl, inr, Bool, true, false, cond, List, [], ◌∷◌, ◌++◌, length, map, take, reverse, replicate, Option, Some, None, refl, sym, ◌∙◌, ap, subst, slice_set}
 use Rattle.std.specs.List.{AllByRecursion, AllZip}
 use Rattle.std.proofs.lemmas.List.{reverse-append}
+use Rattle.std.proofs.lemmas.List.Elements.{length_all_zip}
 use Rattle.fm_base.specs.declared.kinds.TypeRef.{TypeRef}
 use Rattle.fm_cells.specs.Objects.{Object}
 use Rattle.fm_cells.specs.Stores.{object_at, Store}
-use Rattle.fm_types.proofs.Zips.{zip-append, zip-drop, zip-length, zip-set}
+use Rattle.fm_types.proofs.Zips.{zip-append, zip-drop, zip-set}
 use Rattle.fm_types.specs.Named.{class_of_method, throwable_type}
 use Rattle.fm_world.specs.Programs.{Outline, Program}
 use Rattle.fm_frames.specs.Acts.{cell_of, same_cell, Sources, value_of}
@@ -63,7 +64,7 @@ module _ (gone : Gone) (p : Program) (one other : Store) where
     item = refl;
     locals = zip-append S vs ws (replicate (max_locals_of p method - length vs) value.Top) (replicate (max_locals_of p method - length ws) value.Top) h
         (subst (λ n. AllZip S (replicate (max_locals_of p method - length vs) value.Top) (replicate (max_locals_of p method - n) value.Top))
-        (zip-length S vs ws h) (zip_copies S value.Top refl (max_locals_of p method - length vs)));
+        (length_all_zip S vs ws h) (zip_copies S value.Top refl (max_locals_of p method - length vs)));
     stack = tt;
   }
 

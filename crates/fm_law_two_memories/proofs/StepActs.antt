@@ -2,7 +2,7 @@
 use Rattle.std.proofs.Common.{◌≡◌, ℕ, ◌+◌, ◌^◌, ◌<◌, ◌≤◌, inl, ◌||◌, Bool, true, false, cond, List, [], ◌∷◌, ◌++◌, length, Option, Some, None, refl, sym, ◌∙◌, ap, subst, slice_get, slice_index_or, slice_set, arith}
 use Rattle.std.specs.List.{AllByRecursion, AllZip}
 use Rattle.std.specs.Option.{unwrap_or}
-use Rattle.std.proofs.lemmas.List.Elements.{AllZip-push}
+use Rattle.std.proofs.lemmas.List.Elements.{AllZip-push, length_all_zip}
 use Rattle.std.proofs.lemmas.Option.{get_or_from_slice_get, same_Some}
 use Rattle.fm_base.specs.declared.kinds.Kind.{Kind}
 use Rattle.fm_base.specs.declared.kinds.TypeRef.{TypeRef}
@@ -14,7 +14,7 @@ use Rattle.fm_cells.specs.Choices.{lawful, MayReuse}
 use Rattle.fm_cells.proofs.StoreLaws.{live_words-put_by}
 use Rattle.fm_cells.specs.Objects.{Object, Request, request_words}
 use Rattle.fm_cells.specs.Stores.{live_words, object_at, Store}
-use Rattle.fm_types.proofs.Zips.{zip-implied, zip-length, zip-set}
+use Rattle.fm_types.proofs.Zips.{zip-implied, zip-set}
 use Rattle.fm_world.specs.Members.{size_of}
 use Rattle.fm_world.specs.Programs.{Outline}
 use Rattle.fm_frames.specs.Acts.{cell_of, Choose, FullAt, is_there, literal_made, literal_text, made_then, performed, Performed, put_value, requested, set_static, value_of, with_content}
@@ -250,7 +250,7 @@ module _ (gone : Gone) (few_gone : IsFewGone gone) (o : Outline) (sizes : (class
       → text < length y.literals
   texts_there x y types made others h text inside =
       let count : length x.literals ≡ length o.texts = h.keeps.sound.literals in
-      let same : length x.literals ≡ length y.literals = zip-length (SameCell gone x.store y.store) x.literals y.literals h.paired.literals in
+      let same : length x.literals ≡ length y.literals = length_all_zip (SameCell gone x.store y.store) x.literals y.literals h.paired.literals in
       omega (arith, inside, count, same)
 
   pub acts_alike : (actions : List Action) (x y : Areas) (types : List TypeRef) (made others : List ℕ) → Within o room y actions → ActsFit o one f types actions

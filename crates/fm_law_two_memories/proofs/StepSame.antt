@@ -2,10 +2,11 @@
 use Rattle.std.proofs.Common.{◌≡◌, ℕ, ◌+◌, ◌*◌, ◌<◌, ◌≤◌, max, Bool, true, false, cond, List, [], ◌∷◌, ◌++◌, length, map, nat_lt, Option, None, refl, sym, ◌∙◌, ap, subst, slice_index_or, arith}
 use Rattle.std.specs.List.{AllByRecursion, AllZip}
 use Rattle.std.proofs.lemmas.Bool.{false≢true}
+use Rattle.std.proofs.lemmas.List.Elements.{length_all_zip}
 use Rattle.fm_base.specs.declared.limits.TheConstants.{MAX_LIVE_WORDS}
 use Rattle.fm_cells.specs.Choices.{lawful}
 use Rattle.fm_cells.specs.Stores.{live_words, Store}
-use Rattle.fm_types.proofs.Zips.{zip-implied, zip-length}
+use Rattle.fm_types.proofs.Zips.{zip-implied}
 use Rattle.fm_world.specs.Programs.{Outline, Program}
 use Rattle.fm_frames.specs.Acts.{cell_of, Choose, Did, FullAt, LostAt, Performed, Sources, value_of}
 use Rattle.fm_frames.specs.Effects.{Calls, Effect, Enters, JumpsIfSame, Next, OfMade, OfOperand, Source, Throws}
@@ -131,7 +132,7 @@ module _ (gone : Gone) (few_gone : IsFewGone gone) (p : Program) (typings : Typi
       places = next_agrees p typings ready.steps text z f callers sound.frames.0
 
       count : length (f ∷ callers) ≡ length (g ∷ others)
-      count = zip-length (FramesPaired gone one two) (f ∷ callers) (g ∷ others) paired.frames
+      count = length_all_zip (FramesPaired gone one two) (f ∷ callers) (g ∷ others) paired.frames
 
       other_going : w.ended ≡ None
       other_going = subst (λ ended. EndAlike gone one two ended w.ended) going paired.ended

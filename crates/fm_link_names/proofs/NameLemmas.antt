@@ -60,7 +60,7 @@ IsMemberOf texts None (Some m) = ⊥
 IsMemberOf texts (Some member) None = ⊥
 IsMemberOf texts (Some member) (Some m) = (member ≡ member_named_by texts m) × AreNumbers texts m
 
-pair_of : (texts : List (List ℕ)) (name descriptor : Option (List ℕ)) (n d : Option ℕ) → IsNumberOf texts name n → IsNumberOf texts descriptor d
+pub pair_of : (texts : List (List ℕ)) (name descriptor : Option (List ℕ)) (n d : Option ℕ) → IsNumberOf texts name n → IsNumberOf texts descriptor d
     → IsPairOf texts (option_and_then (λ s. option_and_then (λ t. Some (s, t)) descriptor) name)
     (option_and_then (λ a. option_and_then (λ b. Some (a, b)) d) n)
 pair_of texts None descriptor None d is_name is_descriptor = tt

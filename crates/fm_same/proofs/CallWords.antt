@@ -4,6 +4,7 @@ use Rattle.std.specs.Prelude.{option_map}
 use Rattle.std.specs.List.{AllZip, flat_map}
 use Rattle.std.proofs.lemmas.Bool.{false≢true}
 use Rattle.std.proofs.lemmas.List.{length-append, length-reverse, reverse-append}
+use Rattle.std.proofs.lemmas.List.Elements.{length_all_zip}
 use Rattle.std.proofs.lemmas.List.Sums.{sum_by-cons}
 use Rattle.std.proofs.lemmas.Option.{none-some, option_and_then_some, same_Some}
 use Rattle.fm_base.specs.declared.ids.MethodId.{MethodId}
@@ -26,7 +27,7 @@ use Rattle.fm_types.specs.declared.slots.Slot.TheVariants as slot
 use Rattle.fm_types.specs.Fits.{fits}
 use Rattle.fm_types.proofs.ObjectOrder.{argument_words-whole}
 use Rattle.fm_types.proofs.StateOrder.{Fitting, long_below, other_below, shape_of, whole-append, whole-long, whole-other}
-use Rattle.fm_types.proofs.Zips.{zip-append, zip-length}
+use Rattle.fm_types.proofs.Zips.{zip-append}
 use Rattle.fm_world.specs.Causes.{static_method_wanted}
 use Rattle.fm_base.specs.Kinds.{kind_words}
 use Rattle.fm_world.specs.Members.{method_at}
@@ -299,7 +300,7 @@ shape_length false = refl
 pub call_length : (o : Outline) (method : ℕ) (instance : Bool) (stack : Slots) (c : TakesCall o method instance stack)
     → length c.words ≡ words_of_arguments o method + receiver_count instance
 call_length o method instance stack c =
-    zip-length IsAlike c.words (argument_words o method ++ receiver_shape instance) c.level
+    length_all_zip IsAlike c.words (argument_words o method ++ receiver_shape instance) c.level
     ∙ length-append (argument_words o method) (receiver_shape instance) ∙ ap (λ n. n + length (receiver_shape instance)) (arguments_length o method)
     ∙ ap (λ n. words_of_arguments o method + n) (shape_length instance)
 

@@ -3,6 +3,7 @@ use Rattle.std.proofs.Common.{◌≡◌, ℕ, zero, suc, ◌+◌, ◌-◌, ◌<�
 use Rattle.std.specs.List.{AllByRecursion, AllZip}
 use Rattle.std.proofs.lemmas.Bool.{and_parts, false≢true}
 use Rattle.std.proofs.lemmas.List.{get_or-reverse, length-reverse}
+use Rattle.std.proofs.lemmas.List.Elements.{length_all_zip}
 use Rattle.std.proofs.lemmas.Option.{same_Some, slice_get-get_or, slice_get_within}
 use Rattle.fm_base.proofs.OptionFacts.{Some-from_some_and}
 use Rattle.fm_code.specs.Edges.{insn_of, IsNormalEdge}
@@ -21,7 +22,6 @@ use Rattle.fm_types.specs.Typed.{FitsAt, made_at, MeetsItem, state_at, use_by}
 use Rattle.fm_types.specs.declared.slots.Slot as slots
 use Rattle.fm_types.specs.declared.slots.Slot.TheVariants as slot
 use Rattle.fm_types.proofs.StateOrder.{all_fit-parts, Fitting}
-use Rattle.fm_types.proofs.Zips.{zip-length}
 use Rattle.fm_world.specs.Programs.{code_at, Outline, Program}
 use Rattle.fm_world.specs.declared.uses.Use.{Use}
 use Rattle.fm_frames.specs.Effects.{Effect, Source}
@@ -194,7 +194,7 @@ module _ (p : Program) (facts : Facts) (exact : AreFacts p facts) (f : Frame) (i
       let found : (t : TypeState) × (state_at (facts.typing f.method) next ≡ Some t) × (state_fits p.outline after t ≡ true) =
       Some-from_some_and (state_at (facts.typing f.method) next) (λ t. state_fits p.outline after t ≡ true) fits_at in
       let zip : AllZip (Fitting p.outline) after.stack found.0.stack = stack_fits p.outline after found.0 found.2 in
-      let same : length after.stack ≡ length found.0.stack = zip-length (Fitting p.outline) after.stack found.0.stack zip in
+      let same : length after.stack ≡ length found.0.stack = length_all_zip (Fitting p.outline) after.stack found.0.stack zip in
       let within : q < length after.stack = slice_get_within after.stack q s at in
       let in_next : q < length found.0.stack = omega arith in
       let word : word_in (length after.stack - 1 - q) (state_at (facts.typing f.method) next) ≡ slice_get found.0.stack q =

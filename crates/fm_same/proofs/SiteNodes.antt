@@ -4,6 +4,7 @@ use Rattle.std.specs.Prelude.{is_some, nat_le, nat_lt, option_map, option_to_lis
 use Rattle.std.specs.List.{list_any, AllZip}
 use Rattle.std.proofs.lemmas.Bool.{cases_lt, false≢true}
 use Rattle.std.proofs.lemmas.List.{length-append, length-reverse, reverse-append}
+use Rattle.std.proofs.lemmas.List.Elements.{length_all_zip}
 use Rattle.std.proofs.lemmas.Option.{none-some, option_and_then_some, same_Some}
 use Rattle.fm_base.proofs.OptionFacts.{IsSomeAnd-from_some}
 use Rattle.fm_base.specs.declared.ids.MethodId.{MethodId}
@@ -25,7 +26,6 @@ use Rattle.fm_conn.specs.Shapes.{method_with}
 use Rattle.fm_conn.specs.Summaries.{same_number}
 use Rattle.fm_types.proofs.RowOrder.{rows-keep_whole}
 use Rattle.fm_types.proofs.StateOrder.{shape_of, Stands, under-parts}
-use Rattle.fm_types.proofs.Zips.{zip-length}
 use Rattle.fm_types.specs.ArrayRows.{multi_array_row, new_array_row, new_references_row}
 use Rattle.fm_types.specs.CallRows.{constructed, constructor_called, initialised, instance_call_row, is_constructor, is_initializer, is_type, names_own_or_above, special_call_row, static_call_row}
 use Rattle.fm_types.specs.Named.{argument_words, class_of_method, on_method, on_type, result_of, result_words}
@@ -176,13 +176,13 @@ constructor-heads o method news m named s after doubled there = by_rest (taken o
   below [] found further = absurd (none-some after further)
   below (receiver ∷ []) found further =
       let off = taken_off o (argument_words o m) s.stack (receiver ∷ []) found in
-      let words : length off.words ≡ words_of_arguments o m = zip-length _ off.words (argument_words o m) off.fitting ∙ arguments_length o m in
+      let words : length off.words ≡ words_of_arguments o m = length_all_zip _ off.words (argument_words o m) off.fitting ∙ arguments_length o m in
       let all : length s.stack ≡ length off.words + 1 = ap length off.is ∙ length-append off.words (receiver ∷ []) in
       let none : length s.stack - (1 + words_of_arguments o m) ≡ 0 = omega (arith, words, all) in
       absurd (false≢true (sym (ap (doubled_in s.stack) none) ∙ doubled))
   below (receiver ∷ under ∷ rest) found further =
       let off = taken_off o (argument_words o m) s.stack (receiver ∷ under ∷ rest) found in
-      let words : length off.words ≡ words_of_arguments o m = zip-length _ off.words (argument_words o m) off.fitting ∙ arguments_length o m in
+      let words : length off.words ≡ words_of_arguments o m = length_all_zip _ off.words (argument_words o m) off.fitting ∙ arguments_length o m in
       let all : length s.stack ≡ length off.words + suc (suc (length rest)) = ap length off.is ∙ length-append off.words (receiver ∷ under ∷ rest) in
       let depth : length s.stack - (1 + words_of_arguments o m) ≡ suc (length rest) = omega (arith, words, all) in
       let first : slice_get (reverse s.stack) (suc (length rest)) ≡ Some receiver =
