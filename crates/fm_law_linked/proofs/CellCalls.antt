@@ -11,6 +11,7 @@ use Rattle.fm_base.specs.declared.kinds.Base.{Base}
 use Rattle.fm_base.specs.declared.kinds.Base.TheVariants as base
 use Rattle.fm_base.specs.declared.kinds.TypeRef.{TypeRef}
 use Rattle.fm_code.specs.AccessFlags.{has_flag}
+use Rattle.fm_code.specs.Profile.{IsSupported}
 use Rattle.fm_code.specs.Spells.{HasSpelling}
 use Rattle.fm_code.specs.declared.class_file.ClassDef.{ClassDef}
 use Rattle.fm_code.specs.declared.code_array.Code.{Code}
@@ -297,12 +298,12 @@ module _ (given : List ClassDef) (main : List ℕ) (spelled : AllByRecursion Has
   not_start : (a b : Bool) → (a || b) ≡ false → b ≡ false
   not_start a b is = (or_parts a b is).1
 
-  selected_by : (code : Code) (caller index method type : ℕ) (call : IsCall given (outline_of given main) code caller index method type false) (of : TypeRef)
+  selected_by : AllByRecursion IsSupported given → (code : Code) (caller index method type : ℕ) (call : IsCall given (outline_of given main) code caller index method type false) (of : TypeRef)
       → is_initializer (outline_of given main) method ≡ false → (r : IsReceiver given of) (it : IsNamedMethod given call.at.member method)
       → Reached given r.class it.owner → Selects (program_of given main) of method
   unfolding program_of outline_of
-  selected_by code caller index method type call of plain r it reached =
-      let found = selects given main spelled clean of r call.at.member.name call.at.member.descriptor it.owner method it.own call.static_is
+  selected_by supported code caller index method type call of plain r it reached =
+      let found = selects given main spelled clean supported of r call.at.member.name call.at.member.descriptor it.owner method it.own call.static_is
       (not_start (is_constructor (outline_of given main) method) _ plain) reached in
       record {
         target = found.target;
@@ -314,9 +315,9 @@ module _ (given : List ClassDef) (main : List ℕ) (spelled : AllByRecursion Has
   unfolding outline_of
   met of there = receiver given main spelled clean of there.0 there.1
 
-pub calls_fit : (given : List ClassDef) (main : List ℕ) → AllByRecursion HasSpelling given → refusals given main ≡ [] → CallsFit (program_of given main)
+pub calls_fit : (given : List ClassDef) (main : List ℕ) → AllByRecursion HasSpelling given → AllByRecursion IsSupported given → refusals given main ≡ [] → CallsFit (program_of given main)
 unfolding program_of outline_of
-calls_fit given main spelled clean =
+calls_fit given main spelled supported clean =
     let missing = no_method_refused given main clean in
     record {
       virtual = λ method index m t named of x at plain there fits.
@@ -324,7 +325,7 @@ calls_fit given main spelled clean =
           let caller = (method_at (classes_of given) method).class in
           let r = met given main spelled clean of there in
           let it = where_named given main spelled clean x.code caller index m.0 t.0 false call named at in
-          selected_by given main spelled clean x.code caller index m.0 t.0 call of plain r it
+          selected_by given main spelled clean supported x.code caller index m.0 t.0 call of plain r it
           (virtual_reached given main spelled clean x.code caller index m.0 t.0 false call named of at
           (λ class is. virtual_of_class given main spelled missing method index m t named class x at is) fits r it);
       interface = λ method index m t named of x at plain there sub.
@@ -332,7 +333,7 @@ calls_fit given main spelled clean =
           let caller = (method_at (classes_of given) method).class in
           let r = met given main spelled clean of there in
           let it = where_named given main spelled clean x.code caller index m.0 t.0 false call named at in
-          selected_by given main spelled clean x.code caller index m.0 t.0 call of plain r it
+          selected_by given main spelled clean supported x.code caller index m.0 t.0 call of plain r it
           (interface_reached given main spelled clean x.code caller index m.0 t.0 false call named of at sub r it);
       special = λ method index m t named x at ordinary above. special_fits given main spelled clean method index m t named x at above;
       constructors = λ method index m t named x at constructor. constructed_class given main spelled clean method index m t named x at constructor;

@@ -11,8 +11,8 @@ use Rattle.fm_base.proofs.ListFacts.{is_some-position}
 use Rattle.fm_base.specs.declared.kinds.TypeRef.{TypeRef}
 use Rattle.fm_code.specs.AccessFlags.{is_abstract, is_interface, is_private, is_static}
 use Rattle.fm_code.specs.ConstantPool.{MemberName}
-use Rattle.fm_code.specs.Members.{MethodIsValid}
 use Rattle.fm_code.specs.Names.{FieldType}
+use Rattle.fm_code.specs.Profile.{IsSupported, MethodIsSupported}
 use Rattle.fm_code.specs.Spells.{HasSpelling}
 use Rattle.fm_code.specs.declared.class_file.ClassDef.{ClassDef}
 use Rattle.fm_code.specs.declared.class_file.Member.{Member}
@@ -21,7 +21,7 @@ use Rattle.fm_check_program.proofs.Trees.{no_parent_refused, tree_of}
 use Rattle.fm_link_supers.proofs.BuiltInParents.{count_is}
 use Rattle.fm_link_supers.proofs.Downwards.{among_head, among_left}
 use Rattle.fm_link_supers.proofs.HierarchyLemmas.{interfaces_only}
-use Rattle.fm_link_supers.proofs.ParentRefusals.{are_sound, spelled_at, nil_left, nil_right, none_at, past_none, refused_not, tree_object}
+use Rattle.fm_link_supers.proofs.ParentRefusals.{are_sound, nil_left, nil_right, none_at, past_none, refused_not, tree_object}
 use Rattle.fm_link_supers.specs.inner.Hierarchy.{AreSound}
 use Rattle.fm_link_refusals.proofs.LeftOver.{left_over_parts}
 use Rattle.fm_link_refusals.specs.inner.Abstracts.{left_over_by, left_over_of}
@@ -34,6 +34,7 @@ use Rattle.fm_law_linked.proofs.InterfaceSets.{in_interfaces, interfaces_above, 
 use Rattle.fm_law_linked.proofs.SelectedMethods.{ClassHasObjects, files_counted, methods_at, none, OfClass, own_abstract, owned}
 use Rattle.fm_law_linked.proofs.SpecialCalls.{file_implemented}
 use Rattle.fm_law_sound.proofs.FoundMethods.{own_method_found}
+use Rattle.fm_place.proofs.WovenLemmas.{all-at}
 use Rattle.fm_types.proofs.ClassTree.{among_one, among_own, among-trans, interface-within, object-within, seen_above, seen-object}
 use Rattle.fm_types.proofs.Order.{below_objects-fits, level-fits}
 use Rattle.fm_types.specs.Fits.{AreTree, fits_type, object_of}
@@ -125,23 +126,23 @@ own_passes classes passes class method own passed =
 
 -- ---- methods of interfaces
 
--- a method of an interface is abstract, but for the start of the interface itself
+-- a method of an interface that is supported is abstract, but for the start of the interface itself
 abbrev IsBare : DeclaredMethod → Type 0
 IsBare m = (is_abstract m.flags ≡ true) ⊎ (m.name ≡ codes "<clinit>")
 
-bare_members : (in_interface : Bool) (entries : List Entry) (members : List Member) → in_interface ≡ true → AllByRecursion (MethodIsValid in_interface entries) members
+bare_members : (in_interface : Bool) (entries : List Entry) (members : List Member) → in_interface ≡ true → AllByRecursion (MethodIsSupported in_interface entries) members
     → AllByRecursion IsBare (map (declared_method entries) members)
-bare_members in_interface entries [] is valid = tt
-bare_members in_interface entries (m ∷ members) is valid = (
-  ⊎_elim (λ abstract. inl abstract) (λ named. inr (ap (λ o. unwrap_or o []) named)) (valid.0.of_interface is),
-  bare_members in_interface entries members is valid.1,
+bare_members in_interface entries [] is supported = tt
+bare_members in_interface entries (m ∷ members) is supported = (
+  ⊎_elim (λ abstract. inl abstract) (λ named. inr (ap (λ o. unwrap_or o []) named)) (supported.0.head.of_interface is),
+  bare_members in_interface entries members is supported.1,
 )
 
 abbrev HasBare : ℕ → DeclaredClass → Type 0
 HasBare place c = is_interface c.flags ≡ true → place < length c.methods → IsBare (get_or c.methods place no_method)
 
-interface_bare : (given : List ClassDef) → AllByRecursion HasSpelling given → (class place : ℕ) → HasBare place (class_at (classes_of given) class)
-interface_bare given spelled class place is inside = by_place (cases_lt class (length built_in)) where
+interface_bare : (given : List ClassDef) → AllByRecursion IsSupported given → (class place : ℕ) → HasBare place (class_at (classes_of given) class)
+interface_bare given supported class place is inside = by_place (cases_lt class (length built_in)) where
   file : (k : ℕ) → class ≡ length built_in + k → (o : Option ClassDef) → slice_get given k ≡ o
       → IsBare (get_or (class_at (classes_of given) class).methods place no_method)
   file k at None e =
@@ -153,7 +154,7 @@ interface_bare given spelled class place is inside = by_place (cases_lt class (l
       let same : class_at (classes_of given) class ≡ declared_of declared.number c = ap (class_at (classes_of given)) at ∙ declared.declared in
       subst (HasBare place) (sym same)
       (λ its there. all_inside IsBare (map (declared_method c.pool.entries) c.methods) place no_method
-      (bare_members (is_interface c.flags) c.pool.entries c.methods its (spelled_at given k c spelled e).1.methods) there)
+      (bare_members (is_interface c.flags) c.pool.entries c.methods its (all-at IsSupported given k c supported e).methods) there)
       is inside
 
   by_place : (class < length built_in) ⊎ (length built_in ≤ class) → IsBare (get_or (class_at (classes_of given) class).methods place no_method)
@@ -381,11 +382,11 @@ module _ (given : List ClassDef) (main : List ℕ) (spelled : AllByRecursion Has
         found_some (own_method (classes_of given) is_selectable m.name m.descriptor) (chain_of (classes_of given) class) owner among
         (own_passes (classes_of given) is_selectable owner method own (ap (λ s. not s && not (is_private m.flags)) static ∙ ap not e))
 
-  implemented_some : (name descriptor : List ℕ) (class owner method : ℕ) → own_method classes any_flags name descriptor owner ≡ Some method
+  implemented_some : AllByRecursion IsSupported given → (name descriptor : List ℕ) (class owner method : ℕ) → own_method classes any_flags name descriptor owner ≡ Some method
       → class < length classes → (length built_in ≤ class → ClassHasObjects classes class)
       → bytes_eq (method_at classes method).method.name (codes "<clinit>") ≡ false
       → is_among owner (interfaces_of classes class) ≡ true → is_some (select classes class method) ≡ true
-  implemented_some name descriptor class owner method found within objects plain there = by_place (cases_lt class (length built_in)) where
+  implemented_some supported name descriptor class owner method found within objects plain there = by_place (cases_lt class (length built_in)) where
     own : IsMethodOf (classes_of given) owner method
     own = method_of (classes_of given) any_flags name descriptor owner method found
 
@@ -396,7 +397,7 @@ module _ (given : List ClassDef) (main : List ℕ) (spelled : AllByRecursion Has
     abstract_here =
         ⊎_elim (λ yes. yes)
         (λ named. absurd (false≢true (sym plain ∙ (bytes_eq-Decides (method_at (classes_of given) method).method.name (codes "<clinit>")).1 named)))
-        (subst IsBare (sym (ap (λ (n : OwnedMethod). n.method) own.at)) (interface_bare given spelled owner own.place is own.inside))
+        (subst IsBare (sym (ap (λ (n : OwnedMethod). n.method) own.at)) (interface_bare given supported owner own.place is own.inside))
 
     of_file : (j : ℕ) → class ≡ length built_in + j → (o : Option ClassDef) → slice_get given j ≡ o → is_some (select (classes_of given) class method) ≡ true
     of_file j at None e = absurd (let end = past_none given j e in let l = files_counted given in omega (arith, at, end, l, within))
@@ -434,17 +435,17 @@ module _ (given : List ClassDef) (main : List ℕ) (spelled : AllByRecursion Has
         let found = own_method_found (classes_of given) is_selectable m.name m.descriptor path.0 target path.1.1 in
         ap (λ k. fits_type (classes_of given) of (type_of_class k)) found.owner ∙ r.fits path.0 (inl path.1.0)
 
-  pub selects : (of : TypeRef) (r : IsReceiver given of) (name descriptor : List ℕ) (owner method : ℕ)
+  pub selects : AllByRecursion IsSupported given → (of : TypeRef) (r : IsReceiver given of) (name descriptor : List ℕ) (owner method : ℕ)
       → own_method (classes_of given) any_flags name descriptor owner ≡ Some method → is_static (method_at (classes_of given) method).method.flags ≡ false
       → bytes_eq (method_at (classes_of given) method).method.name (codes "<clinit>") ≡ false → Reached given r.class owner → IsSelected given of r.class method
-  selects of r name descriptor owner method found static plain reached = by_found (select (classes_of given) r.class method) refl some where
+  selects supported of r name descriptor owner method found static plain reached = by_found (select (classes_of given) r.class method) refl some where
     own : IsMethodOf (classes_of given) owner method
     own = method_of (classes_of given) any_flags name descriptor owner method found
 
     some : is_some (select (classes_of given) r.class method) ≡ true
     some =
         ⊎_elim (λ among. chain_some r.class owner method own static among)
-        (λ there. implemented_some name descriptor r.class owner method found r.within r.objects plain there) reached
+        (λ there. implemented_some supported name descriptor r.class owner method found r.within r.objects plain there) reached
 
     by_found : (o : Option ℕ) → select (classes_of given) r.class method ≡ o → is_some o ≡ true → IsSelected given of r.class method
     by_found None e none_found = absurd (false≢true none_found)

@@ -107,9 +107,9 @@ pub fn law_cell_places()
     law_built_ins();
 }
 
-/// And a method is selected for each object that a call meets, invokespecial leads to methods of
-/// the own class and above, and constructors are of exactly the class that is named: so each cell
-/// fits its place.
+/// And of supported files a method is selected for each object that a call meets, invokespecial
+/// leads to methods of the own class and above, and constructors are of exactly the class that is
+/// named: so each cell fits its place.
 pub fn law_cells()
     ensures { CellsOfProgramsAreResolved }
 {
