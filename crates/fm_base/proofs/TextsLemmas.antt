@@ -19,7 +19,7 @@ continues b rest p goes e = rw (goes, e) refl
 goes_on_is : (b : ℕ) → 128 ≤ b → b < 192 → goes_on b ≡ true
 goes_on_is b low high = rw (le-leb _ _ low, lt-ltb _ _ high) refl
 
-goes_on_low : (b : ℕ) → b < 128 → goes_on b ≡ false
+pub goes_on_low : (b : ℕ) → b < 128 → goes_on b ≡ false
 goes_on_low b low = rw (lt-leb _ _ low) refl
 
 goes_on_high : (b : ℕ) → 192 ≤ b → goes_on b ≡ false

@@ -1,8 +1,9 @@
 -- The names of types are of 16-bit units: those of classes are texts of class files, and dots for slashes change no other unit (JVMS 4.4.7).
 use Rattle.std.proofs.Common.{◌≡◌, refl, sym, ap, subst, ℕ, zero, suc, ◌+◌, ◌^◌, ◌<◌, ◌==◌, ◌&&◌, Bool, true, false, cond, List, [], ◌∷◌, ◌++◌, replicate, nat_le, nat_lt, arith}
 use Rattle.std.specs.List.{AllByRecursion}
-use Rattle.std.proofs.lemmas.Bool.{and_parts, eqb-true, lt-leb, ltb-true}
+use Rattle.std.proofs.lemmas.Bool.{and_parts, eqb-true, ltb-true}
 use Rattle.fm_base.proofs.ListFacts.{AllByRecursion-append, AllByRecursion-get_or}
+use Rattle.fm_base.proofs.TextsLemmas.{goes_on_low}
 use Rattle.fm_base.specs.Texts.{goes_on, Parted, parted, unit_of, units}
 use Rattle.fm_base.specs.declared.characters.TheConstants.{CLASS_LETTER, DOT, LEFT_BRACKET, SEMICOLON, SLASH}
 use Rattle.fm_base.specs.declared.kinds.Base.{Base}
@@ -46,12 +47,9 @@ letter_unit c [] letter low = omega (arith, letter)
 letter_unit c (second ∷ []) letter low = let s = low.0 in omega (arith, letter, s)
 letter_unit c (second ∷ third ∷ rest) letter low = let s = low.0 in let t = low.1.0 in omega (arith, letter, s, t)
 
-begins_low : (c : ℕ) → c < 128 → goes_on c ≡ false
-begins_low c letter = rw (lt-leb _ _ letter) refl
-
 letter_first : (c : ℕ) (bytes : List ℕ) → c < 128 → AreUnits (units bytes) → AreUnits (units (c ∷ bytes))
 letter_first c bytes letter fit =
-    subst (λ (p : Parted). AreUnits p.units) (sym (parted_step c bytes false (begins_low c letter)))
+    subst (λ (p : Parted). AreUnits p.units) (sym (parted_step c bytes false (goes_on_low c letter)))
     (letter_unit c (parted bytes).going_on letter (going_low bytes), fit)
 
 letters_first : (c n : ℕ) (bytes : List ℕ) → c < 128 → AreUnits (units bytes) → AreUnits (units (replicate n c ++ bytes))
