@@ -117,7 +117,7 @@ built-trans false true c f g = absurd (false≢true f)
 built-trans false false true f g = absurd (false≢true g)
 built-trans false false false f g = refl
 
-built-refl : (a : Bool) → (a || not a) ≡ true
+pub built-refl : (a : Bool) → (a || not a) ≡ true
 built-refl true = refl
 built-refl false = refl
 

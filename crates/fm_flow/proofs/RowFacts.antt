@@ -89,5 +89,3 @@ unset-lt (false ∷ old) (true ∷ new) (suc i) same kept was is =
     let rest = unset-lt old new i (omega arith) (λ k is. kept (suc k) is) was is in omega (arith, unset-cons false old, unset-cons true new)
 unset-lt (false ∷ old) (false ∷ new) (suc i) same kept was is =
     let rest = unset-lt old new i (omega arith) (λ k is. kept (suc k) is) was is in omega (arith, unset-cons false old, unset-cons false new)
-
--- ---- tests

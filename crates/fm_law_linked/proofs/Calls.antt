@@ -17,7 +17,7 @@ use Rattle.fm_code.specs.declared.constant_pool.Entry.{Entry}
 use Rattle.fm_code.specs.declared.constant_pool.Entry.TheVariants as entry
 use Rattle.fm_code.specs.declared.instructions.Insn.{Insn}
 use Rattle.fm_link_records.proofs.UseLaws.{resolved_by}
-use Rattle.fm_link_refusals.proofs.WantedMembers.{is_wrong_method, method_refusals}
+use Rattle.fm_link_refusals.proofs.WantedMembers.{is_wrong_method, method_refusals, names}
 use Rattle.fm_law_linked.proofs.CodedMethods.{code_there, item_there, use_at, uses_of_file}
 use Rattle.fm_law_linked.proofs.GivenFiles.{none_used}
 use Rattle.fm_types.specs.Named.{class_of_method}
@@ -40,10 +40,6 @@ use Rattle.fm_link_supers.proofs.ParentRefusals.{none_of, refused_not}
 -- it is one of the flags
 abbrev pub IsWanted : Bool → List Bool → Type 0
 IsWanted flag flags = (test : Bool → Bool) → list_any test flags ≡ false → test flag ≡ false
-
-abbrev names : ℕ → Option ℕ → Bool
-names index None = false
-names index (Some operand) = operand == index
 
 some_wanted : (f : Item → Option Bool) (items : List Item) (item : Item) (flag : Bool) → Contains items item → f item ≡ Some flag
     → IsWanted flag (filter_map f items)

@@ -21,7 +21,7 @@ use Rattle.fm_link_supers.proofs.HierarchyLemmas.{interfaces_only, superinterfac
 use Rattle.fm_link_supers.proofs.ParentRefusals.{tree_object_is_class}
 use Rattle.fm_law_linked.proofs.Calls.{call_there, IsCall}
 use Rattle.fm_law_linked.proofs.CellTypes.{above_built_in, above_seen}
-use Rattle.fm_law_linked.proofs.FieldOwners.{append_cases, binary_found, found_among}
+use Rattle.fm_law_linked.proofs.FieldOwners.{binary_found, found_among}
 use Rattle.fm_law_linked.proofs.GivenFiles.{no_built_in_refused, no_method_refused}
 use Rattle.fm_law_linked.proofs.InterfaceCalls.{binary_type, type_named}
 use Rattle.fm_law_linked.proofs.InterfaceSets.{low_interfaces, low_supers, marker_bare}
@@ -48,6 +48,7 @@ use Rattle.fm_world.specs.Programs.{class_of_type, classes_of, Outline, outline_
 use Rattle.fm_world.specs.declared.TheConstants.{ACC_SUPER}
 use Rattle.fm_world.specs.declared.declarations.DeclaredClass.{DeclaredClass}
 use Rattle.fm_world.specs.declared.uses.Use.TheVariants as resolved
+use Rattle.fm_link_refusals.proofs.Among.{among_either}
 
 no_class_of : (dims : ℕ) (b : Base) → 0 < dims → class_of_type (record { dims = dims; base = b }) ≡ None
 no_class_of dims b positive = by_flag (dims == 0) refl where
@@ -232,7 +233,7 @@ module _ (given : List ClassDef) (main : List ℕ) (spelled : AllByRecursion Has
         let is = eqb-true n (object_of (classes_of given)) object ∙ first given main spelled clean in
         ⊎_elim (λ here. here) (λ there. absurd (marker_bare given owner place (low_interfaces given (sound given main spelled clean) 0 owner zero_low there)
         (interfaces_only (classes_of given) (sound given main spelled clean) 0 owner there) inside))
-        (append_cases owner (chain_of (classes_of given) 0) (interfaces_of (classes_of given) 0)
+        (among_either owner (chain_of (classes_of given) 0) (interfaces_of (classes_of given) 0)
         (sym (ap (λ b. is_among owner (cond b (0 ∷ (superinterfaces_of (classes_of given) 0 ++ option_to_list (object_number (classes_of given))))
         (chain_of (classes_of given) 0 ++ interfaces_of (classes_of given) 0))) (tree_object_is_class given))
         ∙ ap (λ k. is_among owner (method_path (classes_of given) k)) (sym is) ∙ among))

@@ -10,14 +10,14 @@ use Rattle.fm_base.proofs.ContainsFacts.{Contains-cons_cases}
 use Rattle.fm_base.specs.declared.kinds.Base.{Base}
 use Rattle.fm_base.specs.declared.kinds.Base.TheVariants as base
 use Rattle.fm_base.specs.declared.kinds.TypeRef.{TypeRef}
-use Rattle.fm_code.proofs.EdgesLemmas.{Contains-first, Contains-later}
+use Rattle.fm_code.proofs.EdgesLemmas.{Contains-first, Contains-from_map, Contains-later}
 use Rattle.fm_code.specs.Names.{FieldType}
 use Rattle.fm_code.specs.Spells.{HasSpelling}
 use Rattle.fm_code.specs.declared.class_file.ClassDef.{ClassDef}
 use Rattle.fm_code.specs.declared.code_array.Item.{Item}
 use Rattle.fm_code.specs.declared.instructions.Insn.{Insn}
 use Rattle.fm_code.specs.declared.instructions.Insn.TheVariants as insn
-use Rattle.fm_conn.proofs.ListLemmas.{Contains-from_flat_map, Contains-from_map}
+use Rattle.fm_conn.proofs.ListLemmas.{Contains-from_flat_map}
 use Rattle.fm_conn.proofs.TypeLemmas.{types_in}
 use Rattle.fm_link_names.proofs.SpelledNames.{named_class-is}
 use Rattle.fm_link_names.proofs.SpelledTypes.{few_class}

@@ -8,7 +8,6 @@ use Rattle.fm_code.specs.AccessFlags.{is_interface}
 use Rattle.fm_code.specs.declared.class_file.ClassDef.{ClassDef}
 use Rattle.fm_link_supers.proofs.BuiltInParents.{count_is, number_first}
 use Rattle.fm_link_supers.proofs.Distinct.{among_distinct}
-use Rattle.fm_link_supers.proofs.Downwards.{among_left, among_right}
 use Rattle.fm_link_supers.proofs.InterfaceLemmas.{superinterfaces_past}
 use Rattle.fm_link_supers.specs.inner.Hierarchy.{AreSound}
 use Rattle.fm_law_linked.proofs.CellTypes.{built_in_at, table_false}
@@ -26,16 +25,7 @@ use Rattle.fm_world.specs.Lookups.{is_interface_at}
 use Rattle.fm_world.specs.Programs.{classes_of}
 use Rattle.fm_world.specs.declared.declarations.DeclaredClass.{DeclaredClass}
 use Rattle.fm_world.specs.inner.Tables.{numbers_below}
-
--- ---- lists
-
-among_flat : (f : ℕ → List ℕ) (xs : List ℕ) (i x : ℕ) → is_among i xs ≡ true → is_among x (f i) ≡ true → is_among x (flat_map f xs) ≡ true
-among_flat f [] i x here there = absurd (false≢true here)
-among_flat f (y ∷ ys) i x here there =
-    ⊎_elim
-    (λ same. among_left x (f y) (flat_map f ys) (ap (λ k. is_among x (f k)) (sym (eqb-true i y same)) ∙ there))
-    (λ later. among_right x (f y) (flat_map f ys) (among_flat f ys i x later there))
-    (or_cases (nat_eq i y) (is_among i ys) here)
+use Rattle.fm_link_refusals.proofs.Among.{in_flat}
 
 -- ---- of superclasses and of superinterfaces
 
@@ -53,7 +43,7 @@ module _ (classes : List DeclaredClass) (sound : AreSound classes) where
       (or_cases (nat_eq x found.0) (is_among x (interfaces_within bound classes found.0)) found.1.1) in
       ap (is_among y) (superinterfaces_of-listed classes class (sound.acyclic.interfaces class within))
       ∙ among_distinct y (flat_map (λ i. i ∷ superinterfaces_of classes i) (listed_interfaces classes class))
-      ∙ among_flat (λ i. i ∷ superinterfaces_of classes i) (listed_interfaces classes class) found.0 y found.1.0
+      ∙ in_flat (λ i. i ∷ superinterfaces_of classes i) (listed_interfaces classes class) found.0 y found.1.0
       (or_right (nat_eq y found.0) (is_among y (superinterfaces_of classes found.0)) under)
 
   super_above : (class x y : ℕ) → is_among x (superinterfaces_of classes class) ≡ true → is_among y (superinterfaces_of classes x) ≡ true
@@ -69,7 +59,7 @@ module _ (classes : List DeclaredClass) (sound : AreSound classes) where
   unfolding interfaces_of
   in_interfaces class above x up there =
       among_distinct x (flat_map (superinterfaces_of classes) (chain_of classes class))
-      ∙ among_flat (superinterfaces_of classes) (chain_of classes class) above x up there
+      ∙ in_flat (superinterfaces_of classes) (chain_of classes class) above x up there
 
   from_interfaces : (class x : ℕ) → is_among x (interfaces_of classes class) ≡ true
       → (above : ℕ) × ((is_among above (chain_of classes class) ≡ true) × (is_among x (superinterfaces_of classes above) ≡ true))

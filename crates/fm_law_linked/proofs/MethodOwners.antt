@@ -1,13 +1,14 @@
 -- The class that declares a method that is found: above the class whose objects are called, or one of its interfaces. So a method is selected for each of these
 -- objects, of a class that their type fits (JVMS 5.4.5, 5.4.6).
 use Rattle.std.proofs.Common.{◌≡◌, refl, sym, ◌∙◌, ap, subst, ℕ, zero, suc, ◌+◌, ◌-◌, ◌<◌, ◌≤◌, ◌⊎◌, inl, inr, ◌==◌, ◌&&◌, not, cond, Bool, true, false, List, [], ◌∷◌, ◌++◌, length, map, nat_eq, get_or, slice_get, position, codes, Option, Some, None, is_some, option_and_then, option_map, option_to_list, unwrap_or, zero-add, arith, ⊎_elim}
-use Rattle.std.specs.List.{AllByRecursion, flat_map, list_any}
+use Rattle.std.specs.List.{AllByRecursion, flat_map}
 use Rattle.std.specs.Str.{bytes_eq}
-use Rattle.std.proofs.lemmas.Bool.{cases_lt, eqb-true, false≢true, or_cases, or_left, or_right}
+use Rattle.std.proofs.lemmas.Bool.{cases_lt, eqb-true, false≢true, or_cases, or_left}
+use Rattle.std.proofs.lemmas.List.Folds.{list_any_at}
 use Rattle.std.proofs.lemmas.List.Quantifiers.{position-Some}
 use Rattle.std.proofs.lemmas.Option.{none-some, same_Some}
 use Rattle.std.proofs.lemmas.Slice.Eq.{bytes_eq-Decides}
-use Rattle.fm_base.proofs.ListFacts.{is_some-position}
+use Rattle.fm_base.proofs.ListFacts.{AllByRecursion-at, is_some-position}
 use Rattle.fm_base.specs.declared.kinds.TypeRef.{TypeRef}
 use Rattle.fm_code.specs.AccessFlags.{is_abstract, is_interface, is_private, is_static}
 use Rattle.fm_code.specs.ConstantPool.{MemberName}
@@ -23,18 +24,20 @@ use Rattle.fm_link_supers.proofs.Downwards.{among_head, among_left}
 use Rattle.fm_link_supers.proofs.HierarchyLemmas.{interfaces_only}
 use Rattle.fm_link_supers.proofs.ParentRefusals.{are_sound, nil_left, nil_right, none_at, past_none, refused_not, tree_object}
 use Rattle.fm_link_supers.specs.inner.Hierarchy.{AreSound}
+use Rattle.fm_link_refusals.proofs.Among.{among_either}
 use Rattle.fm_link_refusals.proofs.LeftOver.{left_over_parts}
+use Rattle.fm_link_refusals.proofs.Sections.{no_owned}
 use Rattle.fm_link_refusals.specs.inner.Abstracts.{left_over_by, left_over_of}
 use Rattle.fm_link_refusals.specs.inner.LeftOver.{is_open}
 use Rattle.fm_law_linked.proofs.ClassChains.{below_object}
-use Rattle.fm_law_linked.proofs.FieldOwners.{all_inside, append_cases, binary_found, found_among}
+use Rattle.fm_law_linked.proofs.FieldOwners.{all_inside, binary_found, found_among}
 use Rattle.fm_law_linked.proofs.GivenFiles.{class_of_file, none_implemented, none_missing}
 use Rattle.fm_law_linked.proofs.InterfaceCalls.{binary_type}
 use Rattle.fm_law_linked.proofs.InterfaceSets.{in_interfaces, interfaces_above, interfaces_up, low_interfaces, marker_bare}
-use Rattle.fm_law_linked.proofs.SelectedMethods.{ClassHasObjects, files_counted, methods_at, none, OfClass, own_abstract, owned}
+use Rattle.fm_law_linked.proofs.SelectedMethods.{files_counted, methods_at, OfClass, own_abstract, owned}
 use Rattle.fm_law_linked.proofs.SpecialCalls.{file_implemented}
 use Rattle.fm_law_sound.proofs.FoundMethods.{own_method_found}
-use Rattle.fm_place.proofs.WovenLemmas.{all-at}
+use Rattle.fm_law_sound.proofs.MadeObjects.{IsPlain}
 use Rattle.fm_types.proofs.ClassTree.{among_one, among_own, among-trans, interface-within, object-within, seen_above, seen-object}
 use Rattle.fm_types.proofs.Order.{below_objects-fits, level-fits}
 use Rattle.fm_types.specs.Fits.{AreTree, fits_type, object_of}
@@ -54,11 +57,6 @@ use Rattle.fm_world.specs.declared.declarations.DeclaredMethod.{DeclaredMethod}
 use Rattle.fm_law_no_fault.proofs.CallRows.{class_type as type_of_its_class}
 
 -- ---- lists
-
-any_at : {X : Type 0} (p : X → Bool) (xs : List X) (k : ℕ) (d : X) → k < length xs → p (get_or xs k d) ≡ true → list_any p xs ≡ true
-any_at p [] k d within h = absurd (omega (arith, within))
-any_at p (x ∷ xs) zero d within h = or_left (p x) (list_any p xs) h
-any_at p (x ∷ xs) (suc k) d within h = or_right (p x) (list_any p xs) (any_at p xs k d (omega (arith, within)) h)
 
 found_some : (find : ℕ → Option ℕ) (path : List ℕ) (x : ℕ) → is_among x path ≡ true → is_some (find x) ≡ true → is_some (first_found find path) ≡ true
 found_some find [] x among some = absurd (false≢true among)
@@ -94,7 +92,7 @@ method_of classes passes name descriptor class method is = by_place (position te
       record {
         place = k;
         inside = inside;
-        at = ap (λ n. get_or (methods_from 0 classes) n none) (sym (same_Some (first_method classes class + k) method found)) ∙ methods_at 0 classes class k inside
+        at = ap (λ n. get_or (methods_from 0 classes) n no_owned) (sym (same_Some (first_method classes class + k) method found)) ∙ methods_at 0 classes class k inside
             ∙ ap (λ n. owned n (get_or methods k no_method)) (zero-add class);
       }
 
@@ -103,7 +101,7 @@ own_passes : (classes : List DeclaredClass) (passes : ℕ → Bool) (class metho
     → passes (method_at classes method).method.flags ≡ true
     → is_some (own_method classes passes (method_at classes method).method.name (method_at classes method).method.descriptor class) ≡ true
 own_passes classes passes class method own passed =
-    kept (position test methods) (is_some-position test methods ∙ any_at test methods own.place no_method own.inside tested) where
+    kept (position test methods) (is_some-position test methods ∙ list_any_at test methods own.place no_method own.inside tested) where
       m : DeclaredMethod
       m = (method_at classes method).method
 
@@ -154,7 +152,7 @@ interface_bare given supported class place is inside = by_place (cases_lt class 
       let same : class_at (classes_of given) class ≡ declared_of declared.number c = ap (class_at (classes_of given)) at ∙ declared.declared in
       subst (HasBare place) (sym same)
       (λ its there. all_inside IsBare (map (declared_method c.pool.entries) c.methods) place no_method
-      (bare_members (is_interface c.flags) c.pool.entries c.methods its (all-at IsSupported given k c supported e).methods) there)
+      (bare_members (is_interface c.flags) c.pool.entries c.methods its (AllByRecursion-at IsSupported given k c supported e).methods) there)
       is inside
 
   by_place : (class < length built_in) ⊎ (length built_in ≤ class) → IsBare (get_or (class_at (classes_of given) class).methods place no_method)
@@ -194,7 +192,7 @@ pub record IsReceiver (given : List ClassDef) (of : TypeRef) : Type 0 where
   pub class : ℕ
   pub is : unwrap_or (class_of_type of) (object_of (classes_of given)) ≡ class
   pub within : class < length (classes_of given)
-  pub objects : length built_in ≤ class → ClassHasObjects (classes_of given) class
+  pub objects : length built_in ≤ class → IsPlain (classes_of given) class
   pub fits : (owner : ℕ) → Reached given class owner → fits_type (classes_of given) of (type_of_class owner) ≡ true
 
 -- where the method that a pool entry names is found
@@ -246,7 +244,7 @@ module _ (given : List ClassDef) (main : List ℕ) (spelled : AllByRecursion Has
       ⊎_elim (λ same. itself (eqb-true owner n same))
       (λ later. ⊎_elim higher
       (λ top. object (among_one owner 0 (sym (ap (λ x. is_among owner (option_to_list x)) (tree_object given)) ∙ top)))
-      (append_cases owner (superinterfaces_of classes n) (option_to_list (object_number classes)) later))
+      (among_either owner (superinterfaces_of classes n) (option_to_list (object_number classes)) later))
       (or_cases (nat_eq owner n) (is_among owner (superinterfaces_of classes n ++ option_to_list (object_number classes)))
       (sym (ap (λ b. is_among owner (path_by b n)) is) ∙ among))
 
@@ -262,7 +260,7 @@ module _ (given : List ClassDef) (main : List ℕ) (spelled : AllByRecursion Has
         (λ higher. inr (in_interfaces classes sound class n owner up higher)) (λ object. top_reached class owner within object)
     by_sort false is h =
         ⊎_elim (λ here. inl (among-trans classes tree class n owner up here)) (λ there. inr (interfaces_up classes sound tree class n owner up there))
-        (append_cases owner (chain_of classes n) (interfaces_of classes n) h)
+        (among_either owner (chain_of classes n) (interfaces_of classes n) h)
 
   pub implemented_reached : (class n owner : ℕ) → class < length (classes_of given) → is_among n (interfaces_of (classes_of given) class) ≡ true
       → is_among owner (method_path (classes_of given) n) ≡ true → Reached given class owner
@@ -383,7 +381,7 @@ module _ (given : List ClassDef) (main : List ℕ) (spelled : AllByRecursion Has
         (own_passes (classes_of given) is_selectable owner method own (ap (λ s. not s && not (is_private m.flags)) static ∙ ap not e))
 
   implemented_some : AllByRecursion IsSupported given → (name descriptor : List ℕ) (class owner method : ℕ) → own_method classes any_flags name descriptor owner ≡ Some method
-      → class < length classes → (length built_in ≤ class → ClassHasObjects classes class)
+      → class < length classes → (length built_in ≤ class → IsPlain classes class)
       → bytes_eq (method_at classes method).method.name (codes "<clinit>") ≡ false
       → is_among owner (interfaces_of classes class) ≡ true → is_some (select classes class method) ≡ true
   implemented_some supported name descriptor class owner method found within objects plain there = by_place (cases_lt class (length built_in)) where

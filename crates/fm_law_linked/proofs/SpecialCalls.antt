@@ -22,6 +22,7 @@ use Rattle.fm_law_linked.proofs.CodedMethods.{item_there}
 use Rattle.fm_law_linked.proofs.InterfaceCalls.{class_of_name, named_by, type_named}
 use Rattle.fm_law_sound.specs.Resolved.{IsNamed}
 use Rattle.fm_types.specs.Named.{class_of_method}
+use Rattle.fm_world.proofs.Told.{special_target-unnamed}
 use Rattle.fm_world.specs.BuiltIns.{built_in}
 use Rattle.fm_world.specs.Causes.{abstract_call, calls_abstract, each_from, left_over, method_text, not_implemented, NotImplemented, Refusal, refused, refused_where}
 use Rattle.fm_world.specs.Descriptors.{class_number}
@@ -81,11 +82,6 @@ number_named given spelled o code caller index method type wanted call named at 
 
 -- ---- the method that is called
 
--- where none is searched for, it is the one that is named
-named_itself : (classes : List DeclaredClass) (caller method : ℕ) → special_target classes caller None method ≡ method
-unfolding special_target
-named_itself classes caller method = refl
-
 call_right : (classes : List DeclaredClass) (c : ClassDef) (caller index : ℕ) (item : Item) (m : MemberName) (method : ℕ)
     → abstract_call classes c caller item ≡ []
     → item.insn ≡ insn.Special index
@@ -136,6 +132,6 @@ special_there given main spelled none_missing none method index m t named x at =
   by_class : (o : Option ℕ) → class_of_type named ≡ o
       → is_abstract_method classes (special_target classes caller (class_of_type named) m.0) ≡ false
   by_class None e =
-      ap (λ n. is_abstract_method classes (special_target classes caller n m.0)) e ∙ ap (is_abstract_method classes) (named_itself classes caller m.0) ∙ right.0
+      ap (λ n. is_abstract_method classes (special_target classes caller n m.0)) e ∙ ap (is_abstract_method classes) (special_target-unnamed classes caller m.0) ∙ right.0
   by_class (Some class) e =
       ap (λ n. is_abstract_method classes (special_target classes caller n m.0)) (e ∙ sym (number class e)) ∙ right.1

@@ -33,11 +33,11 @@ use Rattle.fm_place.specs.Insertions.{Insertions}
 use Rattle.fm_place.specs.Rewriting.{free_index, Plans, rewritten_attribute, rewritten_method, rewritten_methods}
 use Rattle.fm_place.specs.Woven.{anchors_of, woven, woven_code}
 use Rattle.fm_pool.proofs.FreeEntriesAdded.{free_named, free_supported}
-use Rattle.fm_pool.proofs.GrownPool.{class_kept, entry_kept, text_kept}
+use Rattle.fm_pool.proofs.GrownPool.{and_kept, class_kept, entry_kept, text_kept, there_kept}
 use Rattle.fm_read_limits.proofs.FloatingLemmas.{array_begins}
 use Rattle.fm_read_limits.proofs.LimitLemmas.{code_is, first_code}
 use Rattle.fm_law_spelled.proofs.InsertedFits.{InsertedFits, woven_fits}
-use Rattle.fm_law_spelled.proofs.KeptNames.{field_kept, interface_method_kept, method_kept, still_some, still_such, such_kept}
+use Rattle.fm_law_spelled.proofs.KeptNames.{field_kept, interface_method_kept, method_kept, such_kept}
 use Rattle.fm_law_spelled.proofs.LaidFits.{HoldsOfTargets, laid_hold}
 use Rattle.fm_law_spelled.specs.Changed.{AttributeCan, CanWeave, ChangedAreAccepted, MethodCan, MethodsCan}
 
@@ -125,8 +125,8 @@ module _ (entries more : List Entry) where
 
   -- and may call what it calls
   calls_kept : (i : Insn) → calls_of_class entries i ≡ true → calls_of_class (entries ++ more) i ≡ true
-  calls_kept (insn.Special index) called = still_some (method_ref_at entries index) (method_ref_at (entries ++ more) index) (method_kept entries more index) called
-  calls_kept (insn.Static index) called = still_some (method_ref_at entries index) (method_ref_at (entries ++ more) index) (method_kept entries more index) called
+  calls_kept (insn.Special index) called = there_kept (method_ref_at entries index) (method_ref_at (entries ++ more) index) (method_kept entries more index) called
+  calls_kept (insn.Static index) called = there_kept (method_ref_at entries index) (method_ref_at (entries ++ more) index) (method_kept entries more index) called
   calls_kept i called = refl
 
   item_kept : (item : Item) → OperandIsValid entries item → ItemIsSupported entries item → HasSupportedInsn (entries ++ more) item
@@ -274,7 +274,7 @@ changed_accepted plans first c (bytes, spells) profile can =
       version = inr (omega arith, omega arith, refl);
       limits = methods_within (free_index c) plans first c.methods can profile.limits;
       supported = record {
-        name = still_such (class_name_at entries c.this_class) (class_name_at (with_free entries) c.this_class) IsSupportedName (class_kept entries more c.this_class) profile.supported.name;
+        name = and_kept (class_name_at entries c.this_class) (class_name_at (with_free entries) c.this_class) IsSupportedName (class_kept entries more c.this_class) profile.supported.name;
         fields = AllByRecursion-weaker (FieldIsSupported entries) (FieldIsSupported (with_free entries)) (λ m own. such_kept entries more m.descriptor _ own) c.fields profile.supported.fields;
         methods = methods_supported entries more (free_index c) named (is_interface c.flags) plans first c.methods can spells.methods profile.supported.methods;
         pool = free_supported entries profile.supported.pool;

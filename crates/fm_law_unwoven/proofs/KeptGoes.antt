@@ -13,8 +13,8 @@ use Rattle.fm_frames.specs.States.{Areas, Frame, word_at}
 use Rattle.fm_frames.specs.Steps.{is_start, max_locals_of, new_frame, went}
 use Rattle.fm_frames.specs.declared.values.Value.{Value}
 use Rattle.fm_frames.specs.declared.values.Value.TheVariants as value
-use Rattle.fm_law_no_fault.proofs.FramesKeep.{max_locals_in}
 use Rattle.fm_law_same_runs.specs.Beside.{kept_item, Marks}
+use Rattle.fm_law_sound.proofs.CallsStand.{max_locals_in}
 use Rattle.fm_law_sound.specs.Sound.{IsReference}
 use Rattle.fm_law_unwoven.proofs.OldFrames.{further_stay, new_from, old_from, same_gives, same_written, written_length}
 use Rattle.fm_law_unwoven.specs.Kept.{Begins, FramesGo, GoesOn, HasNotBegun, HoldersStand, InMethod, old_frame, StandBelow, StandsAtKept}

@@ -4,6 +4,7 @@ use Rattle.std.specs.List.{AllByRecursion, AllZip}
 use Rattle.std.proofs.lemmas.Bool.{false≢true}
 use Rattle.std.proofs.lemmas.Option.{none-some}
 use Rattle.fm_base.proofs.OptionFacts.{option_and_then-some, Some-from_some_and}
+use Rattle.fm_code.proofs.EdgesLemmas.{insn_inside}
 use Rattle.fm_code.specs.Edges.{insn_of, IsNormalEdge}
 use Rattle.fm_code.specs.declared.code_array.Code.{Code}
 use Rattle.fm_conn.specs.Facts.{Facts}
@@ -11,9 +12,9 @@ use Rattle.fm_frames.specs.States.{Frame}
 use Rattle.fm_frames.specs.Steps.{is_start, max_locals_of, new_frame, start_frames}
 use Rattle.fm_frames.specs.declared.values.Value.{Value}
 use Rattle.fm_frames.specs.declared.values.Value.TheVariants as value
-use Rattle.fm_law_no_fault.proofs.FramesKeep.{max_locals_in}
 use Rattle.fm_law_same_runs.specs.Beside.{kept_item, Marks}
-use Rattle.fm_law_sound.proofs.FramesStand.{item_within, typing_of}
+use Rattle.fm_law_sound.proofs.CallsStand.{max_locals_in}
+use Rattle.fm_law_sound.proofs.FramesStand.{typing_of}
 use Rattle.fm_law_sound.specs.Sound.{AreTyped, Calling, LocalHasKind, Stand, StandBelow as SoundBelow, StandsWithout, Starting, Typings, words_of_call}
 use Rattle.fm_law_unwoven.specs.Kept.{old_frame}
 use Rattle.fm_law_unwoven.specs.Laid.{IsKept, IsSplit, IsWhole}
@@ -60,7 +61,7 @@ module _ (p : Program) (typings : Typings) (typed : AreTyped p typings) where
       (λ given. (next : ℕ) → IsNormalEdge stands.code f.item next → FitsAt p (typings f.method) next given) meets.row in
       let parts = option_and_then-some
       (λ i. row_after p.outline f.method f.item (made_at p f.method stands.code) (use_by p f.method i) i stands.known) (insn_of stands.code f.item) row.0 row.1 in
-      item_within stands.code f.item parts.0 parts.1
+      insn_inside stands.code f.item parts.0 parts.1
 
   -- the arguments of a new frame fit its locals
   pub arguments_fit : (method : ℕ) (arguments : List Value) → StandsWithout p typings 0 (new_frame p method arguments) → length arguments ≤ max_locals_of p method

@@ -4,6 +4,7 @@ use Rattle.std.specs.Prelude.{slice_get}
 use Rattle.std.specs.List.{AllByRecursion}
 use Rattle.std.proofs.lemmas.List.{length-map}
 use Rattle.std.proofs.lemmas.Option.{none-some}
+use Rattle.fm_base.proofs.ListFacts.{AllByRecursion-at}
 use Rattle.fm_base.proofs.OptionFacts.{same_value}
 use Rattle.fm_cells.specs.Choices.{lawful}
 use Rattle.fm_cells.specs.Stores.{live_words}
@@ -25,8 +26,8 @@ use Rattle.fm_frames.specs.States.{Areas, Frame, Moved, State}
 use Rattle.fm_frames.specs.Steps.{attempted, continued, done_by, halted, is_deep, is_over, max_locals_of, next_effect, objects_made, step, target_at, words_made}
 use Rattle.fm_frames.specs.declared.ends.Ended.TheVariants as end
 use Rattle.fm_frames.specs.declared.values.Value.{Value}
-use Rattle.fm_law_no_fault.proofs.FramesKeep.{max_locals_in}
 use Rattle.fm_law_same_runs.specs.Beside.{kept_item, Marks}
+use Rattle.fm_law_sound.proofs.CallsStand.{max_locals_in}
 use Rattle.fm_law_sound.proofs.StartActs.{for_class}
 use Rattle.fm_law_sound.specs.Laws.{SoundStatesStep}
 use Rattle.fm_law_sound.specs.Making.{MakesAreResolved}
@@ -44,7 +45,6 @@ use Rattle.fm_law_unwoven.specs.WovenFrom.{HasInserted, inserted_by, IsWovenFrom
 use Rattle.fm_law_woven_flow.proofs.RoleLists.{element_at}
 use Rattle.fm_layout.specs.Spelling.{conditional, opposite}
 use Rattle.fm_layout.specs.declared.rooms.Condition.{Condition}
-use Rattle.fm_place.proofs.WovenLemmas.{all-at}
 use Rattle.fm_place.specs.Rewriting.{Plans}
 use Rattle.fm_types.specs.Typed.{use_by}
 use Rattle.fm_world.specs.Programs.{code_at, Program}
@@ -130,7 +130,7 @@ module _ (p q : Program) (facts : Facts) (plans : Plans) (marks : Marks) (from :
       subst (λ n. UsesNamed p.outline n (length (targets_of i)) (next_effect p x)) max_is
       (subst (λ d. UsesNamed p.outline code.max_locals (length (targets_of i)) d) (sym effect_is)
       (only_named code.max_locals p.outline z.areas.started g.method (use_by p g.method i) i (slice_get z.input 0) (sights p.outline z.areas.store g.stack)
-      (all-at (λ (k : Item). LocalsFit code.max_locals k.insn) code.items j item.0 (rules.1).locals item.1)))
+      (AllByRecursion-at (λ (k : Item). LocalsFit code.max_locals k.insn) code.items j item.0 (rules.1).locals item.1)))
 
   whole_callers : CallsAreWhole p q facts plans marks from z g callers code code_is j j_is i found below stand coded e uses z.areas [] 0 [] callers
   whole_callers = by_callers callers at.sound.frames.1 where

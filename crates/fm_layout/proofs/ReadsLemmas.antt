@@ -76,7 +76,7 @@ untargeted f (insn.Table low others targets) plain = cc
 untargeted f (insn.Lookup others keys targets) plain = cc
 untargeted f i plain = refl
 
-names_target-with : (f : ℕ → ℕ) (i : Insn) → names_target (with_targets f i) ≡ names_target i
+pub names_target-with : (f : ℕ → ℕ) (i : Insn) → names_target (with_targets f i) ≡ names_target i
 names_target-with f (insn.IfInt t n) = refl
 names_target-with f (insn.IfPair t n) = refl
 names_target-with f (insn.IfSame t n) = refl

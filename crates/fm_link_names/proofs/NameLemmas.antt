@@ -110,7 +110,7 @@ member_at texts names numbers each (entry.InterfaceMethod class member) = each c
 member_at texts names numbers each e = tt
 
 -- the member at an index by its entry
-named_member_by : (entries : List Entry) (index : ℕ) (e : Entry) → entry_at entries index ≡ e
+pub named_member_by : (entries : List Entry) (index : ℕ) (e : Entry) → entry_at entries index ≡ e
     → named_member entries index ≡ member_of_entry (member_named entries) e
 named_member_by entries index (entry.Field class member) at = rw at (rw at refl)
 named_member_by entries index (entry.Method class member) at = rw at (rw at refl)

@@ -54,7 +54,7 @@ with_flags-cons w (Some flag) flags = refl
 
 -- ---- what is noted at an index
 
-abbrev names_it : ℕ → Option ℕ → Bool
+abbrev pub names_it : ℕ → Option ℕ → Bool
 names_it k None = false
 names_it k (Some operand) = nat_eq operand k
 

@@ -131,8 +131,6 @@ class_within files i class number within =
     let long = length-map files class_in in
     omega (arith, all, declared, long, number, within)
 
--- ---- what is selected
-
 -- ---- names of declared methods
 
 pub declared_spelled : (class name descriptor c n d begun dotted named whole : List ℕ) → class ≡ c → name ≡ n → descriptor ≡ d → begun ≡ class

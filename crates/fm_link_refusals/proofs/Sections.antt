@@ -20,7 +20,7 @@ use Rattle.fm_world.specs.declared.declarations.DeclaredMethod.{DeclaredMethod}
 
 -- ---- the methods of one class
 
-abbrev no_owned : OwnedMethod
+abbrev pub no_owned : OwnedMethod
 no_owned = record { class = 0; method = no_method }
 
 methods_at : (number : ℕ) (classes : List DeclaredClass) (class j : ℕ) → class < length classes → j < length (class_at classes class).methods

@@ -54,7 +54,7 @@ judged_by_flags flags_at (Some m) (w ∷ flags) e = refl
 
 -- ---- indices that no instruction names
 
-abbrev names : ℕ → Option ℕ → Bool
+abbrev pub names : ℕ → Option ℕ → Bool
 names index None = false
 names index (Some operand) = operand == index
 

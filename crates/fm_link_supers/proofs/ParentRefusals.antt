@@ -58,7 +58,7 @@ none_at f (y ∷ ys) i none among =
 
 -- ---- the indices that are judged
 
-among_filter : (p : ℕ → Bool) (x : ℕ) (xs : List ℕ) → is_among x xs ≡ true → p x ≡ true → is_among x (filter p xs) ≡ true
+pub among_filter : (p : ℕ → Bool) (x : ℕ) (xs : List ℕ) → is_among x xs ≡ true → p x ≡ true → is_among x (filter p xs) ≡ true
 among_filter p x [] among passes = absurd (false≢true among)
 among_filter p x (y ∷ ys) among passes =
     by_case (λ h. among_filter p x ys h passes) (or_cases (nat_eq x y) (is_among x ys) among) (p y) refl where

@@ -35,7 +35,7 @@ follows-on_method R o resolved.Unused f g each = tt
 -- ---- calls of methods
 
 -- the arguments, and below them a reference, are whole
-called-whole : (o : Outline) (m : ℕ) (named : TypeRef) → is_whole (argument_words o m ++ slot.Ref named ∷ []) ≡ true
+pub called-whole : (o : Outline) (m : ℕ) (named : TypeRef) → is_whole (argument_words o m ++ slot.Ref named ∷ []) ≡ true
 called-whole o m named = whole-append (argument_words o m) (slot.Ref named ∷ []) (argument_words-whole o m) refl
 
 pub instance_call_row-under : (o : Outline) → AreTree o.classes → (u : Use) (s t : TypeState) → IsUnder o s t
