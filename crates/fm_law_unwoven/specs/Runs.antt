@@ -1,7 +1,7 @@
 -- Every run of the program with insertions: from kept item to kept item by few inserted steps, and with holders cleared.
 use Rattle.std.specs.Prelude.{◌≡◌, ℕ, ◌+◌, ◌<◌, ◌≤◌, ◌⊎◌, false, List, length, Some, None, slice_get}
 use Rattle.std.specs.List.{AllByRecursion}
-use Rattle.fm_base.specs.declared.limits.TheConstants.{MAX_FILE_BYTES, MAX_LIVE_WORDS, MAX_MADE_WORDS}
+use Rattle.fm_base.specs.declared.limits.TheConstants.{MAX_LIVE_WORDS}
 use Rattle.fm_cells.specs.Choices.{lawful}
 use Rattle.fm_cells.specs.Stores.{opened}
 use Rattle.fm_code.specs.declared.code_array.Code.{Code}
@@ -44,7 +44,7 @@ KeptStatesGoOn =
 abbrev pub OpeningsComeToKept : Type 0
 OpeningsComeToKept =
     (p q : Program) (facts : Facts) (plans : Plans) (marks : Marks) → IsWovenFrom p q facts plans marks → StepsAreResolved p → MakesAreResolved p → MainIsReady p
-    → (choose : Choose) (job : Job) → length job.input ≤ MAX_FILE_BYTES → ArgumentsFit job.arguments → (words : ℕ) → words ≤ MAX_LIVE_WORDS → (free : List (List ℕ))
+    → (choose : Choose) (job : Job) → ArgumentsFit job.arguments → (words : ℕ) → words ≤ MAX_LIVE_WORDS → (free : List (List ℕ))
     → ComesToKept p q facts plans marks (lawful choose) (reuse_run q choose job words free 0).state
 
 -- ---- all states of a run
@@ -69,5 +69,5 @@ pub record RunsAreCleared (p q : Program) (facts : Facts) (plans : Plans) (marks
 abbrev pub AllRunsAreCleared : Type 0
 AllRunsAreCleared =
     (p q : Program) (facts : Facts) (plans : Plans) (marks : Marks) → IsWovenFrom p q facts plans marks → StepsAreResolved p → MakesAreResolved p → MainIsReady p
-    → (choose : Choose) (job : Job) → length job.input ≤ MAX_FILE_BYTES → ArgumentsFit job.arguments → (words : ℕ) → words ≤ MAX_LIVE_WORDS → (free : List (List ℕ))
+    → (choose : Choose) (job : Job) → ArgumentsFit job.arguments → (words : ℕ) → words ≤ MAX_LIVE_WORDS → (free : List (List ℕ))
     → RunsAreCleared p q facts plans marks (reuse_run q choose job words free)
