@@ -8,6 +8,7 @@ pub mod InsertedSteps
 pub mod TodosDone
 pub mod WovenPrograms
 pub mod OldFrames
+pub mod KeptEdges
 pub mod KeptEffects
 pub mod KeptGoes
 pub mod KeptCatches
