@@ -18,3 +18,9 @@ pub mod KeptSplit
 pub mod KeptSteps
 pub mod TodoLocals
 pub mod TodoAreas
+pub mod TodoCounts
+pub mod HoldersGo
+pub mod KeptSites
+pub mod Cleared
+pub mod KeptReached
+pub mod KeptOnwards
