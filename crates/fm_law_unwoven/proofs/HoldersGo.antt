@@ -1,10 +1,9 @@
 -- The holders of a frame at the next old item, once all that is inserted before it is done.
-use Rattle.std.proofs.Common.{◌≡◌, ◌≢◌, ℕ, ◌+◌, ◌<◌, ◌≤◌, ◌⊎◌, inl, inr, ⊎_elim, Bool, true, false, List, [], ◌∷◌, ◌++◌, length, map, Some, Contains, refl, sym, ap, subst, ◌∙◌, arith, if◌then◌else◌}
+use Rattle.std.proofs.Common.{◌≡◌, ◌≢◌, ℕ, ◌+◌, ◌<◌, ◌≤◌, ◌⊎◌, inl, inr, Bool, true, false, List, [], ◌∷◌, ◌++◌, length, map, Some, Contains, refl, sym, ap, subst, ◌∙◌, arith}
 use Rattle.std.specs.Prelude.{nat_eq, slice_get, slice_set}
 use Rattle.std.specs.List.{range_with_len}
 use Rattle.std.proofs.lemmas.Bool.{cases_eq, eqb-true}
 use Rattle.std.proofs.lemmas.Option.{slice_get_within}
-use Rattle.fm_base.proofs.ContainsFacts.{Contains-cons_cases}
 use Rattle.fm_code.specs.Edges.{IsEdge}
 use Rattle.fm_code.specs.declared.code_array.Code.{Code}
 use Rattle.fm_conn.proofs.ListLemmas.{Contains-from_map, Contains-from_range, Contains-range}
@@ -18,32 +17,11 @@ use Rattle.fm_law_unwoven.proofs.TodoAreas.{may_both, may_free, may_keep, may_st
 use Rattle.fm_law_unwoven.specs.Doing.{all_locals_after, MayDoAll}
 use Rattle.fm_law_unwoven.specs.Kept.{HoldersStand}
 use Rattle.fm_law_unwoven.specs.Laid.{frees_at, keeps_at, starts_of, Todo, ToFree, ToKeep, ToStart}
-use Rattle.fm_place.proofs.FullLemmas.{some-same}
-use Rattle.fm_place.specs.Insertions.{after_at, before_at, Holder, Insertions, numbers_of}
+use Rattle.fm_place.proofs.FullLemmas.{numbers-found, some-same}
+use Rattle.fm_place.specs.Insertions.{after_at, before_at, Holder, Insertions}
 use Rattle.fm_place.specs.Places.{is_busy, IsBusyPath, MayHold}
 use Rattle.fm_place.specs.Safe.{IsSafeAt}
 use Rattle.fm_place.specs.Woven.{local_of}
-
--- ---- numbers of holders
-
--- a number that is listed is that of a holder that passes the test
-pub listed_holder : (test : Holder → Bool) (number : ℕ) (holders : List Holder) (k : ℕ) → Contains (numbers_of test number holders) k
-    → (m : ℕ) × (h : Holder) × (slice_get holders m ≡ Some h) × (test h ≡ true) × (k ≡ number + m)
-listed_holder test number [] k (n, inside, is) = absurd (omega (arith, inside))
-listed_holder test number (h ∷ holders) k found = by_test (test h) refl found where
-  later : Contains (numbers_of test (number + 1) holders) k
-      → (m : ℕ) × (other : Holder) × (slice_get (h ∷ holders) m ≡ Some other) × (test other ≡ true) × (k ≡ number + m)
-  later rest =
-      let there = listed_holder test (number + 1) holders k rest in
-      let place = there.4 in
-      (there.0 + 1, there.1, there.2, there.3, omega (arith, place))
-
-  by_test : (b : Bool) → test h ≡ b → Contains (if b then number ∷ numbers_of test (number + 1) holders else numbers_of test (number + 1) holders) k
-      → (m : ℕ) × (other : Holder) × (slice_get (h ∷ holders) m ≡ Some other) × (test other ≡ true) × (k ≡ number + m)
-  by_test true passes among =
-      ⊎_elim (λ (first : k ≡ number). (0, h, refl, passes, omega (arith, first))) later
-      (Contains-cons_cases number (numbers_of test (number + 1) holders) k among)
-  by_test false fails among = later among
 
 -- ---- what a holder may hold
 
@@ -130,12 +108,12 @@ module _ (facts : Facts) (x : TypedMethod) (plan : Insertions) where
     apart : (h : ℕ) (holder : Holder) → slice_get plan.holders h ≡ Some holder → holder.site ≢ j → (t : Todo) → Contains (keeps_at plan j) t → holder_of t ≢ h
     apart h holder is other t found same =
         let there = Contains-from_map ToKeep (after_at plan j) t found in
-        let listed = listed_holder (λ o. nat_eq o.site j) 0 plan.holders there.0 there.1 in
+        let listed = numbers-found (λ o. nat_eq o.site j) 0 plan.holders there.0 there.1 in
         let number : there.0 ≡ h = ap holder_of there.2 ∙ same in
-        let place = listed.4 in
-        let here : listed.0 ≡ h = omega (arith, place, number) in
-        let one : listed.1 ≡ holder = some-same (sym listed.2 ∙ ap (slice_get plan.holders) here ∙ is) in
-        other (ap (λ (o : Holder). o.site) (sym one) ∙ eqb-true listed.1.site j listed.3)
+        let place = listed.number in
+        let here : listed.place ≡ h = omega (arith, place, number) in
+        let one : listed.holder ≡ holder = some-same (sym listed.there ∙ ap (slice_get plan.holders) here ∙ is) in
+        other (ap (λ (o : Holder). o.site) (sym one) ∙ eqb-true listed.holder.site j listed.passes)
 
     -- the holders of item j keep what it gave, which they may hold from there on
     kept_may : MayStand locals (j + 1) → MayStand kept (j + 1)
@@ -161,9 +139,9 @@ module _ (facts : Facts) (x : TypedMethod) (plan : Insertions) where
         (may_frees stack kept kept_wide kept_references (j + 1) safe) where
           each : (h : ℕ) → Contains (after_at plan j) h → local_of x.code h < length locals
           each h among =
-              let listed = listed_holder (λ o. nat_eq o.site j) 0 plan.holders h among in
-              let within = slice_get_within plan.holders listed.0 listed.1 listed.2 in
-              let place = listed.4 in
+              let listed = numbers-found (λ o. nat_eq o.site j) 0 plan.holders h among in
+              let within = slice_get_within plan.holders listed.place listed.holder listed.there in
+              let place = listed.number in
               omega (arith, wide, within, place)
 
   -- ---- at the start

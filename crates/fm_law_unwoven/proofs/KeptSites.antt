@@ -15,8 +15,8 @@ use Rattle.fm_law_same_runs.specs.Beside.{Marks}
 use Rattle.fm_law_sound.proofs.FramesStand.{typing_of}
 use Rattle.fm_law_sound.specs.Resolved.{StepsAreResolved}
 use Rattle.fm_law_sound.specs.Sound.{AreTyped, HasKind, HaveKinds, IsReference, StandsWithout}
-use Rattle.fm_law_unwoven.proofs.HoldersGo.{listed_holder}
 use Rattle.fm_law_unwoven.specs.WovenFrom.{inserted_by, IsWovenFrom}
+use Rattle.fm_place.proofs.FullLemmas.{numbers-found}
 use Rattle.fm_place.proofs.PlaceLemmas.{both-first}
 use Rattle.fm_place.proofs.WovenLemmas.{all-at}
 use Rattle.fm_place.specs.Insertions.{after_at, Holder, Insertions}
@@ -85,10 +85,12 @@ module _ (p q : Program) (facts : Facts) (plans : Plans) (marks : Marks) (from :
     top_node : (plan : Insertions) → AreSafe facts (typed_method p facts.typing method code) plan → (h : ℕ) → Contains (after_at plan j) h
         → IsNode (typed_method p facts.typing method code) (site_node (typed_method p facts.typing method code) j)
     top_node plan safe h among =
-        let listed = listed_holder (λ o. nat_eq o.site j) 0 plan.holders h among in
-        let site : listed.1.site ≡ j = eqb-true listed.1.site j listed.3 in
-        let holder : IsSafeHolder facts x listed.1 = all-at (IsSafeHolder facts x) plan.holders listed.0 listed.1 safe.holders listed.2 in
-        let kind = both-first (is_some (site_kind facts x listed.1.site)) (is_captured facts x (site_class facts x listed.1.site)) holder.captured in
+        let listed = numbers-found (λ o. nat_eq o.site j) 0 plan.holders h among in
+        let site : listed.holder.site ≡ j = eqb-true listed.holder.site j listed.passes in
+        let holder : IsSafeHolder facts x listed.holder =
+        all-at (IsSafeHolder facts x) plan.holders listed.place listed.holder safe.holders listed.there in
+        let kind =
+        both-first (is_some (site_kind facts x listed.holder.site)) (is_captured facts x (site_class facts x listed.holder.site)) holder.captured in
         nodes p facts method code (facts.typing method) ready code_is (typing_of p facts.typing typed method code code_is) j
         (subst (λ n. is_some (site_kind facts x n) ≡ true) site kind)
 

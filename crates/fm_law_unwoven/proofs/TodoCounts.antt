@@ -52,9 +52,6 @@ numbers_few test number (h ∷ holders) = by_test (test h) where
   by_test false = omega (arith, rest)
 
 module _ (plan : Insertions) where
-  abbrev count : ℕ
-  count = length plan.holders
-
   pub starts_count : all_steps_to (starts_of plan) ≡ 2 * length plan.holders
   starts_count = let size = length-range_with_len 0 (length plan.holders) in let all = starts_steps (range_with_len 0 (length plan.holders)) in omega (arith, size, all)
 
