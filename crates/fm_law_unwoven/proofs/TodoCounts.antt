@@ -23,7 +23,7 @@ use Rattle.fm_world.specs.Programs.{code_at, Program}
 -- ---- steps of lists
 
 pub steps_both : (one two : List Todo) → all_steps_to (one ++ two) ≡ all_steps_to one + all_steps_to two
-steps_both [] two = refl
+steps_both [] two = omega arith
 steps_both (t ∷ one) two = let rest = steps_both one two in omega (arith, rest)
 
 starts_steps : (hs : List ℕ) → all_steps_to (map ToStart hs) ≡ 2 * length hs
@@ -42,14 +42,11 @@ frees_steps (h ∷ hs) = let rest = frees_steps hs in omega (arith, rest)
 
 numbers_few : (test : Holder → Bool) (number : ℕ) (holders : List Holder) → length (numbers_of test number holders) ≤ length holders
 numbers_few test number [] = omega arith
-numbers_few test number (h ∷ holders) = by_test (test h) where
-  rest : length (numbers_of test (number + 1) holders) ≤ length holders
-  rest = numbers_few test (number + 1) holders
-
-  by_test : (b : Bool)
+numbers_few test number (h ∷ holders) = by_test (test h) (numbers_few test (number + 1) holders) where
+  by_test : (b : Bool) → length (numbers_of test (number + 1) holders) ≤ length holders
       → length (if b then number ∷ numbers_of test (number + 1) holders else numbers_of test (number + 1) holders) ≤ length (h ∷ holders)
-  by_test true = omega (arith, rest)
-  by_test false = omega (arith, rest)
+  by_test true rest = omega (arith, rest)
+  by_test false rest = omega (arith, rest)
 
 module _ (plan : Insertions) where
   pub starts_count : all_steps_to (starts_of plan) ≡ 2 * length plan.holders
