@@ -8,6 +8,7 @@ pub mod InsertedSteps
 pub mod TodosDone
 pub mod WovenPrograms
 pub mod OldFrames
+pub mod KeptEdges
 pub mod KeptEffects
 pub mod KeptGoes
 pub mod KeptCatches
@@ -17,3 +18,9 @@ pub mod KeptSplit
 pub mod KeptSteps
 pub mod TodoLocals
 pub mod TodoAreas
+pub mod TodoCounts
+pub mod HoldersGo
+pub mod KeptSites
+pub mod Cleared
+pub mod KeptReached
+pub mod KeptOnwards

@@ -3,11 +3,13 @@
 ghost use Rattle.fm_law_unwoven.specs.Doing.{TodosAreDone};
 ghost use Rattle.fm_law_unwoven.specs.Kept.{KeptStepsAreSteps};
 ghost use Rattle.fm_law_unwoven.specs.Laid.{CodesAreLaid};
+ghost use Rattle.fm_law_unwoven.specs.Runs.{KeptStatesGoOn};
 ghost use Rattle.fm_law_unwoven.specs.UnseenCode.{LocalsAreUnseen, OnlyNamedIsUsed, OppositesExchange, TargetsAreUnseen};
 ghost use Rattle.fm_law_unwoven.specs.WovenFrom.{SafeProgramsAreWoven};
 
 use fm_law_linked::law_resolved;
 use fm_law_sound::law_sound;
+use fm_same::law_sites;
 use fm_world::law_class_types;
 
 /// The program of classes with safe insertions has the outline of the given one, and its methods with what
@@ -49,4 +51,15 @@ pub fn law_kept_steps()
 {
     // By this law.
     law_sound();
+}
+
+/// After a step at a kept item few inserted steps lead to the next kept item, with holders that are null or
+/// may hold something of a class that is busy there; or the run ends.
+pub fn law_kept_states()
+    ensures { KeptStatesGoOn }
+{
+    // By these laws.
+    law_kept_steps();
+    law_sound();
+    law_sites();
 }
