@@ -21,6 +21,7 @@ use Rattle.fm_law_sound.specs.Making.{ArgumentsFit, MakesAreResolved}
 use Rattle.fm_law_sound.specs.Resolved.{MainIsReady, StepsAreResolved}
 use Rattle.fm_law_sound.specs.Sound.{AreTyped, HaveKinds, IsSoundBy, Stand}
 use Rattle.fm_law_unwoven.proofs.KeptGoes.{begins, new_width, not_begun, old_new}
+use Rattle.fm_law_unwoven.proofs.KeptOnwards.{begins_comes}
 use Rattle.fm_law_unwoven.proofs.KeptSound.{arguments_fit, methods_coded}
 use Rattle.fm_law_unwoven.proofs.Openings.{BothOpen, NoneOpens, Opened, opened_frames, openings, SecondEnds}
 use Rattle.fm_law_unwoven.proofs.StartFrames.{old_starts, starts_below}
@@ -32,15 +33,7 @@ use Rattle.fm_place.specs.Rewriting.{Plans}
 use Rattle.fm_types.specs.Typed.{entry_slots}
 use Rattle.fm_world.specs.Programs.{code_at, Outline, Program}
 
--- a method that begins comes to a kept item
-abbrev pub BeginningsCome : Type 0
-BeginningsCome =
-    (p q : Program) (facts : Facts) (plans : Plans) (marks : Marks) → IsWovenFrom p q facts plans marks → (choose : Choose)
-    → (z : State) (g : Frame) (callers : List Frame) → z.areas.store.budget ≤ MAX_LIVE_WORDS
-    → g.item ≡ 0 → g.stack ≡ [] → length g.locals ≡ max_locals_of q g.method → StandBelow p q facts plans marks g callers
-    → IsSoundBy p facts.typing (old_state p marks 0 (with_frame z g callers)) → ComesToKept p q facts plans marks (lawful choose) (with_frame z g callers)
-
-module _ (begin : BeginningsCome) (p q : Program) (facts : Facts) (plans : Plans) (marks : Marks) (from : IsWovenFrom p q facts plans marks) (typed : AreTyped p facts.typing)
+module _ (p q : Program) (facts : Facts) (plans : Plans) (marks : Marks) (from : IsWovenFrom p q facts plans marks) (typed : AreTyped p facts.typing)
     (ready : StepsAreResolved p) (makes : MakesAreResolved p) (main : MainIsReady p) (choose : Choose) (x : State) (going : x.ended ≡ None)
     (words : x.areas.store.budget ≤ MAX_LIVE_WORDS) (sound : IsSoundBy p facts.typing x) (arguments : ℕ) where
   -- main's frame in both programs
@@ -77,15 +70,15 @@ module _ (begin : BeginningsCome) (p q : Program) (facts : Facts) (plans : Plans
       → x.frames ≡ opened_frames p p methods arguments
       → ComesToKept p q facts plans marks (lawful choose) (record x { frames = opened_frames p q methods arguments; ended = None })
   open_comes [] starts coded are =
-      begin p q facts plans marks from choose x (main_of q) [] words refl refl
-      (new_width p q facts plans marks from p.outline.main (ref arguments ∷ []) main_fits) tt (held_sound (main_of q) [] (main_old ∙ sym are))
+      begins_comes p q facts plans marks from ready choose x (main_of q) [] refl
+      (new_width p q facts plans marks from p.outline.main (ref arguments ∷ []) main_fits) tt words (held_sound (main_of q) [] (main_old ∙ sym are))
   open_comes (m ∷ methods) starts coded are =
       let top : Frame = new_frame q m [] in
       let below : List Frame = start_frames q methods ++ main_of q ∷ [] in
       let start : is_start q.outline m ≡ true = ap (λ (o : Outline). is_start o m) from.outline ∙ starts.0 in
-      begin p q facts plans marks from choose x top below words refl refl
+      begins_comes p q facts plans marks from ready choose x top below refl
       (new_width p q facts plans marks from m [] (omega arith))
-      (starts_below p q facts plans marks from top start methods starts.1 (main_of q ∷ []) main_waits)
+      (starts_below p q facts plans marks from top start methods starts.1 (main_of q ∷ []) main_waits) words
       (held_sound top below (old_starts p q facts plans marks from (m ∷ methods) (main_of p ∷ []) (main_of q ∷ []) coded main_old ∙ sym are))
 
   starts_of_classes : (methods : List ℕ) → AllByRecursion (StartsClass p) methods → AllByRecursion (λ m. is_start p.outline m ≡ true) methods
@@ -100,21 +93,21 @@ module _ (begin : BeginningsCome) (p q : Program) (facts : Facts) (plans : Plans
       (methods_coded p facts.typing typed methods (main_of p ∷ []) (subst (Stand p facts.typing) are sound.frames)) are
 
 -- however the opening leads
-opened_come : BeginningsCome → (p q : Program) (facts : Facts) (plans : Plans) (marks : Marks) → IsWovenFrom p q facts plans marks → AreTyped p facts.typing
+opened_come : (p q : Program) (facts : Facts) (plans : Plans) (marks : Marks) → IsWovenFrom p q facts plans marks → AreTyped p facts.typing
     → StepsAreResolved p → MakesAreResolved p → MainIsReady p → (choose : Choose) (x y : State) → x.areas.store.budget ≤ MAX_LIVE_WORDS
     → IsSoundBy p facts.typing x → Opened p q x y → ComesToKept p q facts plans marks (lawful choose) y
-opened_come begin p q facts plans marks from typed ready makes main choose x y words sound (SecondEnds e is) = HasEnded e is
-opened_come begin p q facts plans marks from typed ready makes main choose x y words sound (NoneOpens none going) =
+opened_come p q facts plans marks from typed ready makes main choose x y words sound (SecondEnds e is) = HasEnded e is
+opened_come p q facts plans marks from typed ready makes main choose x y words sound (NoneOpens none going) =
     absurd (let some = sound.running going in let count : length x.frames ≡ 0 = ap length none in omega (arith, some, count))
-opened_come begin p q facts plans marks from typed ready makes main choose x y words sound (BothOpen classes arguments going are is) =
+opened_come p q facts plans marks from typed ready makes main choose x y words sound (BothOpen classes arguments going are is) =
     subst (ComesToKept p q facts plans marks (lawful choose))
     (sym (is ∙ (λ t. record x { frames = opened_frames p q (start_methods p.outline classes) arguments; ended = going t })))
-    (both_come begin p q facts plans marks from typed ready makes main choose x going words sound arguments classes are)
+    (both_come p q facts plans marks from typed ready makes main choose x going words sound arguments classes are)
 
-pub openings_come : BeginningsCome → SoundRuns → OpeningsComeToKept
+pub openings_come : SoundRuns → OpeningsComeToKept
 unfolding after
-openings_come begin sound_runs p q facts plans marks from typed ready makes main choose job given words within free =
-    opened_come begin p q facts plans marks from typed ready makes main choose (opening p (lawful choose) job store).state (opening q (lawful choose) job store).state
+openings_come sound_runs p q facts plans marks from typed ready makes main choose job given words within free =
+    opened_come p q facts plans marks from typed ready makes main choose (opening p (lawful choose) job store).state (opening q (lawful choose) job store).state
     (subst (λ n. n ≤ MAX_LIVE_WORDS) (sym (opening_budget p (lawful choose) job store)) within)
     (sound_runs p facts.typing typed ready makes main choose job given words (Some MAX_MADE_WORDS) free within 0)
     (openings p q from.outline (lawful choose) job store) where
