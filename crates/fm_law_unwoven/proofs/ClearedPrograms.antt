@@ -3,7 +3,7 @@ use Rattle.std.proofs.Common.{◌≡◌, ℕ, ◌≤◌, false, List, [], ◌∷
 use Rattle.std.specs.Prelude.{slice_get}
 use Rattle.std.specs.List.{AllByRecursion}
 use Rattle.std.proofs.lemmas.Option.{none-some, same_Some}
-use Rattle.fm_base.proofs.OptionFacts.{IsSomeAnd-at_some}
+use Rattle.fm_base.proofs.OptionFacts.{IsSomeAnd-from_some, option_and_then-some}
 use Rattle.fm_base.specs.declared.limits.TheConstants.{MAX_LIVE_WORDS}
 use Rattle.fm_code.specs.declared.class_file.ClassDef.{ClassDef}
 use Rattle.fm_code.specs.declared.code_array.Code.{Code}
@@ -20,10 +20,10 @@ use Rattle.fm_law_same_runs.specs.Programs.{AreClear, AreTaken, HoldersAreCleare
 use Rattle.fm_law_sound.specs.Sound.{AreTyped}
 use Rattle.fm_law_unwoven.specs.Runs.{AllRunsAreCleared, AreCleared, FewAreInsertedInRuns, IsCleared, RunsAreCleared, SafeRunsAreCleared}
 use Rattle.fm_law_unwoven.specs.WovenFrom.{inserted_by, SafeProgramsAreWoven}
-use Rattle.fm_place.proofs.FullLemmas.{full_is_safe}
+use Rattle.fm_place.proofs.FullLemmas.{full-safe}
 use Rattle.fm_place.specs.Insertions.{full_insertions, Holder, Insertions}
 use Rattle.fm_place.specs.Places.{is_busy}
-use Rattle.fm_place.specs.Safe.{Full, full_plans, method_in_facts, Safe}
+use Rattle.fm_place.specs.Safe.{Full, full_plans, IsSafeMethod, method_in_facts, Safe}
 use Rattle.fm_place.specs.Woven.{local_of}
 use Rattle.fm_types.specs.Typed.{IsTypingOf}
 use Rattle.fm_world.specs.Programs.{code_at, Program, program_of}
@@ -31,7 +31,7 @@ use Rattle.fm_world.specs.Programs.{code_at, Program, program_of}
 -- the states of facts are a typing
 facts_typed : (p : Program) (facts : Facts) → AreFacts p facts → AreTyped p facts.typing
 facts_typed p facts exact method code is =
-    IsSomeAnd-at_some (code_at p method) (λ c. IsTypingOf p method c (facts.typing method)) code is (exact.methods method code is).typing
+    IsSomeAnd-from_some (code_at p method) (λ c. IsTypingOf p method c (facts.typing method)) code is (exact.methods method code is).typing
 
 pub safe_cleared : AllRunsAreCleared → SafeProgramsAreWoven → StepsOfProgramsAreResolved → MakesOfProgramsAreResolved → MainOfProgramsIsReady → SafeRunsAreCleared
 safe_cleared runs woven steps makes main given entry taken written marks safe job job_given choose words few free =
@@ -67,8 +67,25 @@ all_clear : (p : Program) (facts : Facts) (marks : Marks) (frames : List Frame) 
 all_clear p facts marks [] all = tt
 all_clear p facts marks (f ∷ frames) all = (full_clear p facts marks f all.0, all_clear p facts marks frames all.1)
 
+-- each method that has them, by the facts that they were made with
+full_method : (p : Program) (facts : Facts) (method : ℕ) (plan : Insertions) → full_plans p facts method ≡ Some plan → IsSafeMethod p facts method plan
+full_method p facts method plan found =
+    let parts = option_and_then-some (full_insertions facts) (method_in_facts p facts method) plan found in
+    record { x = parts.0; is = parts.1; safe = full-safe facts parts.0 plan parts.2 }
+
+-- they are safe, with these facts and plans
+safe_of : (given : List ClassDef) (main : List ℕ) (written : List ClassDef) (marks : Marks) → Full given main written marks → Safe given main written marks
+safe_of given main written marks full = record {
+  facts = full.facts;
+  exact = full.exact;
+  plans = full_plans (program_of given main) full.facts;
+  methods = full_method (program_of given main) full.facts;
+  written_is = full.written_is;
+  marks_are = full.marks_are;
+}
+
 pub full_cleared : SafeRunsAreCleared → HoldersAreCleared
-unfolding full_is_safe
+unfolding safe_of
 full_cleared runs given main taken written marks full job job_given choose words few free l going =
     all_clear (program_of given main) full.facts marks (reuse_run (program_of written main) choose job words free l).state.frames
-    ((runs given main taken written marks (full_is_safe given main written marks full) job job_given choose words few free).cleared l going)
+    ((runs given main taken written marks (safe_of given main written marks full) job job_given choose words few free).cleared l going)
