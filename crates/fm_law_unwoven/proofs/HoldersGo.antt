@@ -6,7 +6,8 @@ use Rattle.std.proofs.lemmas.Bool.{cases_eq, eqb-true}
 use Rattle.std.proofs.lemmas.Option.{slice_get_within}
 use Rattle.fm_code.specs.Edges.{IsEdge}
 use Rattle.fm_code.specs.declared.code_array.Code.{Code}
-use Rattle.fm_conn.proofs.ListLemmas.{Contains-from_map, Contains-from_range, Contains-range}
+use Rattle.fm_code.proofs.EdgesLemmas.{Contains-from_map}
+use Rattle.fm_conn.proofs.ListLemmas.{Contains-from_range, Contains-range}
 use Rattle.fm_conn.specs.Facts.{Facts}
 use Rattle.fm_conn.specs.Nodes.{TypedMethod}
 use Rattle.fm_frames.specs.States.{Frame, null, word_at}

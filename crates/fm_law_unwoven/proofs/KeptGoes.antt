@@ -88,7 +88,7 @@ module _ (p q : Program) (facts : Facts) (plans : Plans) (marks : Marks) (from :
       → take (max_locals_of p method) (new_frame q method arguments).locals ≡ (new_frame p method arguments).locals
   new_locals method arguments few = take_more arguments (max_locals_of p method) (max_locals_of q method) value.Top few (more_locals method)
 
-  new_width : (method : ℕ) (arguments : List Value) → length arguments ≤ max_locals_of p method
+  pub new_width : (method : ℕ) (arguments : List Value) → length arguments ≤ max_locals_of p method
       → length (new_frame q method arguments).locals ≡ max_locals_of q method
   new_width method arguments few =
       let more = more_locals method in

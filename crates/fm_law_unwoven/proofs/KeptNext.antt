@@ -23,8 +23,9 @@ use Rattle.fm_law_sound.proofs.FramesStand.{target_in}
 use Rattle.fm_law_unwoven.proofs.KeptCatches.{caught_alike, CaughtAlike}
 use Rattle.fm_law_unwoven.proofs.KeptEdges.{LeadsOn}
 use Rattle.fm_law_unwoven.proofs.KeptEffects.{at_number, item_is, new_next, old_next}
-use Rattle.fm_law_unwoven.proofs.KeptGoes.{begins, below_other, first_old, goes, holders_other, new_went, not_begun, old_new, old_went}
+use Rattle.fm_law_unwoven.proofs.KeptGoes.{begins, below_other, first_old, goes, holders_other, new_went, old_went}
 use Rattle.fm_law_unwoven.proofs.OldFrames.{new_from, old_from}
+use Rattle.fm_law_unwoven.proofs.StartFrames.{old_starts, starts_below}
 use Rattle.fm_law_unwoven.proofs.UnseenLocals.{same_value}
 use Rattle.fm_law_unwoven.specs.Kept.{Begins, BothDo, BothFault, but_frames, GoesBefore, GoesBehind, HasNotBegun, HoldersStand, InMethod, old_frame, Resumes, StandBelow, StandsAtKept, StatesGo, StepsAlike}
 use Rattle.fm_law_unwoven.specs.UnseenCode.{GoesWithin, IsWithin, UsesNamed}
@@ -113,23 +114,6 @@ module _ (p q : Program) (facts : Facts) (plans : Plans) (marks : Marks) (from :
       begins p q facts plans marks from m (reverse (take e.takes g.stack)) (record f { stack = drop e.takes f.stack } ∷ fs) (record g { stack = drop e.takes g.stack } ∷ callers)
       few refl (inl (waits (drop e.takes g.stack)), below_other p q facts plans marks from g (record g { stack = drop e.takes g.stack }) refl callers below)
 
-  old_starts : (methods : List ℕ) → AllByRecursion (λ m. (c : Code) × (code_at p m ≡ Some c)) methods
-      → map (old_frame p marks) (start_frames q methods ++ g ∷ callers) ≡ start_frames p methods ++ f ∷ fs
-  old_starts [] all = refl
-  old_starts (m ∷ methods) all =
-      let first = old_new p q facts plans marks from m all.0.0 [] all.0.1 (omega arith) in
-      let rest = old_starts methods all.1 in
-      (λ t. first t ∷ rest t)
-
-  starts_below : (above : Frame) → is_start q.outline above.method ≡ true → (methods : List ℕ)
-      → AllByRecursion (λ m. is_start p.outline m ≡ true) methods → StandBelow p q facts plans marks above (start_frames q methods ++ g ∷ callers)
-  starts_below above start [] all = (inl (waits g.stack), below)
-  starts_below above start (m ∷ methods) all =
-      let starts = ap (λ (o : Outline). is_start o m) from.outline ∙ all.0 in (
-        inr (not_begun p q facts plans marks from above m [] start (omega arith)),
-        starts_below (new_frame q m []) starts methods all.1,
-      )
-
   entered : (methods : List ℕ) → AllByRecursion (λ m. is_start p.outline m ≡ true) methods → AllByRecursion (λ m. (c : Code) × (code_at p m ≡ Some c)) methods
       → StatesGo p q facts plans marks (start_frames p methods ++ f ∷ fs) (start_frames q methods ++ g ∷ callers)
   entered [] all codes = record {
@@ -143,7 +127,8 @@ module _ (p q : Program) (facts : Facts) (plans : Plans) (marks : Marks) (from :
   entered (m ∷ methods) all codes =
       let starts = ap (λ (o : Outline). is_start o m) from.outline ∙ all.0 in
       begins p q facts plans marks from m [] (start_frames p methods ++ f ∷ fs) (start_frames q methods ++ g ∷ callers) (omega arith)
-      (old_starts methods codes.1) (starts_below (new_frame q m []) starts methods all.1)
+      (old_starts p q facts plans marks from methods (f ∷ fs) (g ∷ callers) codes.1 refl)
+      (starts_below p q facts plans marks from (new_frame q m []) starts methods all.1 (g ∷ callers) (λ last start. (inl (waits g.stack), below)))
 
   -- ---- returns
 

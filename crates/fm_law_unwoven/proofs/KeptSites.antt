@@ -2,10 +2,11 @@
 use Rattle.std.proofs.Common.{◌≡◌, ℕ, ◌+◌, ◌-◌, ◌<◌, Bool, true, List, [], ◌∷◌, length, reverse, Option, Some, None, option_and_then, IsSomeAnd, Contains, slice_get, refl, sym, ap, subst, ◌∙◌, arith}
 use Rattle.std.specs.Prelude.{is_some, nat_eq}
 use Rattle.std.specs.List.{IsDistinct}
-use Rattle.std.proofs.lemmas.Bool.{eqb-true, false≢true}
+use Rattle.std.proofs.lemmas.Bool.{and_parts, eqb-true, false≢true}
 use Rattle.std.proofs.lemmas.Option.{none-some}
+use Rattle.fm_base.proofs.ContainsFacts.{Contains-none}
+use Rattle.fm_base.proofs.ListFacts.{AllByRecursion-at}
 use Rattle.fm_code.specs.declared.code_array.Code.{Code}
-use Rattle.fm_conn.proofs.ListLemmas.{Contains-none}
 use Rattle.fm_conn.specs.Facts.{Facts}
 use Rattle.fm_conn.specs.Links.{typed_method}
 use Rattle.fm_conn.specs.Nodes.{IsNode, TypedMethod}
@@ -17,8 +18,6 @@ use Rattle.fm_law_sound.specs.Resolved.{StepsAreResolved}
 use Rattle.fm_law_sound.specs.Sound.{AreTyped, HasKind, HaveKinds, IsReference, StandsWithout}
 use Rattle.fm_law_unwoven.specs.WovenFrom.{inserted_by, IsWovenFrom}
 use Rattle.fm_place.proofs.FullLemmas.{numbers-found}
-use Rattle.fm_place.proofs.PlaceLemmas.{both-first}
-use Rattle.fm_place.proofs.WovenLemmas.{all-at}
 use Rattle.fm_place.specs.Insertions.{after_at, Holder, Insertions}
 use Rattle.fm_place.specs.Rewriting.{Plans}
 use Rattle.fm_place.specs.Safe.{AreSafe, IsSafeAt, IsSafeHolder}
@@ -88,9 +87,9 @@ module _ (p q : Program) (facts : Facts) (plans : Plans) (marks : Marks) (from :
         let listed = numbers-found (λ o. nat_eq o.site j) 0 plan.holders h among in
         let site : listed.holder.site ≡ j = eqb-true listed.holder.site j listed.passes in
         let holder : IsSafeHolder facts x listed.holder =
-        all-at (IsSafeHolder facts x) plan.holders listed.place listed.holder safe.holders listed.there in
+        AllByRecursion-at (IsSafeHolder facts x) plan.holders listed.place listed.holder safe.holders listed.there in
         let kind =
-        both-first (is_some (site_kind facts x listed.holder.site)) (is_captured facts x (site_class facts x listed.holder.site)) holder.captured in
+        (and_parts (is_some (site_kind facts x listed.holder.site)) (is_captured facts x (site_class facts x listed.holder.site)) holder.captured).0 in
         nodes p facts method code (facts.typing method) ready code_is (typing_of p facts.typing typed method code code_is) j
         (subst (λ n. is_some (site_kind facts x n) ≡ true) site kind)
 

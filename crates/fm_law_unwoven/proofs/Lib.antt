@@ -24,3 +24,8 @@ pub mod KeptSites
 pub mod Cleared
 pub mod KeptReached
 pub mod KeptOnwards
+pub mod RunsCleared
+pub mod StartFrames
+pub mod Openings
+pub mod KeptOpenings
+pub mod ClearedPrograms

@@ -10,7 +10,8 @@ use Rattle.std.proofs.lemmas.Map.Views.{Contains-from_any}
 use Rattle.std.proofs.lemmas.Option.{none-some}
 use Rattle.fm_base.proofs.ContainsFacts.{Contains-cons_cases}
 use Rattle.fm_code.specs.declared.code_array.Code.{Code}
-use Rattle.fm_conn.proofs.ListLemmas.{Contains-map, Contains-range}
+use Rattle.fm_code.proofs.EdgesLemmas.{Contains-map}
+use Rattle.fm_conn.proofs.ListLemmas.{Contains-range}
 use Rattle.fm_law_no_fault.proofs.FramesKeep.{max_locals_in}
 use Rattle.fm_law_same_runs.specs.Beside.{greatest, Marks, most_added_locals, most_inserted_steps}
 use Rattle.fm_law_unwoven.specs.Doing.{all_steps_to, steps_to}

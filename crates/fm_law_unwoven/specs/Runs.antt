@@ -4,6 +4,7 @@ use Rattle.std.specs.List.{AllByRecursion}
 use Rattle.fm_base.specs.declared.limits.TheConstants.{MAX_LIVE_WORDS}
 use Rattle.fm_cells.specs.Choices.{lawful}
 use Rattle.fm_cells.specs.Stores.{opened}
+use Rattle.fm_code.specs.declared.class_file.ClassDef.{ClassDef}
 use Rattle.fm_code.specs.declared.code_array.Code.{Code}
 use Rattle.fm_conn.specs.Facts.{Facts}
 use Rattle.fm_conn.specs.Links.{typed_method}
@@ -12,7 +13,8 @@ use Rattle.fm_frames.specs.Runs.{after, Job, opening}
 use Rattle.fm_frames.specs.States.{Frame, Moved, null, State, word_at}
 use Rattle.fm_frames.specs.Steps.{step}
 use Rattle.fm_frames.specs.declared.ends.Ended.{Ended}
-use Rattle.fm_law_same_runs.specs.Beside.{IsAtInserted, kept_item, Marks, most_inserted_steps, reuse_run}
+use Rattle.fm_law_same_runs.specs.Beside.{FewAreInserted, InAllRuns, IsAtInserted, IsGiven, kept_item, Marks, most_inserted_steps, reuse_run}
+use Rattle.fm_law_same_runs.specs.Programs.{AreTaken}
 use Rattle.fm_law_sound.specs.Making.{ArgumentsFit, MakesAreResolved}
 use Rattle.fm_law_sound.specs.Resolved.{MainIsReady, StepsAreResolved}
 use Rattle.fm_law_sound.specs.Sound.{AreTyped}
@@ -22,8 +24,9 @@ use Rattle.fm_law_unwoven.specs.WovenFrom.{inserted_by, IsWovenFrom}
 use Rattle.fm_place.specs.Insertions.{Holder}
 use Rattle.fm_place.specs.Places.{is_busy}
 use Rattle.fm_place.specs.Rewriting.{Plans}
+use Rattle.fm_place.specs.Safe.{Safe}
 use Rattle.fm_place.specs.Woven.{local_of}
-use Rattle.fm_world.specs.Programs.{code_at, Program}
+use Rattle.fm_world.specs.Programs.{code_at, Program, program_of}
 
 -- ---- holders
 
@@ -66,14 +69,10 @@ OpeningsComeToKept =
 
 -- ---- all states of a run
 
--- no more inserted steps follow one another
-abbrev pub FewAreInserted : Program → Program → Marks → (ℕ → Moved) → Type 0
-FewAreInserted p q marks ys = (l count : ℕ) → ((k : ℕ) → k < count → IsAtInserted marks (ys (l + k)).state) → count ≤ most_inserted_steps p q
-
 -- of all frames of each state of a run that goes on, and few inserted steps follow one another
 pub record RunsAreCleared (p q : Program) (facts : Facts) (plans : Plans) (marks : Marks) (ys : ℕ → Moved) : Type 0 where
   pub cleared : (l : ℕ) → (ys l).state.ended ≡ None → AreCleared p facts plans marks (ys l).state.frames
-  pub few : FewAreInserted p q marks ys
+  pub few : (l count : ℕ) → ((k : ℕ) → k < count → IsAtInserted marks (ys (l + k)).state) → count ≤ most_inserted_steps p q
 
 -- each run of the second program, whatever the memory chooses
 abbrev pub AllRunsAreCleared : Type 0
@@ -82,3 +81,18 @@ AllRunsAreCleared =
     → StepsAreResolved p → MakesAreResolved p → MainIsReady p
     → (choose : Choose) (job : Job) → ArgumentsFit job.arguments → (words : ℕ) → words ≤ MAX_LIVE_WORDS → (free : List (List ℕ))
     → RunsAreCleared p q facts plans marks (reuse_run q choose job words free)
+
+-- ---- classes with safe insertions
+
+-- each run of the classes written is such a run
+abbrev pub SafeRunsAreCleared : Type 0
+SafeRunsAreCleared =
+    (given : List ClassDef) (main : List ℕ) → AreTaken given main → (written : List ClassDef) (marks : Marks) (safe : Safe given main written marks)
+    → (job : Job) → IsGiven job → (choose : Choose) (words : ℕ) → words ≤ MAX_LIVE_WORDS → (free : List (List ℕ))
+    → RunsAreCleared (program_of given main) (program_of written main) safe.facts safe.plans marks (reuse_run (program_of written main) choose job words free)
+
+-- so few inserted steps follow one another where it runs beside the classes that were given
+abbrev pub FewAreInsertedInRuns : Type 0
+FewAreInsertedInRuns =
+    (given : List ClassDef) (main : List ℕ) → AreTaken given main → (written : List ClassDef) (marks : Marks) → Safe given main written marks
+    → InAllRuns (program_of given main) (program_of written main) marks FewAreInserted
