@@ -19,6 +19,7 @@ use Rattle.fm_frames.specs.declared.values.Value.{Value}
 use Rattle.fm_frames.specs.declared.values.Value.TheVariants as value
 use Rattle.fm_law_sound.specs.Placing.{kind_in}
 use Rattle.fm_law_two_memories.specs.Pairing.{AreAlike, ArePaired, AreasPaired, FramesPaired, Gone, HasTwin, SameCell, SameElement, SameValue, with_gone}
+use Rattle.fm_law_two_memories.specs.Results.{KeepsLimits}
 use Rattle.fm_law_two_memories.proofs.Twins.{not_null}
 
 module _ (gone : Gone) (o : Outline) (one other : Store) (paired : ArePaired gone o one other) (cell : ℕ) (object : Object) (held : object_at other cell ≡ Some object) (loose : object.fixed ≡ false) where
@@ -186,6 +187,10 @@ module _ (gone : Gone) (o : Outline) (x y : Areas) (paired : AreasPaired gone o 
       ∙ ap (λ b. cond b y (record y { store = freed_by y.store cell; frees = y.frees + 1; freed_words = y.freed_words + object_words object })) loose
       ∙ ap (λ (s : Store). record y { store = s; frees = y.frees + 1; freed_words = y.freed_words + object_words object })
       (following_is gone o x.store y.store paired.store cell object held loose)
+
+  -- with the limit and the budget that the store had
+  pub freed_limits : KeepsLimits y.store (freed y cell).store
+  freed_limits = record { limit = ap (λ (a : Areas). a.store.limit) freed_is; budget = ap (λ (a : Areas). a.store.budget) freed_is }
 
   later_paired : AreasPaired more_gone o x later
   later_paired = record {
