@@ -14,9 +14,9 @@ use Rattle.fm_frames.specs.States.{Frame, Moved, State, word_at}
 use Rattle.fm_frames.specs.Steps.{max_locals_of, next_insn, step}
 use Rattle.fm_frames.specs.declared.ends.Ended.{Ended}
 use Rattle.fm_frames.specs.declared.ends.Ended.TheVariants as end
-use Rattle.fm_law_no_fault.proofs.FramesKeep.{max_locals_in}
 use Rattle.fm_law_same_runs.specs.Beside.{kept_item, Marks}
 use Rattle.fm_law_sound.proofs.Budgets.{step_budget}
+use Rattle.fm_law_sound.proofs.CallsStand.{max_locals_in}
 use Rattle.fm_law_sound.proofs.RunsSound.{makes_few}
 use Rattle.fm_law_sound.specs.Laws.{SoundStatesStep}
 use Rattle.fm_law_sound.specs.Making.{MakesAreResolved}

@@ -11,9 +11,9 @@ use Rattle.fm_frames.specs.States.{Frame, State}
 use Rattle.fm_frames.specs.Steps.{max_locals_of, step}
 use Rattle.fm_frames.specs.declared.ends.Ended.TheVariants as end
 use Rattle.fm_frames.specs.declared.values.Value.{Value}
-use Rattle.fm_law_no_fault.proofs.FramesKeep.{max_locals_in}
 use Rattle.fm_law_same_runs.specs.Beside.{kept_item, Marks, most_inserted_steps}
 use Rattle.fm_law_sound.proofs.Budgets.{step_budget}
+use Rattle.fm_law_sound.proofs.CallsStand.{max_locals_in}
 use Rattle.fm_law_sound.specs.Resolved.{StepsAreResolved}
 use Rattle.fm_law_sound.specs.Sound.{IsSoundBy, Stand, StandsWithout}
 use Rattle.fm_law_unwoven.proofs.Cleared.{below_cleared}

@@ -12,7 +12,6 @@ use Rattle.fm_base.proofs.ContainsFacts.{Contains-cons_cases}
 use Rattle.fm_code.specs.declared.code_array.Code.{Code}
 use Rattle.fm_code.proofs.EdgesLemmas.{Contains-map}
 use Rattle.fm_conn.proofs.ListLemmas.{Contains-range}
-use Rattle.fm_law_no_fault.proofs.FramesKeep.{max_locals_in}
 use Rattle.fm_law_same_runs.specs.Beside.{greatest, Marks, most_added_locals, most_inserted_steps}
 use Rattle.fm_law_unwoven.specs.Doing.{all_steps_to, steps_to}
 use Rattle.fm_law_unwoven.specs.Laid.{frees_at, keeps_at, starts_of, Todo, ToFree, ToKeep, ToStart}
@@ -20,6 +19,7 @@ use Rattle.fm_law_unwoven.specs.WovenFrom.{HasInserted}
 use Rattle.fm_place.specs.Insertions.{after_at, before_at, Holder, Insertions, numbers_of}
 use Rattle.fm_frames.specs.Steps.{max_locals_of}
 use Rattle.fm_world.specs.Programs.{code_at, Program}
+use Rattle.fm_law_sound.proofs.CallsStand.{max_locals_in}
 
 -- ---- steps of lists
 
