@@ -2,6 +2,7 @@
 -- that sound stores lead to sound stores.
 use Rattle.std.proofs.Common.{◌≡◌, ◌≢◌, ℕ, ◌*◌, ◌^◌, ◌<◌, Bool, true, false, cond, refl, sym, ◌∙◌, ap, subst, arith, length}
 use Rattle.std.specs.Prelude.{Some, None, IsSome}
+use Rattle.fm_base.proofs.TestFacts.{apart-nat_eq}
 use Rattle.fm_cells.specs.Sizes.{element_bits, cell_words}
 use Rattle.fm_cells.specs.Objects.{Object, Request, IsRequest, request_words}
 use Rattle.fm_cells.specs.Stores.{Store, object_at, elements_at, pack_at}
@@ -10,7 +11,6 @@ use Rattle.fm_cells.specs.Soundness.{IsSound}
 use Rattle.fm_cells.proofs.SizeLaws.{cell_words-lt-double}
 use Rattle.fm_cells.proofs.Elements.{has_object, some-object, pack_at-some, freed_by-none, freed_by-some, put_by-some, chained_by-some}
 use Rattle.fm_cells.proofs.Changes.{object_at-without_object, object_at-with_object, object_words-with_element}
-use Rattle.fm_cells.proofs.Lists.{apart-nat_eq}
 use Rattle.fm_cells.proofs.Soundness.{IsSound-without_object, IsSound-with_object, IsObject-with_element, IsObject-with_chain, request_words_bound}
 
 either_freed : (fixed : Bool) (store : Store) (cell : ℕ) (object : Object) (q : ℕ) → q ≢ cell → object_at (cond fixed store (without_object store cell object)) q ≡ object_at store q

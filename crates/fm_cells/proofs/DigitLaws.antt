@@ -1,7 +1,8 @@
 -- Groups of bits of a word: a group is what a shift and a mask leave, and a group that is set changes no other.
 use Rattle.std.proofs.Common.{◌≡◌, ◌≢◌, ℕ, zero, suc, ◌+◌, ◌-◌, ◌*◌, ◌/◌, ◌%◌, ◌^◌, ◌<◌, ◌≤◌, refl, sym, ◌∙◌, ap, subst, arith, bit_and, inl, inr}
+use Rattle.std.proofs.Math.Pow.{mod-mod-pow}
 use Rattle.std.proofs.lemmas.Bool.{cases_lt}
-use Rattle.std.proofs.lemmas.Nat.{pow_pos, pow-add, shr-shr, mod-pow-add, and_mask, shr_high, mod_low, field_of, shl_whole, shr_split, mod_below, shr_below, mul-add-lt}
+use Rattle.std.proofs.lemmas.Nat.{pow_pos, pow-add, shr-shr, and_mask, shr_high, mod_low, field_of, shl_whole, shr_split, mod_below, shr_below, mul-add-lt}
 use Rattle.fm_cells.specs.Sizes.{IsPack}
 use Rattle.fm_cells.specs.inner.Words.{digit, with_digit}
 
@@ -56,10 +57,6 @@ nearer : (bits place other : ℕ) → other < place → bits * place ≡ (bits *
 nearer bits place other h =
     let e : place ≡ (place - other - 1) + (1 + other) = omega arith in
     ap (λ n. bits * n) e ∙ grind arith
-
--- a remainder by a power of two, and then by a lower one
-mod-mod-pow : (n j k : ℕ) → n % 2 ^ (j + k) % 2 ^ k ≡ n % 2 ^ k
-mod-mod-pow n j k = ap (λ m. m % 2 ^ k) (mod-pow-add n j k) ∙ mod_low (n / 2 ^ k % 2 ^ j) k (n % 2 ^ k) (mod_below n (2 ^ k) (pow_pos k))
 
 -- a group above the one that was set
 digit-above : (word bits place other value : ℕ) → place < other → value < 2 ^ bits → digit bits other (with_digit bits place value word) ≡ digit bits other word

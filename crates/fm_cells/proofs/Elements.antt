@@ -7,9 +7,9 @@ use Rattle.fm_cells.specs.Objects.{Object, IsObject}
 use Rattle.fm_cells.specs.Stores.{Store, object_at, elements_at, pack_at, chain_at}
 use Rattle.fm_cells.specs.Changes.{on_object, without_object, with_object, with_element, with_chain, put_by, chained_by, freed_by}
 use Rattle.std.specs.Prelude.{Ok, Err}
+use Rattle.fm_base.proofs.TestFacts.{apart-nat_eq}
 use Rattle.fm_cells.specs.Answers.{free_answer, freed_answer}
 use Rattle.fm_cells.specs.declared.answers.Freed.TheVariants.{Done, Skipped}
-use Rattle.fm_cells.proofs.Lists.{apart-nat_eq}
 use Rattle.fm_cells.specs.Soundness.{IsSound}
 
 pub elements_at-some : (store : Store) (cell : ℕ) (object : Object) → object_at store cell ≡ Some object → elements_at store cell ≡ object.elements

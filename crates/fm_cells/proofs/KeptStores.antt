@@ -5,13 +5,13 @@ use Rattle.std.specs.Cmp.{nat_cmp_total}
 use Rattle.std.specs.FinMap as fin
 use Rattle.std.proofs.lemmas.List.{ext_get_or}
 use Rattle.std.proofs.lemmas.List.FromFn.{length-map-range_with_len, get_or-map-range_with_len}
+use Rattle.fm_base.proofs.TestFacts.{apart-nat_eq, same-nat_eq}
 use Rattle.fm_cells.specs.Objects.{size_class_of}
 use Rattle.fm_cells.specs.Stores.{Store, object_at, free_cells}
 use Rattle.fm_cells.specs.Soundness.{IsLastReused}
 use Rattle.fm_cells.specs.inner.Tables.{map_of}
 use Rattle.fm_cells.specs.inner.Words.{marked_object}
 use Rattle.fm_cells.specs.inner.Layouts.{linked_cells, free_lists, words_store, IsLinked, Keeps}
-use Rattle.fm_cells.proofs.Lists.{apart-nat_eq, same-nat_eq}
 use Rattle.fm_cells.proofs.Tables.{get-map_of}
 use Rattle.fm_cells.proofs.Tiles.{tile-within}
 

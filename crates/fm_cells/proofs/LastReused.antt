@@ -6,6 +6,8 @@ use Rattle.std.specs.List.{AllByRecursion, IsDistinct}
 use Rattle.std.proofs.lemmas.List.{length-replicate, set-get_or, get_or-replicate, get_or_past}
 use Rattle.std.proofs.lemmas.Option.{none-some}
 use Rattle.std.proofs.lemmas.Bool.{cases_eq, cases_lt, false≢true}
+use Rattle.fm_base.proofs.ListFacts.{AllByRecursion-both, AllByRecursion-weaker, filter-passing}
+use Rattle.fm_base.proofs.TestFacts.{apart-nat_eq, nat_eq-comm, same-nat_eq}
 use Rattle.fm_cells.specs.Sizes.{cell_words}
 use Rattle.fm_cells.specs.Objects.{Object, object_words, size_class_of, Request, request_words, request_size_class, new_object}
 use Rattle.fm_cells.specs.Stores.{Store, opened, empty_lists, object_at, held_count, made_count, free_cells, passes_limit}
@@ -15,7 +17,6 @@ use Rattle.fm_cells.specs.Soundness.{IsOrderly, IsFree, SharesNoCell, IsLastReus
 use Rattle.fm_cells.proofs.SizeLaws.{cell_words-ge}
 use Rattle.fm_cells.proofs.Held.{within_limit, zero_within_limit, not_held, held_if, nothing_held, held_after, held_before}
 use Rattle.fm_cells.proofs.Changes.{of_class, object_at-made_by, object_at-without_object, object_at-with_object, held_count-opened, held_count-made_by, held_count-without_object, held_count-with_object}
-use Rattle.fm_cells.proofs.Lists.{all-map, all-both, filter-all, nat_eq-comm, apart-nat_eq, same-nat_eq}
 use Rattle.fm_cells.proofs.Soundness.{IsOrderly-opened, IsOrderly-made_by, IsOrderly-without_object, IsOrderly-with_object, request_size_class-lt, size_class_of-lt, made_after-length}
 
 -- no size class of an opened store has a freed cell
@@ -65,7 +66,7 @@ pub without-head : (cell : ℕ) (rest : List ℕ) → IsDistinct nat_eq (cell �
 unfolding IsDistinct
 without-head cell rest h =
     ap (λ b. cond (not b) (cell ∷ without cell rest) (without cell rest)) (same-nat_eq cell)
-    ∙ filter-all (λ other. not (nat_eq other cell)) rest (all-map (λ y. nat_eq cell y ≡ false) (λ y. not (nat_eq y cell) ≡ true) (λ y e. ap not (nat_eq-comm y cell ∙ e)) rest h.0)
+    ∙ filter-passing (λ other. not (nat_eq other cell)) rest (AllByRecursion-weaker (λ y. nat_eq cell y ≡ false) (λ y. not (nat_eq y cell) ≡ true) (λ y e. ap not (nat_eq-comm y cell ∙ e)) rest h.0)
 
 -- a freed cell stays free where another cell is taken
 IsFree-made_by : (store : Store) (request : Request) (cell : ℕ) (grows : Bool) (other : ℕ) → store.made_words ≤ made_words_after store request grows → IsFree store other → nat_eq cell other ≡ false → IsFree (made_by store request (Take cell grows)) other
@@ -97,11 +98,11 @@ IsLastReused-take store request cell grows last may limit inside part gone once 
       made_within_limit = limit;
       counts = made_after-length store request grows ∙ last.counts;
       lists = length-set store.free (request_size_class request) (without cell (free_cells store (request_size_class request))) ∙ last.lists;
-      free_not_held = λ k. all-map (λ other. IsFree store other × (nat_eq cell other ≡ false)) (IsFree next) (λ other h. IsFree-made_by store request cell grows other more h.0 h.1) (free_cells next k)
-          (all-both (IsFree store) (λ other. nat_eq cell other ≡ false) (free_cells next k) (part (IsFree store) k (last.free_not_held k)) (gone k));
+      free_not_held = λ k. AllByRecursion-weaker (λ other. IsFree store other × (nat_eq cell other ≡ false)) (IsFree next) (λ other h. IsFree-made_by store request cell grows other more h.0 h.1) (free_cells next k)
+          (AllByRecursion-both (IsFree store) (λ other. nat_eq cell other ≡ false) (free_cells next k) (part (IsFree store) k (last.free_not_held k)) (gone k));
       listed_once = once;
       lists_apart = λ k l apart. part (λ one. AllByRecursion (λ other. nat_eq one other ≡ false) (free_cells next l)) k
-          (all-map (λ one. AllByRecursion (λ other. nat_eq one other ≡ false) (free_cells store l)) (λ one. AllByRecursion (λ other. nat_eq one other ≡ false) (free_cells next l)) (λ one h. part (λ other. nat_eq one other ≡ false) l h) (free_cells store k) (last.lists_apart k l apart));
+          (AllByRecursion-weaker (λ one. AllByRecursion (λ other. nat_eq one other ≡ false) (free_cells store l)) (λ one. AllByRecursion (λ other. nat_eq one other ≡ false) (free_cells next l)) (λ one h. part (λ other. nat_eq one other ≡ false) l h) (free_cells store k) (last.lists_apart k l apart));
       balance = λ k below. omega (arith, held_count-made_by store request cell grows k may.1, count k below);
     }
 
@@ -158,7 +159,7 @@ IsLastReused-fresh store request last limit e =
     ] in is in
     IsLastReused-take store request cell true last (MayReuse-after store request true last) (within_limit store.limit _ limit) (omega arith)
     (λ P k h. subst (λ cells. AllByRecursion P cells) (sym (same_list k)) h)
-    (λ k. subst (λ cells. AllByRecursion (λ other. nat_eq cell other ≡ false) cells) (sym (same_list k)) (all-map (IsFree store) (λ other. nat_eq cell other ≡ false) (λ other h. apart-nat_eq cell other (λ is. absurd (omega (arith, h.1)))) (free_cells store k) (last.free_not_held k)))
+    (λ k. subst (λ cells. AllByRecursion (λ other. nat_eq cell other ≡ false) cells) (sym (same_list k)) (AllByRecursion-weaker (IsFree store) (λ other. nat_eq cell other ≡ false) (λ other h. apart-nat_eq cell other (λ is. absurd (omega (arith, h.1)))) (free_cells store k) (last.free_not_held k)))
     (λ k. subst (λ cells. IsDistinct nat_eq cells) (sym (same_list k)) (last.listed_once k))
     (λ k small. elim (cases_eq k class) as (λ _. held_count store k + of_class k class + length (free_cells next k) ≡ made_count next k) [
       | inl same ↦
@@ -197,8 +198,8 @@ IsLastReused-without_object store cell object last held =
     let after = λ (k : ℕ). free_cells-set store.free class k (cell ∷ free_cells store class) below in
     let here = λ (k : ℕ) (h : k ≡ class). let is : free_cells next k ≡ cell ∷ free_cells store k = after k ∙ ap (λ j. cond (nat_eq j class) (cell ∷ free_cells store class) (free_cells store k)) h ∙ ap (λ b. cond b (cell ∷ free_cells store class) (free_cells store k)) (same-nat_eq class) ∙ ap (λ j. cell ∷ free_cells store j) (sym h) in is in
     let there = λ (k : ℕ) (h : k ≢ class). let is : free_cells next k ≡ free_cells store k = after k ∙ ap (λ b. cond b (cell ∷ free_cells store class) (free_cells store k)) (apart-nat_eq k class h) in is in
-    let still = λ (k : ℕ). all-map (IsFree store) (IsFree next) (λ other h. (h.0, h.1, object_at-without_object store cell object other ∙ none_either (nat_eq other cell) (object_at store other) h.2)) (free_cells store k) (last.free_not_held k) in
-    let apart_from = λ (k : ℕ). all-map (IsFree store) (λ other. nat_eq cell other ≡ false) (λ other h. held-apart store cell object other held h) (free_cells store k) (last.free_not_held k) in
+    let still = λ (k : ℕ). AllByRecursion-weaker (IsFree store) (IsFree next) (λ other h. (h.0, h.1, object_at-without_object store cell object other ∙ none_either (nat_eq other cell) (object_at store other) h.2)) (free_cells store k) (last.free_not_held k) in
+    let apart_from = λ (k : ℕ). AllByRecursion-weaker (IsFree store) (λ other. nat_eq cell other ≡ false) (λ other h. held-apart store cell object other held h) (free_cells store k) (last.free_not_held k) in
     let freed : IsFree next cell =
     (held_above store cell object last.orderly held, last.within cell (held_if (object_at store cell) object held), object_at-without_object store cell object cell ∙ ap (λ b. cond b None (object_at store cell)) (same-nat_eq cell)) in
     record {
@@ -221,8 +222,8 @@ IsLastReused-without_object store cell object last held =
             subst (λ cells. SharesNoCell cells (free_cells next l)) (sym (here k h)) (subst (λ cells. SharesNoCell (cell ∷ free_cells store k) cells) (sym (there l other)) (apart_from l, last.lists_apart k l apart))
         | inr h ↦ subst (λ cells. SharesNoCell cells (free_cells next l)) (sym (there k h)) (elim (cases_eq l class) as (λ _. SharesNoCell (free_cells store k) (free_cells next l)) [
           | inl e ↦ subst (λ cells. SharesNoCell (free_cells store k) cells) (sym (here l e))
-              (all-both (λ one. nat_eq one cell ≡ false) (λ one. AllByRecursion (λ other. nat_eq one other ≡ false) (free_cells store l)) (free_cells store k)
-              (all-map (λ other. nat_eq cell other ≡ false) (λ other. nat_eq other cell ≡ false) (λ other no. nat_eq-comm other cell ∙ no) (free_cells store k) (apart_from k))
+              (AllByRecursion-both (λ one. nat_eq one cell ≡ false) (λ one. AllByRecursion (λ other. nat_eq one other ≡ false) (free_cells store l)) (free_cells store k)
+              (AllByRecursion-weaker (λ other. nat_eq cell other ≡ false) (λ other. nat_eq other cell ≡ false) (λ other no. nat_eq-comm other cell ∙ no) (free_cells store k) (apart_from k))
               (last.lists_apart k l apart))
           | inr e ↦ subst (λ cells. SharesNoCell (free_cells store k) cells) (sym (there l e)) (last.lists_apart k l apart)
         ])
@@ -250,7 +251,7 @@ IsLastReused-with_object store cell old object last held same_birth same_words =
       made_within_limit = last.made_within_limit;
       counts = last.counts;
       lists = last.lists;
-      free_not_held = λ k. all-map (IsFree store) (IsFree next) (λ other h. (h.0, h.1, object_at-with_object store cell object other ∙ ap (λ b. cond b (Some object) (object_at store other)) (nat_eq-comm other cell ∙ held-apart store cell old other held h) ∙ h.2)) (free_cells store k) (last.free_not_held k);
+      free_not_held = λ k. AllByRecursion-weaker (IsFree store) (IsFree next) (λ other h. (h.0, h.1, object_at-with_object store cell object other ∙ ap (λ b. cond b (Some object) (object_at store other)) (nat_eq-comm other cell ∙ held-apart store cell old other held h) ∙ h.2)) (free_cells store k) (last.free_not_held k);
       listed_once = last.listed_once;
       lists_apart = last.lists_apart;
       balance = λ k small. omega (arith, held_count-with_object store cell old object k held same_words, last.balance k small);

@@ -5,6 +5,8 @@ use Rattle.std.specs.Prelude.{Option, Some, None, IsSome, slice_index}
 use Rattle.std.specs.List.{AllByRecursion}
 use Rattle.std.proofs.lemmas.Bool.{cases_eq, cases_Bool}
 use Rattle.std.proofs.lemmas.Option.{none-some, same_Some}
+use Rattle.fm_base.proofs.ListFacts.{AllByRecursion-both, AllByRecursion-weaker}
+use Rattle.fm_base.proofs.TestFacts.{apart-nat_eq, same-nat_eq}
 use Rattle.fm_cells.specs.Sizes.{class_words}
 use Rattle.fm_cells.specs.Objects.{Object, object_words, size_class_of, Request, request_size_class, new_object}
 use Rattle.fm_cells.specs.Stores.{Store, object_at, IsHeld, free_cells}
@@ -16,7 +18,7 @@ use Rattle.fm_cells.proofs.SizeLaws.{words-le-cell_words}
 use Rattle.fm_cells.proofs.Held.{held_if}
 use Rattle.fm_cells.proofs.LastReused.{held-apart, held_above, free_cells-set}
 use Rattle.fm_cells.proofs.Changes.{size_class_of-new_object, object_at-made_by, object_at-without_object, object_at-with_object}
-use Rattle.fm_cells.proofs.Lists.{eq-nat_eq, all-map, all-both, apart-nat_eq, same-nat_eq}
+use Rattle.fm_cells.proofs.Lists.{eq-nat_eq}
 use Rattle.fm_cells.proofs.Words.{object_from-frame}
 use Rattle.fm_cells.proofs.Soundness.{object_words_bound, size_class_of-lt, kept_object}
 use Rattle.fm_cells.proofs.Tiles.{tile-within, tile-apart}
@@ -51,8 +53,8 @@ linked-frame words words' head (d ∷ ds) same is = (is.0, is.1, subst (λ h. Is
 -- a list of other cells stays linked
 other_links : (words words' : List ℕ) (tiles : List (ℕ × ℕ)) (to cell k head l : ℕ) (cells : List ℕ) → IsTiling 1 tiles to → IsTile tiles cell k → AllByRecursion (λ d. IsTile tiles d l) cells → AllByRecursion (λ d. nat_eq cell d ≡ false) cells → SameOutside words words' cell k → IsLinked words head cells → IsLinked words' head cells
 other_links words words' tiles to cell k head l cells tiling tile others apart same is =
-    linked-frame words words' head cells (all-map (λ d. IsTile tiles d l × (nat_eq cell d ≡ false)) (λ d. get_or words' d 0 ≡ get_or words d 0) (λ d h. other_first words words' tiles to cell k d l tiling tile h.0 h.1 same) cells
-    (all-both (λ d. IsTile tiles d l) (λ d. nat_eq cell d ≡ false) cells others apart)) is
+    linked-frame words words' head cells (AllByRecursion-weaker (λ d. IsTile tiles d l × (nat_eq cell d ≡ false)) (λ d. get_or words' d 0 ≡ get_or words d 0) (λ d h. other_first words words' tiles to cell k d l tiling tile h.0 h.1 same) cells
+    (AllByRecursion-both (λ d. IsTile tiles d l) (λ d. nat_eq cell d ≡ false) cells others apart)) is
 
 -- a cell whose object is marked has its mark, and it is the object that the words hold
 pub marked-some : (words marks : List ℕ) (cell : ℕ) (object : Object) → marked_object words marks cell ≡ Some object → (mark_in marks cell ≡ 1) × (object_from words cell ≡ object)
@@ -94,7 +96,7 @@ Keeps-with_object words words' marks heads store cell old object keeps last soun
     let tile = keeps.held_tile cell old held in
     let at = object_at-with_object store cell object in
     let mark : mark_in marks cell ≡ 1 = (marked-some words marks cell old (keeps.held cell ∙ held)).0 in
-    let apart = λ (l : ℕ). all-map (IsFree store) (λ other. nat_eq cell other ≡ false) (λ other h. held-apart store cell old other held h) (free_cells store l) (last.free_not_held l) in
+    let apart = λ (l : ℕ). AllByRecursion-weaker (IsFree store) (λ other. nat_eq cell other ≡ false) (λ other h. held-apart store cell old other held h) (free_cells store l) (last.free_not_held l) in
     record {
       held = λ q. elim (cases_eq q cell) as (λ _. marked_object words' marks q ≡ object_at (with_object store cell object) q) [
         | inl e ↦ ap (marked_object words' marks) e ∙ own_held words' marks cell object mark is ∙ sym (at q ∙ ap (λ b. cond b (Some object) (object_at store q)) (ap (λ n. nat_eq n cell) e ∙ same-nat_eq cell))
@@ -131,7 +133,7 @@ Keeps-without_object words words' marks marks' heads store cell object keeps las
     let after = λ (l : ℕ). free_cells-set store.free k l (cell ∷ free_cells store k) below in
     let here = λ (l : ℕ) (h : l ≡ k). let is : free_cells next l ≡ cell ∷ free_cells store l = after l ∙ ap (λ b. cond b (cell ∷ free_cells store k) (free_cells store l)) (ap (λ n. nat_eq n k) h ∙ same-nat_eq k) ∙ ap (λ j. cell ∷ free_cells store j) (sym h) in is in
     let there = λ (l : ℕ) (h : l ≢ k). let is : free_cells next l ≡ free_cells store l = after l ∙ ap (λ b. cond b (cell ∷ free_cells store k) (free_cells store l)) (apart-nat_eq l k h) in is in
-    let apart = λ (l : ℕ). all-map (IsFree store) (λ other. nat_eq cell other ≡ false) (λ other h. held-apart store cell object other held h) (free_cells store l) (last.free_not_held l) in
+    let apart = λ (l : ℕ). AllByRecursion-weaker (IsFree store) (λ other. nat_eq cell other ≡ false) (λ other h. held-apart store cell object other held h) (free_cells store l) (last.free_not_held l) in
     let links = λ (l : ℕ) (few : l < 64). other_links words words' keeps.tiles (store.made_words + 1) cell k (slice_index heads l) l (free_cells store l) keeps.tiling tile (keeps.free_tile l) (apart l) same (keeps.linked l few) in
     record {
       held = λ q. elim (cases_eq q cell) as (λ _. marked_object words' marks' q ≡ object_at next q) [
@@ -210,9 +212,9 @@ Keeps-made_by words words' marks marks' heads heads' store request cell grows ti
             subst (λ n. IsTile tiles' n (size_class_of o)) (sym e) (subst (λ n. IsTile tiles' cell n) (sym (size_class_of-new_object store.births request) ∙ ap size_class_of (same_Some object o here)) tile)
         | inr e ↦ more q (size_class_of o) (keeps.held_tile q o (sym (ap (λ b. cond b (Some object) (object_at store q)) (apart-nat_eq q cell e)) ∙ sym (at q) ∙ h))
       ];
-      free_tile = λ l. all-map (λ d. IsTile keeps.tiles d l) (λ d. IsTile tiles' d l) (λ d t. more d l t) (free_cells next l) (part (λ d. IsTile keeps.tiles d l) l (keeps.free_tile l));
+      free_tile = λ l. AllByRecursion-weaker (λ d. IsTile keeps.tiles d l) (λ d. IsTile tiles' d l) (λ d t. more d l t) (free_cells next l) (part (λ d. IsTile keeps.tiles d l) l (keeps.free_tile l));
       linked = λ l below. other_links words words' tiles' (next.made_words + 1) cell k (slice_index heads' l) l (free_cells next l) tiling tile
-          (all-map (λ d. IsTile keeps.tiles d l) (λ d. IsTile tiles' d l) (λ d t. more d l t) (free_cells next l) (part (λ d. IsTile keeps.tiles d l) l (keeps.free_tile l))) (gone l) same (links l below);
+          (AllByRecursion-weaker (λ d. IsTile keeps.tiles d l) (λ d. IsTile tiles' d l) (λ d t. more d l t) (free_cells next l) (part (λ d. IsTile keeps.tiles d l) l (keeps.free_tile l))) (gone l) same (links l below);
       covered = λ q l t. elim (cases_eq q cell) as (λ _. IsHeld next q ⊎ IsListed q (free_cells next l)) [
         | inl e ↦ inl (held_if (object_at next q) object (at q ∙ ap (λ b. cond b (Some object) (object_at store q)) (ap (λ n. nat_eq n cell) e ∙ same-nat_eq cell)))
         | inr e ↦ elim (before q l t) as (λ _. IsHeld next q ⊎ IsListed q (free_cells next l)) [

@@ -4,6 +4,7 @@ use Rattle.std.specs.Prelude.{Option, Some, None, IsSome}
 use Rattle.std.specs.Option.{option_map}
 use Rattle.std.proofs.lemmas.List.{get_or_past, get_or_append_left, get_or_at}
 use Rattle.std.proofs.lemmas.Bool.{cases_eq, cases_lt, lt-ltb, le-ltb}
+use Rattle.fm_base.proofs.TestFacts.{apart-nat_eq, same-nat_eq}
 use Rattle.fm_cells.specs.Sizes.{cell_words}
 use Rattle.fm_cells.specs.Objects.{Object, Request, request_words, request_size_class, new_object}
 use Rattle.fm_cells.specs.Stores.{opened, no_lists, object_at, live_words}
@@ -12,7 +13,6 @@ use Rattle.fm_cells.specs.Choices.{never_choice}
 use Rattle.fm_cells.specs.inner.Tables.{map_of}
 use Rattle.fm_cells.specs.inner.Residents.{resident_object, object_in, plain_of}
 use Rattle.fm_cells.specs.declared.plain_cells.Resident.{Resident}
-use Rattle.fm_cells.proofs.Lists.{apart-nat_eq, same-nat_eq}
 use Rattle.fm_cells.proofs.Tables.{get-map_of, map_of-insert, map_of-remove}
 
 -- nothing lies past the last resident

@@ -8,6 +8,8 @@ use Rattle.std.specs.declared.vec.Vec.{Vec}
 use Rattle.std.proofs.lemmas.List.{get_or-replicate, get_or_past}
 use Rattle.std.proofs.lemmas.Bool.{cases_eq, le-ltb}
 use Rattle.std.proofs.lemmas.Option.{none-some}
+use Rattle.fm_base.proofs.ListFacts.{AllByRecursion-weaker}
+use Rattle.fm_base.proofs.TestFacts.{apart-nat_eq, same-nat_eq}
 use Rattle.fm_cells.specs.Sizes.{packed_words, class_words, cell_words, size_class}
 use Rattle.fm_cells.specs.Objects.{Request, IsRequest, request_words, request_size_class, new_object, request_of}
 use Rattle.fm_cells.specs.Stores.{Store, opened, empty_lists, object_at, live_words, words_needed, free_cells, passes_limit, made_count, held_count}
@@ -24,7 +26,6 @@ use Rattle.fm_cells.proofs.SizeLaws.{words-le-cell_words}
 use Rattle.fm_cells.proofs.Layouts.{SameOutside, Keeps-made_by}
 use Rattle.fm_cells.proofs.LastReused.{last_choice-fresh, made-most_held-fresh, nothing_freed, IsLastReused-opened, IsLastReused-head, IsLastReused-fresh, MayReuse-head, MayReuse-after, free_cells-head, free_cells-head_gone, free_cells-fresh}
 use Rattle.fm_cells.proofs.Changes.{live_words-opened, live_words-made_by}
-use Rattle.fm_cells.proofs.Lists.{all-map, apart-nat_eq, same-nat_eq}
 use Rattle.fm_cells.proofs.Words.{zero-digit, object_from-new}
 use Rattle.fm_cells.proofs.Soundness.{IsSound-opened, IsSound-made_by, request_words_bound, request_size_class-lt}
 use Rattle.fm_cells.proofs.Tiles.{tile-within, tiling-more, tile-more, tile-last, tile-before}
@@ -208,7 +209,7 @@ Keeps-fresh words words' marks marks' heads store request keeps last sound asked
     (subst (λ to. IsTiling 1 (keeps.tiles ++ (cell, k) ∷ []) to) end (tiling-more 1 keeps.tiles cell k keeps.tiling wide)) (tile-last keeps.tiles cell k)
     (λ q l t. tile-more keeps.tiles (cell, k) q l t) (λ q l t. tile-before keeps.tiles (cell, k) q l t)
     (λ P l h. subst (λ cells. AllByRecursion P cells) (sym (lists l)) h)
-    (λ l. subst (λ cells. AllByRecursion (λ other. nat_eq cell other ≡ false) cells) (sym (lists l)) (all-map (IsFree store) (λ other. nat_eq cell other ≡ false) (λ other h. apart-nat_eq cell other (λ same. absurd (omega (arith, h.1)))) (free_cells store l) (last.free_not_held l)))
+    (λ l. subst (λ cells. AllByRecursion (λ other. nat_eq cell other ≡ false) cells) (sym (lists l)) (AllByRecursion-weaker (IsFree store) (λ other. nat_eq cell other ≡ false) (λ other h. apart-nat_eq cell other (λ same. absurd (omega (arith, h.1)))) (free_cells store l) (last.free_not_held l)))
     (λ l below. subst (λ cells. IsLinked words (slice_index heads l) cells) (sym (lists l)) (keeps.linked l below))
     (λ q l apart h. subst (λ cells. IsListed q cells) (sym (lists l)) h)
     same is marked

@@ -7,6 +7,7 @@ use Rattle.std.proofs.lemmas.List.{get_or_default, ext_get_or, take_at}
 use Rattle.std.proofs.lemmas.List.FromFn.{get_or-map-range_with_len}
 use Rattle.std.proofs.lemmas.Bool.{cases_eq}
 use Rattle.std.proofs.lemmas.Nat.{shr_high, mod_low}
+use Rattle.fm_base.proofs.TestFacts.{apart-nat_eq, same-nat_eq}
 use Rattle.fm_cells.specs.Sizes.{element_bits, packed_words, class_words, size_class}
 use Rattle.fm_cells.specs.Objects.{Object, IsObject, object_words, size_class_of}
 use Rattle.fm_cells.specs.Stores.{Store, object_at, elements_at, pack_at, chain_at, live_words}
@@ -25,7 +26,6 @@ use Rattle.fm_cells.proofs.Held.{held_if}
 use Rattle.fm_cells.proofs.KeptStores.{kept-store}
 use Rattle.fm_cells.proofs.LastReused.{IsLastReused-with_object, IsLastReused-without_object}
 use Rattle.fm_cells.proofs.Changes.{object_words-with_element, live_words-with_object, live_words-without_object}
-use Rattle.fm_cells.proofs.Lists.{apart-nat_eq, same-nat_eq}
 use Rattle.fm_cells.proofs.Words.{map-range-ext, length-elements_in, place-in-body, IsPack-pack_in, object_words-object_from, element_in-set, mark_in-set}
 use Rattle.fm_cells.proofs.Soundness.{IsSound-without_object, IsSound-with_object, size_class_of-lt, object_words_bound, IsObject-with_element, IsObject-with_chain}
 use Rattle.fm_cells.proofs.Tiles.{tile-within}

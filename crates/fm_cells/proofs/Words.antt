@@ -6,11 +6,11 @@ use Rattle.std.proofs.lemmas.List.FromFn.{fill_by_all, length-map-range_with_len
 use Rattle.std.proofs.lemmas.Bool.{cases_eq}
 use Rattle.std.proofs.Math.Nat.{zero-div, zero-mod}
 use Rattle.std.proofs.lemmas.Nat.{mod_below, div-add-mod'}
+use Rattle.fm_base.proofs.TestFacts.{apart-nat_eq, same-nat_eq}
 use Rattle.fm_cells.specs.Sizes.{IsPack, element_bits, body_words, packed_words}
 use Rattle.fm_cells.specs.Objects.{object_words, new_object, request_of}
 use Rattle.fm_cells.specs.inner.Words.{digit, with_digit, element_in, elements_in, class_in, birth_in, pack_in, is_fixed, len_in, chain_in, object_from, mark_in}
 use Rattle.fm_cells.proofs.DigitLaws.{IsPack-power, digit-with_digit_same, digit-with_digit_other}
-use Rattle.fm_cells.proofs.Lists.{apart-nat_eq, same-nat_eq}
 
 -- functions that agree below n give the same list
 pub map-range-ext : (f g : ℕ → ℕ) (n : ℕ) → ((k : ℕ) → k < n → f k ≡ g k) → map f (range_with_len 0 n) ≡ map g (range_with_len 0 n)

@@ -6,7 +6,6 @@ use Rattle.std.specs.Option.{option_map}
 use Rattle.std.proofs.lemmas.Bool.{and_from, and_parts, cases_eq, cases_lt, eqb-true, eq-eqb, false≢true}
 use Rattle.std.proofs.lemmas.List.{append-nil, get_or-set_same, get_or-replicate, get_or-set_other, get_or_past, length-replicate, reverse-reverse}
 use Rattle.std.proofs.lemmas.List.Elements.{All-contains, All-from_recursion, Contains-append_left, Contains-push, Contains-push_cases}
-use Rattle.std.proofs.lemmas.Option.{slice_get_past}
 use Rattle.fm_check_handlers.proofs.HandlerLemmas.{each_handler, handlers_later}
 use Rattle.fm_base.proofs.OptionFacts.{IsSomeAnd-at_some, IsSomeAnd-from_some, option_map-some, same_value, Some-from_some_and}
 use Rattle.fm_check_walk.proofs.MergingLemmas.{state-refl, state-trans}
@@ -19,6 +18,7 @@ use Rattle.fm_check_walk.specs.inner.Walks.{Brings, is_marked, IsForced, IsKept,
 use Rattle.fm_check.specs.inner.Steps.{BringsAll, BringsOn, falls_off, GoesOver, HasSettled, IsItem, IsLeast, IsMet, IsMetBut, IsNearlyMet, next_items, Takes, Walking}
 use Rattle.fm_check_handlers.specs.inner.Runs.{BringsHandlers}
 use Rattle.fm_check_walk.specs.inner.Tasks.{IsSound, is_within, Task}
+use Rattle.fm_code.proofs.EdgesLemmas.{insn_inside}
 use Rattle.fm_code.specs.Edges.{Catches, falls_through, insn_of, IsEdge, IsFlowPath, IsNormalEdge, IsReachable, LeadsTo}
 use Rattle.fm_code.specs.SpellsCode.{targets_of}
 use Rattle.fm_code.specs.declared.code_array.Code.{Code}
@@ -33,13 +33,6 @@ use Rattle.fm_types.specs.States.{state_fits, TypeState}
 use Rattle.fm_types.specs.Typed.{after_item, caught_type, entry_state, FitsAt, FitsHandler, handler_state, IsTypingOf, made_at, state_at, use_by}
 
 -- ---- instructions
-
-insn_inside : (code : Code) (j : ℕ) (i : Insn) → insn_of code j ≡ Some i → j < length code.items
-insn_inside code j i is =
-    ⊎_elim (λ (inside : j < length code.items). inside)
-    (λ (past : length code.items ≤ j).
-    let none : insn_of code j ≡ None = ap (option_map (λ (item : Item). item.insn)) (slice_get_past code.items j past) in absurd cc)
-    (cases_lt j (length code.items))
 
 -- an instruction that was read
 read_item : (items : List Item) (j : ℕ) (d : Item) → j < length items → slice_get items j ≡ Some (slice_index_or items j d)

@@ -7,14 +7,15 @@ use Rattle.std.proofs.lemmas.Bool.{cases_lt, false≢true}
 use Rattle.std.proofs.lemmas.List.{get_or-map, get_or_past, length-map, take_more}
 use Rattle.std.proofs.lemmas.List.FromFn.{get_or-range_with_len, length-range_with_len}
 use Rattle.std.proofs.lemmas.List.Elements.{All-contains, Contains-append_left, Contains-get_or, Contains-push, Contains-push_cases, recursion_from_All}
+use Rattle.fm_base.proofs.ContainsFacts.{Contains-none}
 use Rattle.fm_base.proofs.OptionFacts.{IsSomeAnd-at_some, IsSomeAnd-from_some, same_value, Some-from_some_and}
 use Rattle.fm_base.specs.declared.kinds.TypeRef.{TypeRef}
 use Rattle.fm_check_handlers.proofs.HandlerLemmas.{caught_forced, each_handler, caught_alike, locals_in}
 use Rattle.fm_check_walk.proofs.WalkLemmas.{kept-locals, fits_at, fits_later, fits_one, FitsOne, Went-none, Went-then}
-use Rattle.fm_check_walk.proofs.MergingLemmas.{fits-from, fits-parts, FitsByParts}
+use Rattle.fm_check_walk.proofs.MergingLemmas.{built-trans, fits-from, fits-parts, FitsByParts}
 use Rattle.fm_check_walk.proofs.PlaceLemmas.{place_wanted, slot-fits, with_slot-above, with_slot-alike, with_slot-read, zip-from}
 use Rattle.fm_check_walk.proofs.CarryLemmas.{all_held, all_room_later, can_carry_later, raised_forced, room_fits}
-use Rattle.fm_check_handlers.proofs.RunLemmas.{Contains-set_cases, got_entries, inside_level, none_there}
+use Rattle.fm_check_handlers.proofs.RunLemmas.{Contains-set_cases, got_entries, inside_level}
 use Rattle.fm_check_walk.proofs.RisenLemmas.{alike-more, alike-refl, alike-then}
 use Rattle.fm_check_walk.specs.declared.known_state.KnownState.{KnownState}
 use Rattle.fm_check_walk.specs.declared.known_state.SlotPlace.{SlotPlace}
@@ -73,7 +74,7 @@ RaisesOne-set t rise s places sound local unfit = record {
   still = λ p found. Contains-append_left places (rise.place ∷ []) p found;
   only = λ p found. Contains-push_cases places rise.place p found;
   alike = alike-more (rise.place ∷ []) (places ++ rise.place ∷ []) new s
-      (λ p found. ⊎_elim (λ (none : Contains [] p). absurd (none_there p none))
+      (λ p found. ⊎_elim (λ (none : Contains [] p). absurd (Contains-none p none))
       (λ (same : rise.place ≡ p). subst (λ (q : SlotPlace). Contains (places ++ rise.place ∷ []) q) same (Contains-push places rise.place))
       (Contains-push_cases [] rise.place p found))
       (with_slot-alike s rise.place joined);
@@ -99,8 +100,8 @@ RaisesOne-set t rise s places sound local unfit = record {
 pub IsRaised-none : (t : Task) (s : TypeState) → IsRaised t [] s s []
 IsRaised-none t s = record {
   alike = alike-refl [] s;
-  local = λ p found. absurd (none_there p found);
-  room = λ rise found. absurd (none_there rise found);
+  local = λ p found. absurd (Contains-none p found);
+  room = λ rise found. absurd (Contains-none rise found);
   forced = λ item caught first asked. first;
 }
 
@@ -307,12 +308,6 @@ open_given : (run : Run) (built : Bool) (given : Option KnownState) → run.give
 open_given run built None is opens = absurd (false≢true (ap (is_open_to built) (sym is) ∙ opens))
 open_given run built (Some given) is opens = record { given = given; is = is; built = ap (is_open_to built) (sym is) ∙ opens }
 
--- built or not, as the state given
-built_fits : (a b c : Bool) → (a || not b) ≡ true → (b || not c) ≡ true → (a || not c) ≡ true
-built_fits true b c p q = refl
-built_fits false true c p q = absurd (false≢true p)
-built_fits false false c p q = q
-
 -- the item's own state fits where there is room for all its locals
 open_fits : (t : Task) (w : Walked) (s given : TypeState) (h : Handler) → IsSound t → Stands t w → is_within t.code s ≡ true → (s.built || not given.built) ≡ true
     → IsHeld t w.states given h → has_room t (local_rises t.code.max_locals s) w.states h
@@ -323,7 +318,7 @@ open_fits t w s given h sound stands within built held room =
     (fits-from o (handler_state held.caught s) u (record {
       locals = zip-from (Fitting o) s.locals u.locals (size ∙ sym other_size) each;
       stack = parts.stack;
-      built = built_fits s.built given.built u.built built parts.built;
+      built = built-trans s.built given.built u.built built parts.built;
     }))) where
       o : Outline
       o = t.program.outline
@@ -439,7 +434,7 @@ GivesLevel-past W t place runs w sound stands given past = record {
   done = λ h found.
       let size = length-map runs (λ (run : Run). run.entries.items) in
       let none : entries_in runs place ≡ [] = get_or_past (entries_of runs) place [] (omega (arith, past, size)) in
-      absurd (none_there h (subst (λ (es : List Handler). Contains es h) none found));
+      absurd (Contains-none h (subst (λ (es : List Handler). Contains es h) none found));
 }
 
 -- one with it

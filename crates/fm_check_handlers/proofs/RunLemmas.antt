@@ -7,6 +7,7 @@ use Rattle.std.proofs.lemmas.List.{get_or-map, get_or_past, length-map, map-appe
 use Rattle.std.proofs.lemmas.List.Elements.{All-contains, Contains-push, Contains-push_cases, Contains-append_left}
 use Rattle.std.proofs.Math.ListN.{get_or-append}
 use Rattle.std.proofs.Math.Seq.{get_or-append_seam}
+use Rattle.fm_base.proofs.ContainsFacts.{Contains-none}
 use Rattle.fm_check_handlers.proofs.HandlerLemmas.{blank}
 use Rattle.fm_check_handlers.specs.declared.runs.Level.{Level}
 use Rattle.fm_check_handlers.specs.declared.runs.Run.{Run}
@@ -37,10 +38,6 @@ Contains-set_cases (z ∷ xs) (suc k) y x (suc n, inside, there) =
     ⊎_elim (λ (same : y ≡ x). inl same)
     (λ (other : Contains xs x). let within = other.1 in inr (suc other.0, omega (arith, within), other.2))
     (Contains-set_cases xs k y x (n, omega arith, there))
-
--- none of an empty list
-pub none_there : {X : Type 0} (x : X) → Contains [] x → ⊥
-none_there x found = let inside = found.1 in omega arith
 
 pub more-none : (P : ℕ → Handler → Type 0) (runs : List Run) → AreMore P runs runs
 more-none P runs = record { still = λ place h found. found; only = λ place h found. inl found; fresh = λ fresh. fresh }
@@ -166,9 +163,9 @@ Puts-both span a b c some first last = record {
 
 pub IsNoted-none : IsNoted [] []
 IsNoted-none = record {
-  put = λ span found. absurd (none_there span found);
-  only = λ place h found. absurd (none_there h found);
-  fresh = λ run found. absurd (none_there run found);
+  put = λ span found. absurd (Contains-none span found);
+  only = λ place h found. absurd (Contains-none h found);
+  fresh = λ run found. absurd (Contains-none run found);
 }
 
 put_later : (P : ℕ → Handler → Type 0) (span : Span) (a b : List Run) → AreMore P a b → IsPut span a → IsPut span b
@@ -208,7 +205,7 @@ inside_level entries level item h found =
     (λ (past : length entries ≤ level).
     let none : entries_at entries level item ≡ [] =
     ap (λ (es : List (List Handler)). get_or es (halved level item) []) (get_or_past entries level [] past) ∙ get_or_past {X = List Handler} [] (halved level item) [] (omega arith) in
-    absurd (none_there h (subst (λ (es : List Handler). Contains es h) none found)))
+    absurd (Contains-none h (subst (λ (es : List Handler). Contains es h) none found)))
     (cases_lt level (length entries))
 
 at_still : (entries : List (List (List Handler))) (more : List (List Handler)) (level item : ℕ) (h : Handler) → Contains (entries_at entries level item) h
@@ -308,9 +305,9 @@ pub laid-none : (handlers : List Handler) → IsLaidSoFar handlers (spans_of han
 laid-none handlers = record {
   covers = λ item h holds.
       inr (span_of h, Contains-map span_of handlers h holds.listed, refl, record { after_first = holds.after_start; before_end = holds.before_end });
-  holds = λ level item h found. absurd (none_there h (subst (λ (es : List Handler). Contains es h) (none level item) found));
+  holds = λ level item h found. absurd (Contains-none h (subst (λ (es : List Handler). Contains es h) (none level item) found));
   left = λ item h spanned. of_span item h spanned;
-  fresh = λ level found. absurd (none_there level found);
+  fresh = λ level found. absurd (Contains-none level found);
 } where
   none : (level item : ℕ) → entries_at [] level item ≡ []
   none level item =

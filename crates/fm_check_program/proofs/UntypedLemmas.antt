@@ -1,5 +1,5 @@
 -- Which methods have code, and what the checker's results mean for them.
-use Rattle.std.proofs.Common.{◌≡◌, refl, sym, ◌∙◌, ap, ℕ, ◌<◌, ◌≤◌, ⊎_elim, inl, inr, length, Bool, true, false, Option, Some, None, IfSome, IsSome, IsSomeAnd, MatchBool, is_some, arith}
+use Rattle.std.proofs.Common.{◌≡◌, refl, sym, ◌∙◌, ap, ℕ, ◌<◌, ◌≤◌, ⊎_elim, inl, inr, length, Bool, true, false, Option, Some, None, IfSome, IsSome, IsSomeAnd, is_some, arith}
 use Rattle.std.proofs.lemmas.Bool.{cases_lt, false≢true}
 use Rattle.fm_code.specs.declared.code_array.Code.{Code}
 use Rattle.fm_check.specs.Checking.{coded, HasCode, IsNarrow, IsTooWide}
@@ -66,12 +66,3 @@ first_inside p method may first = at (code_at p method) (may.codes method) first
   at : (o : Option Code) → IfSome o (λ code. HasCode p method code × IsNarrow code) → IsSome o → method < length (methods_of p.outline.classes)
   at None may there = absurd (false≢true there)
   at (Some code) may there = may.0.inside
-
--- what held of a result
-pub if_accepted : (A B : Type 0) (v : Bool) → v ≡ true → MatchBool v A B → A
-if_accepted A B true is says = says
-if_accepted A B false is says = absurd (false≢true is)
-
-pub if_refused : (A B : Type 0) (v : Bool) → v ≡ false → MatchBool v A B → B
-if_refused A B true is says = absurd (false≢true (sym is))
-if_refused A B false is says = says

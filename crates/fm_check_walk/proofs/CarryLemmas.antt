@@ -2,7 +2,7 @@
 use Rattle.std.proofs.Common.{◌≡◌, ◌≢◌, refl, sym, ◌∙◌, ap, inl, inr, ◌⊎◌, ⊎_elim, ℕ, ◌+◌, ◌<◌, ◌||◌, not, Bool, true, false, List, [], ◌∷◌, length, map, take, get_or, reverse, set, All, Option, Some, None, Contains, subst, arith}
 use Rattle.std.proofs.lemmas.Bool.{cases_eq, false≢true}
 use Rattle.std.proofs.lemmas.List.{get_or-set_same, length-reverse}
-use Rattle.std.proofs.lemmas.List.Elements.{All-more, Contains-get_or}
+use Rattle.std.proofs.lemmas.List.Elements.{All-more, Contains-get_or, length_all_zip}
 use Rattle.fm_base.proofs.ContainsFacts.{Contains-cons_cases}
 use Rattle.fm_base.proofs.OptionFacts.{IsSomeAnd-at_some, IsSomeAnd-from_some, same_value, Some-from_some_and}
 use Rattle.fm_check_walk.proofs.MergingLemmas.{fits-from, fits-parts}
@@ -19,7 +19,6 @@ use Rattle.fm_code.proofs.EdgesLemmas.{Contains-from_map, Contains-later}
 use Rattle.fm_types.proofs.LeastJoins.{join-least}
 use Rattle.fm_types.proofs.Order.{fits-trans}
 use Rattle.fm_types.proofs.StateOrder.{Fitting}
-use Rattle.fm_types.proofs.Zips.{zip-length}
 use Rattle.fm_types.specs.Fits.{fits}
 use Rattle.fm_types.specs.Joins.{IsJoin, join}
 use Rattle.fm_types.specs.States.{state_fits, TypeState}
@@ -268,14 +267,14 @@ carried_fits : (o : Outline) (places : List SlotPlace) (v : SlotPlace → Slot) 
     → state_fits o a u ≡ true
 carried_fits o places v a known u carried fitting room =
     let parts = fits-parts o known u fitting in
-    let deep = zip-length (Fitting o) known.stack u.stack parts.stack in
+    let deep = length_all_zip (Fitting o) known.stack u.stack parts.stack in
     let turned = length-reverse known.stack in
     let other = length-reverse u.stack in
     let words = carried.words.size in
     let each : (p : SlotPlace) → fits o (slot_at a p) (slot_at u p) ≡ true =
     λ p. slot_room o (λ q. Contains places q) v a known u p carried fitting (among_or_not places p) (λ found. room p found) in
     fits-from o a u (record {
-      locals = zip-from (Fitting o) a.locals u.locals (carried.locals.size ∙ zip-length (Fitting o) known.locals u.locals parts.locals)
+      locals = zip-from (Fitting o) a.locals u.locals (carried.locals.size ∙ length_all_zip (Fitting o) known.locals u.locals parts.locals)
           (λ k. each (place.Local k));
       stack = zip-turned (Fitting o) a.stack u.stack
           (zip-from (Fitting o) (reverse a.stack) (reverse u.stack) (omega (arith, words, deep, turned, other)) (λ k. each (place.Word k)));

@@ -3,12 +3,14 @@ use Rattle.std.proofs.Common.{◌≡◌, refl, sym, ◌∙◌, ap, ℕ, ◌+◌,
 use Rattle.std.proofs.Math.Bool.{and_comm}
 use Rattle.std.proofs.lemmas.Bool.{and_from, and_parts, eqb-true, eq-eqb, false≢true}
 use Rattle.std.proofs.lemmas.List.{length-reverse, length-take, reverse-append, take_more}
+use Rattle.std.proofs.lemmas.List.Elements.{length_all_zip}
 use Rattle.std.specs.List.{AllZip}
+use Rattle.fm_base.proofs.TestFacts.{and_true}
 use Rattle.fm_check_walk.specs.inner.Merging.{have_same_sizes, join_slots, join_state}
 use Rattle.fm_types.proofs.LeastJoins.{join-least}
 use Rattle.fm_types.proofs.Order.{fits-refl, fits-trans}
 use Rattle.fm_types.proofs.StateOrder.{all_fit-from, all_fit-parts, Fitting, IsShaped, level-whole, other_below, shape_of, Stands, whole-shaped}
-use Rattle.fm_types.proofs.Zips.{zip-length, zip-refl}
+use Rattle.fm_types.proofs.Zips.{zip-refl}
 use Rattle.fm_types.specs.Fits.{AreTree, fits}
 use Rattle.fm_types.specs.Joins.{join}
 use Rattle.fm_types.specs.States.{all_fit, is_whole, state_fits, TypeState}
@@ -24,10 +26,6 @@ reverse-cons x xs = reverse-append (x ∷ []) xs
 and-assoc : (a b c : Bool) → (a && (b && c)) ≡ ((a && b) && c)
 and-assoc true b c = refl
 and-assoc false b c = refl
-
-and-true : (a : Bool) → (a && true) ≡ a
-and-true true = refl
-and-true false = refl
 
 all_fit-append : (o : Outline) (xs ys us vs : List Slot) → length xs ≡ length us
     → all_fit o (xs ++ ys) (us ++ vs) ≡ (all_fit o xs us && all_fit o ys vs)
@@ -48,7 +46,7 @@ all_fit-reverse o (x ∷ xs) (y ∷ ys) same =
     ap (λ zs. all_fit o zs (reverse (y ∷ ys))) (reverse-cons x xs)
     ∙ ap (λ zs. all_fit o (reverse xs ++ x ∷ []) zs) (reverse-cons y ys)
     ∙ all_fit-append o (reverse xs) (x ∷ []) (reverse ys) (y ∷ []) turned
-    ∙ ap (λ b. all_fit o (reverse xs) (reverse ys) && b) (and-true (fits o x y))
+    ∙ ap (λ b. all_fit o (reverse xs) (reverse ys) && b) (and_true (fits o x y))
     ∙ ap (λ b. b && fits o x y) (all_fit-reverse o xs ys rest)
     ∙ and_comm (all_fit o xs ys) (fits o x y)
 
@@ -113,13 +111,13 @@ zip-trans o tree (x ∷ xs) [] zs f g = absurd f
 zip-trans o tree (x ∷ xs) (y ∷ ys) [] f g = absurd g
 zip-trans o tree (x ∷ xs) (y ∷ ys) (z ∷ zs) f g = (fits-trans o tree x y z f.0 g.0, zip-trans o tree xs ys zs f.1 g.1)
 
-built-trans : (a b c : Bool) → (a || not b) ≡ true → (b || not c) ≡ true → (a || not c) ≡ true
+pub built-trans : (a b c : Bool) → (a || not b) ≡ true → (b || not c) ≡ true → (a || not c) ≡ true
 built-trans true b c f g = refl
 built-trans false true c f g = absurd (false≢true f)
 built-trans false false true f g = absurd (false≢true g)
 built-trans false false false f g = refl
 
-built-refl : (a : Bool) → (a || not a) ≡ true
+pub built-refl : (a : Bool) → (a || not a) ≡ true
 built-refl true = refl
 built-refl false = refl
 
@@ -263,8 +261,8 @@ join_state-some o tree a b c whole_a whole_b whole_c f g is =
     let first = fits-parts o a c f in
     let second = fits-parts o b c g in
     let level : AreLevel a b = record {
-      locals = zip-length (Fitting o) a.locals c.locals first.locals ∙ sym (zip-length (Fitting o) b.locals c.locals second.locals);
-      stack = zip-length (Fitting o) a.stack c.stack first.stack ∙ sym (zip-length (Fitting o) b.stack c.stack second.stack);
+      locals = length_all_zip (Fitting o) a.locals c.locals first.locals ∙ sym (length_all_zip (Fitting o) b.locals c.locals second.locals);
+      stack = length_all_zip (Fitting o) a.stack c.stack first.stack ∙ sym (length_all_zip (Fitting o) b.stack c.stack second.stack);
     } in
     let shaped = joins-shaped o tree a.stack b.stack c.stack (level-whole o a.stack c.stack first.stack whole_a whole_c)
     (level-whole o b.stack c.stack second.stack whole_b whole_c) in
@@ -285,8 +283,8 @@ pub sizes-unfit : (o : Outline) (a b : TypeState) → have_same_sizes a b ≡ fa
 sizes-unfit o a b sizes = not_fits (state_fits o a b) (λ h.
     let parts = fits-parts o a b h in
     let level : AreLevel a b = record {
-      locals = zip-length (Fitting o) a.locals b.locals parts.locals;
-      stack = zip-length (Fitting o) a.stack b.stack parts.stack;
+      locals = length_all_zip (Fitting o) a.locals b.locals parts.locals;
+      stack = length_all_zip (Fitting o) a.stack b.stack parts.stack;
     } in
     false≢true (sym sizes ∙ level-from a b level))
 
@@ -309,7 +307,7 @@ pub stack-decides : (o : Outline) (a b : TypeState) → (a.built || not b.built)
     → all_fit o a.stack b.stack ≡ state_fits o a b
 unfolding state_fits
 stack-decides o a b built locals =
-    sym (and-true (all_fit o a.stack b.stack))
+    sym (and_true (all_fit o a.stack b.stack))
     ∙ ap (λ c. all_fit o a.stack b.stack && c) (sym built)
     ∙ ap (λ c. (c && all_fit o a.stack b.stack) && (a.built || not b.built)) (sym locals)
 

@@ -13,7 +13,7 @@ use Rattle.fm_check_walk.specs.inner.Risen.{AreCarried, HasPlace, is_lost, IsAli
 use Rattle.fm_check_walk.specs.inner.Tasks.{is_within}
 use Rattle.fm_code.specs.declared.code_array.Code.{Code}
 use Rattle.fm_types.proofs.Order.{fits-top}
-use Rattle.fm_types.proofs.StateOrder.{Fitting, IsShaped, level-whole, long_below, other_below, shape_of, Stands, top_above, whole-shaped}
+use Rattle.fm_types.proofs.StateOrder.{Fitting, IsShaped, level-whole, long_below, other_below, shape-top, shape_of, Stands, top_above, whole-shaped}
 use Rattle.fm_types.proofs.Zips.{zip-append, zip-refl}
 use Rattle.fm_types.specs.Fits.{AreTree, fits}
 use Rattle.fm_types.specs.States.{is_whole, local_at, state_fits, TypeState}
@@ -196,10 +196,6 @@ with_slot-whole o s (place.Word k) y fitting kept whole =
     (raised_words-first IsShaped s.stack s.stack k y (zip-refl IsShaped (λ x. refl) s.stack) (shape_kept o k (slot_at s (place.Word k)) y fitting kept))
     whole
 
-only_top : (a : Slot) → shape_of a ≡ 0 → a ≡ slot.Top
-only_top slot.Top h = refl
-only_top a h = absurd (omega (arith, h))
-
 lost-top : (p : SlotPlace) (y : Slot) → is_lost p y ≡ true → y ≡ slot.Top
 lost-top (place.Local k) y h = absurd (false≢true h)
 lost-top (place.Word k) slot.Top h = refl
@@ -215,7 +211,7 @@ lost-fits o s u (place.Word k) x y lost fitting first second above =
     let level = level-whole o s.stack u.stack (fits-parts o s u fitting).stack first second in
     let shapes = zip-at (λ a b. shape_of a ≡ shape_of b) refl (reverse s.stack) (reverse u.stack) k
     (zip-reverse (λ a b. shape_of a ≡ shape_of b) s.stack u.stack (shapes_of o s.stack u.stack level)) in
-    ap (fits o x) (only_top (word_at s.stack k) (shapes ∙ ap shape_of top)) ∙ fits-top o x where
+    ap (fits o x) (shape-top (word_at s.stack k) (shapes ∙ ap shape_of top)) ∙ fits-top o x where
       shapes_of : (o : Outline) (xs ys : List Slot) → AllZip (Stands o) xs ys → AllZip (λ a b. shape_of a ≡ shape_of b) xs ys
       shapes_of o [] [] h = tt
       shapes_of o [] (y ∷ ys) h = absurd h

@@ -7,7 +7,7 @@ use Rattle.std.proofs.lemmas.List.FromFn.{get_or-range_with_len, length-range_wi
 use Rattle.std.proofs.lemmas.List.Sums.{count_by-le-length, sum_by-cons, sum_by-le, sum_by-le-sum_by}
 use Rattle.std.proofs.lemmas.Nat.{mul-le}
 use Rattle.std.specs.List.{flat_map, range_with_len}
-use Rattle.fm_base.proofs.ContainsFacts.{Contains-cons_cases}
+use Rattle.fm_base.proofs.ContainsFacts.{Contains-cons_cases, Contains-flat_map}
 use Rattle.fm_base.specs.declared.kinds.Base.{Base}
 use Rattle.fm_base.specs.declared.kinds.Base.TheVariants as base
 use Rattle.fm_check_walk.specs.inner.Ranks.{bases_below, IsBounded, IsBoundedBase, IsBoundedState, rank, slots_below, slots_rank, state_rank, top_rank, types_with}
@@ -26,13 +26,6 @@ use Rattle.fm_world.specs.Programs.{Outline}
 
 in_range : (n k : ℕ) → k < n → Contains (range_with_len 0 n) k
 in_range n k below = let long = length-range_with_len 0 n in (k, omega arith, get_or-range_with_len 0 n k k below ∙ omega arith)
-
-in_pieces : {X Y : Type 0} (f : X → List Y) (xs : List X) (x : X) (y : Y) → Contains xs x → Contains (f x) y → Contains (flat_map f xs) y
-in_pieces f [] x y (k, within, there) found = absurd (omega arith)
-in_pieces f (z ∷ xs) x y among found =
-    ⊎_elim (λ (same : x ≡ z). Contains-append_left (f z) (flat_map f xs) y (subst (λ w. Contains (f w) y) same found))
-    (λ later. Contains-append_right (f z) (flat_map f xs) y (in_pieces f xs x y later found))
-    (Contains-cons_cases z xs x among)
 
 pub All-reverse : {X : Type 0} (P : X → Type 0) (xs : List X) → All P xs → All P (reverse xs)
 All-reverse P xs h k d below =
@@ -78,7 +71,7 @@ in_slots dims numbers (slot.Ref t) bounded deep is =
     (slot.Ref t)
     (Contains-append_right (map (λ item. slot.Uninit item) (range_with_len 0 numbers))
     (flat_map (types_with (bases_below numbers)) (range_with_len 0 dims)) (slot.Ref t)
-    (in_pieces (types_with (bases_below numbers)) (range_with_len 0 dims) t.dims (slot.Ref t)
+    (Contains-flat_map (types_with (bases_below numbers)) (range_with_len 0 dims) t.dims (slot.Ref t)
     (let deep_enough = bounded.0 in in_range dims t.dims (omega arith))
     (Contains-map (λ b. slot.Ref (record { dims = t.dims; base = b })) (bases_below numbers) t.base (in_bases numbers t.base bounded.1 is))))
 

@@ -24,6 +24,8 @@ use Rattle.fm_code.specs.declared.operations.Elem.TheVariants as elem
 use Rattle.fm_code.specs.declared.operations.Reg.{Reg}
 use Rattle.fm_code.specs.declared.operations.Reg.TheVariants as reg
 use Rattle.fm_types.proofs.ArrayOrder.{follows-on_type}
+use Rattle.fm_types.proofs.CallOrder.{after_arguments, return_by}
+use Rattle.fm_types.proofs.NumberOrder.{store_by, written}
 use Rattle.fm_types.proofs.ObjectOrder.{follows-on_field}
 use Rattle.fm_types.proofs.StateOrder.{IsShaped}
 use Rattle.fm_types.proofs.Zips.{Follows, follows-either, follows-if, follows-map, follows-same, follows-then}
@@ -33,7 +35,7 @@ use Rattle.fm_types.specs.Named.{argument_words, class_of_method, field_words, o
 use Rattle.fm_types.specs.NumberRows.{increment_row, is_int, load_row, loaded, move_row, store_row, stored_from, suits}
 use Rattle.fm_types.specs.ObjectRows.{cast_row, get_field_row, get_static_row, has_objects, is_a_row, new_row, put_field_row, put_static_row, takes_field, throw_row}
 use Rattle.fm_types.specs.Rows.{row_after}
-use Rattle.fm_types.specs.States.{cut_before, int_word, is_long, is_reference, is_uninit, is_uninit_this, local_at, local_slots, long_words, replaced, stack_slots, stored, taken, TypeState, worked}
+use Rattle.fm_types.specs.States.{cut_before, int_word, is_long, is_reference, is_uninit, is_uninit_this, local_at, local_slots, long_words, replaced, stack_slots, stored, taken, TypeState}
 use Rattle.fm_types.specs.declared.slots.Slot.{Slot}
 use Rattle.fm_types.specs.declared.slots.Slot.TheVariants as slot
 use Rattle.fm_world.specs.Numbers.{type_of_class}
@@ -113,11 +115,6 @@ cut_before-carried P v (suc k) xs ys apart h =
       by_tests false true e = absurd (false≢true e)
       by_tests false false e = h
 
--- slots written one after another
-abbrev written : ℕ → List Slot → List Slot → List Slot
-written k [] locals = locals
-written k (s ∷ slots) locals = written (suc k) slots (set locals k s)
-
 written-carried : (P : ℕ → Type 0) (v : ℕ → Slot) (k : ℕ) (slots xs ys : List Slot) → ((j : ℕ) → k ≤ j → j < k + length slots → P j → ⊥)
     → AreCarried P v xs ys → AreCarried P v (written k slots xs) (written k slots ys)
 written-carried P v k [] xs ys apart h = h
@@ -144,17 +141,9 @@ stored_from-carried P v k slots a b s t apart few low h =
     (stored-carried (λ j. P (place.Local j)) (λ j. v (place.Local j)) k slots s.locals t.locals apart few h.locals)
     (λ xs ys locals. record { locals = locals; words = low.words; built = h.built })
 
--- the row over stacks of its own
-abbrev store_of : Reg → ℕ → TypeState → List Slot → Option TypeState
-store_of r k s [] = None
-store_of reg.Int k s (found ∷ stack) = cond (is_int found) (stored_from k (found ∷ []) stack s) None
-store_of reg.Ref k s (found ∷ stack) = cond (is_reference found) (stored_from k (found ∷ []) stack s) None
-store_of reg.Long k s (half ∷ []) = None
-store_of reg.Long k s (half ∷ found ∷ stack) = cond (is_long found) (stored_from k (found ∷ slot.Top ∷ []) stack s) None
-
 store_of-carried : (P : SlotPlace → Type 0) (v : SlotPlace → Slot) (r : Reg) (k : ℕ) (s t : TypeState)
     → ((j : ℕ) → j ≤ k + 1 → k ≤ j + 1 → P (place.Local j) → ⊥) → IsCarried P v s t
-    → (a b : List Slot) → AreLow P v (reg_words r) a b → Follows (IsCarried P v) (store_of r k s a) (store_of r k t b)
+    → (a b : List Slot) → AreLow P v (reg_words r) a b → Follows (IsCarried P v) (store_by r k s a) (store_by r k t b)
 store_of-carried P v reg.Int k s t apart h a [] low = tt
 store_of-carried P v reg.Ref k s t apart h a [] low = tt
 store_of-carried P v reg.Long k s t apart h a [] low = tt
@@ -163,11 +152,11 @@ store_of-carried P v reg.Ref k s t apart h [] (y ∷ b) low = absurd (let size =
 store_of-carried P v reg.Long k s t apart h [] (y ∷ b) low = absurd (let size = low-size P v 2 [] (y ∷ b) low in omega (arith, size))
 store_of-carried P v reg.Int k s t apart h (x ∷ a) (y ∷ b) low =
     let top = low-top P v 0 1 x y a b (omega arith) low in
-    subst (λ (z : Slot). Follows (IsCarried P v) (store_of reg.Int k s (x ∷ a)) (store_of reg.Int k t (z ∷ b))) top.0
+    subst (λ (z : Slot). Follows (IsCarried P v) (store_by reg.Int k s (x ∷ a)) (store_by reg.Int k t (z ∷ b))) top.0
     (follows-if (IsCarried P v) (is_int x) (is_int x) _ _ (λ e. e) (λ e. stored_from-carried P v k (x ∷ []) a b s t apart (omega arith) top.1 h))
 store_of-carried P v reg.Ref k s t apart h (x ∷ a) (y ∷ b) low =
     let top = low-top P v 0 1 x y a b (omega arith) low in
-    subst (λ (z : Slot). Follows (IsCarried P v) (store_of reg.Ref k s (x ∷ a)) (store_of reg.Ref k t (z ∷ b))) top.0
+    subst (λ (z : Slot). Follows (IsCarried P v) (store_by reg.Ref k s (x ∷ a)) (store_by reg.Ref k t (z ∷ b))) top.0
     (follows-if (IsCarried P v) (is_reference x) (is_reference x) _ _ (λ e. e)
     (λ e. stored_from-carried P v k (x ∷ []) a b s t apart (omega arith) top.1 h))
 store_of-carried P v reg.Long k s t apart h (x ∷ a) (y ∷ []) low = tt
@@ -176,7 +165,7 @@ store_of-carried P v reg.Long k s t apart h (x ∷ []) (y ∷ z ∷ b) low =
 store_of-carried P v reg.Long k s t apart h (x ∷ w ∷ a) (y ∷ z ∷ b) low =
     let half = low-top P v 1 2 x y (w ∷ a) (z ∷ b) (omega arith) low in
     let top = low-top P v 0 1 w z a b (omega arith) half.1 in
-    subst (λ (u : Slot). Follows (IsCarried P v) (store_of reg.Long k s (x ∷ w ∷ a)) (store_of reg.Long k t (y ∷ u ∷ b))) top.0
+    subst (λ (u : Slot). Follows (IsCarried P v) (store_by reg.Long k s (x ∷ w ∷ a)) (store_by reg.Long k t (y ∷ u ∷ b))) top.0
     (follows-if (IsCarried P v) (is_long w) (is_long w) _ _ (λ e. e)
     (λ e. stored_from-carried P v k (w ∷ slot.Top ∷ []) a b s t apart (omega arith) top.1 h))
 
@@ -185,7 +174,7 @@ store_row-carried : (P : SlotPlace → Type 0) (v : SlotPlace → Slot) (o : Out
     → IsCarried P v s t → Follows (IsCarried P v) (store_row o r k s) (store_row o r k t)
 unfolding store_row
 store_row-carried P v o r k s t apart clear h = by_kind r clear where
-  on_stack : (r : Reg) → IsClear P (reg_words r) s → Follows (IsCarried P v) (store_of r k s s.stack) (store_of r k t t.stack)
+  on_stack : (r : Reg) → IsClear P (reg_words r) s → Follows (IsCarried P v) (store_by r k s s.stack) (store_by r k t t.stack)
   on_stack r clear = store_of-carried P v r k s t apart h s.stack t.stack (low-of P v (reg_words r) s t clear h)
 
   by_kind : (r : Reg) → IsClear P (reg_words r) s → Follows (IsCarried P v) (store_row o r k s) (store_row o r k t)
@@ -286,10 +275,6 @@ none_listed P v test xs ys bare plain h none =
                 ∙ list_any-from_Any test (reverse ys)
                 (k, local_at (reverse ys) k, below, get_or_default (reverse ys) k (local_at (reverse ys) k) slot.Top below, ap test (sym same) ∙ e)))
 
-not-false : (b : Bool) → not b ≡ true → b ≡ false
-not-false false e = refl
-not-false true e = absurd (false≢true e)
-
 made-follows : (p q a b : Bool) → (b ≡ false → a ≡ false) → (p && q && not b) ≡ true → (p && q && not a) ≡ true
 made-follows true true a false h e = ap not (h refl)
 made-follows true true a true h e = absurd (false≢true e)
@@ -343,14 +328,9 @@ constructed-carried P v o method news named slot.UninitThis s t plain h =
           (record (initialised is_uninit_this (type_of_class own) t) { built = true })
       built w = record { locals = w.locals; words = w.words; built = refl }
 
--- the rest of the row, once the arguments are taken
-abbrev below_arguments : Outline → ℕ → (ℕ → Option TypeRef) → TypeRef → TypeState → List Slot → Option TypeState
-below_arguments o method news named s [] = None
-below_arguments o method news named s (receiver ∷ stack) = constructed o method news named receiver (record s { stack = stack })
-
 below_arguments-carried : (P : SlotPlace → Type 0) (v : SlotPlace → Slot) (o : Outline) (method : ℕ) (news : ℕ → Option TypeRef) (named : TypeRef) (s t : TypeState)
     → IsPlain P v → IsCarried P v s t → (a b : List Slot) → AreLow P v 1 a b
-    → Follows (IsCarried P v) (below_arguments o method news named s a) (below_arguments o method news named t b)
+    → Follows (IsCarried P v) (after_arguments o method news named s a) (after_arguments o method news named t b)
 below_arguments-carried P v o method news named s t plain h a [] low = tt
 below_arguments-carried P v o method news named s t plain h [] (y ∷ b) low = absurd (let size = low-size P v 1 [] (y ∷ b) low in omega (arith, size))
 below_arguments-carried P v o method news named s t plain h (x ∷ a) (y ∷ b) low =
@@ -366,7 +346,7 @@ constructor_called-carried : (P : SlotPlace → Type 0) (v : SlotPlace → Slot)
     → IsPlain P v → IsClear P (length (argument_words o m) + 1) s → IsCarried P v s t
     → Follows (IsCarried P v) (constructor_called o method news m named s) (constructor_called o method news m named t)
 constructor_called-carried P v o method news m named s t plain clear h =
-    follows-then (AreLow P v 1) (IsCarried P v) (below_arguments o method news named s) (below_arguments o method news named t)
+    follows-then (AreLow P v 1) (IsCarried P v) (after_arguments o method news named s) (after_arguments o method news named t)
     (taken o (argument_words o m) s.stack) (taken o (argument_words o m) t.stack)
     (taken-low P v o (argument_words o m) 1 (length (argument_words o m) + 1) refl s.stack t.stack
     (low-of P v (length (argument_words o m) + 1) s t clear h))
@@ -435,16 +415,9 @@ result_count reg.Int k same = refl
 result_count reg.Ref kind.Long same = absurd (false≢true same)
 result_count reg.Ref k same = refl
 
--- the row of a result that is known
-abbrev return_of : Outline → TypeState → Option Reg → Option Kind → Option TypeState
-return_of o s None None = cond s.built (Some s) None
-return_of o s None (Some k) = None
-return_of o s (Some r) None = None
-return_of o s (Some r) (Some k) = cond (same_reg r (returned_by k)) (worked o (stack_slots (k ∷ [])) [] s) None
-
 return_of-carried : (P : SlotPlace → Type 0) (v : SlotPlace → Slot) (o : Outline) (s t : TypeState) → IsCarried P v s t
     → (value : Option Reg) (result : Option Kind) → IsClear P (insns.words_taken 2 0 (insn.Return value)) s
-    → Follows (IsCarried P v) (return_of o s value result) (return_of o t value result)
+    → Follows (IsCarried P v) (return_by o s value result) (return_by o t value result)
 return_of-carried P v o s t h None None clear = follows-if (IsCarried P v) s.built t.built (Some s) (Some t) (λ e. h.built ∙ e) (λ e. h)
 return_of-carried P v o s t h None (Some k) clear = tt
 return_of-carried P v o s t h (Some r) None clear = tt

@@ -5,14 +5,16 @@ use Rattle.std.specs.List.{AllByRecursion, AllZip}
 use Rattle.std.specs.Option.{option_map}
 use Rattle.std.proofs.lemmas.Bool.{cases_eq, cases_lt, false≢true}
 use Rattle.std.proofs.lemmas.List.{get_or_append_left, get_or_past, get_or_push, length-reverse, reverse-append}
+use Rattle.std.proofs.lemmas.List.Elements.{length_all_zip}
 use Rattle.fm_check_walk.specs.declared.known_state.SlotPlace.{SlotPlace}
 use Rattle.fm_check_walk.specs.declared.known_state.SlotPlace.TheVariants as place
 use Rattle.fm_check_walk.specs.inner.Risen.{AreCarried, IsCarried}
 use Rattle.fm_code.specs.StackWords.{conv_words}
 use Rattle.fm_code.specs.declared.operations.Conv.{Conv}
 use Rattle.fm_code.specs.declared.operations.Conv.TheVariants as conv
+use Rattle.fm_types.proofs.NumberOrder.{move_by}
 use Rattle.fm_types.proofs.StateOrder.{from_below, IsShaped, whole-shaped}
-use Rattle.fm_types.proofs.Zips.{Follows, follows-if, follows-map, follows-then, zip-append, zip-drop, zip-get, zip-length}
+use Rattle.fm_types.proofs.Zips.{Follows, follows-if, follows-map, follows-then, zip-append, zip-drop, zip-get}
 use Rattle.fm_types.specs.Moves.{moved, Moves, words_at}
 use Rattle.fm_types.specs.Named.{built_in_type}
 use Rattle.fm_types.specs.NumberRows.{constant_row, convert_row}
@@ -207,7 +209,7 @@ words_at-shaped a b (place ∷ places) h =
 
 moved-shaped : (m : Moves) (a b : List Slot) → AllZip IsShaped a b → Follows (AllZip IsShaped) (moved m a) (moved m b)
 moved-shaped m a b h =
-    by_tests (nat_lt (length a) m.takes) (nat_lt (length b) m.takes) (ap (λ n. nat_lt n m.takes) (zip-length IsShaped a b h)) where
+    by_tests (nat_lt (length a) m.takes) (nat_lt (length b) m.takes) (ap (λ n. nat_lt n m.takes) (length_all_zip IsShaped a b h)) where
       kept : Follows (AllZip IsShaped) (option_map (λ words. words ++ drop m.takes a) (words_at a m.gives))
           (option_map (λ words. words ++ drop m.takes b) (words_at b m.gives))
       kept =
@@ -272,12 +274,8 @@ constant_row-carried P v o (resolved.OfLong value) s t clear h = pushed-carried 
 constant_row-carried P v o (resolved.OfText text) s t clear h = pushed-carried P v (slot.Ref (built_in_type o (codes "java/lang/String")) ∷ []) s t clear h
 constant_row-carried P v o resolved.Unused s t clear h = tt
 
--- the row of a move
-abbrev move_of : Option Moves → TypeState → Option TypeState
-move_of m s = option_and_then (λ m. option_and_then (λ stack. cond (is_whole stack) (Some (record s { stack = stack })) None) (moved m s.stack)) m
-
 pub move_of-carried : (P : SlotPlace → Type 0) (v : SlotPlace → Slot) (m : Moves) (s t : TypeState) → AllByRecursion (λ depth. depth < m.takes) m.gives
-    → IsClear P m.takes s → AllZip IsShaped s.stack t.stack → IsCarried P v s t → Follows (IsCarried P v) (move_of (Some m) s) (move_of (Some m) t)
+    → IsClear P m.takes s → AllZip IsShaped s.stack t.stack → IsCarried P v s t → Follows (IsCarried P v) (move_by (Some m) s) (move_by (Some m) t)
 move_of-carried P v m s t all clear shaped h =
     follows-then (Both (AreLow P v 0) (AllZip IsShaped)) (IsCarried P v) _ _ (moved m s.stack) (moved m t.stack)
     (follows-both (AreLow P v 0) (AllZip IsShaped) (moved m s.stack) (moved m t.stack)

@@ -4,7 +4,7 @@ use Rattle.std.proofs.lemmas.Bool.{and_from, and_parts, cases_eq, eq-eqb, eqb-tr
 use Rattle.std.proofs.lemmas.List.{get_or-map, get_or-set_same, get_or-set_other}
 use Rattle.std.specs.Option.{option_map}
 use Rattle.std.proofs.lemmas.List.Sums.{sum_by-set}
-use Rattle.std.proofs.lemmas.List.Elements.{Contains-append_left, Contains-append_right, Contains-push, Contains-push_cases}
+use Rattle.std.proofs.lemmas.List.Elements.{Contains-append_left, Contains-append_right, Contains-push, Contains-push_cases, length_all_zip}
 use Rattle.fm_base.proofs.OptionFacts.{IsSomeAnd-from_some, same_value, Some-from_some_and}
 use Rattle.fm_check_walk.proofs.MergingLemmas.{AreLevel, fits-parts, IsStateJoin, join_state-least, join_state-some, state-refl, state-trans}
 use Rattle.fm_check_walk.proofs.RankLemmas.{state-less, state-within}
@@ -18,7 +18,6 @@ use Rattle.fm_code.specs.declared.code_array.Code.{Code}
 use Rattle.fm_flow.proofs.ReachLemmas.{IsFlowPath-more}
 use Rattle.fm_flow.proofs.RowFacts.{has-set_only}
 use Rattle.fm_types.proofs.StateOrder.{Fitting}
-use Rattle.fm_types.proofs.Zips.{zip-length}
 use Rattle.fm_types.specs.Fits.{AreTree}
 use Rattle.fm_types.specs.States.{state_fits, TypeState}
 use Rattle.fm_types.specs.Typed.{FitsAt, state_at}
@@ -66,8 +65,8 @@ too_large t j s forced large states typing =
     let found = fits_one t states j s (forced.below states typing) in
     let meets = typing.items j found.state found.is in
     let parts = fits-parts t.program.outline s found.state found.fits in
-    let locals = zip-length (Fitting t.program.outline) s.locals found.state.locals parts.locals in
-    let stack = zip-length (Fitting t.program.outline) s.stack found.state.stack parts.stack in
+    let locals = length_all_zip (Fitting t.program.outline) s.locals found.state.locals parts.locals in
+    let stack = length_all_zip (Fitting t.program.outline) s.stack found.state.stack parts.stack in
     false≢true (sym large ∙ within-from t.code s (locals ∙ meets.locals) (omega (arith, stack, meets.stack)))
 
 -- one that doesn't fit that of the first item
@@ -351,16 +350,16 @@ Brings-fit t item s old w sound stands is fits = record { went = Went-none t w s
 join-within : (o : Outline) (code : Code) (a b : TypeState) → state_fits o a b ≡ true → is_within code a ≡ is_within code b
 join-within o code a b fits =
     let parts = fits-parts o a b fits in
-    ap (λ n. (n == code.max_locals) && nat_le (length a.stack) code.max_stack) (zip-length (Fitting o) a.locals b.locals parts.locals)
-    ∙ ap (λ n. (length b.locals == code.max_locals) && nat_le n code.max_stack) (zip-length (Fitting o) a.stack b.stack parts.stack)
+    ap (λ n. (n == code.max_locals) && nat_le (length a.stack) code.max_stack) (length_all_zip (Fitting o) a.locals b.locals parts.locals)
+    ∙ ap (λ n. (length b.locals == code.max_locals) && nat_le n code.max_stack) (length_all_zip (Fitting o) a.stack b.stack parts.stack)
 
 -- and as large as each of them
 pub joined_level : (o : Outline) (old s joined : TypeState) → AreTree o.classes → join_state o old s ≡ Some joined → AreLevel joined old
 joined_level o old s joined tree gives =
     let parts = fits-parts o old joined (join_state-least o tree old s joined gives).first in
     record {
-      locals = sym (zip-length (Fitting o) old.locals joined.locals parts.locals);
-      stack = sym (zip-length (Fitting o) old.stack joined.stack parts.stack);
+      locals = sym (length_all_zip (Fitting o) old.locals joined.locals parts.locals);
+      stack = sym (length_all_zip (Fitting o) old.stack joined.stack parts.stack);
     }
 
 pub few_locals : (code : Code) (old joined : TypeState) → AreLevel joined old → is_within code old ≡ true → code.max_locals ≤ 65535

@@ -9,9 +9,9 @@ use Rattle.clap.specs.Words.{App, HasMatchesOf, all_of, fault_of, first_of, foun
 use Rattle.clap.specs.declared.parser.matches.ArgMatches.{ArgMatches}
 use Rattle.fm_cli_requests.specs.Values.{command_with}
 use Rattle.clap.proofs.OnLiterals.{clap_on_literals}
+use Rattle.fm_base.proofs.OptionFacts.{same_value}
 use Rattle.fm_cli_requests.proofs.CommandLemmas.{faults_by, found_fault, is_fault, matched_by}
 use Rattle.fm_cli_requests.proofs.ProgramTextLemmas.{one_of_two}
-use Rattle.fm_cli_requests.proofs.MatchLemmas.{same_value}
 use Rattle.fm_cli_requests.specs.ProgramText.{AskForText, text_words}
 use Rattle.fm_cli_requests.specs.declared.program_text.ProgramText.{ProgramText}
 use Rattle.fm_cli_requests.specs.declared.program_text.ProgramText.TheVariants as text

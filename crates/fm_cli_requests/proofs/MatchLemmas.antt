@@ -63,7 +63,3 @@ some_text (x ∷ xs) empty = omega arith
 -- the first value of an id, if any, is what a getter returns
 pub first_is : (f : Found) (id : List ℕ) (answer : Option (Bor (List ℕ))) → option_map (λ s. s.now) answer ≡ first_value f id → first_of id (rows_of f) ≡ option_map (λ s. s.now) answer
 first_is f id answer got = sym (first_value-rows f id) ∙ sym got
-
--- what is found is one value
-pub same_value : {X : Type 0} → (found : Option X) (x y : X) → found ≡ Some x → found ≡ Some y → x ≡ y
-same_value found x y p q = cc

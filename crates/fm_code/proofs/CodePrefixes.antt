@@ -4,7 +4,7 @@ use Rattle.std.proofs.lemmas.Bool.{cases_order}
 use Rattle.std.specs.List.{AllByRecursion, flat_map, concat}
 use Rattle.fm_code.specs.Numbers.{two, four}
 use Rattle.fm_code.specs.ClassBytes.{counted, attribute_bytes, raw_bytes, offset_in, offset_of, item_bytes, code_attribute_bytes, code_bytes}
-use Rattle.fm_code.specs.Fits.{FitsTwo, FitsFour, CountedFits, VarFits, CodeAttrFits, CodeFits}
+use Rattle.fm_code.specs.Fits.{FitsTwo, FitsFour, CountedFits, VarFits, CodeAttrFits, CodeFits, AreBytes}
 use Rattle.fm_code.specs.SpellsCode.{SpellsCode}
 use Rattle.fm_code.specs.CodeRules.{HandlerIsValid, VarIsValid, CodeAttrIsValid, CodeIsValid}
 use Rattle.fm_code.specs.declared.constant_pool.Entry.{Entry}
@@ -195,7 +195,7 @@ vars_types : (P : Type 0) → codes "LocalVariableTable" ≡ codes "LocalVariabl
 vars_types P e = let same : length (codes "LocalVariableTable") ≡ length (codes "LocalVariableTypeTable") = ap length e in absurd (omega arith)
 
 -- the two halves of that for a line
-abbrev LineFits : Line → Type 0
+abbrev pub LineFits : Line → Type 0
 LineFits l = FitsTwo l.line
 
 abbrev LineIsValid : ℕ → Line → Type 0
@@ -347,3 +347,13 @@ one_code_attribute entries c d c_right d_right e =
       handlers = same_handlers k;
       attributes = same_attributes k;
     }
+
+-- the parts of bytes are bytes
+pub AreBytes-parts : (xs ys : List ℕ) → AreBytes (xs ++ ys) → AreBytes xs × AreBytes ys
+AreBytes-parts [] ys fits = (tt, fits)
+AreBytes-parts (x ∷ xs) ys (here, fits) = let rest = AreBytes-parts xs ys fits in ((here, rest.0), rest.1)
+
+-- and so is each item of a code
+pub AreBytes-items : (items : List Item) → AreBytes (flat_map item_bytes items) → AllByRecursion (λ (item : Item). AreBytes item.bytes) items
+AreBytes-items [] fits = tt
+AreBytes-items (item ∷ items) fits = let parts = AreBytes-parts item.bytes (flat_map item_bytes items) fits in (parts.0, AreBytes-items items parts.1)

@@ -296,15 +296,15 @@ name_is_supported : NameIsSupported compiled_record
 unfolding utf16_chars
 name_is_supported = record { no_zero = refl; whole_pairs = refl }
 
-constructor_supported : MethodIsSupported compiled_entries compiled_constructor
+constructor_supported : MethodIsSupported false compiled_entries compiled_constructor
 constructor_supported = record {
-  head = record { descriptor = no_floating_method (codes "()V") refl; not_native = refl };
+  head = record { descriptor = no_floating_method (codes "()V") refl; not_native = refl; of_interface = λ e. cc };
   items = (record { not_left_out = refl; constant = refl; of_class = refl; class = tt }, (record { not_left_out = refl; constant = refl; of_class = refl; class = no_floating_array (codes "java/lang/Object") refl }, (record { not_left_out = refl; constant = refl; of_class = refl; class = tt }, tt)));
 }
 
-method_supported : MethodIsSupported compiled_entries compiled_method
+method_supported : MethodIsSupported false compiled_entries compiled_method
 method_supported = record {
-  head = record { descriptor = no_floating_method (codes "(I)I") refl; not_native = refl };
+  head = record { descriptor = no_floating_method (codes "(I)I") refl; not_native = refl; of_interface = λ e. cc };
   items = (record { not_left_out = refl; constant = refl; of_class = refl; class = tt }, (record { not_left_out = refl; constant = refl; of_class = refl; class = tt }, (record { not_left_out = refl; constant = refl; of_class = refl; class = tt }, (record { not_left_out = refl; constant = refl; of_class = refl; class = tt }, (record { not_left_out = refl; constant = refl; of_class = refl; class = tt }, (record { not_left_out = refl; constant = refl; of_class = refl; class = tt }, (record { not_left_out = refl; constant = refl; of_class = refl; class = tt }, (record { not_left_out = refl; constant = refl; of_class = refl; class = tt }, (record { not_left_out = refl; constant = refl; of_class = refl; class = tt }, (record { not_left_out = refl; constant = refl; of_class = refl; class = tt }, (record { not_left_out = refl; constant = refl; of_class = refl; class = tt }, (record { not_left_out = refl; constant = refl; of_class = refl; class = tt }, (record { not_left_out = refl; constant = refl; of_class = refl; class = tt }, (record { not_left_out = refl; constant = refl; of_class = refl; class = tt }, (record { not_left_out = refl; constant = refl; of_class = refl; class = tt }, (record { not_left_out = refl; constant = refl; of_class = refl; class = tt }, tt))))))))))))))));
 }
 

@@ -1,15 +1,18 @@
 -- Edges as a list that computes, the code of a method, and paths to a load.
-use Rattle.std.proofs.Common.{◌≡◌, ℕ, zero, suc, ◌+◌, ◌<◌, ◌⊎◌, ◌&&◌, Bool, true, false, cond, nat_le, nat_lt, List, [], ◌∷◌, ◌++◌, length, map, Option, Some, None, IsSomeAnd, Contains, refl, ap, sym, ◌∙◌, subst, inl, inr, ⊎_elim, arith}
-use Rattle.std.proofs.lemmas.Bool.{lt-ltb, le-leb, ltb-true, leb-true, false≢true}
+use Rattle.std.proofs.Common.{◌≡◌, ℕ, zero, suc, ◌+◌, ◌<◌, ◌⊎◌, ◌&&◌, Bool, true, false, cond, nat_le, nat_lt, List, [], ◌∷◌, ◌++◌, length, map, Option, Some, None, IsSomeAnd, Contains, refl, ap, sym, ◌∙◌, subst, inl, inr, ⊎_elim, arith, slice_get}
+use Rattle.std.proofs.lemmas.Bool.{lt-ltb, le-leb, ltb-true, leb-true, false≢true, and_parts}
 use Rattle.std.proofs.lemmas.List.Elements.{Contains-append_left, Contains-append_right, Contains-append_cases, All-contains, All-from_recursion}
+use Rattle.std.proofs.lemmas.Option.{slice_get_within}
 use Rattle.std.specs.List.{AllByRecursion, Any, filter, flat_map}
+use Rattle.fm_base.proofs.ContainsFacts.{Contains-cons_cases}
+use Rattle.fm_base.proofs.OptionFacts.{option_map-some}
 use Rattle.fm_code.specs.AccessFlags.{is_interface}
 use Rattle.fm_code.proofs.Tested.{read, meant, items_spelled}
 use Rattle.fm_code.specs.ClassBytes.{item_bytes}
 use Rattle.fm_code.specs.CodeRules.{CodeIsValid}
 use Rattle.fm_code.specs.InstructionTable.{insn_at}
-use Rattle.fm_code.specs.Edges.{FallsOff, MeetsCodeRules, insn_of, falls_through, LeadsTo, Catches, IsHandlerEdge, IsEdge, IsReachable}
-use Rattle.fm_code.specs.EdgesExample.{onward, handlers_of, edges_listed, example_code, example_items, falling_code}
+use Rattle.fm_code.specs.Edges.{FallsOff, MeetsCodeRules, insn_of, falls_through, LeadsTo, Catches, IsHandlerEdge, IsEdge, IsReachable, onward, handlers_of, edges_listed}
+use Rattle.fm_code.specs.EdgesExample.{example_code, example_items, falling_code}
 use Rattle.fm_code.specs.Live.{Keeps, Live}
 use Rattle.fm_code.specs.Members.{code_of, MethodAttrIsValid, MethodIsValid}
 use Rattle.fm_code.specs.Spells.{HasSpelling}
@@ -20,15 +23,11 @@ use Rattle.fm_code.specs.declared.class_file.MemberAttr.{MemberAttr}
 use Rattle.fm_code.specs.declared.class_file.MemberAttr.TheVariants as attribute
 use Rattle.fm_code.specs.declared.code_array.Code.{Code}
 use Rattle.fm_code.specs.declared.code_array.Handler.{Handler}
+use Rattle.fm_code.specs.declared.code_array.Item.{Item}
 use Rattle.fm_code.specs.declared.constant_pool.Entry.{Entry}
 use Rattle.fm_code.specs.declared.instructions.Insn.{Insn}
 
 -- ---- lists
-
--- an element of a list is its first one or one of the rest
-pub Contains-cons_cases : {X : Type 0} (y : X) (xs : List X) (x : X) → Contains (y ∷ xs) x → (x ≡ y) ⊎ Contains xs x
-Contains-cons_cases y xs x (zero, inside, there) = inl (sym there)
-Contains-cons_cases y xs x (suc k, inside, there) = inr (k, omega arith, there)
 
 -- the first element is one
 pub Contains-first : {X : Type 0} (y : X) (xs : List X) (x : X) → x ≡ y → Contains (y ∷ xs) x
@@ -78,10 +77,6 @@ Contains-from_map f (x ∷ xs) y found =
     (λ later. let was = Contains-from_map f xs y later in (was.0, Contains-later x xs was.0 was.1, was.2))
     (Contains-cons_cases (f x) (map f xs) y found)
 
-both_true : (a b : Bool) → (a && b) ≡ true → (a ≡ true) × (b ≡ true)
-both_true true b e = (refl, e)
-both_true false b e = absurd (false≢true e)
-
 -- ---- edges as a list
 
 onward_from : (o : Option Insn) (j next : ℕ) → IsSomeAnd o (λ i. LeadsTo i j next) → Contains (onward j o) next
@@ -122,7 +117,7 @@ handlers_tell j handler hs found =
     let one = Contains-from_map (λ (h : Handler). h.handler) (filter test hs) handler found in
     let h = one.0 in
     let was = Contains-from_filter test hs h one.1 in
-    let passed = both_true (nat_le h.start j) (nat_lt j h.end) was.1 in
+    let passed = and_parts (nat_le h.start j) (nat_lt j h.end) was.1 in
     (was.0.0, h, was.0.1, was.0.2, record { after_start = leb-true h.start j passed.0; before_end = ltb-true j h.end passed.1; handler_is = one.2 })
 
 -- an edge is in the list
@@ -263,3 +258,8 @@ MeetsCodeRules-method c m code (bytes, spells) declared found =
     let IsValid : Member → Type 0 = MethodIsValid (is_interface c.flags) c.pool.entries in
     let valid : IsValid m = All-contains IsValid c.methods m (All-from_recursion IsValid c.methods spells.methods) declared in
     (c.pool.entries, first_code_valid c.pool.entries m m.attributes code valid.attributes found)
+
+-- an item with an instruction is within the code
+pub insn_inside : (code : Code) (j : ℕ) (i : Insn) → insn_of code j ≡ Some i → j < length code.items
+insn_inside code j i is =
+    let found = option_map-some (λ (item : Item). item.insn) (slice_get code.items j) i is in slice_get_within code.items j found.0 found.1

@@ -1,7 +1,8 @@
 -- A class that isn't accepted fails first at one place alone.
-use Rattle.std.proofs.Common.{◌≡◌, ℕ, zero, suc, inl, inr, List, [], ◌∷◌, take, Option, Some, None, refl, sym, ap, subst, ◌∙◌, arith}
+use Rattle.std.proofs.Common.{◌≡◌, ℕ, Bool, zero, suc, inl, inr, List, [], ◌∷◌, take, Option, Some, None, refl, sym, ap, subst, ◌∙◌, arith}
 use Rattle.std.specs.Prelude.{IsSomeAnd, IfSome, slice_get}
 use Rattle.std.specs.List.{AllByRecursion}
+use Rattle.fm_code.specs.AccessFlags.{is_interface}
 use Rattle.fm_code.specs.Members.{code_of}
 use Rattle.fm_code.specs.Profile.{MethodIsWithin, IsWithinLimits, CodeIsWithin, IsFirstOver, IsFirstOverLimit, ItemIsSupported, MethodIsSupported, FieldIsSupported, IsSupported, IsFirstUnsupportedItem, FailsAt, IsFirstUnsupportedField, IsFirstUnsupportedMethod, IsFirstUnsupportedEntry, IsFirstUnsupported, EntryIsSupported}
 use Rattle.fm_code.specs.declared.constant_pool.Entry.{Entry}
@@ -108,26 +109,28 @@ some_fails : (entries : List Entry) (offset : ℕ) (o : Option Code) → IsSomeA
 some_fails entries offset None first all = first
 some_fails entries offset (Some code) first all = items_fail entries offset code first all
 
-method_fails : (entries : List Entry) (offset : ℕ) (m : Member) → FailsAt entries offset m → ¬ MethodIsSupported entries m
-method_fails entries offset m (inl head) supported = head.0 supported.head
-method_fails entries offset m (inr items) supported = some_fails entries offset (code_of m) items.1 supported.items
+method_fails : (in_interface : Bool) (entries : List Entry) (offset : ℕ) (m : Member) → FailsAt in_interface entries offset m → ¬ MethodIsSupported in_interface entries m
+method_fails in_interface entries offset m (inl head) supported = head.0 supported.head
+method_fails in_interface entries offset m (inr items) supported = some_fails entries offset (code_of m) items.1 supported.items
 
-same_offset : (entries : List Entry) (m n : ℕ) (x : Member) → FailsAt entries m x → FailsAt entries n x → m ≡ n
-same_offset entries m n x (inl p) (inl q) = p.1 ∙ sym q.1
-same_offset entries m n x (inl p) (inr q) = absurd (p.0 q.0)
-same_offset entries m n x (inr p) (inl q) = absurd (q.0 p.0)
-same_offset entries m n x (inr p) (inr q) = same_offset_some entries m n (code_of x) p.1 q.1
+same_offset : (in_interface : Bool) (entries : List Entry) (m n : ℕ) (x : Member) → FailsAt in_interface entries m x → FailsAt in_interface entries n x → m ≡ n
+same_offset in_interface entries m n x (inl p) (inl q) = p.1 ∙ sym q.1
+same_offset in_interface entries m n x (inl p) (inr q) = absurd (p.0 q.0)
+same_offset in_interface entries m n x (inr p) (inl q) = absurd (q.0 p.0)
+same_offset in_interface entries m n x (inr p) (inr q) = same_offset_some entries m n (code_of x) p.1 q.1
 
-same_offset_method : (entries : List Entry) (m n : ℕ) (o : Option Member) → IsSomeAnd o (FailsAt entries m) → IsSomeAnd o (FailsAt entries n) → m ≡ n
-same_offset_method entries m n None p q = absurd p
-same_offset_method entries m n (Some x) p q = same_offset entries m n x p q
+same_offset_method : (in_interface : Bool) (entries : List Entry) (m n : ℕ) (o : Option Member) → IsSomeAnd o (FailsAt in_interface entries m) → IsSomeAnd o (FailsAt in_interface entries n) → m ≡ n
+same_offset_method in_interface entries m n None p q = absurd p
+same_offset_method in_interface entries m n (Some x) p q = same_offset in_interface entries m n x p q
 
 fields_fail : (c : ClassDef) (index : ℕ) → IsFirstUnsupportedField c index → ¬ AllByRecursion (FieldIsSupported c.pool.entries) c.fields
 fields_fail c index first all = not_all (FieldIsSupported c.pool.entries) (λ m. ¬ FieldIsSupported c.pool.entries m) (λ m h. h) c.fields index first.there all
 
-methods_fail : (c : ClassDef) (index offset : ℕ) → IsFirstUnsupportedMethod c index offset → ¬ AllByRecursion (MethodIsSupported c.pool.entries) c.methods
+methods_fail : (c : ClassDef) (index offset : ℕ) → IsFirstUnsupportedMethod c index offset → ¬ AllByRecursion (MethodIsSupported (is_interface c.flags) c.pool.entries) c.methods
 methods_fail c index offset first all =
-    not_all (MethodIsSupported c.pool.entries) (FailsAt c.pool.entries offset) (method_fails c.pool.entries offset) c.methods index first.there all
+    let kind = is_interface c.flags in
+    let entries = c.pool.entries in
+    not_all (MethodIsSupported kind entries) (FailsAt kind entries offset) (method_fails kind entries offset) c.methods index first.there all
 
 entries_fail : (c : ClassDef) (index : ℕ) → IsFirstUnsupportedEntry c index → ¬ AllByRecursion EntryIsSupported c.pool.entries
 entries_fail c index first all = not_all EntryIsSupported (λ e. ¬ EntryIsSupported e) (λ e h. h) c.pool.entries index first.there all
@@ -167,10 +170,11 @@ one_place c (place.OfField i) (place.OfMethod j) m n first second = absurd (fiel
 one_place c (place.OfMethod i) place.OfClass m n first second = absurd (second.0 first.name)
 one_place c (place.OfMethod i) (place.OfField j) m n first second = absurd (fields_fail c j second.0 first.fields)
 one_place c (place.OfMethod i) (place.OfMethod j) m n first second =
+    let kind = is_interface c.flags in
     let entries = c.pool.entries in
-    let index = same_index (MethodIsSupported entries) (FailsAt entries m) (FailsAt entries n) (method_fails entries m) (method_fails entries n) c.methods i j first.before second.before first.there second.there in
-    let there : IsSomeAnd (slice_get c.methods i) (FailsAt entries n) = subst (λ (k : ℕ). IsSomeAnd (slice_get c.methods k) (FailsAt entries n)) (sym index) second.there in
-    let offset = same_offset_method entries m n (slice_get c.methods i) first.there there in
+    let index = same_index (MethodIsSupported kind entries) (FailsAt kind entries m) (FailsAt kind entries n) (method_fails kind entries m) (method_fails kind entries n) c.methods i j first.before second.before first.there second.there in
+    let there : IsSomeAnd (slice_get c.methods i) (FailsAt kind entries n) = subst (λ (k : ℕ). IsSomeAnd (slice_get c.methods k) (FailsAt kind entries n)) (sym index) second.there in
+    let offset = same_offset_method kind entries m n (slice_get c.methods i) first.there there in
     λ k. made (place.OfMethod (index k)) (offset k)
 
 pub one_unsupported : (c : ClassDef) (a b : Unsupported) → IsFirstUnsupported c a → IsFirstUnsupported c b → a ≡ b

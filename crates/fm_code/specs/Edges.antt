@@ -1,5 +1,5 @@
 -- The edges of the flow of control between the items of a code array, and the items that they reach (JVMS 4.7.3, 4.10, 6.5).
-use Rattle.std.specs.Prelude.{◌≡◌, ℕ, ◌+◌, ◌<◌, ◌≤◌, ◌⊎◌, Bool, true, false, List, [], ◌∷◌, length, Option, IsSomeAnd, Any, Contains, slice_get}
+use Rattle.std.specs.Prelude.{◌≡◌, ℕ, ◌+◌, ◌<◌, ◌≤◌, ◌⊎◌, ◌&&◌, nat_le, nat_lt, Bool, true, false, List, [], ◌∷◌, ◌++◌, length, map, filter, Option, Some, None, IsSomeAnd, Any, Contains, slice_get, if◌then◌else◌}
 use Rattle.std.specs.List.{AllByRecursion}
 use Rattle.std.specs.Option.{option_map}
 use Rattle.fm_code.specs.CodeRules.{CodeIsValid}
@@ -61,6 +61,24 @@ pub record IsHandlerEdge (code : Code) (j handler : ℕ) : Type 0 where
 -- control may come next from one item to the other
 abbrev pub IsEdge : Code → ℕ → ℕ → Type 0
 IsEdge code j next = IsNormalEdge code j next ⊎ IsHandlerEdge code j next
+
+-- ---- edges as a list that computes
+
+-- the numbers to which item j leads where it ends as usual
+abbrev pub onward : ℕ → Option Insn → List ℕ
+onward j None = []
+onward j (Some i) = targets_of i ++ (if falls_through i then (j + 1) ∷ [] else [])
+
+-- the handlers of item j
+abbrev pub handlers_of : Code → ℕ → List ℕ
+handlers_of code j =
+    if nat_lt j (length code.items)
+    then map (λ (h : Handler). h.handler) (filter (λ (h : Handler). nat_le h.start j && nat_lt j h.end) code.handlers)
+    else []
+
+-- the edges of item j: normal ones, and then those to handlers
+abbrev pub edges_listed : Code → ℕ → List ℕ
+edges_listed code j = filter (λ next. nat_lt next (length code.items)) (onward j (insn_of code j) ++ handlers_of code j)
 
 -- ---- what is reached
 

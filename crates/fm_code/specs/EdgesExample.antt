@@ -1,29 +1,10 @@
--- A code with a loop, a switch and a handler, and its edges as a list that computes.
-use Rattle.std.specs.Prelude.{ℕ, ◌+◌, ◌&&◌, nat_le, nat_lt, List, [], ◌∷◌, ◌++◌, length, map, filter, Option, Some, None, pos, if◌then◌else◌}
-use Rattle.fm_code.specs.Edges.{insn_of, falls_through}
-use Rattle.fm_code.specs.SpellsCode.{targets_of}
+-- A code with a loop, a switch and a handler, and the edges that its reader expects.
+use Rattle.std.specs.Prelude.{ℕ, List, [], ◌∷◌, None, pos}
 use Rattle.fm_code.specs.declared.code_array.Code.{Code}
-use Rattle.fm_code.specs.declared.code_array.Handler.{Handler}
 use Rattle.fm_code.specs.declared.code_array.Item.{Item}
 use Rattle.fm_code.specs.declared.operations.Reg.TheVariants as reg
 use Rattle.fm_code.specs.declared.instructions.Insn.{Insn}
 use Rattle.fm_code.specs.declared.instructions.Insn.TheVariants as insn
-
--- the numbers to which item j leads where it ends as usual
-abbrev pub onward : ℕ → Option Insn → List ℕ
-onward j None = []
-onward j (Some i) = targets_of i ++ (if falls_through i then (j + 1) ∷ [] else [])
-
--- the handlers of item j
-abbrev pub handlers_of : Code → ℕ → List ℕ
-handlers_of code j =
-    if nat_lt j (length code.items)
-    then map (λ (h : Handler). h.handler) (filter (λ (h : Handler). nat_le h.start j && nat_lt j h.end) code.handlers)
-    else []
-
--- the edges of item j in a list that computes: normal ones, and then those to handlers
-abbrev pub edges_listed : Code → ℕ → List ℕ
-edges_listed code j = filter (λ next. nat_lt next (length code.items)) (onward j (insn_of code j) ++ handlers_of code j)
 
 -- an item by its offset, its bytes and its meaning
 abbrev pub item_of : ℕ → List ℕ → Insn → Item

@@ -96,8 +96,8 @@ pub record MethodIsValid (in_interface : Bool) (entries : List Entry) (m : Membe
   -- an abstract method is neither static nor private nor native
   pub abstract_alone : is_abstract m.flags ≡ true → (is_static m.flags || is_private m.flags || is_native m.flags) ≡ false
   pub constructor : utf8_at entries m.name ≡ Some (codes "<init>") → IsConstructor entries m
-  -- a method of an interface is abstract, but for the start of the interface itself
-  pub of_interface : in_interface ≡ true → (is_abstract m.flags ≡ true) ⊎ (utf8_at entries m.name ≡ Some (codes "<clinit>"))
+  -- a method of an interface isn't native (JVMS 4.6); of the interface's start the flag doesn't count
+  pub of_interface : in_interface ≡ true → (is_native m.flags ≡ false) ⊎ (utf8_at entries m.name ≡ Some (codes "<clinit>"))
 
 -- the code of a method, where it has one
 abbrev pub code_of : Member → Option Code

@@ -1,12 +1,12 @@
 -- What is accepted of class files beside their spelling: versions, limits of methods, and what is supported; and where a class fails first.
-use Rattle.std.specs.Prelude.{◌≡◌, ℕ, ◌<◌, ◌≤◌, ◌==◌, ◌||◌, ◌⊎◌, Bool, true, false, List, ◌++◌, length, take, Option, Some, None, is_some, IfSome, IsSomeAnd, slice_get}
+use Rattle.std.specs.Prelude.{◌≡◌, ℕ, ◌<◌, ◌≤◌, ◌==◌, ◌||◌, ◌⊎◌, Bool, true, false, List, codes, ◌++◌, length, take, Option, Some, None, is_some, IfSome, IsSomeAnd, slice_get}
 use Rattle.std.specs.List.{list_any, AllByRecursion}
 use Rattle.std.specs.Option.{option_map}
 use Rattle.std.specs.Char.Utf16.{has_unpaired_surrogate}
 use Rattle.fm_base.specs.Texts.{units}
 use Rattle.fm_base.specs.declared.characters.TheConstants.{FLOAT_LETTER, DOUBLE_LETTER}
 use Rattle.fm_base.specs.declared.limits.TheConstants.{MAX_STACK_WORDS, MAX_LOCAL_WORDS, MAX_HANDLERS}
-use Rattle.fm_code.specs.AccessFlags.{is_native}
+use Rattle.fm_code.specs.AccessFlags.{is_abstract, is_interface, is_native}
 use Rattle.fm_code.specs.Numbers.{two}
 use Rattle.fm_code.specs.Fits.{FitsTwo}
 use Rattle.fm_code.specs.ClassBytes.{magic}
@@ -193,14 +193,19 @@ NameIsSupported c = IsSomeAnd (class_name_at c.pool.entries c.this_class) IsSupp
 abbrev pub FieldIsSupported : List Entry → Member → Type 0
 FieldIsSupported entries m = IsSomeAnd (utf8_at entries m.descriptor) (λ descriptor. ¬ IsFloatingField descriptor)
 
--- beside its code
-pub record HeadIsSupported (entries : List Entry) (m : Member) : Type 0 where
+-- no method with code in an interface, but for the start of the interface itself (JVMS 4.6)
+abbrev pub IsSupportedInInterface : Bool → List Entry → Member → Type 0
+IsSupportedInInterface in_interface entries m = in_interface ≡ true → (is_abstract m.flags ≡ true) ⊎ (utf8_at entries m.name ≡ Some (codes "<clinit>"))
+
+-- a method of a class or of an interface, beside its code
+pub record HeadIsSupported (in_interface : Bool) (entries : List Entry) (m : Member) : Type 0 where
   pub descriptor : IsSomeAnd (utf8_at entries m.descriptor) (λ descriptor. ¬ IsFloatingMethod descriptor)
   pub not_native : is_native m.flags ≡ false
+  pub of_interface : IsSupportedInInterface in_interface entries m
 
 -- a method with its code
-pub record MethodIsSupported (entries : List Entry) (m : Member) : Type 0 where
-  pub head : HeadIsSupported entries m
+pub record MethodIsSupported (in_interface : Bool) (entries : List Entry) (m : Member) : Type 0 where
+  pub head : HeadIsSupported in_interface entries m
   pub items : IfSome (code_of m) (λ code. AllByRecursion (ItemIsSupported entries) code.items)
 
 -- a method handle, the type of a method, or what an invokedynamic calls (JVMS 4.4.8 to 4.4.10)
@@ -218,7 +223,7 @@ EntryIsSupported e = is_dynamic e ≡ false
 pub record IsSupported (c : ClassDef) : Type 0 where
   pub name : NameIsSupported c
   pub fields : AllByRecursion (FieldIsSupported c.pool.entries) c.fields
-  pub methods : AllByRecursion (MethodIsSupported c.pool.entries) c.methods
+  pub methods : AllByRecursion (MethodIsSupported (is_interface c.flags) c.pool.entries) c.methods
   pub pool : AllByRecursion EntryIsSupported c.pool.entries
 
 -- ---- the first place that isn't supported: the class's name, then fields, then methods, of a method its head and then its items, then the pool
@@ -230,9 +235,9 @@ pub record IsFirstUnsupportedItem (entries : List Entry) (offset : ℕ) (code : 
   pub there : IsSomeAnd (slice_get code.items index) (λ item. (¬ ItemIsSupported entries item) × (offset ≡ item.offset))
 
 -- what of a method isn't supported first: its head, at 0, or an item
-abbrev pub FailsAt : List Entry → ℕ → Member → Type 0
-FailsAt entries offset m =
-    ((¬ HeadIsSupported entries m) × (offset ≡ 0)) ⊎ (HeadIsSupported entries m × IsSomeAnd (code_of m) (IsFirstUnsupportedItem entries offset))
+abbrev pub FailsAt : Bool → List Entry → ℕ → Member → Type 0
+FailsAt in_interface entries offset m =
+    ((¬ HeadIsSupported in_interface entries m) × (offset ≡ 0)) ⊎ (HeadIsSupported in_interface entries m × IsSomeAnd (code_of m) (IsFirstUnsupportedItem entries offset))
 
 -- the first field that is not supported
 pub record IsFirstUnsupportedField (c : ClassDef) (index : ℕ) : Type 0 where
@@ -244,14 +249,14 @@ pub record IsFirstUnsupportedField (c : ClassDef) (index : ℕ) : Type 0 where
 pub record IsFirstUnsupportedMethod (c : ClassDef) (index offset : ℕ) : Type 0 where
   pub name : NameIsSupported c
   pub fields : AllByRecursion (FieldIsSupported c.pool.entries) c.fields
-  pub before : AllByRecursion (MethodIsSupported c.pool.entries) (take index c.methods)
-  pub there : IsSomeAnd (slice_get c.methods index) (FailsAt c.pool.entries offset)
+  pub before : AllByRecursion (MethodIsSupported (is_interface c.flags) c.pool.entries) (take index c.methods)
+  pub there : IsSomeAnd (slice_get c.methods index) (FailsAt (is_interface c.flags) c.pool.entries offset)
 
 -- the first entry of the pool that is not supported, where all else is
 pub record IsFirstUnsupportedEntry (c : ClassDef) (index : ℕ) : Type 0 where
   pub name : NameIsSupported c
   pub fields : AllByRecursion (FieldIsSupported c.pool.entries) c.fields
-  pub methods : AllByRecursion (MethodIsSupported c.pool.entries) c.methods
+  pub methods : AllByRecursion (MethodIsSupported (is_interface c.flags) c.pool.entries) c.methods
   pub before : AllByRecursion EntryIsSupported (take index c.pool.entries)
   pub there : IsSomeAnd (slice_get c.pool.entries index) (λ e. ¬ EntryIsSupported e)
 

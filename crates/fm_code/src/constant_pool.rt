@@ -1,6 +1,6 @@
 // The constant pool (JVMS 4.4).
 
-ghost use Rattle.std.specs.Prelude.{◌≡◌, ◌≢◌, IfOk, IfSome, IfNone, option_copied};
+ghost use Rattle.std.specs.Prelude.{◌≡◌, ◌≢◌, ◌↔◌, IfOk, IfSome, IfNone, IsTrue, Some, option_copied};
 ghost use Rattle.std.specs.Option.{option_map};
 ghost use Rattle.fm_code.specs.ConstantPool.{class_name_at, entry_at, field_ref_at, interface_method_ref_at, member_name, member_named, method_ref_at, named_and_typed_at, utf8_at};
 
@@ -139,6 +139,16 @@ impl Pool {
         match self.entry(index) {
             Some(Entry::Utf8(name)) => Some(name),
             _ => None,
+        }
+    }
+
+    /// Whether this very text is at an index. Takes no memory.
+    pub fn has_text(&self, index: u16, text: &[u8]) -> bool
+        ensures { IsTrue result ↔ (utf8_at self.now.entries index ≡ Some text.now) }
+    {
+        match self.utf8(index) {
+            Some(name) => name.as_slice() == text,
+            None => false,
         }
     }
 }

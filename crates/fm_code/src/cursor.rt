@@ -1,6 +1,6 @@
 // Numbers, runs of bytes and attributes, taken off the front of what is still to be read.
 
-ghost use Rattle.std.specs.Prelude.{◌≡◌};
+ghost use Rattle.std.specs.Prelude.{◌≡◌, ◌≢◌, Err};
 ghost use Rattle.fm_code.specs.inner.Reading.{Gives, attribute_view, bytes_at, number_at, raw_at};
 
 use crate::error::PieceFail;
@@ -25,7 +25,8 @@ pub fn take_u8(bytes: &[u8]) -> Result<(u8, &[u8]), PieceFail>
 
 /// The number in the first two bytes, and the bytes after it.
 pub fn take_u16(bytes: &[u8]) -> Result<(u16, &[u8]), PieceFail>
-    ensures { Gives (λ x. (x.0, x.1.now)) result (number_at 2 bytes.now) }
+    ensures taken { Gives (λ x. (x.0, x.1.now)) result (number_at 2 bytes.now) }
+    ensures malformed_alone { result ≢ Err PieceFail.NoMemory }
 {
     if bytes.len() < 2 {
         return Err(PieceFail::Malformed);
@@ -35,7 +36,8 @@ pub fn take_u16(bytes: &[u8]) -> Result<(u16, &[u8]), PieceFail>
 
 /// The number in the first four bytes, and the bytes after it.
 pub fn take_u32(bytes: &[u8]) -> Result<(u32, &[u8]), PieceFail>
-    ensures { Gives (λ x. (x.0, x.1.now)) result (number_at 4 bytes.now) }
+    ensures taken { Gives (λ x. (x.0, x.1.now)) result (number_at 4 bytes.now) }
+    ensures malformed_alone { result ≢ Err PieceFail.NoMemory }
 {
     if bytes.len() < 4 {
         return Err(PieceFail::Malformed);

@@ -2,8 +2,8 @@
 
 ghost use Rattle.std.specs.Prelude.{◌≡◌, ℕ, ◌↔◌, Some, Contains, map};
 ghost use Rattle.std.specs.List.{range_with_len};
-ghost use Rattle.fm_code.specs.Edges.{MeetsCodeRules, IsEdge, IsReachable, FallsOff};
-ghost use Rattle.fm_code.specs.EdgesExample.{edges_listed, example_code, example_edges, falling_code};
+ghost use Rattle.fm_code.specs.Edges.{MeetsCodeRules, IsEdge, edges_listed, IsReachable, FallsOff};
+ghost use Rattle.fm_code.specs.EdgesExample.{example_code, example_edges, falling_code};
 ghost use Rattle.fm_code.specs.Live.{Keeps, Live, Loads};
 ghost use Rattle.fm_code.specs.Members.{code_of};
 ghost use Rattle.fm_code.specs.Spells.{HasSpelling};

@@ -2,12 +2,14 @@
 use Rattle.std.proofs.Common.{◌≡◌, ℕ, ◌+◌, ◌-◌, ◌<◌, Bool, true, List, [], ◌∷◌, ◌++◌, length, Option, Some, None, is_some, Contains, refl, ap, sym, ◌∙◌, subst, inl, inr, ⊎_elim, arith}
 use Rattle.std.proofs.lemmas.List.Elements.{Contains-append_left, Contains-append_right, Contains-append_cases}
 use Rattle.std.specs.List.{flat_map, range_with_len}
+use Rattle.fm_base.proofs.ContainsFacts.{Contains-flat_map, Contains-none}
+use Rattle.fm_code.proofs.EdgesLemmas.{Contains-from_map, Contains-map}
 use Rattle.fm_code.specs.declared.instructions.Insn.{Insn}
 use Rattle.fm_code.specs.declared.instructions.Insn.TheVariants as insn
 use Rattle.fm_types.specs.States.{TypeState}
 use Rattle.fm_world.specs.Programs.{targets}
 use Rattle.fm_world.specs.declared.calls.Call.{Call}
-use Rattle.fm_conn.proofs.ListLemmas.{Contains-flat_map, Contains-from_flat_map, Contains-from_map, Contains-map, Contains-none, Contains-one, Contains-range}
+use Rattle.fm_conn.proofs.ListLemmas.{Contains-from_flat_map, Contains-one, Contains-range}
 use Rattle.fm_conn.proofs.ListedEndLemmas.{first_with-one, first_with-there, links-from, links-is, numbered-from, numbered-of}
 use Rattle.fm_conn.proofs.PairLemmas.{below_is, IsTabled, PairNumbers, place_complete, place_sound, PlaceFits, slot_is, state_inside}
 use Rattle.fm_conn.proofs.WordLemmas.{HasNumber, Located, located-at, located-some, node_below, reached_at, slot_number-some, words_count}

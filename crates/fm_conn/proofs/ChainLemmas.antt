@@ -2,7 +2,7 @@
 use Rattle.std.proofs.Common.{◌≡◌, ℕ, ◌<◌, ◌≤◌, ◌↔◌, List, [], ◌∷◌, get_or, Contains, refl, ap, sym, ◌∙◌, subst, inl, inr, ⊎_elim, arith}
 use Rattle.std.proofs.lemmas.Bool.{cases_lt}
 use Rattle.std.proofs.lemmas.List.{get_or_default, get_or_past}
-use Rattle.std.proofs.lemmas.List.Elements.{All-contains}
+use Rattle.fm_base.proofs.GraphLemmas.{paired_back, paired_below}
 use Rattle.fm_base.specs.Graph.{AreJoined, AreLeastJoined, AreNodes, ArePaired as NumbersPaired, IsPath as IsNumberPath}
 use Rattle.fm_conn.proofs.NumberLemmas.{number_of-same}
 use Rattle.fm_conn.proofs.PairLemmas.{PairNumbers}
@@ -22,14 +22,10 @@ numbers_then pairs a b c (path, is) joined = numbers_after pairs a path b c is j
 pub numbers_one : (pairs : List (ℕ × ℕ)) (a b : ℕ) → NumbersPaired pairs a b → AreJoined pairs a b
 numbers_one pairs a b paired = (b ∷ [], (paired, refl))
 
-numbers_turned : (pairs : List (ℕ × ℕ)) (a b : ℕ) → NumbersPaired pairs a b → NumbersPaired pairs b a
-numbers_turned pairs a b (inl there) = inr there
-numbers_turned pairs a b (inr there) = inl there
-
 numbers_back_along : (pairs : List (ℕ × ℕ)) (a : ℕ) (path : List ℕ) (b : ℕ) → IsNumberPath pairs a path b → AreJoined pairs b a
 numbers_back_along pairs a [] b same = ([], sym same)
 numbers_back_along pairs a (next ∷ rest) b (paired, path) =
-    numbers_then pairs b next a (numbers_back_along pairs next rest b path) (numbers_one pairs next a (numbers_turned pairs a next paired))
+    numbers_then pairs b next a (numbers_back_along pairs next rest b path) (numbers_one pairs next a (paired_back pairs a next paired))
 
 pub numbers_back : (pairs : List (ℕ × ℕ)) (a b : ℕ) → AreJoined pairs a b → AreJoined pairs b a
 numbers_back pairs a b (path, is) = numbers_back_along pairs a path b is
@@ -94,15 +90,9 @@ joined_is linked x pairs a b lists = (
 
 -- ---- least numbers
 
--- a number past those of the nodes is joined only with itself
-past_alone : (n : ℕ) (pairs : List (ℕ × ℕ)) (a b : ℕ) → AreNodes n pairs → NumbersPaired pairs a b → (a < n) × (b < n)
-past_alone n pairs a b nodes (inl there) = All-contains (λ (pair : ℕ × ℕ). (pair.0 < n) × (pair.1 < n)) pairs (a, b) nodes there
-past_alone n pairs a b nodes (inr there) =
-    let both = All-contains (λ (pair : ℕ × ℕ). (pair.0 < n) × (pair.1 < n)) pairs (b, a) nodes there in (both.1, both.0)
-
 joined_past : (n : ℕ) (pairs : List (ℕ × ℕ)) (a : ℕ) (path : List ℕ) (b : ℕ) → AreNodes n pairs → n ≤ a → IsNumberPath pairs a path b → a ≡ b
 joined_past n pairs a [] b nodes past same = same
-joined_past n pairs a (next ∷ rest) b nodes past (paired, path) = absurd (let both = past_alone n pairs a next nodes paired in let low = both.0 in omega arith)
+joined_past n pairs a (next ∷ rest) b nodes past (paired, path) = absurd (let both = paired_below n pairs a next nodes paired in let low = both.0 in omega arith)
 
 class_past : (n : ℕ) (pairs : List (ℕ × ℕ)) (least : List ℕ) (a : ℕ) → AreLeastJoined pairs n least → n ≤ a → class_at least a ≡ a
 class_past n pairs least a is past = get_or_past least a a (let size = is.one_each in omega arith)

@@ -1,19 +1,12 @@
 -- Elements of lists that are made piece by piece, and of ranges of numbers.
-use Rattle.std.proofs.Common.{◌≡◌, ℕ, zero, suc, ◌+◌, ◌<◌, ◌≤◌, Bool, true, List, [], ◌∷◌, ◌++◌, map, IsSomeAnd, Contains, refl, ap, sym, ◌∙◌, subst, inl, inr, ⊎_elim, append_assoc, append-nil, arith}
+use Rattle.std.proofs.Common.{◌≡◌, ℕ, zero, suc, ◌+◌, ◌<◌, ◌≤◌, Bool, true, List, [], ◌∷◌, ◌++◌, map, IsSomeAnd, Contains, refl, ap, sym, ◌∙◌, inl, inr, ⊎_elim, append_assoc, append-nil, arith}
 use Rattle.std.proofs.lemmas.Bool.{cases_lt, false≢true}
-use Rattle.std.proofs.lemmas.List.Elements.{Contains-append_left, Contains-append_right, Contains-append_cases}
+use Rattle.std.proofs.lemmas.List.Elements.{Contains-append_right, Contains-append_cases}
 use Rattle.std.proofs.lemmas.Grind.{flat_map-append}
 use Rattle.std.specs.List.{flat_map, range_with_len, slice_get}
 use Rattle.fm_base.proofs.ContainsFacts.{Contains-cons_cases}
+use Rattle.fm_base.proofs.ListFacts.{range-next}
 use Rattle.fm_base.specs.Rows.{has}
-
--- an element of the piece of an element
-pub Contains-flat_map : {X Y : Type 0} (f : X → List Y) (xs : List X) (x : X) (y : Y) → Contains xs x → Contains (f x) y → Contains (flat_map f xs) y
-Contains-flat_map f [] x y (k, within, there) found = absurd (omega arith)
-Contains-flat_map f (z ∷ xs) x y among found =
-    ⊎_elim (λ (same : x ≡ z). Contains-append_left (f z) (flat_map f xs) y (subst (λ w. Contains (f w) y) same found))
-    (λ later. Contains-append_right (f z) (flat_map f xs) y (Contains-flat_map f xs x y later found))
-    (Contains-cons_cases z xs x among)
 
 -- and each is one of those
 pub Contains-from_flat_map : {X Y : Type 0} (f : X → List Y) (xs : List X) (y : Y) → Contains (flat_map f xs) y → (x : X) × Contains xs x × Contains (f x) y
@@ -40,9 +33,6 @@ Contains-from_range a (suc n) k found =
 pub Contains-one : {X : Type 0} (x y : X) → Contains (x ∷ []) y → y ≡ x
 Contains-one x y found = ⊎_elim (λ same. same) (λ (k, within, there). absurd (omega arith)) (Contains-cons_cases x [] y found)
 
-pub Contains-none : {X : Type 0} (y : X) → Contains [] y → ⊥
-Contains-none y (k, within, there) = omega arith
-
 -- a bit of a mapped list
 pub has-map : {X : Type 0} (f : X → Bool) (xs : List X) (d : ℕ) → has (map f xs) d ≡ true → IsSomeAnd (slice_get xs d) (λ s. f s ≡ true)
 has-map f [] d set = false≢true set
@@ -56,17 +46,11 @@ has-from_map f (x ∷ xs) (suc d) some = has-from_map f xs d some
 
 -- ---- lists that loops make, a number more
 
-range_next : (a n : ℕ) → range_with_len a (suc n) ≡ range_with_len a n ++ (a + n) ∷ []
-range_next a zero = let e : a ≡ a + 0 = omega arith in ap (λ k. k ∷ []) e
-range_next a (suc n) =
-    let e : a + 1 + n ≡ a + suc n = omega arith in
-    ap (λ list. a ∷ list) (range_next (a + 1) n ∙ ap (λ k. range_with_len (a + 1) n ++ k ∷ []) e)
-
 pub flat_range : {X : Type 0} (f : ℕ → List X) (n : ℕ) → flat_map f (range_with_len 0 (n + 1)) ≡ flat_map f (range_with_len 0 n) ++ f n
 flat_range f n =
     let one : n + 1 ≡ suc n = omega arith in
     let same : 0 + n ≡ n = omega arith in
-    ap (λ k. flat_map f (range_with_len 0 k)) one ∙ ap (flat_map f) (range_next 0 n) ∙ flat_map-append f (range_with_len 0 n) ((0 + n) ∷ [])
+    ap (λ k. flat_map f (range_with_len 0 k)) one ∙ ap (flat_map f) (range-next 0 n) ∙ flat_map-append f (range_with_len 0 n) ((0 + n) ∷ [])
     ∙ ap (λ k. flat_map f (range_with_len 0 n) ++ (f k ++ [])) same ∙ ap (λ list. flat_map f (range_with_len 0 n) ++ list) (append-nil (f n))
 
 -- after a piece more is put at the end
@@ -80,22 +64,6 @@ flat_range_more f n first before after so_far more =
     more ∙ ap (λ list. list ++ f n) so_far ∙ append_assoc first (flat_map f (range_with_len 0 n)) (f n) ∙ ap (λ list. first ++ list) (sym (flat_range f n))
 
 -- ---- elements of lists that are mapped
-
-pub Contains-map : {X Y : Type 0} (f : X → Y) (xs : List X) (x : X) → Contains xs x → Contains (map f xs) (f x)
-Contains-map f [] x (k, within, there) = absurd (omega arith)
-Contains-map f (y ∷ xs) x found =
-    ⊎_elim (λ (same : x ≡ y). (0, omega arith, ap f (sym same))) (λ later. Contains-append_right (f y ∷ []) (map f xs) (f x) (Contains-map f xs x later))
-    (Contains-cons_cases y xs x found)
-
-pub Contains-from_map : {X Y : Type 0} (f : X → Y) (xs : List X) (y : Y) → Contains (map f xs) y → (x : X) × Contains xs x × (f x ≡ y)
-Contains-from_map f [] y (k, within, there) = absurd (omega arith)
-Contains-from_map f (x ∷ xs) y found =
-    ⊎_elim (λ (same : y ≡ f x). (x, (0, omega arith, refl), sym same))
-    (λ later. let was = Contains-from_map f xs y later in (was.0, Contains-append_right (x ∷ []) xs was.0 was.1, was.2))
-    (Contains-cons_cases (f x) (map f xs) y found)
-
-pub Contains-later : {X : Type 0} (y : X) (xs : List X) (x : X) → Contains xs x → Contains (y ∷ xs) x
-Contains-later y xs x found = Contains-append_right (y ∷ []) xs x found
 
 pub Contains-first : {X : Type 0} (x : X) (xs : List X) → Contains (x ∷ xs) x
 Contains-first x xs = (0, omega arith, refl)

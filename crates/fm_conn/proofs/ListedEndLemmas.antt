@@ -1,10 +1,11 @@
 -- Ends that are listed with numbers, their nodes at a call, and the first node of a number.
 use Rattle.std.proofs.Common.{◌≡◌, ℕ, true, false, cond, eqb, List, [], ◌∷◌, Option, Some, None, Contains, refl, ap, sym, ◌∙◌, subst, ⊎_elim, eq-eqb, eqb-true}
 use Rattle.std.proofs.lemmas.Bool.{false≢true}
-use Rattle.fm_base.proofs.ContainsFacts.{Contains-cons_cases}
+use Rattle.fm_base.proofs.ContainsFacts.{Contains-cons_cases, Contains-flat_map, Contains-none}
+use Rattle.fm_code.proofs.EdgesLemmas.{Contains-later}
 use Rattle.fm_conn.specs.Summaries.{end_number, links, same_number}
 use Rattle.fm_conn.specs.declared.ends.End2.{End2}
-use Rattle.fm_conn.proofs.ListLemmas.{Contains-first, Contains-flat_map, Contains-from_flat_map, Contains-later, Contains-none, Contains-one}
+use Rattle.fm_conn.proofs.ListLemmas.{Contains-first, Contains-from_flat_map, Contains-one}
 use Rattle.fm_conn.specs.inner.ListedEnds.{first_with, numbered, with_number}
 
 -- ---- numbers of ends

@@ -6,6 +6,7 @@ use Rattle.std.proofs.lemmas.List.Elements.{All-contains, All-from_recursion, Co
 use Rattle.std.proofs.lemmas.List.Folds.{Any-from_list_any, list_any-from_Any}
 use Rattle.std.specs.List.{AllByRecursion, flat_map, list_any, range_with_len, slice_get}
 use Rattle.std.specs.Option.{option_map}
+use Rattle.fm_base.proofs.ContainsFacts.{Contains-flat_map, Contains-none}
 use Rattle.fm_base.proofs.OptionFacts.{IsSomeAnd-at_some, IsSomeAnd-from_some}
 use Rattle.fm_base.specs.Rows.{has}
 use Rattle.fm_code.specs.Edges.{falls_through, insn_of, IsNormalEdge, LeadsTo}
@@ -20,7 +21,7 @@ use Rattle.fm_types.specs.States.{TypeState}
 use Rattle.fm_types.specs.Typed.{state_at}
 use Rattle.fm_world.specs.Programs.{Outline}
 use Rattle.fm_world.specs.declared.uses.Use.{Use}
-use Rattle.fm_conn.proofs.ListLemmas.{Contains-flat_map, Contains-from_flat_map, Contains-from_range, Contains-none, Contains-one, Contains-range}
+use Rattle.fm_conn.proofs.ListLemmas.{Contains-from_flat_map, Contains-from_range, Contains-one, Contains-range}
 use Rattle.fm_conn.proofs.NumberLemmas.{IsThere, item_inside}
 use Rattle.fm_conn.proofs.WordLemmas.{depth_is, HasNumber, Located, located-at, located-some, local_number-some, local_number-there, reached_at, slot_number-node, slot_number-some}
 use Rattle.fm_conn.specs.Nodes.{Global, IsNode, Local, Node, Return, Slot, TypedMethod}

@@ -4,6 +4,7 @@ use Rattle.std.proofs.lemmas.Bool.{cond_below, false≢true}
 use Rattle.std.proofs.lemmas.List.Elements.{Contains-append_left, Contains-append_right, Contains-append_cases}
 use Rattle.std.proofs.lemmas.Option.{slice_get_within}
 use Rattle.std.specs.List.{range_with_len, slice_get}
+use Rattle.fm_base.proofs.ContainsFacts.{Contains-flat_map, Contains-none}
 use Rattle.fm_base.proofs.OptionFacts.{Some-from_some_and}
 use Rattle.fm_base.specs.Graph.{AreLeastJoined}
 use Rattle.fm_base.specs.declared.kinds.Kind.{Kind}
@@ -17,7 +18,7 @@ use Rattle.fm_types.specs.declared.slots.Slot.TheVariants as slot
 use Rattle.fm_world.specs.declared.calls.Call.{Call}
 use Rattle.fm_conn.proofs.CallLemmas.{call_fits, stand_complete, stand_sound}
 use Rattle.fm_conn.proofs.ChainLemmas.{classes_same}
-use Rattle.fm_conn.proofs.ListLemmas.{Contains-flat_map, Contains-from_flat_map, Contains-from_range, Contains-none, Contains-one, Contains-range}
+use Rattle.fm_conn.proofs.ListLemmas.{Contains-from_flat_map, Contains-from_range, Contains-one, Contains-range}
 use Rattle.fm_conn.proofs.MethodLemmas.{lists_nodes, own_lists}
 use Rattle.fm_conn.proofs.PairLemmas.{state_inside, IsTabled}
 use Rattle.fm_conn.proofs.WordLemmas.{located-at, located-some, reached_at, state_reached, Located}
@@ -35,7 +36,7 @@ use Rattle.fm_conn.specs.inner.PairLists.{call_shape, call_shape_at, call_shape_
 
 -- ---- parameters
 
-top_at : (c k : ℕ) → get_or (replicate c slot.Top) k slot.Top ≡ slot.Top
+pub top_at : (c k : ℕ) → get_or (replicate c slot.Top) k slot.Top ≡ slot.Top
 top_at zero k = refl
 top_at (suc c) zero = refl
 top_at (suc c) (suc k) = top_at c k

@@ -1,9 +1,9 @@
 -- The classes of all types of a program are there.
-use Rattle.std.proofs.Common.{◌≡◌, ℕ, zero, suc, ◌+◌, ◌-◌, ◌<◌, ◌≤◌, ◌==◌, not, Bool, true, false, cond, List, [], ◌∷◌, ◌++◌, length, map, filter, nat_lt, Option, Some, None, option_and_then, option_map, refl, subst, arith}
+use Rattle.std.proofs.Common.{◌≡◌, ℕ, zero, suc, ◌+◌, ◌-◌, ◌<◌, ◌≤◌, ◌==◌, not, Bool, true, false, cond, List, [], ◌∷◌, ◌++◌, length, map, filter, nat_lt, Option, Some, None, option_and_then, option_map, refl, arith}
 use Rattle.std.specs.Str.{bytes_eq}
-use Rattle.std.specs.List.{AllByRecursion, cons_option, filter_map, flat_map, range_with_len, slice_get}
+use Rattle.std.specs.List.{AllByRecursion, cons_option, filter_map, flat_map, range_with_len}
 use Rattle.std.proofs.lemmas.List.Quantifiers.{position-Some}
-use Rattle.fm_base.proofs.ListFacts.{AllByRecursion-append, AllByRecursion-from_every}
+use Rattle.fm_base.proofs.ListFacts.{AllByRecursion-append, AllByRecursion-at, AllByRecursion-from_every}
 use Rattle.fm_base.specs.declared.characters.TheConstants.{BOOLEAN_LETTER, BYTE_LETTER, CHAR_LETTER, INT_LETTER, LONG_LETTER, SHORT_LETTER}
 use Rattle.fm_base.specs.declared.kinds.Base.{Base}
 use Rattle.fm_base.specs.declared.kinds.Base.TheVariants as base
@@ -59,7 +59,7 @@ filter_map_all : {X Y : Type 0} (P : Y → Type 0) (f : X → Option Y) (xs : Li
 filter_map_all P f [] all = tt
 filter_map_all P f (x ∷ xs) (here, all) = cons_all P (f x) (filter_map f xs) here (filter_map_all P f xs all)
 
-filter_all : {X : Type 0} (P : X → Type 0) (test : X → Bool) (xs : List X) → AllByRecursion P xs → AllByRecursion P (filter test xs)
+pub filter_all : {X : Type 0} (P : X → Type 0) (test : X → Bool) (xs : List X) → AllByRecursion P xs → AllByRecursion P (filter test xs)
 filter_all P test [] all = tt
 filter_all P test (x ∷ xs) (here, all) =
     elim (test x) as (λ b. AllByRecursion P (cond b (x ∷ filter test xs) (filter test xs))) [
@@ -70,11 +70,6 @@ filter_all P test (x ∷ xs) (here, all) =
 distinct_all : {X : Type 0} (P : X → Type 0) (same : X → X → Bool) (xs : List X) → AllByRecursion P xs → AllByRecursion P (distinct same xs)
 distinct_all P same [] all = tt
 distinct_all P same (x ∷ xs) (here, all) = (here, filter_all P (λ y. not (same x y)) (distinct same xs) (distinct_all P same xs all))
-
-all_at : {X : Type 0} (P : X → Type 0) (xs : List X) (n : ℕ) (x : X) → AllByRecursion P xs → slice_get xs n ≡ Some x → P x
-all_at P [] n x all is = absurd cc
-all_at P (y ∷ xs) zero x (here, all) is = let same : y ≡ x = cc in subst P same here
-all_at P (y ∷ xs) (suc n) x (here, all) is = all_at P xs n x all is
 
 -- ---- types by name
 
@@ -194,4 +189,4 @@ types_all classes given =
 
 pub types_in : TypesAreIn
 unfolding program_of outline_of
-types_in given main number t is = all_at (IsTypeIn (classes_of given)) (types_of (classes_of given) given) number t (types_all (classes_of given) given) is
+types_in given main number t is = AllByRecursion-at (IsTypeIn (classes_of given)) (types_of (classes_of given) given) number t (types_all (classes_of given) given) is

@@ -1,18 +1,19 @@
 -- Built-in methods, by computation over all of them: each has a row of the table, and its class and the superclasses of that one have always started.
-use Rattle.std.proofs.Common.{◌≡◌, ℕ, zero, suc, ◌+◌, ◌<◌, ◌&&◌, not, cond, nat_lt, if◌then◌else◌, Bool, true, false, List, [], ◌∷◌, ◌++◌, length, map, reverse, Option, Some, None, option_and_then, slice_index_or, refl, ap, sym, ◌∙◌, subst, arith, append_assoc, ⊎_elim}
+use Rattle.std.proofs.Common.{◌≡◌, ℕ, zero, suc, ◌+◌, ◌<◌, ◌&&◌, not, cond, nat_lt, if◌then◌else◌, Bool, true, false, List, [], ◌∷◌, ◌++◌, length, reverse, Option, Some, None, option_and_then, slice_index_or, refl, ap, sym, ◌∙◌, subst, arith, ⊎_elim}
 use Rattle.std.specs.Prelude.{is_none, is_some}
 use Rattle.std.specs.List.{AllByRecursion, filter, position_from}
 use Rattle.std.specs.Str.{bytes_eq}
 use Rattle.std.proofs.lemmas.Bool.{and_parts, cases_lt, false≢true, ltb-true}
 use Rattle.std.proofs.lemmas.Iterator.Adapters.{position_from-zero}
-use Rattle.std.proofs.lemmas.List.{get_or_append_left, reverse-append}
+use Rattle.std.proofs.lemmas.List.{get_or_append_left}
 use Rattle.std.proofs.lemmas.Option.{none-some}
-use Rattle.fm_base.proofs.ListFacts.{AllByRecursion-append}
+use Rattle.fm_base.proofs.ListFacts.{AllByRecursion-reversed}
 use Rattle.fm_exec_calls.specs.Calls.{AreRowsBuiltIn}
 use Rattle.fm_frames.specs.Natives.{Native, native_of_row}
 use Rattle.fm_frames.specs.Runnable.{IsRunnable}
 use Rattle.fm_frames.specs.Starts.{is_started, to_start}
 use Rattle.fm_types.specs.Named.{class_of_method}
+use Rattle.fm_world.proofs.TableLemmas.{methods_from-append}
 use Rattle.fm_world.specs.BuiltIns.{built_in}
 use Rattle.fm_world.specs.Chains.{chain_of, class_at, parent_of, upwards}
 use Rattle.fm_world.specs.Declarations.{no_class, no_method}
@@ -72,20 +73,12 @@ settled-at (c ∷ classes) (suc n) h inside = settled-at classes n (and_parts (i
 
 -- ---- in each program
 
-after-append : (class : ℕ) (cs ds : List DeclaredClass) → methods_from class (cs ++ ds) ≡ methods_from class cs ++ methods_from (class + length cs) ds
-after-append class [] ds = let e : class ≡ class + 0 = omega arith in ap (λ k. methods_from k ds) e
-after-append class (c ∷ cs) ds =
-    let e : class + 1 + length cs ≡ class + length (c ∷ cs) = omega arith in
-    let own : List OwnedMethod = map (λ m. record { class = class; method = m }) c.methods in
-    ap (λ ms. own ++ ms) (after-append (class + 1) cs ds ∙ ap (λ k. methods_from (class + 1) cs ++ methods_from k ds) e)
-    ∙ sym (append_assoc own (methods_from (class + 1) cs) (methods_from (class + length (c ∷ cs)) ds))
-
 tabled-first : (given : List DeclaredClass) (method : ℕ) → method < length (methods_of built_in) → is_tabled (method_at (built_in ++ given) method) ≡ true
 unfolding methods_of
 tabled-first given method inside =
     let none : OwnedMethod = record { class = 0; method = no_method } in
     ap is_tabled
-    (ap (λ ms. slice_index_or ms method none) (after-append 0 built_in given)
+    (ap (λ ms. slice_index_or ms method none) (methods_from-append 0 built_in given)
     ∙ get_or_append_left (methods_from 0 built_in) (methods_from (0 + length built_in) given) none method inside)
     ∙ tabled-at (methods_from 0 built_in) method none table_tabled inside
 
@@ -169,11 +162,6 @@ upwards-started o given started (suc bound) (Some class) are inside = (
       (super-inside given (class_at (built_in ++ given) class).superclass (parts-of given class inside).1)),
 )
 
-all-reversed : {X : Type 0} (P : X → Type 0) (xs : List X) → AllByRecursion P xs → AllByRecursion P (reverse xs)
-all-reversed P [] all = tt
-all-reversed P (x ∷ xs) (first, all) =
-    subst (AllByRecursion P) (sym (reverse-append (x ∷ []) xs)) (AllByRecursion-append P (reverse xs) (x ∷ []) (all-reversed P xs all) (first, tt))
-
 none-left : (test : ℕ → Bool) (xs : List ℕ) → AllByRecursion (λ x. test x ≡ true) xs → filter (λ x. not (test x)) xs ≡ []
 none-left test [] all = refl
 none-left test (x ∷ xs) (first, all) =
@@ -190,5 +178,5 @@ nothing-starts p started method row runnable rows is =
     let inside : class < length built_in = ltb-true class (length built_in)
     (and_parts (is_some (option_and_then native_of_row m.method.row)) (nat_lt m.class (length built_in)) (tabled p method row runnable rows is)).1 in
     none-left (is_started o started) (reverse (chain_of o.classes class))
-    (all-reversed (λ above. is_started o started above ≡ true) (chain_of o.classes class)
+    (AllByRecursion-reversed (λ above. is_started o started above ≡ true) (chain_of o.classes class)
     (upwards-started o runnable.given started (suc (length o.classes)) (Some class) runnable.classes inside))

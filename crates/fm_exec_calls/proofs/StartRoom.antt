@@ -76,7 +76,7 @@ there-now x y text cell other is inside some = by_same (cases_eq other text) whe
 
 -- ---- the texts that are left
 
-abbrev one_if : Bool → ℕ
+abbrev pub one_if : Bool → ℕ
 one_if b = cond b 1 0
 
 unmade-more : (cell : ℕ) (literals : List ℕ) → unmade (cell ∷ literals) ≡ one_if (cell == 0) + unmade literals

@@ -1,5 +1,5 @@
 -- The start of classes before an instruction: how far it has come, and that the instruction is done after it.
-use Rattle.std.proofs.Common.{◌≡◌, ◌⊎◌, inl, inr, ℕ, ◌+◌, ◌-◌, ◌^◌, ◌<◌, ◌≤◌, ◌&&◌, Bool, true, false, nat_lt, if◌then◌else◌, List, [], ◌∷◌, ◌++◌, length, map, max, min, Result, Ok, Err, IfOk, append-nil, refl, ap, sym, ◌∙◌, subst, arith}
+use Rattle.std.proofs.Common.{◌≡◌, ◌⊎◌, inl, inr, ℕ, ◌+◌, ◌-◌, ◌^◌, ◌<◌, ◌≤◌, ◌&&◌, Bool, true, false, nat_lt, if◌then◌else◌, List, [], ◌∷◌, ◌++◌, length, map, max, min, append-nil, refl, ap, sym, ◌∙◌, subst, arith}
 use Rattle.std.proofs.lemmas.Bool.{cases_lt, le-ltb}
 use Rattle.std.proofs.lemmas.List.Sums.{sum_by-cons}
 use Rattle.std.specs.List.{flat_map}
@@ -312,8 +312,3 @@ pub start-suits : (p : Program) (literals : ℕ) (classes : List ℕ) → ((fiel
 start-suits p literals classes suit =
     fields-suit p literals (start_of_class p.outline) classes
     (λ class. (tt, fields-suit p literals (constant_at p.outline) (fields_at p.outline class) suit))
-
--- what holds of a result that is Ok, for each value
-pub told-if : {T E : Type 0} (r : Result T E) (P Q : T → Type 0) → ((t : T) → P t → Q t) → IfOk r P → IfOk r Q
-told-if (Ok t) P Q f h = f t h
-told-if (Err e) P Q f h = tt

@@ -51,7 +51,7 @@ unfolding fields_of
 field-owner o f inside =
     let below = owner-below 0 o.classes f (record { class = 0; field = no_field }) inside in omega (arith, below)
 
-abbrev base_class : Base → Option ℕ
+abbrev pub base_class : Base → Option ℕ
 base_class (base.OfClass class) = Some class.0
 base_class b = None
 

@@ -29,11 +29,12 @@ use Rattle.fm_frames.specs.declared.values.Value.{Value}
 use Rattle.fm_frames.specs.declared.values.Value.TheVariants as value
 use Rattle.fm_frames.specs.inner.Frames.{place_of, stack_in, topmost}
 use Rattle.fm_exec_nests.proofs.NestActions.{parts-joined, places_from, put_at}
-use Rattle.fm_exec_nests.proofs.NestRows.{magnitudes}
 use Rattle.fm_exec_nests.proofs.RowMakes.{insn-cheap, IsCheap, IsMade}
 use Rattle.fm_exec_nests.specs.inner.Costs.{nest_of}
 use Rattle.fm_exec_nests.specs.inner.Nests.{nest_effect}
+use Rattle.fm_law_sound.proofs.CallCases.{used_at}
 use Rattle.fm_law_sound.proofs.Cases.{by_on_type}
+use Rattle.fm_law_sound.proofs.InsnActs.{magnitudes}
 use Rattle.fm_law_sound.proofs.StartActs.{after_methods, for_class}
 use Rattle.fm_types.specs.Named.{class_of_method}
 use Rattle.fm_types.specs.Typed.{use_by, use_in}
@@ -44,7 +45,6 @@ use Rattle.fm_world.specs.declared.declarations.Constant.{Constant}
 use Rattle.fm_world.specs.declared.declarations.Constant.TheVariants as constant
 use Rattle.fm_code.specs.Operands.{pool_index}
 use Rattle.fm_world.specs.declared.uses.Use.{Use}
-use Rattle.fm_world.specs.declared.uses.Use.TheVariants as used
 
 -- ---- the start of classes makes only literals
 
@@ -172,7 +172,7 @@ nest-alone o started u dimensions s = ap (for_class o started (multi_array_effec
 -- ---- by the topmost frame
 
 -- the effect by the frames, and by the instruction of the topmost one
-abbrev frames_effect : Program → State → List Frame → Effect
+abbrev pub frames_effect : Program → State → List Frame → Effect
 frames_effect p x [] = stuck
 frames_effect p x (f ∷ callers) = effect_by p x f (next_insn p f)
 
@@ -188,12 +188,7 @@ pub cost-at : (p : Program) (x : State) (f : Frame) (callers : List Frame) (foun
 unfolding cost next_effect
 cost-at p x f callers found is at = ap (λ frames. price p x (frames_effect p x frames)) is ∙ ap (λ i. price p x (effect_by p x f i)) at
 
--- what an instruction names is there
-abbrev use_at : Program → ℕ → Option ℕ → Use
-use_at p method None = used.Unused
-use_at p method (Some index) = use_in p method index
-
-index-inside : (p : Program) (method : ℕ) (operand : Option ℕ) → IsRunnable p → IsUseIn p.outline (use_at p method operand)
+index-inside : (p : Program) (method : ℕ) (operand : Option ℕ) → IsRunnable p → IsUseIn p.outline (used_at p method operand)
 index-inside p method None runnable = tt
 index-inside p method (Some index) runnable = runnable.uses (class_of_method p.outline method) index
 

@@ -5,8 +5,10 @@ use Rattle.std.specs.List.{AllByRecursion, range_with_len}
 use Rattle.std.proofs.lemmas.List.{append-nil, append_assoc, map_more, reverse-append, take_all}
 use Rattle.std.proofs.lemmas.List.Folds.{list_any_at, list_any_more}
 use Rattle.std.proofs.lemmas.Option.{none-some, same_Some, slice_get-map}
+use Rattle.fm_base.proofs.ListFacts.{range-next}
 use Rattle.fm_cells.specs.Objects.{Object}
 use Rattle.fm_cells.specs.Stores.{object_at, Store}
+use Rattle.fm_exec.proofs.ArraySteps.{len_of}
 use Rattle.fm_exec.specs.Steps.{seen}
 use Rattle.fm_frames.specs.ArrayRows.{int_at, ints_at}
 use Rattle.fm_frames.specs.Sights.{sight, Sight, sight_of_cell, sight_of_object, sights, Word}
@@ -72,17 +74,10 @@ int-in o store (Some (value.Ref cell)) = cell-no-int o store cell.0
 int-at : (o : Outline) (store : Store) (stack : List Value) (operand : ℕ) → int_at (sights o store stack) operand ≡ int_in (slice_get stack operand)
 int-at o store stack operand = ap int_of (slice_get-map (sight o store) stack operand) ∙ int-in o store (slice_get stack operand)
 
--- the operands by the number of dimensions
-range-more : (a k : ℕ) → range_with_len a (suc k) ≡ range_with_len a k ++ (a + k) ∷ []
-range-more a zero = let same : a ≡ a + 0 = omega arith in ap (λ m. m ∷ []) same
-range-more a (suc k) =
-    let same : a + 1 + k ≡ a + suc k = omega arith in
-    ap (λ rest. a ∷ rest) (range-more (a + 1) k) ∙ ap (λ m. a ∷ (range_with_len (a + 1) k ++ m ∷ [])) same
-
 places-from : (n : ℕ) → reverse (range_with_len 0 (suc n)) ≡ n ∷ reverse (range_with_len 0 n)
 places-from n =
     let same : 0 + n ≡ n = omega arith in
-    ap reverse (range-more 0 n) ∙ ap (λ m. reverse (range_with_len 0 n ++ m ∷ [])) same ∙ reverse-append (range_with_len 0 n) (n ∷ [])
+    ap reverse (range-next 0 n) ∙ ap (λ m. reverse (range_with_len 0 n ++ m ∷ [])) same ∙ reverse-append (range_with_len 0 n) (n ∷ [])
 
 pub ints-seen : (p : Program) (x : State) (dimensions : ℕ) → ints_at (seen p x) (reverse (range_with_len 0 dimensions)) ≡ ints_on (stack_of x) dimensions
 ints-seen p x zero = refl
@@ -105,10 +100,6 @@ lens-begin counts = record { none = refl; are = refl; fit = tt }
 all-push : (P : ℕ → Type 0) (xs : List ℕ) (y : ℕ) → AllByRecursion P xs → P y → AllByRecursion P (xs ++ y ∷ [])
 all-push P [] y all last = (last, tt)
 all-push P (x ∷ xs) y all last = (all.0, all-push P xs y all.1 last)
-
--- how many elements a count means
-abbrev pub len_of : ℤ → Option ℕ
-len_of count = if int_lt count (pos 0) then None else Some (unsigned_abs count)
 
 pub not-negative : (count : ℤ) (len : ℕ) → Some len ≡ len_of count → (int_lt count (pos 0) ≡ false) × (len ≡ unsigned_abs count)
 not-negative count len is = by_sign (int_lt count (pos 0)) is where

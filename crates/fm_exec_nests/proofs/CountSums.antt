@@ -7,8 +7,8 @@ use Rattle.std.proofs.lemmas.Option.{none-some, same_Some}
 use Rattle.fm_frames.specs.Steps.{most_words}
 use Rattle.fm_frames.specs.declared.values.Value.{Value}
 use Rattle.fm_frames.specs.inner.Doings.{int_in}
+use Rattle.fm_exec.proofs.ArraySteps.{len_of}
 use Rattle.fm_exec_nests.specs.inner.Counts.{arrays_on, arrays_with, counted}
-use Rattle.fm_exec_nests.proofs.CountSteps.{len_of}
 
 -- a product and a sum, each held at the greatest number
 pub told-more : (m len own : ℕ) → min (min (min m most_words * len) most_words + own) most_words ≡ min (own + len * m) most_words

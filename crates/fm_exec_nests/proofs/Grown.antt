@@ -5,12 +5,14 @@ use Rattle.std.proofs.lemmas.Bool.{eq-eqb, ltb-false, ne_eqb}
 use Rattle.std.proofs.lemmas.List.{length-set}
 use Rattle.std.proofs.lemmas.List.Sums.{sum_by-cons, sum_by-set}
 use Rattle.std.proofs.lemmas.Option.{none-some}
+use Rattle.fm_exec_calls.proofs.StartRoom.{one_if}
 use Rattle.fm_exec_calls.specs.inner.Actions.{unmade}
 use Rattle.fm_cells.specs.Changes.{chained_by, Choice, freed_by, made_by, on_object, RefuseStore, Take, with_chain, with_object, without_object}
 use Rattle.fm_cells.specs.Choices.{IsLawful, MayReuse}
 use Rattle.fm_cells.specs.Objects.{Object, object_words, Request}
 use Rattle.fm_cells.specs.Stores.{object_at, Store}
 use Rattle.fm_frames.proofs.Contents.{content_in}
+use Rattle.fm_frames.proofs.OpeningSteps.{put_kept}
 use Rattle.fm_frames.proofs.StepCounts.{step_is, stepped}
 use Rattle.fm_frames.specs.Acts.{all_freed, cell_of, chain_freed, chain_from, chained, Choose, class_started, Did, freed, freed_object, FullAt, is_there, literal_made, literal_text, LostAt, made_then, performed, Performed, put_value, requested, set_static, Sources, value_of, with_content}
 use Rattle.fm_frames.specs.Effects.{Action, Effect, Make, MakeFixed, MakeLiteral, Put, SetStatic, Start, Free, SetChain, FreeChain}
@@ -21,7 +23,6 @@ use Rattle.fm_frames.specs.Steps.{attempted, cost, finished, input_after, is_dee
 use Rattle.fm_frames.specs.declared.ends.Ended.{Ended}
 use Rattle.fm_frames.specs.declared.values.Value.{Value}
 use Rattle.fm_exec_nests.proofs.CostSteps.{next-made}
-use Rattle.fm_exec_nests.proofs.NestStores.{put_kept}
 use Rattle.fm_exec_nests.proofs.RowMakes.{IsMade}
 use Rattle.fm_law_sound.proofs.Following.{continued_is, followed_areas}
 use Rattle.fm_law_sound.specs.Leading.{sources_of}
@@ -106,10 +107,6 @@ all-freed x [] = (refl, refl)
 all-freed x (cell ∷ cells) =
     let one = freed-areas x cell in
     let rest = all-freed (freed x cell) cells in (rest.0 ∙ one.0, rest.1 ∙ one.1)
-
--- a text that has a literal now has none no more
-abbrev one_if : Bool → ℕ
-one_if b = cond b 1 0
 
 one-unmade : (literals : List ℕ) (text cell : ℕ) → text < length literals → nat_lt 0 (slice_index_or literals text 0) ≡ false → 0 < cell
     → unmade (set literals text cell) + 1 ≡ unmade literals

@@ -15,13 +15,14 @@ use Rattle.fm_frames.specs.Steps.{most_words, objects_made, stack_of}
 use Rattle.fm_frames.specs.declared.values.Value.{Value}
 use Rattle.fm_frames.specs.inner.Doings.{int_in}
 use Rattle.fm_exec_nests.proofs.NestActions.{arrays-more, nest-objects}
-use Rattle.fm_exec_nests.proofs.NestRows.{by_sign, magnitudes, magnitudes-are, row-is}
+use Rattle.fm_exec_nests.proofs.NestRows.{by_sign, magnitudes-are, row-is}
 use Rattle.fm_exec_nests.specs.inner.Counts.{any_negative, arrays_on, counted, ints_on, joined}
 use Rattle.fm_exec_nests.specs.inner.Costs.{is_type}
 use Rattle.fm_world.specs.Numbers.{type_of_class}
 use Rattle.fm_world.specs.Programs.{Outline, Program}
 use Rattle.fm_world.specs.declared.uses.Use.{Use}
 use Rattle.fm_world.specs.declared.uses.Use.TheVariants as used
+use Rattle.fm_law_sound.proofs.InsnActs.{magnitudes}
 
 -- ---- how many arrays
 

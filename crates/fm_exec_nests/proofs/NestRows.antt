@@ -21,6 +21,7 @@ use Rattle.fm_exec_nests.specs.Nests.{nested, NestFits}
 use Rattle.fm_exec_nests.specs.inner.Nests.{CanGive, nest_effect}
 use Rattle.fm_world.specs.Programs.{Outline, Program}
 use Rattle.fm_world.specs.declared.uses.Use.TheVariants as used
+use Rattle.fm_law_sound.proofs.InsnActs.{magnitudes}
 
 pub row-is : (p : Program) (x : State) (t : TypeId) (named : TypeRef) (dimensions : ℕ) → slice_get p.outline.types t.0 ≡ Some named
     → multi_array_effect p.outline (used.OfType t) dimensions (seen p x) ≡ arrays_of p.outline named dimensions (ints_on (stack_of x) dimensions)
@@ -30,10 +31,6 @@ row-is p x t named dimensions at =
     ∙ ap (arrays_of p.outline named dimensions) (ints-seen p x dimensions)
 
 -- ---- lengths
-
-abbrev pub magnitudes : List ℤ → List ℕ
-magnitudes [] = []
-magnitudes (n ∷ others) = unsigned_abs n ∷ magnitudes others
 
 pub magnitudes-are : (counts : List ℤ) → magnitudes counts ≡ map unsigned_abs counts
 magnitudes-are [] = refl

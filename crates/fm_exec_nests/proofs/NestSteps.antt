@@ -21,6 +21,7 @@ use Rattle.fm_frames.specs.States.{ref, State}
 use Rattle.fm_frames.specs.declared.values.Value.TheVariants as value
 use Rattle.fm_frames.specs.inner.Doings.{Makes, Underway}
 use Rattle.fm_exec_nests.proofs.NestActions.{arrays-more, nest-actions, one-action, parts-joined, places-step, places_from, put_at}
+use Rattle.fm_exec_nests.proofs.NestEnds.{nest-some}
 use Rattle.fm_exec_nests.proofs.NestStores.{grows-made, grows-put, grows-then}
 use Rattle.fm_exec_nests.specs.inner.Nests.{CanNest, Grows, IsNest, nest_words, Nests}
 use Rattle.fm_world.specs.Numbers.{type_number}
@@ -188,16 +189,11 @@ filling-ended p choose a y z t len inner array place some is makes so =
 
 -- ---- what is required
 
-some-arrays : (lens : List ℕ) → 0 < length lens → 0 < arrays_made lens
-some-arrays [] some = absurd (omega (arith, some))
-some-arrays (len ∷ []) some = omega arith
-some-arrays (len ∷ next ∷ lens) some = omega arith
-
 -- the outer array can be made
 pub outer-birth : (o : Outline) (x : State) (t : TypeRef) (lens : List ℕ) → CanNest o x t lens → x.areas.store.births < 2 ^ 32 - 1
 outer-birth o x t lens can =
     let births = can.births in
-    let some = some-arrays lens can.are.some in
+    let some = nest-some lens can.are.some in
     omega (arith, births, some)
 
 pub outer-room : (o : Outline) (x : State) (t : TypeRef) (len : ℕ) (inner : List ℕ) → CanNest o x t (len ∷ inner)

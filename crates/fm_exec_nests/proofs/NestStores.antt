@@ -10,17 +10,17 @@ use Rattle.fm_cells.specs.Objects.{new_object, Object, Request, request_words}
 use Rattle.fm_cells.specs.Stores.{live_words, object_at, Store}
 use Rattle.fm_cells.specs.declared.answers.Cell.{Cell}
 use Rattle.fm_frames.proofs.OpeningArguments.{wide-put}
+use Rattle.fm_frames.proofs.OpeningSteps.{put_kept}
 use Rattle.fm_frames.proofs.TextSteps.{wide-after}
 use Rattle.fm_frames.specs.Acts.{Choose, put_value, requested}
 use Rattle.fm_frames.specs.Elements.{is_text_type, kept, pack_of, pack_of_base}
-use Rattle.fm_frames.specs.NativeRows.{text_type}
 use Rattle.fm_frames.specs.States.{ref, State}
 use Rattle.fm_frames.specs.declared.values.Value.{Value}
 use Rattle.fm_frames.specs.inner.Doings.{Makes}
 use Rattle.fm_frames.specs.inner.Places.{IsWide}
 use Rattle.fm_exec_nests.specs.inner.Nests.{Grows}
-use Rattle.fm_world.specs.Chains.{same_base}
 use Rattle.fm_world.specs.Programs.{Outline}
+use Rattle.fm_law_sound.proofs.NestedArrays.{array_is_no_text}
 
 pub grows-then : (x y z : Store) (a b m n : ℕ) → Grows x y a m → Grows y z b n → Grows x z (a + b) (m + n)
 grows-then x y z a b m n first second =
@@ -46,14 +46,6 @@ grows-made choose y z r array (grows, taken, free, is) = record {
 
 put_in : Store → ℕ → ℕ → ℕ → Option Object → Store
 put_in store cell place element object = on_object object (λ object. with_object store cell (with_element object place element)) store
-
--- births and the budget stay where a value is put
-pub put_kept : (store : Store) (cell place element : ℕ) → ((put_by store cell place element).births ≡ store.births) × ((put_by store cell place element).budget ≡ store.budget)
-unfolding put_in
-put_kept store cell place element = by_object (object_at store cell) where
-  by_object : (object : Option Object) → ((put_in store cell place element object).births ≡ store.births) × ((put_in store cell place element object).budget ≡ store.budget)
-  by_object None = (refl, refl)
-  by_object (Some object) = (refl, refl)
 
 -- and so do the objects of other cells
 other-put : (store : Store) (array place element cell : ℕ) → (cell == array) ≡ false → object_at (put_by store array place element) cell ≡ object_at store cell
@@ -85,11 +77,6 @@ grows-put y z array place k v is =
       budget = ap (λ (z : State). z.areas.store.budget) is ∙ kept_so.1;
       wide = λ cell wide. subst (λ (z : State). IsWide z.areas.store cell) (sym is) (wide-kept y.areas.store array place (kept k v) cell wide);
     }
-
--- an array is no text
-array_is_no_text : (o : Outline) (t : TypeRef) → 0 < t.dims → is_text_type o t ≡ false
-array_is_no_text o t deep =
-    ap (λ b. b && same_base (text_type o).base t.base) (ne_eqb 0 t.dims (λ same. omega (arith, deep, same)))
 
 -- an array of arrays has its elements in whole words
 array-pack : (o : Outline) (t : TypeRef) → 1 < t.dims → pack_of o t ≡ 1

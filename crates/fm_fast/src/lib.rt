@@ -5,7 +5,7 @@
 // no result, where there is no room for a word or a frame, where an object is absent or of another type,
 // where an index is outside, where a method is built in or a class must be started, and where a return
 // leaves main or the start of a class. Rows require the kinds that typed code has on the stack and in locals
-// and do not test them. None makes or frees an object or ends the run.
+// and do not test them.
 #![tactic(auto)]
 
 mod arrays;

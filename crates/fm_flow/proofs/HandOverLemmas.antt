@@ -1,12 +1,12 @@
 -- A row is added to those of some items, one after the other.
 use Rattle.std.proofs.Common.{◌≡◌, ◌≢◌, ℕ, ◌+◌, ◌<◌, ◌≤◌, ◌⊎◌, ◌↔◌, Bool, true, List, [], ◌∷◌, ◌++◌, length, take, get_or, set, Contains, refl, inl, inr, ⊎_elim, ap, sym, ◌∙◌, subst, arith, length-set}
-use Rattle.std.proofs.lemmas.Bool.{cases_eq}
+use Rattle.std.proofs.lemmas.Bool.{cases_eq, or_cases, or_left, or_right}
 use Rattle.std.proofs.lemmas.List.{get_or-set_same, get_or-set_other, length_push}
 use Rattle.std.proofs.lemmas.List.Elements.{Contains-append_left, Contains-push, Contains-push_cases}
 use Rattle.std.proofs.lemmas.List.Sums.{sum_by-set}
 use Rattle.fm_base.specs.Rows.{has, IsUnion, AddsBit}
 use Rattle.fm_flow.proofs.RisingLemmas.{Contains-take_more}
-use Rattle.fm_flow.proofs.RowFacts.{has-set_same, has-set_kept, has-set_only, unset-le, unset-lt, or_left, or_right, or_cases}
+use Rattle.fm_flow.proofs.RowFacts.{has-set_same, has-set_kept, has-set_only, unset-le, unset-lt}
 use Rattle.fm_flow.specs.inner.LiveWalks.{HandsOver, row_of, all_unset}
 use Rattle.fm_flow.specs.inner.Walks.{unset}
 

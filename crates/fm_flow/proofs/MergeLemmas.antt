@@ -57,7 +57,7 @@ Merging-push first second i n i' n' y list so_far in_range i_on n_on taken above
 }
 
 -- a number of a rising list is not above a later one
-not_above : (xs : List ℕ) → IsStrictlyIncreasing xs → (i k : ℕ) → i ≤ k → k < length xs → get_or xs i 0 ≤ get_or xs k 0
+pub not_above : (xs : List ℕ) → IsStrictlyIncreasing xs → (i k : ℕ) → i ≤ k → k < length xs → get_or xs i 0 ≤ get_or xs k 0
 not_above xs rising i k after inside =
     ⊎_elim (λ (same : i ≡ k). let e = ap (λ m. get_or xs m 0) same in omega arith)
     (λ apart. let was = rising_pair xs rising i k (omega arith) inside in omega arith)

@@ -89,24 +89,3 @@ unset-lt (false ∷ old) (true ∷ new) (suc i) same kept was is =
     let rest = unset-lt old new i (omega arith) (λ k is. kept (suc k) is) was is in omega (arith, unset-cons false old, unset-cons true new)
 unset-lt (false ∷ old) (false ∷ new) (suc i) same kept was is =
     let rest = unset-lt old new i (omega arith) (λ k is. kept (suc k) is) was is in omega (arith, unset-cons false old, unset-cons false new)
-
--- ---- tests
-
-pub or_cases : (a b : Bool) → (a || b) ≡ true → (a ≡ true) ⊎ (b ≡ true)
-or_cases true b e = inl refl
-or_cases false b e = inr e
-
-pub or_left : (a b : Bool) → a ≡ true → (a || b) ≡ true
-or_left a b e = ap (λ x. x || b) e
-
-pub or_right : (a b : Bool) → b ≡ true → (a || b) ≡ true
-or_right true b e = refl
-or_right false b e = e
-
-pub and_both : (a b : Bool) → (a && b) ≡ true → (a ≡ true) × (b ≡ true)
-and_both true b e = (refl, e)
-and_both false b e = absurd (false≢true e)
-
-pub not_true : (b : Bool) → not b ≡ true → b ≡ false
-not_true true e = absurd (false≢true e)
-not_true false e = refl

@@ -1,6 +1,6 @@
 -- The walk back along the edges: what is live at an item and after it, and that nothing live is missed.
 use Rattle.std.proofs.Common.{◌≡◌, ◌≢◌, ℕ, ◌+◌, ◌<◌, ◌≤◌, ◌↔◌, ◌&&◌, ◌==◌, Bool, true, false, not, List, [], ◌∷◌, ◌++◌, length, replicate, get_or, set, Contains, Some, refl, inl, inr, ⊎_elim, ap, sym, ◌∙◌, subst, arith, length-set}
-use Rattle.std.proofs.lemmas.Bool.{cases_lt, cases_eq, eq-eqb, eqb-true, false≢true}
+use Rattle.std.proofs.lemmas.Bool.{cases_lt, cases_eq, eq-eqb, eqb-true, false≢true, and_parts, not-true, or_cases, or_left, or_right}
 use Rattle.std.proofs.lemmas.List.{get_or-set_same, get_or-set_other, get_or-replicate, get_or_past, get_or_append_left, get_or_push, length_push, length-replicate}
 use Rattle.std.proofs.lemmas.List.Elements.{All-get_or, All-from_recursion, Contains-append_left, Contains-push, Contains-push_cases}
 use Rattle.fm_base.proofs.OptionFacts.{Some-from_some_and, IsSomeAnd-from_some, same_value}
@@ -14,7 +14,7 @@ use Rattle.fm_code.specs.declared.operations.Reg.TheVariants as reg
 use Rattle.fm_code.specs.declared.instructions.Insn.{Insn}
 use Rattle.fm_code.specs.declared.instructions.Insn.TheVariants as insn
 use Rattle.fm_flow.proofs.ReachLemmas.{edge_inside, edge_from_item}
-use Rattle.fm_flow.proofs.RowFacts.{has_inside, has-replicate, or_cases, or_left, or_right, and_both, not_true}
+use Rattle.fm_flow.proofs.RowFacts.{has_inside, has-replicate}
 use Rattle.fm_flow.specs.LiveRows.{AreLiveOf}
 use Rattle.fm_flow.specs.inner.LiveWalks.{AreSourcesOf, loads, live_before, IsRowBefore, row_of, HaveWidth, HandsOver, IsLiveBefore, IsLiveAfter, AreSettled, Settling}
 
@@ -36,10 +36,10 @@ Live-from_before code after k j sound before =
     let i = before.insn in
     ⊎_elim (λ loaded. ([], before.insn_is ∙ ap Some (loads_tells k i loaded)))
     (λ passed.
-    let both = and_both (has (row_of after j) k) (not (stores_over k i)) passed in
+    let both = and_parts (has (row_of after j) k) (not (stores_over k i)) passed in
     let live = sound j k both.0 in (
       live.0 ∷ live.1.1.0,
-      (IsSomeAnd-from_some (insn_of code j) (λ i. stores_over k i ≡ false) i before.insn_is (not_true (stores_over k i) both.1), live.1.0, live.1.1.1),
+      (IsSomeAnd-from_some (insn_of code j) (λ i. stores_over k i ≡ false) i before.insn_is (not-true (stores_over k i) both.1), live.1.0, live.1.1.1),
     ))
     (or_cases (loads k i) (has (row_of after j) k && not (stores_over k i)) before.live)
 
@@ -71,7 +71,7 @@ locals_fit code j d (entries, valid) inside =
 live_bit : (bits : ℕ) (i : Insn) (after : List Bool) (k : ℕ) → LocalsFit bits i → length after ≡ bits → live_before i after k ≡ true → k < bits
 live_bit bits i after k fits size live =
     ⊎_elim (λ loaded. local_fits bits k i fits loaded)
-    (λ passed. let inside = has_inside after k (and_both (has after k) (not (stores_over k i)) passed).0 in omega arith)
+    (λ passed. let inside = has_inside after k (and_parts (has after k) (not (stores_over k i)) passed).0 in omega arith)
     (or_cases (loads k i) (has after k && not (stores_over k i)) live)
 
 -- ---- the walk

@@ -1,7 +1,7 @@
 -- The built-in classes by their numbers, which are the same in each program; and the types that fit one of them.
 use Rattle.std.proofs.Common.{◌≡◌, ℕ, ◌==◌, ◌&&◌, ◌||◌, ◌⊎◌, inl, inr, Bool, true, false, List, ◌++◌, codes, unwrap_or, nat_le, Some, refl, sym, ◌∙◌, ap}
 use Rattle.std.specs.Str.{bytes_eq}
-use Rattle.std.proofs.lemmas.Bool.{and_parts, eqb-true, false≢true, or_cases}
+use Rattle.std.proofs.lemmas.Bool.{and_parts, eqb-true, false≢true, or_cases, or_from}
 use Rattle.std.proofs.lemmas.Iterator.Adapters.{position_from-zero}
 use Rattle.fm_base.specs.declared.kinds.Base.{Base}
 use Rattle.fm_base.specs.declared.kinds.Base.TheVariants as base
@@ -18,9 +18,6 @@ use Rattle.fm_world.specs.declared.declarations.DeclaredClass.{DeclaredClass}
 use Rattle.fm_frames.specs.Runnable.{IsRunnable}
 
 -- ---- types below a class
-
-or_none : (a b : Bool) → a ≡ false → b ≡ false → (a || b) ≡ false
-or_none a b first second = ap (λ x. x || b) first ∙ second
 
 -- the type is a class that has this one among its superclasses
 abbrev pub IsBelow : List DeclaredClass → ℕ → TypeRef → Type 0
@@ -40,7 +37,7 @@ type_below classes above t no_interface no_object fits =
           → IsBelow classes above t
       by_way (inl seen) =
           let parts = and_parts (nat_le 0 (depth_of t)) (is_object_base classes (of_class above)) seen in
-          absurd (false≢true (sym (or_none (is_interface_at classes above) (above == object_of classes) no_interface no_object) ∙ parts.1))
+          absurd (false≢true (sym (or_from (is_interface_at classes above) (above == object_of classes) no_interface no_object) ∙ parts.1))
       by_way (inr level) =
           let parts = and_parts (t.dims == 0) (fits_base classes t.base (of_class above)) level in
           let below = base_below classes above t.base parts.1 in

@@ -1,6 +1,6 @@
 -- How an exception goes down the frames.
 use Rattle.std.proofs.Common.{◌≡◌, ℕ, ◌+◌, ◌<◌, ◌≤◌, Bool, true, false, ◌&&◌, nat_lt, ◌==◌, if◌then◌else◌, List, [], ◌∷◌, drop, Option, Some, None, slice_get, option_map, unwrap_or, refl, ap, sym, ◌∙◌, add-one, drop-cons, suc, length, ◌⊎◌, inl, inr, arith}
-use Rattle.std.proofs.lemmas.Bool.{lt-ltb, le-leb, ne_eqb}
+use Rattle.std.proofs.lemmas.Bool.{lt-ltb, le-leb, ne_eqb, cases_lt}
 use Rattle.std.proofs.Math.ListN.{drop_of_length-le}
 use Rattle.std.proofs.lemmas.Option.{none-some, same_Some, get_or_from_slice_get, slice_get-get_or, slice_get_within}
 use Rattle.fm_base.specs.declared.kinds.TypeRef.{TypeRef}
@@ -10,7 +10,6 @@ use Rattle.fm_types.specs.Typed.{type_of_use}
 use Rattle.fm_world.specs.Chains.{is_sub}
 use Rattle.fm_world.specs.Programs.{Program, use_of}
 use Rattle.fm_world.specs.declared.uses.Use.{Use}
-use Rattle.fm_frames.proofs.FrameValues.{below_or_not}
 use Rattle.fm_frames.specs.States.{Frame}
 use Rattle.fm_frames.specs.Steps.{catches, caught, caught_in, Caught, class_at_type, handler_of, InFrames, is_start, Leaves}
 use Rattle.fm_frames.specs.declared.ends.Ended.TheVariants as end
@@ -49,7 +48,7 @@ from-frame frames above f at =
 
 -- where `above` frames aren't there, none is left
 past-frames : (frames : List Frame) (above : ℕ) → None ≡ option_map place_of (slice_get frames above) → length frames ≤ above
-past-frames frames above none = by_place (below_or_not above (length frames)) where
+past-frames frames above none = by_place (cases_lt above (length frames)) where
   by_place : (above < length frames) ⊎ (length frames ≤ above) → length frames ≤ above
   by_place (inl within) =
       absurd (none-some _ (none ∙ ap (option_map place_of) (slice_get-get_or frames above (placed 0 0) within)))

@@ -1,11 +1,13 @@
 -- Classes that start: where their fields begin, whether they have started, and the frames of the methods that start them.
 use Rattle.std.proofs.Common.{◌≡◌, ◌⊎◌, inl, inr, ℕ, zero, suc, ◌+◌, ◌-◌, ◌*◌, ◌<◌, ◌≤◌, Bool, true, false, not, cond, List, [], ◌∷◌, ◌++◌, length, length-append, map, filter, take, drop, get_or, option_map, option_to_list, is_none, Option, Some, None, refl, ap, sym, ◌∙◌, subst, arith, add-one, drop-cons, drop_of_length-le, if◌then◌else◌}
+use Rattle.std.proofs.lemmas.Bool.{cases_lt}
 use Rattle.std.proofs.lemmas.List.{append_assoc, get_or-append-add, get_or-map, get_or_append_left, get_or_default, get_or_past, length-map, map_more}
 use Rattle.std.proofs.lemmas.List.Elements.{filter_map-append, filter_more}
 use Rattle.std.proofs.lemmas.List.Sums.{sum_by-cons}
 use Rattle.std.specs.List.{cons_option, filter_map, slice_index_or}
 use Rattle.fm_base.specs.declared.ids.ClassId.{ClassId}
 use Rattle.fm_base.specs.declared.ids.MethodId.{MethodId}
+use Rattle.fm_world.proofs.Marks.{only_found}
 use Rattle.fm_world.specs.Chains.{class_at}
 use Rattle.fm_world.specs.Declarations.{no_class, no_field}
 use Rattle.fm_world.specs.Members.{field_at, fields_from, fields_of, first_field, owned_fields, OwnedField, start_of}
@@ -14,7 +16,6 @@ use Rattle.fm_world.specs.declared.declarations.DeclaredClass.{DeclaredClass}
 use Rattle.fm_world.specs.declared.declarations.DeclaredField.{DeclaredField}
 use Rattle.fm_world.specs.declared.records.ClassInfo.{ClassInfo}
 use Rattle.fm_world.specs.declared.records.FieldInfo.{FieldInfo}
-use Rattle.fm_frames.proofs.FrameValues.{below_or_not}
 use Rattle.fm_frames.proofs.Programs.{class-start}
 use Rattle.fm_frames.specs.Starts.{is_started, start_methods}
 use Rattle.fm_frames.specs.States.{Frame, State}
@@ -23,7 +24,7 @@ use Rattle.fm_frames.specs.inner.Frames.{with_start}
 
 -- ---- the first field of a class
 
-abbrev no_owner : OwnedField
+abbrev pub no_owner : OwnedField
 no_owner = record { class = 0; field = no_field }
 
 abbrev class_in : ℕ → List DeclaredClass → ℕ → ℕ
@@ -62,7 +63,7 @@ class_below : (number : ℕ) (classes : List DeclaredClass) (class field : ℕ) 
 class_below number [] class field inside before = absurd (omega (arith, inside))
 class_below number (c ∷ classes) zero field inside before = absurd (omega (arith, before))
 class_below number (c ∷ classes) (suc class) field inside before =
-    by_place (class_below (number + 1) classes class (field - length c.fields)) (below_or_not field (length c.fields)) where
+    by_place (class_below (number + 1) classes class (field - length c.fields)) (cases_lt field (length c.fields)) where
       by_place : (field - length c.fields < length (fields_from (number + 1) classes) → field - length c.fields < first_field classes class
           → class_in (number + 1) classes (field - length c.fields) < number + 1 + class)
           → (field < length c.fields) ⊎ (length c.fields ≤ field) → class_in number (c ∷ classes) field < number + suc class
@@ -78,7 +79,7 @@ class_from : (number : ℕ) (classes : List DeclaredClass) (class field : ℕ) �
     → first_field classes class ≤ field → number + class ≤ class_in number classes field
 class_from number [] class field inside after = absurd (omega (arith, inside))
 class_from number (c ∷ classes) zero field inside after =
-    by_place (class_from (number + 1) classes zero (field - length c.fields)) (below_or_not field (length c.fields)) where
+    by_place (class_from (number + 1) classes zero (field - length c.fields)) (cases_lt field (length c.fields)) where
       by_place : (field - length c.fields < length (fields_from (number + 1) classes) → first_field classes zero ≤ field - length c.fields
           → number + 1 + zero ≤ class_in (number + 1) classes (field - length c.fields))
           → (field < length c.fields) ⊎ (length c.fields ≤ field) → number + 0 ≤ class_in number (c ∷ classes) field
@@ -89,7 +90,7 @@ class_from number (c ∷ classes) zero field inside after =
           omega (arith, is, rest)
 class_from number (c ∷ classes) (suc class) field inside after =
     by_place (class_from (number + 1) classes class (field - length c.fields))
-    (sum_by-cons (λ (d : DeclaredClass). length d.fields) c (take class classes)) (below_or_not field (length c.fields)) where
+    (sum_by-cons (λ (d : DeclaredClass). length d.fields) c (take class classes)) (cases_lt field (length c.fields)) where
       by_place : (field - length c.fields < length (fields_from (number + 1) classes) → first_field classes class ≤ field - length c.fields
           → number + 1 + class ≤ class_in (number + 1) classes (field - length c.fields))
           → first_field (c ∷ classes) (suc class) ≡ length c.fields + first_field classes class
@@ -108,7 +109,7 @@ owner-is o field owner info is owned = owned ∙ ap (λ (i : FieldInfo). i.class
 pub first_above : (o : Outline) (class field owner : ℕ) (info : FieldInfo) → field < length (fields_of o.classes) → info ≡ field_info o field → owner ≡ info.class.0
     → owner < class → field + 1 ≤ first_field o.classes class
 unfolding fields_of
-first_above o class field owner info inside is owned earlier = by_place (below_or_not field (first_field o.classes class)) where
+first_above o class field owner info inside is owned earlier = by_place (cases_lt field (first_field o.classes class)) where
   by_place : (field < first_field o.classes class) ⊎ (first_field o.classes class ≤ field) → field + 1 ≤ first_field o.classes class
   by_place (inl below) = omega (arith, below)
   by_place (inr from) =
@@ -120,7 +121,7 @@ first_above o class field owner info inside is owned earlier = by_place (below_o
 pub first_within : (o : Outline) (class field owner : ℕ) (info : FieldInfo) → field < length (fields_of o.classes) → info ≡ field_info o field → owner ≡ info.class.0
     → class ≤ owner → first_field o.classes class ≤ field
 unfolding fields_of
-first_within o class field owner info inside is owned later = by_place (below_or_not field (first_field o.classes class)) where
+first_within o class field owner info inside is owned later = by_place (cases_lt field (first_field o.classes class)) where
   by_place : (field < first_field o.classes class) ⊎ (first_field o.classes class ≤ field) → first_field o.classes class ≤ field
   by_place (inr from) = from
   by_place (inl below) =
@@ -176,10 +177,6 @@ start-found o class info is =
 
 -- ---- those of several classes
 
-one_method : (found : Option ℕ) → cons_option found [] ≡ option_to_list found
-one_method None = refl
-one_method (Some n) = refl
-
 abbrev numbers : List ClassId → List ℕ
 numbers classes = map (λ (c : ClassId). c.0) classes
 
@@ -189,7 +186,7 @@ pub methods-more : (o : Outline) (classes : List ClassId) (i : ℕ) (c : ClassId
 methods-more o classes i c inside here =
     ap (start_methods o) (map_more (λ (c : ClassId). c.0) classes i c inside ∙ ap (λ (d : ClassId). numbers (take i classes) ++ d.0 ∷ []) (sym here))
     ∙ filter_map-append (start_of o.classes) (numbers (take i classes)) (c.0 ∷ [])
-    ∙ ap (λ ms. start_methods o (numbers (take i classes)) ++ ms) (one_method (start_of o.classes c.0))
+    ∙ ap (λ ms. start_methods o (numbers (take i classes)) ++ ms) (only_found (start_of o.classes c.0))
 
 pub count-more : (o : Outline) (classes : List ClassId) (i : ℕ) (c : ClassId) (count more : ℕ) → i < length classes → c ≡ get_or classes i c
     → (count ≡ length (start_methods o (numbers (take i classes)))) × (count ≤ i) → more ≡ length (option_to_list (start_of o.classes c.0)) → more ≤ 1

@@ -6,10 +6,10 @@ use Rattle.std.specs.List.{flat_map}
 use Rattle.fm_base.specs.declared.kinds.Kind.{Kind}
 use Rattle.fm_base.specs.declared.kinds.Kind.TheVariants as kind
 use Rattle.fm_code.specs.AccessFlags.{is_static}
-use Rattle.fm_world.specs.Declarations.{no_field}
 use Rattle.fm_world.specs.Members.{field_at, field_kind, fields_of, OwnedField}
 use Rattle.fm_world.specs.Programs.{field_info, Outline}
 use Rattle.fm_world.specs.declared.records.FieldInfo.{FieldInfo}
+use Rattle.fm_frames.proofs.ClassStarts.{no_owner}
 use Rattle.fm_frames.specs.Runs.{first_statics}
 use Rattle.fm_frames.specs.declared.values.Value.{Value}
 use Rattle.fm_frames.specs.inner.Opening.{first_by}
@@ -27,9 +27,6 @@ zero-fits (kind.Ref t) = omega arith
 -- what a field holds at first, if it is static
 abbrev pub firsts_in : Outline → OwnedField → List Value
 firsts_in o f = first_by (is_static f.field.flags) (field_kind o.classes f.field)
-
-abbrev no_owner : OwnedField
-no_owner = record { class = 0; field = no_field }
 
 firsts-told : (o : Outline) (field : ℕ) (info : FieldInfo) → info ≡ field_info o field
     → first_by info.is_static info.kind ≡ firsts_in o (field_at o.classes field)

@@ -1,10 +1,10 @@
 -- Frames that lie in one list: what a change of the list, or of the topmost cursor, does to them.
-use Rattle.std.proofs.Common.{◌≡◌, ℕ, Bool, ◌+◌, ◌-◌, ◌<◌, ◌≤◌, ◌⊎◌, inl, inr, List, [], ◌∷◌, ◌++◌, length, take, drop, set, reverse, Some, None, get_or, refl, ap, sym, ◌∙◌, subst, slice_get, option_map, map, zero, suc, ◌≢◌, add-one, replicate, max, take_all, option_to_list, append_assoc, true, false, leb, length-set, arith}
+use Rattle.std.proofs.Common.{◌≡◌, ℕ, Bool, ◌+◌, ◌-◌, ◌<◌, ◌≤◌, ◌⊎◌, inl, inr, List, [], ◌∷◌, ◌++◌, length, take, drop, set, reverse, Some, None, get_or, refl, ap, sym, ◌∙◌, subst, slice_get, option_map, map, zero, suc, ◌≢◌, add-one, replicate, max, take_all, option_to_list, append_assoc, true, false, length-set, arith}
 use Rattle.std.proofs.Math.ListN.{drop_of_length-le}
 use Rattle.std.proofs.Math.Seq.{drop-append_seam, take-append_seam, take-set-lt}
+use Rattle.std.proofs.lemmas.Bool.{cases_lt}
 use Rattle.std.proofs.lemmas.List.{replicate_more, take_more, take_more_set, drop-append-le, take-append-le, take-append-drop, drop-take, reverse-append, length-reverse, length-take, length-drop, get_or-reverse, length-append, take-set-le, drop-set-lt, drop-set-add, drop-drop, length-replicate, reverse-reverse}
 use Rattle.std.proofs.lemmas.Option.{slice_get-get_or, slice_get-map, slice_get_past}
-use Rattle.std.proofs.lemmas.Bool.Decides.{leb_tells}
 use Rattle.fm_frames.specs.States.{Frame}
 use Rattle.fm_frames.specs.declared.frames.Cursor.{Cursor}
 use Rattle.fm_frames.specs.declared.values.Value.{Value}
@@ -21,13 +21,6 @@ both : {f g : Frame} {callers others : List Frame} → f ≡ g → callers ≡ o
 both p q = λ i. p i ∷ q i
 
 -- ---- where frames lie
-
--- a place is below the other, or not
-pub below_or_not : (a b : ℕ) → (a < b) ⊎ (b ≤ a)
-below_or_not a b = by_test (leb_tells b a) where
-  by_test : ((leb b a ≡ true) × (b ≤ a)) ⊎ ((leb b a ≡ false) × (a < b)) → (a < b) ⊎ (b ≤ a)
-  by_test (inl t) = inr t.1
-  by_test (inr t) = inl t.1
 
 -- the first values of the first ones
 take_take : (n m : ℕ) (xs : List Value) → n ≤ m → n ≤ length xs → take n (take m xs) ≡ take n xs
@@ -76,7 +69,7 @@ pushed true values new used many c callers v x laid is made =
 
 -- a list turned round, without its last values
 reverse-take : (xs : List Value) (count : ℕ) → reverse (take (length xs - count) xs) ≡ drop count (reverse xs)
-reverse-take xs count = by_count (below_or_not (length xs) count) where
+reverse-take xs count = by_count (cases_lt (length xs) count) where
   by_count : (length xs < count) ⊎ (count ≤ length xs) → reverse (take (length xs - count) xs) ≡ drop count (reverse xs)
   by_count (inl many) =
       let none : length xs - count ≡ 0 = omega arith in
@@ -283,7 +276,7 @@ last-values xs words =
     let turned : List Value = reverse xs in
     let kept = reverse-take turned (length xs - words) in
     let count : length turned ≡ length xs = length-reverse xs in
-    by_count (below_or_not (length xs) words) where
+    by_count (cases_lt (length xs) words) where
       by_count : (length xs < words) ⊎ (words ≤ length xs) → reverse (take words (reverse xs)) ≡ drop (length xs - words) xs
       by_count (inl many) =
           let none : length xs - words ≡ 0 = omega arith in

@@ -1,6 +1,7 @@
 -- The result of jumps: the frame on top goes on at an item, and one step is counted.
 use Rattle.std.proofs.Common.{◌≡◌, ℕ, ◌+◌, Bool, true, false, List, [], ◌∷◌, drop, if◌then◌else◌, refl, ap, sym, ◌∙◌, subst}
 use Rattle.fm_world.specs.Programs.{Program}
+use Rattle.fm_frames.proofs.Finishes.{without_words}
 use Rattle.fm_frames.specs.Acts.{Choose, performed}
 use Rattle.fm_frames.specs.Effects.{Jumps, JumpsIfSame, going, words}
 use Rattle.fm_frames.specs.States.{Frame, State}
@@ -13,9 +14,6 @@ use Rattle.fm_frames.specs.inner.Targets.{goes_same, IsTarget, IsTargetIn}
 
 abbrev at_item : ℕ → Frame → Frame
 at_item item f = record f { item = item }
-
-abbrev without_words : ℕ → Frame → Frame
-without_words count f = record f { stack = drop count f.stack }
 
 jumped-frames : (p : Program) (choose : Choose) (x : State) (frames : List Frame) (takes item target : ℕ) → IsTargetIn p frames target item
     → silent (record x { frames = on_top (without_words takes) (on_top (at_item item) frames); steps = x.steps + 1 })

@@ -1,6 +1,6 @@
 -- An effect that makes one object: what follows for each result of the memory.
 use Rattle.std.proofs.Common.{◌≡◌, ◌⊎◌, inl, inr, length, ℕ, ◌+◌, ◌<◌, ◌≤◌, Bool, true, false, cond, nat_lt, ◌&&◌, if◌then◌else◌, List, [], ◌∷◌, max, min, Some, refl, ap, sym, ◌∙◌, subst, arith}
-use Rattle.std.proofs.lemmas.Bool.{eq-eqb, lt-ltb, le-ltb}
+use Rattle.std.proofs.lemmas.Bool.{eq-eqb, lt-ltb, le-ltb, cases_lt}
 use Rattle.fm_cells.proofs.Changes.{object_at-made_by}
 use Rattle.fm_base.specs.declared.kinds.TypeRef.{TypeRef}
 use Rattle.fm_cells.specs.Changes.{Choice, Take, RefuseStore, made_by}
@@ -14,7 +14,6 @@ use Rattle.fm_frames.specs.States.{Moved, State}
 use Rattle.fm_frames.specs.Steps.{attempted, done_by, halted, is_deep, is_over, locals_of, most_words, objects_made, stack_of, words_made}
 use Rattle.fm_frames.specs.declared.ends.Ended.TheVariants as end
 use Rattle.fm_frames.specs.inner.Doings.{MakesOne, silent}
-use Rattle.fm_frames.proofs.FrameValues.{below_or_not}
 use Rattle.fm_cells.specs.declared.answers.Cell.{Cell}
 
 -- the words of one object, as they are reported
@@ -114,7 +113,7 @@ one-made p choose old x e t len r store cell grows is request actions deep withi
 
 -- what isn't over the budget is within it
 pub not-over : (store : Store) (r : Request) → ¬ IsOverBudget store r → words_needed store r ≤ store.budget
-not-over store r not = by_case (below_or_not store.budget (words_needed store r)) where
+not-over store r not = by_case (cases_lt store.budget (words_needed store r)) where
   by_case : (store.budget < words_needed store r) ⊎ (words_needed store r ≤ store.budget) → words_needed store r ≤ store.budget
   by_case (inl over) = absurd (not over)
   by_case (inr within) = within

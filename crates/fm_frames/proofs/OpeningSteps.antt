@@ -207,10 +207,6 @@ grows-same x y same =
 
 -- ---- results that are handed on
 
-pub told-if : {T E : Type 0} (r : Result T E) (P Q : T → Type 0) → ((t : T) → P t → Q t) → IfOk r P → IfOk r Q
-told-if (Ok t) P Q f h = f t h
-told-if (Err e) P Q f h = tt
-
 pub told-on : {T E : Type 0} (r : Result T E) (P : T → Type 0) (Q : Type 0) → ((t : T) → P t → Q) → IfOk r P → OnOk r Q
 told-on (Ok t) P Q f h = f t h
 told-on (Err e) P Q f h = tt

@@ -74,7 +74,7 @@ abbrev pub told_start : Option MethodId → ℕ → Bool
 told_start None method = false
 told_start (Some start) method = start.0 == method
 
-abbrev start_by : ℕ → Option ℕ → Bool
+abbrev pub start_by : ℕ → Option ℕ → Bool
 start_by method None = false
 start_by method (Some start) = start == method
 

@@ -19,7 +19,7 @@ use Rattle.fm_frames.specs.inner.Doings.{MakesOne, NextFits, silent}
 use Rattle.fm_frames.specs.inner.Frames.{stack_in}
 
 -- the type of an object that is thrown
-abbrev type_of : Outline → Option Object → TypeRef
+abbrev pub type_of : Outline → Option Object → TypeRef
 type_of o None = throwable_type o
 type_of o (Some object) = type_numbered o object.class
 

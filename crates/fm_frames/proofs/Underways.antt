@@ -1,6 +1,6 @@
 -- Effects of several actions, which are done one after the other.
 use Rattle.std.proofs.Common.{◌≡◌, ◌⊎◌, inl, inr, ℕ, ◌+◌, ◌<◌, ◌≤◌, Bool, true, false, nat_lt, ◌&&◌, if◌then◌else◌, List, [], ◌∷◌, ◌++◌, max, min, length, Some, None, refl, ap, sym, ◌∙◌, subst, arith}
-use Rattle.std.proofs.lemmas.Bool.{false≢true, lt-ltb, le-ltb}
+use Rattle.std.proofs.lemmas.Bool.{false≢true, lt-ltb, le-ltb, cases_lt}
 use Rattle.fm_base.specs.declared.kinds.Kind.{Kind}
 use Rattle.fm_base.specs.declared.kinds.TypeRef.{TypeRef}
 use Rattle.fm_cells.specs.Changes.{Choice, Take, made_by}
@@ -17,7 +17,6 @@ use Rattle.fm_frames.specs.Steps.{attempted, done_by, halted, is_deep, is_over, 
 use Rattle.fm_frames.specs.declared.ends.Ended.TheVariants as end
 use Rattle.fm_frames.specs.declared.values.Value.{Value}
 use Rattle.fm_frames.specs.inner.Doings.{DoesIn, Makes, NextFits, silent, Underway}
-use Rattle.fm_frames.proofs.FrameValues.{below_or_not}
 use Rattle.fm_frames.proofs.Acting.{done-none, done-one, sources_in}
 
 -- ---- the beginning
@@ -45,14 +44,14 @@ begun p choose x e deep over = record {
 }
 
 pub within : (live budget words : ℕ) → (0 < words → live + words ≤ budget) → (nat_lt 0 words && nat_lt budget (live + words)) ≡ false
-within live budget words room = by_test (below_or_not 0 words) where
+within live budget words room = by_test (cases_lt 0 words) where
   by_test : (0 < words) ⊎ (words ≤ 0) → (nat_lt 0 words && nat_lt budget (live + words)) ≡ false
   by_test (inl some) =
       ap (λ b. b && nat_lt budget (live + words)) (lt-ltb 0 words some) ∙ le-ltb budget (live + words) (room some)
   by_test (inr none) = ap (λ b. b && nat_lt budget (live + words)) (le-ltb 0 words none)
 
 -- actions that make nothing need no words
-none-made : (o : Outline) (x : Areas) (literals : List ℕ) (actions : List Action) → makes actions ≡ false → words_among o x literals actions ≡ 0
+pub none-made : (o : Outline) (x : Areas) (literals : List ℕ) (actions : List Action) → makes actions ≡ false → words_among o x literals actions ≡ 0
 none-made o x literals [] none = refl
 none-made o x literals (Make t len content ∷ more) none = absurd (false≢true (sym none))
 none-made o x literals (MakeFixed t ∷ more) none = absurd (false≢true (sym none))

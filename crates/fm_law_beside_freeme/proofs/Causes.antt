@@ -6,6 +6,7 @@ use Rattle.std.specs.Option.{option_map, option_or}
 use Rattle.std.proofs.lemmas.Bool.{cases_lt, ltb-true}
 use Rattle.std.proofs.lemmas.List.{get_or-append-add, get_or_append_left, get_or_past, length-map}
 use Rattle.fm_base.proofs.OptionFacts.{cond-some_then, option_and_then-some}
+use Rattle.fm_base.proofs.TestFacts.{and_right}
 use Rattle.fm_base.specs.declared.ids.ClassId.{ClassId}
 use Rattle.fm_base.specs.declared.ids.MethodId.{MethodId}
 use Rattle.fm_code.specs.FreeEntries.{with_free}
@@ -43,10 +44,6 @@ count_in (fail.PoolFull class indices) = indices
 count_in (fail.MethodTooLong method bytes) = bytes
 count_in e = 0
 
-second_holds : (a b : Bool) → (a && b) ≡ true → b ≡ true
-second_holds true b e = e
-second_holds false b e = cc
-
 -- ---- pools
 
 -- a file at a place among these, the first of which is the class of this number
@@ -64,7 +61,7 @@ pool_is_full plans first indices c is =
     let count = length (with_free c.pool.entries) in
     let both = cond-some_then (changes plans first c && nat_lt max_pool_indices count) (Some count) indices is in
     let same : count ≡ indices = let own = both.1 in cc in
-    let many = ltb-true max_pool_indices count (second_holds (changes plans first c) (nat_lt max_pool_indices count) both.0) in (
+    let many = ltb-true max_pool_indices count (and_right (changes plans first c) (nat_lt max_pool_indices count) both.0) in (
       sym same,
       omega (arith, same, many),
     )

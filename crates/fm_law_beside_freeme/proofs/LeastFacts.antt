@@ -5,14 +5,16 @@ use Rattle.std.specs.List.{list_any, range_with_len, slice_index_or}
 use Rattle.std.specs.Option.{option_map}
 use Rattle.std.proofs.lemmas.Bool.{and_parts, eqb-true, false≢true}
 use Rattle.fm_summ_shapes.proofs.LeastLemmas.{below_same, calls_same, depth_same, joined_kept, least_alike, linked_kept, node_kept, stack_fits, told_same, AreAlike}
+use Rattle.fm_base.proofs.TestFacts.{same_test}
 use Rattle.fm_base.specs.declared.kinds.Kind.{Kind}
 use Rattle.fm_base.specs.declared.limits.TheConstants.{MAX_LOCAL_WORDS}
+use Rattle.fm_code.proofs.EdgesLemmas.{Contains-later}
 use Rattle.fm_code.specs.Edges.{insn_of}
-use Rattle.fm_code.specs.EdgesExample.{edges_listed}
+use Rattle.fm_code.specs.Edges.{edges_listed}
 use Rattle.fm_code.specs.declared.code_array.Code.{Code}
 use Rattle.fm_code.specs.declared.instructions.Insn.{Insn}
 use Rattle.fm_code.specs.declared.instructions.Insn.TheVariants as insn
-use Rattle.fm_conn.proofs.ListLemmas.{Contains-first, Contains-later}
+use Rattle.fm_conn.proofs.ListLemmas.{Contains-first}
 use Rattle.fm_conn.specs.Facts.{AreFactsOf, Facts}
 use Rattle.fm_conn.specs.Links.{typed_method, Linked}
 use Rattle.fm_conn.specs.Nodes.{depth_at, Global, Local, Node, Return, Slot, TypedMethod, word_at}
@@ -21,14 +23,17 @@ use Rattle.fm_conn.specs.Rows.{is_reference_kind}
 use Rattle.fm_conn.specs.Summaries.{same_number}
 use Rattle.fm_conn.specs.declared.ends.End2.{End2}
 use Rattle.fm_conn.specs.declared.ends.End2.TheVariants as end
+use Rattle.fm_place.proofs.BusyLemmas.{node-word, word-node}
+use Rattle.fm_place.proofs.HolderLemmas.{made}
 use Rattle.fm_place.proofs.PlanLemmas.{full_of}
-use Rattle.fm_place.proofs.SiteLemmas.{parameter_listed, same_test}
+use Rattle.fm_place.proofs.SiteLemmas.{parameter_listed}
 use Rattle.fm_place.specs.Insertions.{all_insertions, full_insertions, Holder, Insertions, numbers_of}
 use Rattle.fm_place.specs.Places.{is_busy, is_place, is_reference_word, leads_busily}
 use Rattle.fm_place.specs.Safe.{full_plans}
 use Rattle.fm_place.specs.Sites.{constructs, Constructs, held_sites, is_captured, is_captured_site, is_doubled, kind_of_site, makes_array, MakesArray, may_give_old, names_constructor, new_item, new_item_at, receives_new, ReceivesNew, reference_parameters, site_class, site_kind, site_node}
 use Rattle.fm_place.specs.declared.limits.TheConstants.{MAX_HOLDING_STACK_WORDS}
 use Rattle.fm_check_rows.proofs.WordLemmas.{reverse-map}
+use Rattle.fm_same.proofs.SiteNodes.{refers}
 use Rattle.fm_same.proofs.TargetMethods.{target_alike}
 use Rattle.fm_law_beside_freeme.proofs.PlainPlans.{plain, plains, unnumbered}
 use Rattle.fm_law_beside_freeme.specs.Exact.{AreLeastFacts}
@@ -88,14 +93,6 @@ item_of_state (Some s) depth = item_of_word (reverse s.stack) depth
 
 -- ---- tests
 
-node_tells : (o : Option slots.Slot) → IsSomeAnd o (λ s. is_reference s ≡ true) → is_reference_word o ≡ true
-node_tells None node = absurd node
-node_tells (Some s) node = node
-
-tells_node : (o : Option slots.Slot) → is_reference_word o ≡ true → IsSomeAnd o (λ s. is_reference s ≡ true)
-tells_node None holds = absurd (false≢true holds)
-tells_node (Some s) holds = holds
-
 -- a reference at first is an end
 end_there : (given : List slots.Slot) (k : ℕ) → is_reference (slice_index_or given k slot.Top) ≡ true
     → IsSomeAnd (slice_get given k) (λ s. is_reference s ≡ true)
@@ -108,12 +105,7 @@ any_same test other [] same = refl
 any_same test other (x ∷ xs) same =
     (λ k. same x (Contains-first x xs) k || any_same test other xs (λ y found. same y (Contains-later x xs y found)) k)
 
--- a kind of a result that is a reference
-abbrev gives_reference : Option Kind → Bool
-gives_reference None = false
-gives_reference (Some k) = is_reference_kind k
-
-result_there : (o : Option Kind) → gives_reference o ≡ true → IsSomeAnd o (λ k. is_reference_kind k ≡ true)
+result_there : (o : Option Kind) → refers o ≡ true → IsSomeAnd o (λ k. is_reference_kind k ≡ true)
 result_there None holds = absurd (false≢true holds)
 result_there (Some k) holds = holds
 
@@ -128,13 +120,9 @@ numbers_of-map : (test : Holder → Bool) (to : ℕ → Holder) (n : ℕ) (sites
 numbers_of-map test to n [] = refl
 numbers_of-map test to n (s ∷ sites) = ap (λ ks. cond (test (to s)) (n ∷ ks) ks) (numbers_of-map test to (n + 1) sites)
 
--- the holder of a site of this class
-abbrev holder_of : (ℕ → ℕ) → ℕ → Holder
-holder_of class s = record { site = s; class = class s; looped = false }
-
-unnumbered_holders : (class : ℕ → ℕ) (sites : List ℕ) → map unnumbered (map (holder_of class) sites) ≡ map (holder_of (λ s. 0)) sites
+unnumbered_holders : (class : ℕ → ℕ) (sites : List ℕ) → map unnumbered (map (made class) sites) ≡ map (made (λ s. 0)) sites
 unnumbered_holders class [] = refl
-unnumbered_holders class (s ∷ sites) = ap (λ (hs : List Holder). holder_of (λ s. 0) s ∷ hs) (unnumbered_holders class sites)
+unnumbered_holders class (s ∷ sites) = ap (λ (hs : List Holder). made (λ s. 0) s ∷ hs) (unnumbered_holders class sites)
 
 -- the plan, if there are sites
 abbrev planned : Insertions → List ℕ → Option Insertions
@@ -160,7 +148,7 @@ module _ (p : Program) (f g : Facts) (first : AreLeastFacts p f) (second : AreLe
       (λ is. (second.exact.linked m a b one other).1 (links_up m a b ((first.exact.linked m a b one other).0 is)))
       (λ is. (first.exact.linked m a b one other).1 (links_down m a b ((second.exact.linked m a b one other).0 is)))
 
-  old_same : (m : ℕ) → gives_reference (result_of p.outline m) ≡ true → may_give_old p.outline f m ≡ may_give_old p.outline g m
+  old_same : (m : ℕ) → refers (result_of p.outline m) ≡ true → may_give_old p.outline f m ≡ may_give_old p.outline g m
   old_same m result =
       let returned : IsEnd p.outline m end.Return = result_there (result_of p.outline m) result in
       let parameters : list_any (λ n. f.linked m end.Return (end.Parameter n)) (reference_parameters p.outline m)
@@ -170,20 +158,20 @@ module _ (p : Program) (f g : Facts) (first : AreLeastFacts p f) (second : AreLe
       (λ k. linked_same m end.Return end.Global returned tt k || parameters k)
 
   -- whatever a call that gives a reference leads to gives one
-  targets_same : (called : Call) → gives_reference (result_of p.outline called.method.0) ≡ true
+  targets_same : (called : Call) → refers (result_of p.outline called.method.0) ≡ true
       → list_any (may_give_old p.outline f) (targets p called) ≡ list_any (may_give_old p.outline g) (targets p called)
   targets_same called result =
       any_same (may_give_old p.outline f) (may_give_old p.outline g) (targets p called)
       (λ target found.
       old_same target
-      (ap (λ descriptor. gives_reference (result_kind p.outline.classes descriptor)) (target_alike p called target found).descriptor ∙ result))
+      (ap (λ descriptor. refers (result_kind p.outline.classes descriptor)) (target_alike p called target found).descriptor ∙ result))
 
   -- the same of a method that may be called
   called_same : (m : ℕ) (code : Code) (o : Option Call)
       → receives_new f (typed_method p f.typing m code) o ≡ receives_new g (typed_method p g.typing m code) o
   called_same m code None = refl
-  called_same m code (Some called) = by_result (gives_reference (result_of p.outline called.method.0)) refl where
-    by_result : (b : Bool) → gives_reference (result_of p.outline called.method.0) ≡ b
+  called_same m code (Some called) = by_result (refers (result_of p.outline called.method.0)) refl where
+    by_result : (b : Bool) → refers (result_of p.outline called.method.0) ≡ b
         → ((b && nat_lt 0 (length (targets p called))) && not (list_any (may_give_old p.outline f) (targets p called)))
         ≡ ((b && nat_lt 0 (length (targets p called))) && not (list_any (may_give_old p.outline g) (targets p called)))
     by_result false is = refl
@@ -292,8 +280,8 @@ module _ (p : Program) (f g : Facts) (first : AreLeastFacts p f) (second : AreLe
   reference_same : (j depth : ℕ) → is_reference_word (word_at x j depth) ≡ is_reference_word (word_at y j depth)
   reference_same j depth =
       same_test (is_reference_word (word_at x j depth)) (is_reference_word (word_at y j depth))
-      (λ is. node_tells (word_at y j depth) (node_kept p m code (f.typing m) (g.typing m) there (Slot j depth) (tells_node (word_at x j depth) is)))
-      (λ is. node_tells (word_at x j depth) (node_kept p m code (g.typing m) (f.typing m) back (Slot j depth) (tells_node (word_at y j depth) is)))
+      (λ is. node-word (word_at y j depth) (node_kept p m code (f.typing m) (g.typing m) there (Slot j depth) (word-node (word_at x j depth) is)))
+      (λ is. node-word (word_at x j depth) (node_kept p m code (g.typing m) (f.typing m) back (Slot j depth) (word-node (word_at y j depth) is)))
 
   busy_same : (n : Node) (j : ℕ) → is_busy f x (f.class m n) j ≡ is_busy g y (g.class m n) j
   busy_same n j =
@@ -315,16 +303,16 @@ module _ (p : Program) (f g : Facts) (first : AreLeastFacts p f) (second : AreLe
   -- ---- insertions
 
   freed_same : (j : ℕ)
-      → numbers_of (λ h. is_place f x h.site h.class j) 0 (map (holder_of (site_class f x)) (held_sites f x))
-      ≡ numbers_of (λ h. is_place g y h.site h.class j) 0 (map (holder_of (site_class g y)) (held_sites g y))
+      → numbers_of (λ h. is_place f x h.site h.class j) 0 (map (made (site_class f x)) (held_sites f x))
+      ≡ numbers_of (λ h. is_place g y h.site h.class j) 0 (map (made (site_class g y)) (held_sites g y))
   freed_same j =
-      numbers_of-map (λ h. is_place f x h.site h.class j) (holder_of (site_class f x)) 0 (held_sites f x)
+      numbers_of-map (λ h. is_place f x h.site h.class j) (made (site_class f x)) 0 (held_sites f x)
       ∙ (λ k. numbers_by (λ site. site_place_same site j k) 0 (held_same k))
-      ∙ sym (numbers_of-map (λ h. is_place g y h.site h.class j) (holder_of (site_class g y)) 0 (held_sites g y))
+      ∙ sym (numbers_of-map (λ h. is_place g y h.site h.class j) (made (site_class g y)) 0 (held_sites g y))
 
-  holders_same : map unnumbered (map (holder_of (site_class f x)) (held_sites f x)) ≡ map unnumbered (map (holder_of (site_class g y)) (held_sites g y))
+  holders_same : map unnumbered (map (made (site_class f x)) (held_sites f x)) ≡ map unnumbered (map (made (site_class g y)) (held_sites g y))
   holders_same =
-      unnumbered_holders (site_class f x) (held_sites f x) ∙ ap (map (holder_of (λ s. 0))) held_same ∙ sym (unnumbered_holders (site_class g y) (held_sites g y))
+      unnumbered_holders (site_class f x) (held_sites f x) ∙ ap (map (made (λ s. 0))) held_same ∙ sym (unnumbered_holders (site_class g y) (held_sites g y))
 
   plain_same : plain (all_insertions f x) ≡ plain (all_insertions g y)
   plain_same = λ k. record { holders = holders_same k; before = map (λ j. freed_same j k) (range_with_len 0 (length code.items)) }

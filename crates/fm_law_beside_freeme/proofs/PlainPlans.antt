@@ -20,11 +20,12 @@ use Rattle.fm_layout.specs.Tables.{moved_tables}
 use Rattle.fm_layout.specs.declared.new_items.NewItem.{NewItem}
 use Rattle.fm_place.specs.Insertions.{after_at, before_at, Holder, Insertions, numbers_of}
 use Rattle.fm_place.specs.Rewriting.{changes, first_given, free_count, free_index, frees_in, marks_from, marks_of_methods, marks_with, method_marks, Plans, rewritten, rewritten_attribute, rewritten_class, rewritten_from, rewritten_major, rewritten_method, rewritten_methods, site_count, sites_in}
-use Rattle.fm_place.specs.Woven.{anchors_from, anchors_of, count_at, freed, freed_items, kept, local_of, null_stored, null_stored_items, top_stored, top_stored_items, woven, woven_code, woven_from, woven_item, woven_marks}
+use Rattle.fm_place.specs.Woven.{anchors_from, anchors_of, count_at, freed, freed_items, kept, local_of, null_stored, null_stored_items, top_stored, top_stored_items, woven, woven_code, woven_from, woven_item}
 use Rattle.fm_rewrite.specs.Rewritten.{counts_from, counts_of, first_cause, full_from, full_pool, long_among, long_code, long_from, long_method, max_pool_indices, method_too_long, pool_full}
 use Rattle.fm_rewrite.specs.declared.counts.Count.{Count}
 use Rattle.fm_law_beside_freeme.specs.Exact.{ServeAlike}
 use Rattle.fm_world.specs.BuiltIns.{built_in}
+use Rattle.fm_law_retyped.proofs.WrittenMethods.{marks_in}
 
 -- ---- plans without the numbers of classes
 
@@ -109,12 +110,6 @@ attribute_plain free plan a = refl
 method_plain : (free : ℕ) (plan : Option Insertions) (m : Member) → rewritten_method free (option_map plain plan) m ≡ rewritten_method free plan m
 method_plain free None m = refl
 method_plain free (Some plan) m = λ k. record m { attributes = map (λ a. attribute_plain free plan a k) m.attributes }
-
--- the marks of a method by its code
-abbrev marks_in : (free : ℕ) → Option Code → Option Insertions → List (Option ℕ)
-marks_in free None plan = []
-marks_in free (Some code) None = map (λ j. Some j) (range_with_len 0 (length code.items))
-marks_in free (Some code) (Some plan) = woven_marks free code plan
 
 marks_in_plain : (free : ℕ) (code : Option Code) (plan : Option Insertions) → marks_in free code (option_map plain plan) ≡ marks_in free code plan
 marks_in_plain free None plan = refl

@@ -1,8 +1,9 @@
 -- Where the frames of a state that goes on are, and what that gives to each step.
-use Rattle.std.proofs.Common.{◌≡◌, ℕ, zero, suc, ◌+◌, ◌-◌, ◌^◌, ◌<◌, ◌≤◌, ◌⊎◌, inl, inr, true, List, [], ◌∷◌, length, Option, Some, None, refl, sym, subst, slice_get, arith}
-use Rattle.std.specs.List.{slice_index_or}
+use Rattle.std.proofs.Common.{◌≡◌, ℕ, zero, suc, ◌+◌, ◌-◌, ◌^◌, ◌<◌, ◌≤◌, ◌⊎◌, inl, inr, true, List, [], ◌∷◌, length, Some, None, refl, sym, subst, slice_get, arith}
+use Rattle.fm_base.proofs.ListFacts.{some_within}
 use Rattle.fm_base.proofs.OptionFacts.{option_and_then-some, Some-from_some_and}
 use Rattle.fm_exec_calls.specs.inner.Actions.{unmade}
+use Rattle.fm_code.proofs.EdgesLemmas.{insn_inside}
 use Rattle.fm_code.specs.Edges.{insn_of, IsNormalEdge}
 use Rattle.fm_code.specs.declared.code_array.Code.{Code}
 use Rattle.fm_code.specs.declared.code_array.TheConstants.{MAX_CODE_BYTES}
@@ -13,7 +14,7 @@ use Rattle.fm_frames.specs.Steps.{next_insn}
 use Rattle.fm_frames.specs.inner.Doings.{CanStep, NextFits}
 use Rattle.fm_frames.specs.inner.Targets.{IsAt, IsAtIn}
 use Rattle.fm_law_can_step.specs.Ready.{CanRun, IsGoing, IsNext}
-use Rattle.fm_law_sound.proofs.FramesStand.{item_within, typing_of}
+use Rattle.fm_law_sound.proofs.FramesStand.{typing_of}
 use Rattle.fm_law_sound.specs.Sound.{AreTyped, Calling, FrameHasKinds, IsSoundBy, Stand, StandBelow, StandsWithout, Starting, Typings}
 use Rattle.fm_types.specs.Rows.{row_after}
 use Rattle.fm_types.specs.States.{is_whole, TypeState}
@@ -60,7 +61,7 @@ standing_by p typings z (f ∷ callers) sound goes =
       code_is = stands.code_is;
       insn = parts.0;
       insn_is = parts.1;
-      below = item_within stands.code f.item parts.0 parts.1;
+      below = insn_inside stands.code f.item parts.0 parts.1;
       known = stands.known;
       kinds = record { in_locals = stands.locals; in_stack = stands.stack };
       whole = meets.whole;
@@ -73,11 +74,6 @@ pub standing : (p : Program) (x : State) → CanRun p → IsGoing p x → IsStan
 standing p x can going = standing_by p going.sound.0 x x.frames going.sound.1 going.goes
 
 -- ---- all frames
-
-given_inside : {X : Type 0} (xs : List (Option X)) (i : ℕ) (x : X) → slice_index_or xs i None ≡ Some x → i < length xs
-given_inside [] i x is = absurd (cc)
-given_inside (o ∷ xs) zero x is = omega arith
-given_inside (o ∷ xs) (suc i) x is = let inside = given_inside xs i x is in omega (arith, inside)
 
 -- each of the frames below
 each_below : (p : Program) (typings : Typings) (f : Frame) (callers : List Frame) → StandBelow p typings f callers → (k : ℕ) (g : Frame)
@@ -103,14 +99,14 @@ each_stands p typings (f ∷ callers) stand (suc k) g at = each_below p typings 
 -- a method that has code is there
 pub coded_inside : (p : Program) → CanRun p → (method : ℕ) (code : Code) → code_at p method ≡ Some code → method < length (methods_of p.outline.classes)
 coded_inside p can method code is =
-    let inside = given_inside p.codes method code is in
+    let inside = some_within p.codes method code is in
     let same = can.steps.calls.runnable.codes in omega (arith, inside, same)
 
 -- a frame's item is one of a code, of which there are few
 item_fits : (p : Program) (typings : Typings) (words : ℕ) (f : Frame) → CanRun p → AreTyped p typings → StandsWithout p typings words f → f.item + 1 < 2 ^ 64
 item_fits p typings words f can typed h =
     let typing : IsTypingOf p f.method h.code (typings f.method) = typing_of p typings typed f.method h.code h.code_is in
-    let inside = given_inside (typings f.method) f.item h.known h.at in
+    let inside = some_within (typings f.method) f.item h.known h.at in
     let same = typing.one_each in
     let few = can.steps.items f.method h.code h.code_is in
     let most : MAX_CODE_BYTES ≤ 65536 = omega arith in

@@ -4,12 +4,13 @@ use Rattle.std.specs.List.{AllByRecursion, AllZip, flat_map}
 use Rattle.std.proofs.lemmas.Bool.{false≢true}
 use Rattle.std.proofs.lemmas.Option.{same_Some, slice_get-get_or}
 use Rattle.std.proofs.lemmas.Slice.Zip.{AllZip-long}
-use Rattle.fm_base.proofs.ListFacts.{AllByRecursion-append}
+use Rattle.fm_base.proofs.ListFacts.{AllByRecursion-append, AllByRecursion-at}
 use Rattle.fm_base.proofs.OptionFacts.{option_and_then-some, Some-from_some_and}
 use Rattle.fm_base.specs.declared.kinds.Kind.{Kind}
 use Rattle.fm_base.specs.declared.kinds.Kind.TheVariants as kind
 use Rattle.fm_base.specs.declared.kinds.TypeRef.{TypeRef}
 use Rattle.fm_cells.specs.Stores.{Store}
+use Rattle.fm_code.proofs.EdgesLemmas.{insn_inside}
 use Rattle.fm_code.specs.AccessFlags.{is_static}
 use Rattle.fm_code.specs.Edges.{insn_of, IsHandlerEdge, IsNormalEdge}
 use Rattle.fm_code.specs.declared.code_array.Code.{Code}
@@ -29,10 +30,9 @@ use Rattle.fm_frames.specs.Steps.{caught, Caught, caught_in, handler_of, InFrame
 use Rattle.fm_frames.specs.declared.ends.Ended.TheVariants as end
 use Rattle.fm_frames.specs.declared.values.Value.{Value}
 use Rattle.fm_law_sound.specs.Sound.{AreTyped, Calling, HasKind, LocalHasKind, Stand, StandBelow, Starting, StandsWithout, Typings}
-use Rattle.fm_law_sound.proofs.FramesStand.{item_within, not_left, typing_of}
+use Rattle.fm_law_sound.proofs.FramesStand.{not_left, typing_of}
 use Rattle.fm_law_sound.proofs.Opening.{all_flat}
 use Rattle.fm_same.proofs.EdgesKeep.{handler_edge}
-use Rattle.fm_same.proofs.GoesOnKeep.{all_at}
 use Rattle.fm_law_no_fault.specs.Whole.{lowest}
 use Rattle.fm_law_no_fault.proofs.WaitingFrames.{lowest_all, lowest_drop, zip_dropped}
 use Rattle.fm_law_holders.specs.Uninitialised.{AreMadeIn, FrameIsMade, Made, ValueIsMade}
@@ -173,7 +173,7 @@ module _ (p : Program) (typings : Typings) (typed : AreTyped p typings) (store :
       (λ given. (next : ℕ) → IsNormalEdge code j next → FitsAt p (typings method) next given) (typing.items j known at).row in
       let parts = option_and_then-some
       (λ i. row_after p.outline method j (made_at p method code) (use_by p method i) i known) (insn_of code j) found.0 found.1 in
-      item_within code j parts.0 parts.1
+      insn_inside code j parts.0 parts.1
 
   module _ (t : TypeRef) (v : Value) where
     catching_made : (f : Frame) (words handler : ℕ) (stands : StandsWithout p typings words f) → FrameIsMade typings store made f
@@ -186,7 +186,7 @@ module _ (p : Program) (typings : Typings) (typed : AreTyped p typings) (store :
         (within f.method stands.code f.item stands.known stands.code_is stands.at) in
         let entry : Handler = edge.caught.1 in
         let fits : FitsHandler p f.method (typings f.method) f.item stands.known entry =
-        all_at (FitsHandler p f.method (typings f.method) f.item stands.known) stands.code.handlers edge.caught.0 entry
+        AllByRecursion-at (FitsHandler p f.method (typings f.method) f.item stands.known) stands.code.handlers edge.caught.0 entry
         (typing.items f.item stands.known stands.at).handlers
         (slice_get-get_or stands.code.handlers edge.caught.0 entry edge.caught.2 ∙ ap Some edge.caught.3) in
         let takes = Some-from_some_and (caught_type p f.method entry) (λ type. FitsAt p (typings f.method) entry.handler (handler_state type stands.known))

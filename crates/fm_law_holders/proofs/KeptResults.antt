@@ -3,13 +3,13 @@ use Rattle.std.proofs.Common.{◌≡◌, ℕ, suc, ◌+◌, ◌-◌, ◌<◌, Bo
 use Rattle.std.specs.Prelude.{is_some}
 use Rattle.std.proofs.lemmas.Bool.{false≢true}
 use Rattle.std.proofs.lemmas.Option.{none-some, same_Some}
+use Rattle.fm_base.proofs.TestFacts.{and_left, and_right}
 use Rattle.fm_cells.specs.Objects.{Object}
 use Rattle.fm_cells.specs.Soundness.{IsOrderly}
 use Rattle.fm_cells.specs.Stores.{object_at, Store}
 use Rattle.fm_conn.specs.Facts.{Facts}
 use Rattle.fm_conn.specs.Links.{typed_method}
 use Rattle.fm_conn.specs.Nodes.{depth_at, IsNode, Slot, TypedMethod}
-use Rattle.fm_place.proofs.PlaceLemmas.{both-first, both-second}
 use Rattle.fm_place.specs.Sites.{is_captured, site_class, site_kind, site_node}
 use Rattle.fm_types.specs.States.{TypeState}
 use Rattle.fm_types.specs.declared.slots.Slot.TheVariants as slot
@@ -52,8 +52,8 @@ kept_results_are_own p facts exact steps x next colour other known f callers h c
     let stands : Stand p facts (g ∷ callers) = subst (Stand p facts) h.frames_are stand in
     let frames : AreFramesColoured p.outline facts next.areas.store other (g ∷ callers) =
     subst (AreFramesColoured p.outline facts next.areas.store other) h.frames_are coloured.frames in
-    let is_site : is_some (site_kind facts xm f.item) ≡ true = both-first (is_some (site_kind facts xm f.item)) (is_captured facts xm class) site in
-    let captured : is_captured facts xm class ≡ true = both-second (is_some (site_kind facts xm f.item)) (is_captured facts xm class) site in
+    let is_site : is_some (site_kind facts xm f.item) ≡ true = and_left (is_some (site_kind facts xm f.item)) (is_captured facts xm class) site in
+    let captured : is_captured facts xm class ≡ true = and_right (is_some (site_kind facts xm f.item)) (is_captured facts xm class) site in
     let size : length (h.result ∷ h.below) - 1 - 0 ≡ depth_at xm (f.item + 1) - 1 = let deep = stands.0.depth in omega (arith, deep) in
     let top : node_of_word g 0 ≡ site_node xm f.item = ap (λ depth. Slot (f.item + 1) depth) size in
     let node : IsNode xm (site_node xm f.item) =

@@ -1,8 +1,9 @@
 -- A method whose result may not be old: the row of a built-in one gives what it made, and the result of a coded one has a region of its own.
 use Rattle.std.proofs.Common.{◌≡◌, ℕ, zero, suc, ◌+◌, ◌<◌, ◌==◌, ◌&&◌, ◌||◌, not, Bool, true, false, List, [], ◌∷◌, length, Some, Contains, refl, sym, ◌∙◌, ap, subst, inl, inr, slice_get, slice_index_or, arith, eqb-true, ⊎_elim}
 use Rattle.std.specs.List.{list_any, range_with_len}
-use Rattle.std.proofs.lemmas.Bool.{and_parts, cases_Bool, false≢true}
+use Rattle.std.proofs.lemmas.Bool.{and_parts, cases_Bool, false≢true, or_left, or_right}
 use Rattle.std.proofs.lemmas.Option.{get_or_from_slice_get, same_Some, slice_get_within}
+use Rattle.fm_base.proofs.ContainsFacts.{any-found}
 use Rattle.fm_base.proofs.OptionFacts.{IsSomeAnd-from_some, Some-from_some_and}
 use Rattle.fm_code.proofs.EdgesLemmas.{Contains-filter}
 use Rattle.fm_code.specs.declared.code_array.Code.{Code}
@@ -22,8 +23,7 @@ use Rattle.fm_world.specs.Members.{method_at, methods_of}
 use Rattle.fm_world.specs.Programs.{code_at, Outline, Program}
 use Rattle.fm_frames.specs.Natives.{Append, FreeMeLink, GetMessage, Native, native_of_row, natives, StringToString}
 use Rattle.fm_frames.specs.States.{Frame}
-use Rattle.fm_place.proofs.BusyLemmas.{from-first, from-second}
-use Rattle.fm_place.proofs.PlaceLemmas.{any-found, any-from}
+use Rattle.fm_place.proofs.PlaceLemmas.{any-from}
 use Rattle.fm_place.specs.Sites.{may_give_old, reference_parameters}
 use Rattle.fm_same.proofs.LinkedClasses.{linked_if_same_class}
 use Rattle.fm_same.proofs.RegionLemmas.{Sort, sort_of, WithGlobal, WithNeither, WithParameter}
@@ -125,13 +125,13 @@ module _ (p : Program) (facts : Facts) (exact : AreFacts p facts) (target : ℕ)
   parameter_old : (k : ℕ) → IsEnd p.outline target end.Return → IsEnd p.outline target (end.Parameter k)
       → Linked p facts.typing target end.Return (end.Parameter k) → old ≡ true
   parameter_old k result parameter linked =
-      from-second (facts.linked target end.Return end.Global) _
+      or_right (facts.linked target end.Return end.Global) _
       (any-from (λ i. facts.linked target end.Return (end.Parameter i)) (reference_parameters p.outline target) k (parameter_there k parameter)
       ((exact.linked target end.Return (end.Parameter k) result parameter).1 linked))
 
   global_old : IsEnd p.outline target end.Return → Linked p facts.typing target end.Return end.Global → old ≡ true
   global_old result linked =
-      from-first (facts.linked target end.Return end.Global) _ ((exact.linked target end.Return end.Global result tt).1 linked)
+      or_left (facts.linked target end.Return end.Global) _ ((exact.linked target end.Return end.Global result tt).1 linked)
 
   module _ (not_old : old ≡ true → ⊥) where
     -- the row of a built-in method gives no operand

@@ -3,8 +3,9 @@
 use Rattle.std.proofs.Common.{◌≡◌, ℕ, ◌+◌, ◌&&◌, not, Bool, true, false, List, [], ◌∷◌, length, map, Option, Some, None, codes, refl, sym, ◌∙◌, ap, subst, Contains}
 use Rattle.std.specs.Prelude.{nat_lt, option_map, option_to_list}
 use Rattle.std.specs.List.{list_any}
-use Rattle.std.proofs.lemmas.Bool.{false≢true}
+use Rattle.std.proofs.lemmas.Bool.{false≢true, not-true}
 use Rattle.std.proofs.lemmas.Option.{none-some, same_Some}
+use Rattle.fm_base.proofs.TestFacts.{and_left, and_right}
 use Rattle.fm_base.specs.declared.ids.MethodId.{MethodId}
 use Rattle.fm_base.specs.declared.kinds.Kind.{Kind}
 use Rattle.fm_base.specs.declared.kinds.Kind.TheVariants as kind
@@ -43,7 +44,7 @@ use Rattle.fm_law_sound.specs.BuiltIns.{native_result, reference}
 use Rattle.fm_law_sound.specs.Going.{ConstructorsGiveNothing}
 use Rattle.fm_law_sound.specs.Leading.{is_call}
 use Rattle.fm_law_sound.specs.Resolved.{CallsAreResolved}
-use Rattle.fm_place.proofs.PlaceLemmas.{any-from, both-first, both-second, not-true}
+use Rattle.fm_place.proofs.PlaceLemmas.{any-from}
 use Rattle.fm_place.specs.Sites.{constructs, has_reference_result, may_give_old, names_constructor, receives_new}
 use Rattle.fm_same.proofs.TargetMethods.{target_alike}
 use Rattle.fm_same.specs.Covering.{CallsNative, CoversTargets, MeetsTarget}
@@ -160,10 +161,10 @@ received facts x c is =
     let some : Bool = nat_lt 0 (length (targets x.program c)) in
     let old : Bool = list_any (may_give_old o facts) (targets x.program c) in
     record {
-      reference = both-first has some (both-first (has && some) (not old) is);
+      reference = and_left has some (and_left (has && some) (not old) is);
       new = λ target among gives.
           false≢true
-          (sym (not-true old (both-second (has && some) (not old) is))
+          (sym (not-true old (and_right (has && some) (not old) is))
           ∙ any-from (may_give_old o facts) (targets x.program c) target among gives);
     }
 
@@ -179,7 +180,7 @@ pub calls_constructor : (x : TypedMethod) (i : Insn) (j : ℕ) (c : Call) → co
     → is_constructor x.program.outline c.method.0 ≡ true
 calls_constructor x (insn.Special index) j c both is =
     by_use (use_at x (insn.Special index))
-    (both-first (names_constructor x.program.outline (use_at x (insn.Special index))) _ both) is where
+    (and_left (names_constructor x.program.outline (use_at x (insn.Special index))) _ both) is where
       by_type : (k : CallKind) (m : MethodId) (found : Option TypeRef) → is_constructor x.program.outline m.0 ≡ true
           → option_map (λ named. record { kind = k; named = named; method = m; caller = class_id (class_of_method x.program.outline x.number) }) found ≡ Some c
           → is_constructor x.program.outline c.method.0 ≡ true

@@ -6,6 +6,7 @@ use Rattle.std.proofs.lemmas.Bool.{eqb-false, false≢true}
 use Rattle.std.proofs.lemmas.List.{length-replicate}
 use Rattle.std.proofs.lemmas.Option.{none-some, same_Some, slice_get-get_or, slice_get_within}
 use Rattle.fm_base.proofs.OptionFacts.{option_and_then-some, option_map-some}
+use Rattle.fm_base.proofs.TestFacts.{and_left, and_right}
 use Rattle.fm_base.specs.declared.ids.MethodId.{MethodId}
 use Rattle.fm_base.specs.declared.ids.TypeId.{TypeId}
 use Rattle.fm_base.specs.declared.kinds.Kind.{Kind}
@@ -41,10 +42,9 @@ use Rattle.fm_world.specs.declared.uses.Use.TheVariants as resolved
 use Rattle.fm_frames.specs.CallRows.{words_of_arguments}
 use Rattle.fm_law_sound.specs.Going.{ConstructorsGiveNothing}
 use Rattle.fm_law_sound.proofs.Leaving.{dropped}
-use Rattle.fm_law_sound.proofs.ReturnsStand.{taken_drop}
-use Rattle.fm_place.proofs.PlaceLemmas.{both-first, both-second}
+use Rattle.fm_law_sound.proofs.ReturnsStand.{arguments_count, taken_drop}
 use Rattle.fm_place.specs.Sites.{constructs, has_reference_result, is_doubled, makes_array, may_give_old, names_constructor, new_item, receives_new}
-use Rattle.fm_same.proofs.CallWords.{arguments_length, tested, untested}
+use Rattle.fm_same.proofs.CallWords.{tested, untested}
 use Rattle.fm_same.proofs.GoesOnKeep.{drop_found}
 use Rattle.fm_same.proofs.ItemFacts.{slot_from_below}
 
@@ -164,7 +164,7 @@ received_reference : (facts : Facts) (x : TypedMethod) (c : Call) → receives_n
 received_reference facts x c is =
     let some = nat_lt 0 (length (targets x.program c)) in
     let none_old = not (list_any (may_give_old x.program.outline facts) (targets x.program c)) in
-    both-first (has_reference_result x.program.outline c.method.0) some (both-first (has_reference_result x.program.outline c.method.0 && some) none_old is)
+    and_left (has_reference_result x.program.outline c.method.0) some (and_left (has_reference_result x.program.outline c.method.0 && some) none_old is)
 
 abbrev refers : Option Kind → Bool
 refers None = false
@@ -192,7 +192,7 @@ with_receiver o m t = argument_words o m ++ slot.Ref t ∷ []
 receiver_length : (o : Outline) (m : ℕ) (t : TypeRef) → length (with_receiver o m t) ≡ 1 + words_of_arguments o m
 receiver_length o m t =
     let all = length-append (argument_words o m) (slot.Ref t ∷ []) in
-    let arguments = arguments_length o m in
+    let arguments = arguments_count o m in
     omega (arith, all, arguments)
 
 module _ (facts : Facts) (x : TypedMethod) (item : ℕ) (news : ℕ → Option TypeRef) (s after : TypeState) (constructors : ConstructorsGiveNothing x.program.outline) where
@@ -237,7 +237,7 @@ module _ (facts : Facts) (x : TypedMethod) (item : ℕ) (news : ℕ → Option T
       ap (λ b. cond b 0 1 + words_of_arguments o f.m.0) (flagged f.m f.t true f.use_is refl) in
       let none : 0 + words_of_arguments o f.m.0 ≡ words_of_arguments o f.m.0 = omega arith in
       counted s after (length (argument_words o f.m.0)) (words_taken o (use_at x i) i)
-      (arguments_length o f.m.0 ∙ sym none ∙ sym words ∙ ap (λ u. words_taken o u i) (sym f.use_is))
+      (arguments_count o f.m.0 ∙ sym none ∙ sym words ∙ ap (λ u. words_taken o u i) (sym f.use_is))
       (result_leaves o f.m.0 (argument_words o f.m.0) s after has (untested (is_initializer o f.m.0) _ after f.row))
 
   abbrev own : TypeRef
@@ -359,7 +359,7 @@ module _ (x : TypedMethod) (j : ℕ) (s : TypeState) (at : state_at x.states j �
     with_stack m named after (receiver ∷ rest) doubled found row =
         let k : ℕ = words_of_arguments oo m in
         let left : drop k s.stack ≡ receiver ∷ rest =
-        ap (λ n. drop n s.stack) (sym (arguments_length oo m)) ∙ taken_drop oo (argument_words oo m) s.stack (receiver ∷ rest) found in
+        ap (λ n. drop n s.stack) (sym (arguments_count oo m)) ∙ taken_drop oo (argument_words oo m) s.stack (receiver ∷ rest) found in
         let here : slice_get s.stack (k + 0) ≡ Some receiver =
         drop_found k s.stack 0 receiver (ap (λ xs. slice_get xs 0) left) in
         let level : length s.stack - (1 + k) ≡ length s.stack - 1 - (k + 0) = omega arith in
@@ -413,9 +413,9 @@ constructor_leaves x j news s after (insn.Special index) flagged at both row =
     (cond (is_initializer o m) None
     (cond (names_own_or_above o (class_of_method o x.number) named)
     (worked o (with_receiver o m (type_of_class (class_of_method o x.number))) (result_words o m) s) None))) after row in
-    let names : names_constructor o u ≡ true = both-first (names_constructor o u) (is_doubled x j (depth_at x j - words_taken o u i)) both in
+    let names : names_constructor o u ≡ true = and_left (names_constructor o u) (is_doubled x j (depth_at x j - words_taken o u i)) both in
     let doubled : is_doubled x j (depth_at x j - words_taken o u i) ≡ true =
-    both-second (names_constructor o u) (is_doubled x j (depth_at x j - words_taken o u i)) both in
+    and_right (names_constructor o u) (is_doubled x j (depth_at x j - words_taken o u i)) both in
     let constructor : is_constructor o f.m.0 ≡ true = ap (names_constructor o) (sym f.use_is) ∙ names in
     let words : words_taken o u i ≡ 1 + words_of_arguments o f.m.0 =
     ap (λ v. words_taken o v i) f.use_is ∙ ap (λ b. cond b 0 1 + words_of_arguments o f.m.0) (flagged f.m f.t false f.use_is refl) in

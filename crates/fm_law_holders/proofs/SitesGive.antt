@@ -4,6 +4,7 @@ use Rattle.std.specs.Prelude.{is_some}
 use Rattle.std.specs.List.{AllZip}
 use Rattle.std.proofs.lemmas.Bool.{and_parts, false≢true}
 use Rattle.std.proofs.lemmas.List.{length-drop}
+use Rattle.std.proofs.lemmas.List.Elements.{length_all_zip}
 use Rattle.std.proofs.lemmas.Option.{same_Some}
 use Rattle.std.proofs.lemmas.Slice.Zip.{AllZip-long}
 use Rattle.fm_base.proofs.OptionFacts.{IsSomeAnd-from_some, Some-from_some_and}
@@ -19,7 +20,6 @@ use Rattle.fm_conn.specs.Nodes.{TypedMethod}
 use Rattle.fm_conn.specs.Pairs.{call_of, use_at}
 use Rattle.fm_conn.specs.Rows.{words_taken}
 use Rattle.fm_types.proofs.StateOrder.{all_fit-parts, Fitting}
-use Rattle.fm_types.proofs.Zips.{zip-length}
 use Rattle.fm_types.specs.Rows.{row_after}
 use Rattle.fm_types.specs.States.{all_fit, state_fits, TypeState}
 use Rattle.fm_types.specs.Typed.{FitsAt, IsTypingOf, made_at, MeetsItem, state_at, use_by}
@@ -218,9 +218,9 @@ module _ (p : Program) (facts : Facts) (exact : AreFacts p facts) (steps : Steps
     -- as many words as are given, and those that are left
     pub next_length : length h.next.stack ≡ length l.given + (length known.stack - count_of h.insn)
     next_length =
-        let next = zip-length (Fitting p.outline) h.after.stack h.next.stack h.stack_fits in
+        let next = length_all_zip (Fitting p.outline) h.after.stack h.next.stack h.stack_fits in
         let after = ap length l.stack_is ∙ length-append l.given l.rest in
-        let rest = zip-length _ (drop (count_of h.insn) known.stack) l.rest l.words in
+        let rest = length_all_zip _ (drop (count_of h.insn) known.stack) l.rest l.words in
         let left = length-drop (count_of h.insn) known.stack in
         omega (arith, next, after, rest, left)
 

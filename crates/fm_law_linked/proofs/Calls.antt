@@ -1,7 +1,8 @@
 -- What calls name is as they want it: nothing is refused of the methods that instructions name (JVMS 5.4.3.3, 6.5).
 use Rattle.std.proofs.Common.{◌≡◌, refl, sym, ◌∙◌, ap, ℕ, zero, suc, ◌+◌, ◌<◌, ◌==◌, Bool, true, false, cond, List, [], ◌∷◌, length, Contains, Option, Some, None, option_and_then, if◌then◌else◌, slice_get, get_or, arith}
 use Rattle.std.specs.List.{cons_option, filter_map, list_any}
-use Rattle.std.proofs.lemmas.Bool.{false≢true}
+use Rattle.std.proofs.lemmas.Bool.{false≢true, or_parts}
+use Rattle.fm_base.proofs.TestFacts.{same-nat_eq}
 use Rattle.fm_base.specs.declared.ids.MethodId.{MethodId}
 use Rattle.fm_base.specs.declared.ids.TypeId.{TypeId}
 use Rattle.fm_code.specs.AccessFlags.{is_static}
@@ -15,9 +16,8 @@ use Rattle.fm_code.specs.declared.code_array.Item.{Item}
 use Rattle.fm_code.specs.declared.constant_pool.Entry.{Entry}
 use Rattle.fm_code.specs.declared.constant_pool.Entry.TheVariants as entry
 use Rattle.fm_code.specs.declared.instructions.Insn.{Insn}
-use Rattle.fm_link_supers.proofs.Downwards.{same_number}
 use Rattle.fm_link_records.proofs.UseLaws.{resolved_by}
-use Rattle.fm_link_refusals.proofs.WantedMembers.{is_wrong_method, method_refusals}
+use Rattle.fm_link_refusals.proofs.WantedMembers.{is_wrong_method, method_refusals, names}
 use Rattle.fm_law_linked.proofs.CodedMethods.{code_there, item_there, use_at, uses_of_file}
 use Rattle.fm_law_linked.proofs.GivenFiles.{none_used}
 use Rattle.fm_types.specs.Named.{class_of_method}
@@ -33,7 +33,7 @@ use Rattle.fm_world.specs.Uses.{class_items, named_member}
 use Rattle.fm_world.specs.declared.declarations.DeclaredClass.{DeclaredClass}
 use Rattle.fm_world.specs.declared.uses.Use.{Use}
 use Rattle.fm_world.specs.declared.uses.Use.TheVariants as resolved
-use Rattle.fm_link_supers.proofs.ParentRefusals.{none_of, fails, refused_not}
+use Rattle.fm_link_supers.proofs.ParentRefusals.{none_of, refused_not}
 
 -- ---- what is wanted
 
@@ -41,22 +41,18 @@ use Rattle.fm_link_supers.proofs.ParentRefusals.{none_of, fails, refused_not}
 abbrev pub IsWanted : Bool → List Bool → Type 0
 IsWanted flag flags = (test : Bool → Bool) → list_any test flags ≡ false → test flag ≡ false
 
-abbrev names : ℕ → Option ℕ → Bool
-names index None = false
-names index (Some operand) = operand == index
-
 some_wanted : (f : Item → Option Bool) (items : List Item) (item : Item) (flag : Bool) → Contains items item → f item ≡ Some flag
     → IsWanted flag (filter_map f items)
 some_wanted f [] item flag (k, within, there) is test none = absurd (omega (arith, within))
 some_wanted f (x ∷ items) item flag (zero, within, there) is test none =
-    (fails (test flag) (list_any test (filter_map f items)) (sym (ap (λ o. list_any test (cons_option o (filter_map f items))) (ap f there ∙ is)) ∙ none)).0
+    (or_parts (test flag) (list_any test (filter_map f items)) (sym (ap (λ o. list_any test (cons_option o (filter_map f items))) (ap f there ∙ is)) ∙ none)).0
 some_wanted f (x ∷ items) item flag (suc k, within, there) is test none =
     by_first (some_wanted f items item flag (k, omega (arith, within), there) is test) (f x) refl none where
       by_first : (list_any test (filter_map f items) ≡ false → test flag ≡ false) → (o : Option Bool) → f x ≡ o
           → list_any test (cons_option o (filter_map f items)) ≡ false
           → test flag ≡ false
       by_first later None e none = later none
-      by_first later (Some b) e none = later (fails (test b) (list_any test (filter_map f items)) none).1
+      by_first later (Some b) e none = later (or_parts (test b) (list_any test (filter_map f items)) none).1
 
 pub is_wanted : (wanted : Insn → Option Bool) (c : ClassDef) (index : ℕ) (item : Item) (flag : Bool) → Contains (class_items c) item
     → pool_index item.insn ≡ Some index
@@ -64,7 +60,7 @@ pub is_wanted : (wanted : Insn → Option Bool) (c : ClassDef) (index : ℕ) (it
     → IsWanted flag (wanted_at wanted c index)
 is_wanted wanted c index item flag among named is =
     some_wanted (λ x. if names index (pool_index x.insn) then wanted x.insn else None) (class_items c) item flag among
-    (ap (λ o. cond (names index o) (wanted item.insn) None) named ∙ ap (λ b. cond b (wanted item.insn) None) (same_number index) ∙ is)
+    (ap (λ o. cond (names index o) (wanted item.insn) None) named ∙ ap (λ b. cond b (wanted item.insn) None) (same-nat_eq index) ∙ is)
 
 pub same_flag : (a b : Bool) → differs a b ≡ false → a ≡ b
 same_flag true true e = refl
@@ -170,7 +166,7 @@ not_wrong : (classes : List DeclaredClass) (e : Entry) (m : MemberName) (flags :
     → (names_wrong_sort classes e m.class ≡ false) × (is_static (method_flags classes method) ≡ flag)
 not_wrong classes e m [] flag method wanted found right = absurd (false≢true (sym (wanted (λ b. true) refl)))
 not_wrong classes e m (first ∷ others) flag method wanted found right =
-    let parts = fails (names_wrong_sort classes e m.class) (is_not_as_wanted (method_flags classes) (resolved_method classes m) (first ∷ others)) right in
+    let parts = or_parts (names_wrong_sort classes e m.class) (is_not_as_wanted (method_flags classes) (resolved_method classes m) (first ∷ others)) right in
     let all = sym (ap (λ o. is_not_as_wanted (method_flags classes) o (first ∷ others)) found) ∙ parts.1 in
     (parts.0, same_flag (is_static (method_flags classes method)) flag (wanted (differs (is_static (method_flags classes method))) all))
 

@@ -3,7 +3,7 @@
 use Rattle.std.proofs.Common.{◌≡◌, refl, sym, ◌∙◌, ap, subst, ℕ, ◌<◌, ◌⊎◌, inl, inr, ◌==◌, ◌||◌, ◌&&◌, not, cond, Bool, true, false, List, [], ◌∷◌, ◌++◌, length, drop, nat_lt, nat_eq, slice_get, Option, Some, None, option_and_then, option_map, option_to_list, unwrap_or, arith, ⊎_elim}
 use Rattle.std.specs.List.{AllByRecursion}
 use Rattle.std.specs.Str.{bytes_eq}
-use Rattle.std.proofs.lemmas.Bool.{and_parts, eqb-true, false≢true, ltb-true, or_cases}
+use Rattle.std.proofs.lemmas.Bool.{and_parts, eqb-true, false≢true, ltb-true, or_cases, or_parts, or_right}
 use Rattle.std.proofs.lemmas.Option.{same_Some}
 use Rattle.fm_base.specs.declared.ids.MethodId.{MethodId}
 use Rattle.fm_base.specs.declared.ids.TypeId.{TypeId}
@@ -11,17 +11,17 @@ use Rattle.fm_base.specs.declared.kinds.Base.{Base}
 use Rattle.fm_base.specs.declared.kinds.Base.TheVariants as base
 use Rattle.fm_base.specs.declared.kinds.TypeRef.{TypeRef}
 use Rattle.fm_code.specs.AccessFlags.{has_flag}
+use Rattle.fm_code.specs.Profile.{IsSupported}
 use Rattle.fm_code.specs.Spells.{HasSpelling}
 use Rattle.fm_code.specs.declared.class_file.ClassDef.{ClassDef}
 use Rattle.fm_code.specs.declared.code_array.Code.{Code}
 use Rattle.fm_code.specs.declared.instructions.Insn.TheVariants as insn
 use Rattle.fm_link_supers.proofs.BuiltInParents.{count_is}
-use Rattle.fm_link_supers.proofs.Downwards.{or_true}
 use Rattle.fm_link_supers.proofs.HierarchyLemmas.{interfaces_only, superinterfaces_only}
-use Rattle.fm_link_supers.proofs.ParentRefusals.{fails, tree_object_is_class}
+use Rattle.fm_link_supers.proofs.ParentRefusals.{tree_object_is_class}
 use Rattle.fm_law_linked.proofs.Calls.{call_there, IsCall}
 use Rattle.fm_law_linked.proofs.CellTypes.{above_built_in, above_seen}
-use Rattle.fm_law_linked.proofs.FieldOwners.{append_cases, binary_found, found_among}
+use Rattle.fm_law_linked.proofs.FieldOwners.{binary_found, found_among}
 use Rattle.fm_law_linked.proofs.GivenFiles.{no_built_in_refused, no_method_refused}
 use Rattle.fm_law_linked.proofs.InterfaceCalls.{binary_type, type_named}
 use Rattle.fm_law_linked.proofs.InterfaceSets.{low_interfaces, low_supers, marker_bare}
@@ -48,6 +48,7 @@ use Rattle.fm_world.specs.Programs.{class_of_type, classes_of, Outline, outline_
 use Rattle.fm_world.specs.declared.TheConstants.{ACC_SUPER}
 use Rattle.fm_world.specs.declared.declarations.DeclaredClass.{DeclaredClass}
 use Rattle.fm_world.specs.declared.uses.Use.TheVariants as resolved
+use Rattle.fm_link_refusals.proofs.Among.{among_either}
 
 no_class_of : (dims : ℕ) (b : Base) → 0 < dims → class_of_type (record { dims = dims; base = b }) ≡ None
 no_class_of dims b positive = by_flag (dims == 0) refl where
@@ -91,7 +92,7 @@ module _ (given : List ClassDef) (main : List ℕ) (spelled : AllByRecursion Has
 
   among_drop : (x : ℕ) (xs : List ℕ) → is_among x (drop 1 xs) ≡ true → is_among x xs ≡ true
   among_drop x [] among = among
-  among_drop x (y ∷ ys) among = or_true (nat_eq x y) (is_among x ys) among
+  among_drop x (y ∷ ys) among = or_right (nat_eq x y) (is_among x ys) among
 
   -- what is called is of the own class, of one above it or of an interface of it, where the method that is named is
   special_reached : (own method owner : ℕ) (named : Option ℕ) → (method_at classes method).class ≡ owner → Reached given own owner
@@ -232,7 +233,7 @@ module _ (given : List ClassDef) (main : List ℕ) (spelled : AllByRecursion Has
         let is = eqb-true n (object_of (classes_of given)) object ∙ first given main spelled clean in
         ⊎_elim (λ here. here) (λ there. absurd (marker_bare given owner place (low_interfaces given (sound given main spelled clean) 0 owner zero_low there)
         (interfaces_only (classes_of given) (sound given main spelled clean) 0 owner there) inside))
-        (append_cases owner (chain_of (classes_of given) 0) (interfaces_of (classes_of given) 0)
+        (among_either owner (chain_of (classes_of given) 0) (interfaces_of (classes_of given) 0)
         (sym (ap (λ b. is_among owner (cond b (0 ∷ (superinterfaces_of (classes_of given) 0 ++ option_to_list (object_number (classes_of given))))
         (chain_of (classes_of given) 0 ++ interfaces_of (classes_of given) 0))) (tree_object_is_class given))
         ∙ ap (λ k. is_among owner (method_path (classes_of given) k)) (sym is) ∙ among))
@@ -296,14 +297,14 @@ module _ (given : List ClassDef) (main : List ℕ) (spelled : AllByRecursion Has
   -- ---- all calls
 
   not_start : (a b : Bool) → (a || b) ≡ false → b ≡ false
-  not_start a b is = (fails a b is).1
+  not_start a b is = (or_parts a b is).1
 
-  selected_by : (code : Code) (caller index method type : ℕ) (call : IsCall given (outline_of given main) code caller index method type false) (of : TypeRef)
+  selected_by : AllByRecursion IsSupported given → (code : Code) (caller index method type : ℕ) (call : IsCall given (outline_of given main) code caller index method type false) (of : TypeRef)
       → is_initializer (outline_of given main) method ≡ false → (r : IsReceiver given of) (it : IsNamedMethod given call.at.member method)
       → Reached given r.class it.owner → Selects (program_of given main) of method
   unfolding program_of outline_of
-  selected_by code caller index method type call of plain r it reached =
-      let found = selects given main spelled clean of r call.at.member.name call.at.member.descriptor it.owner method it.own call.static_is
+  selected_by supported code caller index method type call of plain r it reached =
+      let found = selects given main spelled clean supported of r call.at.member.name call.at.member.descriptor it.owner method it.own call.static_is
       (not_start (is_constructor (outline_of given main) method) _ plain) reached in
       record {
         target = found.target;
@@ -315,9 +316,9 @@ module _ (given : List ClassDef) (main : List ℕ) (spelled : AllByRecursion Has
   unfolding outline_of
   met of there = receiver given main spelled clean of there.0 there.1
 
-pub calls_fit : (given : List ClassDef) (main : List ℕ) → AllByRecursion HasSpelling given → refusals given main ≡ [] → CallsFit (program_of given main)
+pub calls_fit : (given : List ClassDef) (main : List ℕ) → AllByRecursion HasSpelling given → AllByRecursion IsSupported given → refusals given main ≡ [] → CallsFit (program_of given main)
 unfolding program_of outline_of
-calls_fit given main spelled clean =
+calls_fit given main spelled supported clean =
     let missing = no_method_refused given main clean in
     record {
       virtual = λ method index m t named of x at plain there fits.
@@ -325,7 +326,7 @@ calls_fit given main spelled clean =
           let caller = (method_at (classes_of given) method).class in
           let r = met given main spelled clean of there in
           let it = where_named given main spelled clean x.code caller index m.0 t.0 false call named at in
-          selected_by given main spelled clean x.code caller index m.0 t.0 call of plain r it
+          selected_by given main spelled clean supported x.code caller index m.0 t.0 call of plain r it
           (virtual_reached given main spelled clean x.code caller index m.0 t.0 false call named of at
           (λ class is. virtual_of_class given main spelled missing method index m t named class x at is) fits r it);
       interface = λ method index m t named of x at plain there sub.
@@ -333,7 +334,7 @@ calls_fit given main spelled clean =
           let caller = (method_at (classes_of given) method).class in
           let r = met given main spelled clean of there in
           let it = where_named given main spelled clean x.code caller index m.0 t.0 false call named at in
-          selected_by given main spelled clean x.code caller index m.0 t.0 call of plain r it
+          selected_by given main spelled clean supported x.code caller index m.0 t.0 call of plain r it
           (interface_reached given main spelled clean x.code caller index m.0 t.0 false call named of at sub r it);
       special = λ method index m t named x at ordinary above. special_fits given main spelled clean method index m t named x at above;
       constructors = λ method index m t named x at constructor. constructed_class given main spelled clean method index m t named x at constructor;

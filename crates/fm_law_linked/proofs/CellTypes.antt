@@ -3,12 +3,13 @@
 use Rattle.std.proofs.Common.{◌≡◌, ℕ, zero, suc, ◌+◌, ◌-◌, ◌<◌, ◌≤◌, ◌==◌, ◌&&◌, ◌||◌, ◌⊎◌, inl, inr, not, cond, Bool, true, false, List, [], ◌∷◌, ◌++◌, length, codes, map, nat_eq, nat_lt, replicate, slice_get, get_or, Option, Some, None, is_some, option_and_then, unwrap_or, zero-add, refl, sym, ◌∙◌, ap, subst, arith, ⊎_elim}
 use Rattle.std.specs.List.{AllByRecursion, list_any}
 use Rattle.std.specs.Str.{bytes_eq}
-use Rattle.std.proofs.lemmas.Bool.{and_parts, cases_lt, eqb-true, false≢true, ltb-true, or_cases, or_left, or_right}
+use Rattle.std.proofs.lemmas.Bool.{and_parts, cases_lt, eqb-true, false≢true, ltb-true, or_cases, or_left, or_parts, or_right}
 use Rattle.std.proofs.lemmas.List.{get_or-replicate, get_or_append_left, get_or_past, length-append}
 use Rattle.std.proofs.lemmas.List.FromFn.{get_or-map-range_with_len}
 use Rattle.std.proofs.lemmas.List.Quantifiers.{position-Some}
 use Rattle.std.proofs.lemmas.Option.{none-some, same_Some}
 use Rattle.std.proofs.lemmas.Slice.Eq.{bytes_eq-Decides}
+use Rattle.fm_base.proofs.TestFacts.{same-nat_eq}
 use Rattle.fm_base.specs.declared.kinds.Base.{Base}
 use Rattle.fm_base.specs.declared.kinds.Base.TheVariants as base
 use Rattle.fm_base.specs.declared.kinds.Kind.TheVariants as kind
@@ -24,9 +25,9 @@ use Rattle.fm_frames.specs.NativeRows.{text_kind, text_type}
 use Rattle.fm_frames.specs.Runnable.{IsRunnable}
 use Rattle.fm_frames.specs.Sights.{has_hidden_field}
 use Rattle.fm_link_supers.proofs.BuiltInParents.{count_is}
-use Rattle.fm_link_supers.proofs.Downwards.{among_head, same_number}
+use Rattle.fm_link_supers.proofs.Downwards.{among_head}
 use Rattle.fm_link_supers.proofs.HierarchyLemmas.{interfaces_only}
-use Rattle.fm_link_supers.proofs.ParentRefusals.{are_sound, fails, if_true, length-declared, name_within, nil_left, none_of, not_refused, past_none, refused_not, superclass_used}
+use Rattle.fm_link_supers.proofs.ParentRefusals.{are_sound, if_true, length-declared, name_within, nil_left, none_of, not_refused, past_none, refused_not, superclass_used}
 use Rattle.fm_link_supers.specs.inner.Hierarchy.{AreSound}
 use Rattle.fm_law_linked.proofs.Constants.{text_constants}
 use Rattle.fm_law_linked.proofs.GivenFiles.{class_of_file, no_built_in_refused, none_used}
@@ -189,7 +190,7 @@ superclass_good given spelled none j c at name named =
     let within = name_within c.pool.entries c.super_class (ap is_some named) in
     let all = none_used (bad_parent_at classes c) c c.super_class (none_of (bad_parents classes) given j c none at) within (superclass_used c) in
     let judged = not_refused (c.super_class == 0) (is_bad_superclass classes c (name_at c.pool.entries c.super_class)) _ _
-    (if_true (c.super_class == c.super_class) (bad_superclass classes c) (same_number c.super_class)
+    (if_true (c.super_class == c.super_class) (bad_superclass classes c) (same-nat_eq c.super_class)
     (nil_left (cond (c.super_class == c.super_class) (bad_superclass classes c) []) _ all)) in
     sym (ap (λ o. is_bad_superclass classes c (unwrap_or o [])) named) ∙ judged.1
 
@@ -204,7 +205,7 @@ no_string_parent given spelled none class =
       by_test j c at name named false same = same
       by_test j c at name named true same =
           let good = superclass_good given spelled none j c at name named in
-          let sealed = (fails _ _ good).1 in
+          let sealed = (or_parts _ _ good).1 in
           absurd (false≢true (sym sealed ∙ ap (λ n. list_any (bytes_eq n) sealed_names) ((bytes_eq-Decides name string_name).0 same) ∙ sealed_string))
 
       by_name : (j : ℕ) (c : ClassDef) → slice_get given j ≡ Some c → (o : Option (List ℕ)) → class_name_at c.pool.entries c.super_class ≡ o → is_string o ≡ false

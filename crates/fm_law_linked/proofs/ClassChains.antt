@@ -1,18 +1,19 @@
 -- Each class of accepted files but Object has a superclass: so each is below Object.
 use Rattle.std.proofs.Common.{◌≡◌, refl, sym, ◌∙◌, ap, ℕ, zero, suc, ◌+◌, ◌-◌, ◌<◌, ◌≤◌, ◌⊎◌, inl, inr, ◌==◌, ◌||◌, Bool, true, false, cond, List, [], ◌∷◌, ◌++◌, length, map, nat_eq, replicate, slice_get, Option, Some, None, IsSome, get_or, subst, is_none, is_some, option_and_then, unwrap_or, arith, zero-add, length-append}
 use Rattle.std.specs.List.{AllByRecursion, flat_map}
-use Rattle.std.proofs.lemmas.Bool.{cases_lt, eqb-true, false≢true}
+use Rattle.std.proofs.lemmas.Bool.{cases_lt, eqb-true, false≢true, or_parts, or_right}
 use Rattle.std.proofs.lemmas.List.{get_or-replicate, get_or_append_left}
 use Rattle.std.proofs.lemmas.List.FromFn.{get_or-map-range_with_len}
 use Rattle.std.proofs.lemmas.Option.{none-some, same_Some}
+use Rattle.fm_base.proofs.TestFacts.{same-nat_eq}
 use Rattle.fm_code.specs.ConstantPool.{class_name_at, entry_at}
 use Rattle.fm_code.specs.Spells.{HasSpelling}
 use Rattle.fm_code.specs.declared.class_file.ClassDef.{ClassDef}
 use Rattle.fm_code.specs.declared.constant_pool.Entry.{Entry}
 use Rattle.fm_code.specs.declared.constant_pool.Entry.TheVariants as entry
 use Rattle.fm_link_supers.proofs.BuiltInParents.{count_is, number_first, object_parent_is}
-use Rattle.fm_link_supers.proofs.Downwards.{among_head, or_true, same_number}
-use Rattle.fm_link_supers.proofs.ParentRefusals.{tree_object, length-declared, past_none, name_within, nil_left, none_of, spelled_at, not_refused, fails, if_true, refused_not, superclass_used, some_entries}
+use Rattle.fm_link_supers.proofs.Downwards.{among_head}
+use Rattle.fm_link_supers.proofs.ParentRefusals.{tree_object, length-declared, past_none, name_within, nil_left, none_of, spelled_at, not_refused, if_true, refused_not, superclass_used, some_entries}
 use Rattle.fm_code.specs.Names.{object}
 use Rattle.fm_law_linked.proofs.GivenFiles.{class_of_file, none_used}
 use Rattle.fm_types.specs.Fits.{AreTree, object_of}
@@ -118,7 +119,7 @@ file_parent given j c at spelled no_bad no_missing = by_sort own.1.super_class w
   judged within =
       let all = none_used (bad_parent_at classes c) c c.super_class (none_of (bad_parents classes) given j c no_bad at) within (superclass_used c) in
       not_refused (c.super_class == 0) (is_bad_superclass classes c (name_at entries c.super_class)) _ _
-      (if_true (c.super_class == c.super_class) (bad_superclass classes c) (same_number c.super_class)
+      (if_true (c.super_class == c.super_class) (bad_superclass classes c) (same-nat_eq c.super_class)
       (nil_left (cond (c.super_class == c.super_class) (bad_superclass classes c) []) _ all))
 
   present : (name : List ℕ) → class_name_at entries c.super_class ≡ Some name → c.super_class < length entries → is_array_name name ≡ false
@@ -144,7 +145,7 @@ file_parent given j c at spelled no_bad no_missing = by_sort own.1.super_class w
       → is_bad_superclass classes c (unwrap_or o []) ≡ false → HasParent classes (length built_in + j)
   by_name None e some within good = absurd (false≢true some)
   by_name (Some name) e some within good =
-      let plain = (fails _ _ (fails _ _ (fails _ _ (fails _ _ good).0).0).0).0 in
+      let plain = (or_parts _ _ (or_parts _ _ (or_parts _ _ (or_parts _ _ good).0).0).0).0 in
       by_number name e (class_number classes name) refl (present name e within plain)
 
   by_sort : (c.super_class ≡ 0) ⊎ IsSome (class_name_at entries c.super_class) → HasParent classes (length built_in + j)
@@ -190,7 +191,7 @@ ends_in classes top linear parents (suc bound) class few within =
           linear class within ∙ ap (λ p. class ∷ chain_from classes p) above.parent_is in
           let long = ap length chain in
           ap (is_among top) chain
-          ∙ or_true (nat_eq top class) (is_among top (chain_of classes above.parent))
+          ∙ or_right (nat_eq top class) (is_among top (chain_of classes above.parent))
           (later above.parent (omega (arith, few, long)) (parent_of-within classes class above.parent above.parent_is))
 
 -- each class is below Object

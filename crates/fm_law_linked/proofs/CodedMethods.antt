@@ -4,9 +4,9 @@ use Rattle.std.specs.List.{flat_map, slice_index_or}
 use Rattle.std.specs.Option.{option_map}
 use Rattle.std.proofs.lemmas.Bool.{cases_lt}
 use Rattle.std.proofs.lemmas.List.{get_or-append_right, get_or_past, length-replicate}
-use Rattle.std.proofs.lemmas.List.Elements.{Contains-append_left, Contains-append_right}
 use Rattle.std.proofs.lemmas.List.FromFn.{get_or-map-range_with_len, length-map-range_with_len}
 use Rattle.std.proofs.lemmas.Option.{none-some, same_Some}
+use Rattle.fm_base.proofs.ContainsFacts.{Contains-flat_map}
 use Rattle.fm_code.proofs.EdgesLemmas.{Contains-later}
 use Rattle.fm_code.specs.Edges.{insn_of}
 use Rattle.fm_code.specs.Members.{code_of}
@@ -23,6 +23,7 @@ use Rattle.fm_world.specs.Programs.{class_uses, classes_of, codes_of, Outline, r
 use Rattle.fm_world.specs.Uses.{class_items, is_used, items_of}
 use Rattle.fm_world.specs.declared.uses.Use.{Use}
 use Rattle.fm_world.specs.declared.uses.Use.TheVariants as resolved
+use Rattle.fm_link_names.proofs.MarkLemmas.{items_some}
 
 -- ---- where code is
 
@@ -160,21 +161,11 @@ contains_at [] k x at = absurd (none-some x at)
 contains_at (y ∷ ys) zero x at = (0, omega arith, same_Some y x at)
 contains_at (y ∷ ys) (suc k) x at = Contains-later y ys x (contains_at ys k x at)
 
-contains_each : {X Y : Type 0} (f : X → List Y) (xs : List X) (x : X) (y : Y) → Contains xs x → Contains (f x) y → Contains (flat_map f xs) y
-contains_each f [] x y (k, within, there) inside = absurd (omega (arith, within))
-contains_each {X} {Y} f (z ∷ xs) x y (zero, within, there) inside =
-    let P : X → Type 0 = λ w. Contains (f w) y in Contains-append_left (f z) (flat_map f xs) y (subst P (sym there) inside)
-contains_each f (z ∷ xs) x y (suc k, within, there) inside =
-    Contains-append_right (f z) (flat_map f xs) y (contains_each f xs x y (k, omega (arith, within), there) inside)
-
 -- an item of the class of the code, with this instruction
 pub record IsItemOf (c : ClassDef) (i : Insn) : Type 0 where
   pub item : Item
   pub among : Contains (class_items c) item
   pub insn_is : item.insn ≡ i
-
-items_are : (m : Member) (code : Code) → code_of m ≡ Some code → items_of m ≡ code.items
-items_are m code is = rw is
 
 pub item_there : (c : ClassDef) (m : Member) (code : Code) (place : ℕ) (i : Insn) → Contains c.methods m → code_of m ≡ Some code → insn_of code place ≡ Some i
     → IsItemOf c i
@@ -185,11 +176,6 @@ item_there c m code place i among is named = by_item (slice_get code.items place
     item = item;
     among =
         let P : List Item → Type 0 = λ items. Contains items item in
-        contains_each items_of c.methods m item among (subst P (sym (items_are m code is)) (contains_at code.items place item at));
+        Contains-flat_map items_of c.methods m item among (subst P (sym (items_some m code is)) (contains_at code.items place item at));
     insn_is = same_Some item.insn i e;
   }
-
-pub read_at : {X : Type 0} (xs : List X) (k : ℕ) (x d : X) → slice_get xs k ≡ Some x → get_or xs k d ≡ x
-read_at [] k x d at = absurd (none-some x at)
-read_at (y ∷ ys) zero x d at = same_Some y x at
-read_at (y ∷ ys) (suc k) x d at = read_at ys k x d at

@@ -78,7 +78,7 @@ some_code (attribute.Constant name value ∷ attributes) some =
 some_code (attribute.Other raw ∷ attributes) some =
     let step = sum_by-cons (λ a. cond (is_coded a) 1 0) (attribute.Other raw) attributes in some_code attributes (omega (arith, some, step))
 
-member_coded : (in_interface : Bool) (entries : List Entry) (class : ℕ) (m : Member) → MethodIsValid in_interface entries m → MethodIsSupported entries m
+member_coded : (in_interface : Bool) (entries : List Entry) (class : ℕ) (m : Member) → MethodIsValid in_interface entries m → MethodIsSupported in_interface entries m
     → HasCode (record { class = class; method = declared_method entries m }) (code_of m)
 member_coded in_interface entries class m valid supported concrete none =
     let one : count_by is_coded m.attributes ≡ 1 =
@@ -86,7 +86,7 @@ member_coded in_interface entries class m valid supported concrete none =
     some_code m.attributes (omega (arith, one))
 
 members_coded : (in_interface : Bool) (entries : List Entry) (class : ℕ) (members : List Member) → AllByRecursion (MethodIsValid in_interface entries) members
-    → AllByRecursion (MethodIsSupported entries) members
+    → AllByRecursion (MethodIsSupported in_interface entries) members
     → AreCoded (map (λ m. record { class = class; method = m }) (map (declared_method entries) members)) (map code_of members)
 unfolding AreCoded
 members_coded in_interface entries class [] valid supported = tt

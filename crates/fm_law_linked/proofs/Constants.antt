@@ -1,5 +1,5 @@
 -- A field whose constant is a number is a field of numbers, and one whose constant is a text is one of references: descriptors suit constants (JVMS 4.7.2).
-use Rattle.std.proofs.Common.{◌≡◌, codes, refl, sym, ◌∙◌, ap, subst, ℕ, ◌+◌, Bool, true, false, cond, List, [], ◌∷◌, ◌++◌, length, map, Contains, Option, Some, None, IsSomeAnd, unwrap_or, append_assoc, arith}
+use Rattle.std.proofs.Common.{◌≡◌, codes, refl, sym, ◌∙◌, subst, ℕ, ◌+◌, Bool, true, false, cond, List, [], ◌∷◌, ◌++◌, length, map, Contains, Option, Some, None, IsSomeAnd, unwrap_or, arith}
 use Rattle.std.specs.List.{AllByRecursion}
 use Rattle.fm_base.proofs.ListFacts.{AllByRecursion-append, AllByRecursion-get_or}
 use Rattle.fm_base.specs.declared.kinds.Kind.{Kind}
@@ -17,6 +17,7 @@ use Rattle.fm_code.specs.declared.constant_pool.Entry.TheVariants as entry
 use Rattle.fm_law_linked.proofs.GivenFiles.{each_one}
 use Rattle.fm_law_sound.proofs.HiddenFields.{hidden_kind}
 use Rattle.fm_same.specs.Evenness.{IsNumber, IsPlainKind}
+use Rattle.fm_world.proofs.TableLemmas.{fields_from-append}
 use Rattle.fm_world.specs.BuiltIns.{built_in}
 use Rattle.fm_world.specs.Declarations.{declared_field, declared_from, first_constant, no_field, text_at}
 use Rattle.fm_world.specs.Descriptors.{declared_kind, field_type}
@@ -80,15 +81,6 @@ module _ (classes : List DeclaredClass) (Q : Option Constant → Kind → Type 0
   told_built_in : AllByRecursion IsTold (fields_of built_in)
   unfolding fields_of built_in
   told_built_in = (tells.none _, (tells.none _, tt))
-
-fields_from-append : (class : ℕ) (classes more : List DeclaredClass)
-    → fields_from class (classes ++ more) ≡ fields_from class classes ++ fields_from (class + length classes) more
-fields_from-append class [] more = let same : class ≡ class + 0 = omega arith in ap (λ k. fields_from k more) same
-fields_from-append class (c ∷ classes) more =
-    let same : class + 1 + length classes ≡ class + length (c ∷ classes) = omega arith in
-    let own : List OwnedField = map (λ f. record { class = class; field = f }) c.fields in
-    ap (λ fs. own ++ fs) (fields_from-append (class + 1) classes more ∙ ap (λ k. fields_from (class + 1) classes ++ fields_from k more) same)
-    ∙ sym (append_assoc own (fields_from (class + 1) classes) (fields_from (class + length (c ∷ classes)) more))
 
 pub all_fields : (given : List ClassDef) → fields_of (classes_of given) ≡ fields_of built_in ++ fields_from (0 + length built_in) (declared_from 0 given)
 unfolding fields_of classes_of

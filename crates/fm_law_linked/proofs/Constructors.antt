@@ -1,6 +1,6 @@
 -- Constructors give nothing: the descriptor of one ends in V (JVMS 2.9, 4.3.3).
-use Rattle.std.proofs.Common.{◌≡◌, refl, sym, ◌∙◌, ap, subst, ℕ, ◌+◌, ◌-◌, ◌||◌, ◌&&◌, not, Bool, true, false, List, [], ◌∷◌, ◌++◌, length, map, drop, Option, Some, None, is_none, IsSomeAnd, unwrap_or, append_assoc, length-append, arith}
-use Rattle.std.specs.List.{AllByRecursion, flat_map}
+use Rattle.std.proofs.Common.{◌≡◌, refl, sym, ◌∙◌, ap, subst, ℕ, ◌+◌, ◌-◌, ◌||◌, ◌&&◌, not, Bool, true, false, List, [], ◌∷◌, ◌++◌, length, map, drop, Option, Some, None, is_none, IsSomeAnd, unwrap_or, length-append, arith}
+use Rattle.std.specs.List.{AllByRecursion}
 use Rattle.std.specs.Option.{option_map}
 use Rattle.std.specs.Str.{bytes_eq}
 use Rattle.std.specs.Cmp.Lexicographic.{same_text}
@@ -10,12 +10,12 @@ use Rattle.fm_base.specs.declared.kinds.Base.{Base}
 use Rattle.fm_code.specs.AccessFlags.{is_interface}
 use Rattle.fm_code.specs.ConstantPool.{utf8_at}
 use Rattle.fm_code.specs.Members.{MethodIsValid, ReturnsNothing}
-use Rattle.fm_code.specs.Names.{BaseType, field_descriptor, FieldType, IsFieldType, object, primitive, result_descriptor}
+use Rattle.fm_code.specs.Names.{BaseType, FieldType, object, primitive, result_descriptor}
 use Rattle.fm_code.specs.Spells.{HasSpelling}
 use Rattle.fm_code.specs.declared.class_file.ClassDef.{ClassDef}
 use Rattle.fm_code.specs.declared.class_file.Member.{Member}
 use Rattle.fm_code.specs.declared.constant_pool.Entry.{Entry}
-use Rattle.fm_link_names.proofs.SpelledTypes.{types_in-field}
+use Rattle.fm_link_names.proofs.SpelledTypes.{types_in-fields}
 use Rattle.fm_law_linked.proofs.Rows.{all_methods}
 use Rattle.fm_world.specs.BuiltIns.{built_in}
 use Rattle.fm_world.specs.Declarations.{declared_from, declared_method, no_method}
@@ -40,14 +40,6 @@ no_kind classes dims (primitive letter) is = no_base dims (primitive_base letter
 no_kind classes dims (object name) is = absurd (false≢true is)
 
 -- ---- a descriptor that ends in V
-
-types_in-fields : (types : List FieldType) (rest : List ℕ) → AllByRecursion IsFieldType types
-    → types_in (flat_map field_descriptor types ++ rest) ≡ types ++ types_in rest
-types_in-fields [] rest are = refl
-types_in-fields (t ∷ types) rest are =
-    ap types_in (append_assoc (field_descriptor t) (flat_map field_descriptor types) rest)
-    ∙ types_in-field t (flat_map field_descriptor types ++ rest) are.0
-    ∙ ap (λ ts. t ∷ ts) (types_in-fields types rest are.1)
 
 first_after : (types : List FieldType) (t : FieldType) → first_type (drop (length types) (types ++ t ∷ [])) ≡ t
 first_after [] t = refl

@@ -81,7 +81,7 @@ number_inside : (classes : List DeclaredClass) (name : List ℕ) → 0 < length 
 number_inside classes name some None is = some
 number_inside classes name some (Some number) is = (position-Some _ classes number (class_at classes 0) is).0
 
-some_classes : (given : List ClassDef) → 0 < length (classes_of given)
+pub some_classes : (given : List ClassDef) → 0 < length (classes_of given)
 unfolding classes_of built_in
 some_classes given = let all = length-append built_in (declared_from 0 given) in omega (arith, all)
 

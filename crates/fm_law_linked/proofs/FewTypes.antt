@@ -1,26 +1,26 @@
 -- Few types have numbers: they are different, of at most 255 dimensions (JVMS 4.4.1), and of a class that is there or of a letter.
 use Rattle.std.proofs.Common.{◌≡◌, refl, sym, ◌∙◌, ap, subst, ℕ, zero, suc, ◌+◌, ◌-◌, ◌*◌, ◌<◌, ◌≤◌, ◌⊎◌, inl, inr, not, Bool, true, false, cond, List, [], ◌∷◌, ◌++◌, length, map, filter, nat_lt, nat_eq, slice_get, Contains, Option, Some, None, option_and_then, option_map, arith}
 use Rattle.std.specs.List.{AllByRecursion, filter_map, flat_map, IsDistinct, range_with_len}
-use Rattle.std.proofs.lemmas.Bool.{eqb-true, false≢true, ltb-true}
+use Rattle.std.proofs.lemmas.Bool.{eqb-true, false≢true, ltb-true, or_cases}
 use Rattle.std.proofs.lemmas.List.{length-map}
 use Rattle.std.proofs.lemmas.List.Elements.{Contains-append_cases}
 use Rattle.std.proofs.lemmas.Map.Steps.{length-le_from_distinct_below}
 use Rattle.std.proofs.lemmas.Option.{none-some, same_Some}
+use Rattle.fm_base.proofs.ContainsFacts.{Contains-cons_cases}
 use Rattle.fm_base.specs.declared.kinds.Base.{Base}
 use Rattle.fm_base.specs.declared.kinds.Base.TheVariants as base
 use Rattle.fm_base.specs.declared.kinds.TypeRef.{TypeRef}
-use Rattle.fm_code.proofs.EdgesLemmas.{Contains-cons_cases, Contains-first, Contains-later}
+use Rattle.fm_code.proofs.EdgesLemmas.{Contains-first, Contains-from_map, Contains-later}
 use Rattle.fm_code.specs.Names.{FieldType}
 use Rattle.fm_code.specs.Spells.{HasSpelling}
 use Rattle.fm_code.specs.declared.class_file.ClassDef.{ClassDef}
 use Rattle.fm_code.specs.declared.code_array.Item.{Item}
 use Rattle.fm_code.specs.declared.instructions.Insn.{Insn}
 use Rattle.fm_code.specs.declared.instructions.Insn.TheVariants as insn
-use Rattle.fm_conn.proofs.ListLemmas.{Contains-from_flat_map, Contains-from_map}
+use Rattle.fm_conn.proofs.ListLemmas.{Contains-from_flat_map}
 use Rattle.fm_conn.proofs.TypeLemmas.{types_in}
 use Rattle.fm_link_names.proofs.SpelledNames.{named_class-is}
 use Rattle.fm_link_names.proofs.SpelledTypes.{few_class}
-use Rattle.fm_link_supers.proofs.Downwards.{either}
 use Rattle.fm_law_linked.proofs.CodedMethods.{contains_at}
 use Rattle.fm_law_linked.proofs.GivenFiles.{each_one}
 use Rattle.fm_law_linked.proofs.InterfaceCalls.{dims_kept}
@@ -137,7 +137,7 @@ each_below : (n : ℕ) (types : List TypeRef) → ((k : ℕ) (t : TypeRef) → s
     → is_among q (map number_of types) ≡ true → q < n
 each_below n [] each q among = absurd (false≢true among)
 each_below n (t ∷ types) each q among =
-    by_place (each_below n types (λ k u at. each (suc k) u at) q) (either (nat_eq q (number_of t)) (is_among q (map number_of types)) among) where
+    by_place (each_below n types (λ k u at. each (suc k) u at) q) (or_cases (nat_eq q (number_of t)) (is_among q (map number_of types)) among) where
       by_place : (is_among q (map number_of types) ≡ true → q < n) → (nat_eq q (number_of t) ≡ true) ⊎ (is_among q (map number_of types) ≡ true) → q < n
       by_place later (inl same) = subst (λ m. m < n) (sym (eqb-true q (number_of t) same)) (each 0 t refl)
       by_place later (inr there) = later there

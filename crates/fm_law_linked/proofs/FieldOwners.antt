@@ -4,7 +4,7 @@ use Rattle.std.specs.List.{AllByRecursion, flat_map, position}
 use Rattle.std.specs.Option.{option_map}
 use Rattle.std.specs.Str.{bytes_eq}
 use Rattle.std.specs.Cmp.Lexicographic.{same_text}
-use Rattle.std.proofs.lemmas.Bool.{and_parts, cases_lt, eqb-true, false≢true, lt-ltb}
+use Rattle.std.proofs.lemmas.Bool.{and_from, and_parts, cases_lt, eqb-true, false≢true, lt-ltb, or_cases, or_right}
 use Rattle.std.proofs.lemmas.List.{get_or-append-add, get_or-map, get_or-replicate, get_or_append_left, length-map}
 use Rattle.std.proofs.lemmas.List.FromFn.{get_or-map-range_with_len}
 use Rattle.std.proofs.lemmas.List.Quantifiers.{position-Some}
@@ -20,9 +20,9 @@ use Rattle.fm_code.specs.declared.class_file.ClassDef.{ClassDef}
 use Rattle.fm_code.specs.declared.class_file.Member.{Member}
 use Rattle.fm_code.specs.declared.constant_pool.Entry.{Entry}
 use Rattle.fm_link_supers.proofs.BuiltInParents.{count_is}
-use Rattle.fm_link_supers.proofs.Downwards.{among_head, either, or_true}
+use Rattle.fm_link_supers.proofs.Downwards.{among_head}
 use Rattle.fm_link_supers.proofs.HierarchyLemmas.{superinterfaces_only}
-use Rattle.fm_link_supers.proofs.ParentRefusals.{tree_object, first_true, length-declared, past_none, spelled_at}
+use Rattle.fm_link_supers.proofs.ParentRefusals.{tree_object, length-declared, past_none, spelled_at}
 use Rattle.fm_link_supers.specs.inner.Hierarchy.{AreSound}
 use Rattle.fm_law_linked.proofs.GivenFiles.{class_of_file}
 use Rattle.fm_types.proofs.ClassTree.{interface-within}
@@ -38,6 +38,8 @@ use Rattle.fm_world.specs.Programs.{classes_of}
 use Rattle.fm_world.specs.declared.declarations.DeclaredClass.{DeclaredClass}
 use Rattle.fm_world.specs.declared.declarations.DeclaredField.{DeclaredField}
 use Rattle.fm_world.specs.inner.Tables.{numbers_below}
+use Rattle.fm_link_refusals.proofs.Among.{among_either}
+use Rattle.fm_frames.proofs.ClassStarts.{no_owner}
 
 -- ---- lists
 
@@ -49,29 +51,18 @@ found_among find (x ∷ path) n is = by_first (find x) refl is (found_among find
       → (first_found find path ≡ Some n → (above : ℕ) × ((is_among above path ≡ true) × (find above ≡ Some n)))
       → (above : ℕ) × ((is_among above (x ∷ path) ≡ true) × (find above ≡ Some n))
   by_first None here e later =
-      let rest = later (rw here at e) in (rest.0, (or_true (nat_eq rest.0 x) (is_among rest.0 path) rest.1.0, rest.1.1))
+      let rest = later (rw here at e) in (rest.0, (or_right (nat_eq rest.0 x) (is_among rest.0 path) rest.1.0, rest.1.1))
   by_first (Some j) here e later = (x, (among_head x path, here ∙ (rw here at e)))
-
-pub append_cases : (x : ℕ) (xs ys : List ℕ) → is_among x (xs ++ ys) ≡ true → (is_among x xs ≡ true) ⊎ (is_among x ys ≡ true)
-append_cases x [] ys among = inr among
-append_cases x (z ∷ xs) ys among = by_first (append_cases x xs ys) (either (nat_eq x z) (is_among x (xs ++ ys)) among) where
-  by_first : (is_among x (xs ++ ys) ≡ true → (is_among x xs ≡ true) ⊎ (is_among x ys ≡ true)) → (nat_eq x z ≡ true) ⊎ (is_among x (xs ++ ys) ≡ true)
-      → (is_among x (z ∷ xs) ≡ true) ⊎ (is_among x ys ≡ true)
-  by_first later (inl same) = inl (first_true (nat_eq x z) (is_among x xs) same)
-  by_first later (inr rest) = by_rest (later rest) where
-    by_rest : (is_among x xs ≡ true) ⊎ (is_among x ys ≡ true) → (is_among x (z ∷ xs) ≡ true) ⊎ (is_among x ys ≡ true)
-    by_rest (inl there) = inl (or_true (nat_eq x z) (is_among x xs) there)
-    by_rest (inr there) = inr there
 
 pub among_each : (f : ℕ → List ℕ) (xs : List ℕ) (x : ℕ) → is_among x (flat_map f xs) ≡ true
     → (a : ℕ) × ((is_among a xs ≡ true) × (is_among x (f a) ≡ true))
 among_each f [] x among = absurd (false≢true among)
-among_each f (z ∷ xs) x among = by_first (among_each f xs x) (append_cases x (f z) (flat_map f xs) among) where
+among_each f (z ∷ xs) x among = by_first (among_each f xs x) (among_either x (f z) (flat_map f xs) among) where
   by_first : (is_among x (flat_map f xs) ≡ true → (a : ℕ) × ((is_among a xs ≡ true) × (is_among x (f a) ≡ true)))
       → (is_among x (f z) ≡ true) ⊎ (is_among x (flat_map f xs) ≡ true)
       → (a : ℕ) × ((is_among a (z ∷ xs) ≡ true) × (is_among x (f a) ≡ true))
   by_first later (inl here) = (z, (among_head z xs, here))
-  by_first later (inr rest) = let found = later rest in (found.0, (or_true (nat_eq found.0 z) (is_among found.0 xs) found.1.0, found.1.1))
+  by_first later (inr rest) = let found = later rest in (found.0, (or_right (nat_eq found.0 z) (is_among found.0 xs) found.1.0, found.1.1))
 
 pub all_inside : {X : Type 0} (P : X → Type 0) (xs : List X) (k : ℕ) (d : X) → AllByRecursion P xs → k < length xs → P (get_or xs k d)
 all_inside P [] k d all within = absurd (omega (arith, within))
@@ -83,17 +74,14 @@ all_inside P (x ∷ xs) (suc k) d all within = all_inside P xs k d all.1 (omega 
 abbrev owned : ℕ → DeclaredField → OwnedField
 owned class f = record { class = class; field = f }
 
-abbrev none : OwnedField
-none = record { class = 0; field = no_field }
-
 fields_at : (number : ℕ) (classes : List DeclaredClass) (class j : ℕ) → j < length (class_at classes class).fields
-    → get_or (fields_from number classes) (first_field classes class + j) none ≡ owned (number + class) (get_or (class_at classes class).fields j no_field)
+    → get_or (fields_from number classes) (first_field classes class + j) no_owner ≡ owned (number + class) (get_or (class_at classes class).fields j no_field)
 fields_at number [] class j inside = absurd (omega (arith, inside))
 fields_at number (c ∷ classes) zero j inside =
     let long = length-map c.fields (owned number) in
     let same : number ≡ number + 0 = omega arith in
-    get_or_append_left (owned_fields number c) (fields_from (number + 1) classes) none (0 + j) (omega (arith, long, inside))
-    ∙ ap (λ i. get_or (owned_fields number c) i none) (omega arith) ∙ get_or-map (owned number) c.fields j no_field none inside
+    get_or_append_left (owned_fields number c) (fields_from (number + 1) classes) no_owner (0 + j) (omega (arith, long, inside))
+    ∙ ap (λ i. get_or (owned_fields number c) i no_owner) (omega arith) ∙ get_or-map (owned number) c.fields j no_field no_owner inside
     ∙ ap (λ n. owned n (get_or c.fields j no_field)) same
 fields_at number (c ∷ classes) (suc class) j inside =
     let long = length-map c.fields (owned number) in
@@ -101,8 +89,8 @@ fields_at number (c ∷ classes) (suc class) j inside =
     let counted = sum_by-cons (λ (d : DeclaredClass). length d.fields) c (take class classes) in
     let place : first_field (c ∷ classes) (suc class) + j ≡ length (owned_fields number c) + (before + j) = omega (arith, long, counted) in
     let same : number + 1 + class ≡ number + suc class = omega arith in
-    ap (λ i. get_or (fields_from number (c ∷ classes)) i none) place
-    ∙ get_or-append-add (owned_fields number c) (fields_from (number + 1) classes) (before + j) none
+    ap (λ i. get_or (fields_from number (c ∷ classes)) i no_owner) place
+    ∙ get_or-append-add (owned_fields number c) (fields_from (number + 1) classes) (before + j) no_owner
     ∙ fields_at (number + 1) classes class j inside ∙ ap (λ n. owned n (get_or (class_at classes class).fields j no_field)) same
 
 -- the field is the one at this place of the class
@@ -126,7 +114,7 @@ field_of classes name descriptor class field is = by_place (position test (class
       record {
         place = k;
         inside = inside;
-        at = ap (λ n. get_or (fields_from 0 classes) n none) (sym (same_Some (first_field classes class + k) field is)) ∙ fields_at 0 classes class k inside
+        at = ap (λ n. get_or (fields_from 0 classes) n no_owner) (sym (same_Some (first_field classes class + k) field is)) ∙ fields_at 0 classes class k inside
             ∙ ap (λ n. owned n (get_or (class_at classes class).fields k no_field)) (zero-add class);
       }
 
@@ -139,10 +127,6 @@ bare_table : map has_fields (numbers_below 28) ≡ replicate 28 false
 unfolding built_in
 bare_table = refl
 
-both_true : (a b : Bool) → a ≡ true → b ≡ true → (a && b) ≡ true
-both_true true b e f = f
-both_true false b e f = absurd (false≢true e)
-
 built_in_bare : (more : List DeclaredClass) (k j : ℕ) → k < length built_in → is_interface_at (built_in ++ more) k ≡ true
     → j < length (class_at (built_in ++ more) k).fields → ⊥
 built_in_bare more k j within is inside =
@@ -153,7 +137,7 @@ built_in_bare more k j within is inside =
     let here : is_interface_at built_in k ≡ true = sym (ap (λ (c : DeclaredClass). is_interface c.flags) same) ∙ is in
     let many : length (class_at (built_in ++ more) k).fields ≡ length (class_at built_in k).fields = ap (λ (c : DeclaredClass). length c.fields) same in
     false≢true
-    (sym table ∙ both_true (is_interface_at built_in k) (nat_lt 0 (length (class_at built_in k).fields)) here
+    (sym table ∙ and_from (is_interface_at built_in k) (nat_lt 0 (length (class_at built_in k).fields)) here
     (lt-ltb 0 (length (class_at built_in k).fields) (omega (arith, many, inside))))
 
 static_members : (in_interface : Bool) (entries : List Entry) (members : List Member) → in_interface ≡ true → AllByRecursion (FieldIsValid in_interface entries) members
@@ -214,7 +198,7 @@ instance_above given spelled sound name descriptor class field is instance =
     let at = among_each (λ above. above ∷ superinterfaces_of classes above) (chain_of classes class) found.0 found.1.0 in
     record {
       above = found.0;
-      among = by_path found.0 plain at.0 at.1.0 (either (nat_eq found.0 at.0) (is_among found.0 (superinterfaces_of classes at.0)) at.1.1);
+      among = by_path found.0 plain at.0 at.1.0 (or_cases (nat_eq found.0 at.0) (is_among found.0 (superinterfaces_of classes at.0)) at.1.1);
       plain = ap (λ b. b || (found.0 == object_of classes)) plain ∙ not_object found.0 its (found.0 == object_of classes) refl;
       class_is = ap (λ (f : OwnedField). f.class) its.at;
     } where

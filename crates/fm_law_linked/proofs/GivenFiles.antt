@@ -1,34 +1,21 @@
 -- Class files by their place: their classes, and what no cause against them says of one of them.
-use Rattle.std.proofs.Common.{◌≡◌, refl, sym, ◌∙◌, ap, subst, ℕ, zero, suc, ◌+◌, ◌<◌, ◌⊎◌, inl, inr, Bool, true, false, cond, List, [], ◌∷◌, ◌++◌, length, filter, nat_eq, slice_get, Contains, Some, arith, zero-add}
+use Rattle.std.proofs.Common.{◌≡◌, refl, ◌∙◌, subst, ℕ, zero, suc, ◌+◌, ◌<◌, ◌⊎◌, Bool, true, false, List, [], ◌∷◌, ◌++◌, length, slice_get, Contains, Some, arith, zero-add}
 use Rattle.std.specs.List.{AllByRecursion, flat_map}
-use Rattle.std.proofs.lemmas.Bool.{eqb-true, false≢true}
 use Rattle.std.proofs.lemmas.List.{get_or-append-add}
 use Rattle.std.proofs.lemmas.List.FromFn.{get_or-range_with_len, length-range_with_len}
 use Rattle.fm_code.specs.declared.class_file.ClassDef.{ClassDef}
-use Rattle.fm_link_supers.proofs.Downwards.{either, or_true}
 use Rattle.fm_world.proofs.Displays.{is_among_at}
 use Rattle.fm_world.specs.BuiltIns.{built_in}
 use Rattle.fm_world.specs.Causes.{Refusal}
-use Rattle.fm_world.specs.Chains.{class_at, is_among}
+use Rattle.fm_world.specs.Chains.{class_at}
 use Rattle.fm_world.specs.Declarations.{declared_from, declared_of, no_class}
 use Rattle.fm_world.specs.Linking.{refusals, refused_built_ins, refused_duplicates, refused_fields, refused_main, refused_methods, refused_missing_classes, refused_not_implemented, refused_parents}
 use Rattle.fm_world.specs.Programs.{classes_of}
 use Rattle.fm_world.specs.Uses.{is_used, pool_indices, uses_in_order}
 use Rattle.fm_world.specs.declared.declarations.DeclaredClass.{DeclaredClass}
-use Rattle.fm_link_supers.proofs.ParentRefusals.{none_at, declared_at, nil_left, nil_right, first_true}
+use Rattle.fm_link_supers.proofs.ParentRefusals.{none_at, declared_at, nil_left, nil_right, among_filter}
 
 -- ---- lists without refusals
-
-among_filter : (p : ℕ → Bool) (x : ℕ) (xs : List ℕ) → is_among x xs ≡ true → p x ≡ true → is_among x (filter p xs) ≡ true
-among_filter p x [] among passes = absurd (false≢true among)
-among_filter p x (y ∷ ys) among passes =
-    by_case (λ h. among_filter p x ys h passes) (either (nat_eq x y) (is_among x ys) among) (p y) refl where
-      by_case : (is_among x ys ≡ true → is_among x (filter p ys) ≡ true) → (nat_eq x y ≡ true) ⊎ (is_among x ys ≡ true) → (b : Bool) → p y ≡ b
-          → is_among x (cond b (y ∷ filter p ys) (filter p ys)) ≡ true
-      by_case later (inl same) true e = first_true (nat_eq x y) (is_among x (filter p ys)) same
-      by_case later (inl same) false e = absurd (false≢true (sym e ∙ sym (ap p (eqb-true x y same)) ∙ passes))
-      by_case later (inr there) true e = or_true (nat_eq x y) (is_among x (filter p ys)) (later there)
-      by_case later (inr there) false e = later there
 
 -- a used index of which nothing is refused
 pub none_used : (f : ℕ → List Refusal) (c : ClassDef) (index : ℕ) → flat_map f (uses_in_order c) ≡ [] → index < length c.pool.entries → is_used c index ≡ true

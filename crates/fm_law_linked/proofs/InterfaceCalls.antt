@@ -4,7 +4,7 @@ use Rattle.std.specs.List.{AllByRecursion}
 use Rattle.std.specs.Option.{option_map}
 use Rattle.std.proofs.lemmas.Bool.{eqb-true, false≢true}
 use Rattle.std.proofs.lemmas.List.Quantifiers.{position-Some}
-use Rattle.std.proofs.lemmas.Option.{none-some, same_Some}
+use Rattle.std.proofs.lemmas.Option.{get_or_from_slice_get, none-some, same_Some}
 use Rattle.fm_base.specs.declared.characters.TheConstants.{LEFT_BRACKET}
 use Rattle.fm_base.specs.declared.kinds.Base.{Base}
 use Rattle.fm_base.specs.declared.kinds.Base.TheVariants as base
@@ -30,7 +30,7 @@ use Rattle.fm_code.specs.declared.instructions.Insn.TheVariants as insn
 use Rattle.fm_link_names.proofs.SpelledNames.{named_class-is}
 use Rattle.fm_link_names.proofs.SpelledTypes.{types_in-field}
 use Rattle.fm_law_linked.proofs.Calls.{IsCall}
-use Rattle.fm_law_linked.proofs.CodedMethods.{contains_at, read_at}
+use Rattle.fm_law_linked.proofs.CodedMethods.{contains_at}
 use Rattle.fm_law_linked.proofs.GivenFiles.{each_one}
 use Rattle.fm_types.proofs.LeastJoins.{same_type-eq}
 use Rattle.fm_world.specs.Causes.{is_there_and, names_wrong_sort}
@@ -169,7 +169,7 @@ type_named o entries index type t number at = by_name (named_class entries index
       → IsTypeNamed o entries index t
   by_type name e None f is = absurd (none-some type is)
   by_type name e (Some u) f is =
-      let same : u ≡ t = same_type-eq u (get_or o.types type t) (position-Some (same_type u) o.types type t is).1 ∙ read_at o.types type t t at in
+      let same : u ≡ t = same_type-eq u (get_or o.types type t) (position-Some (same_type u) o.types type t is).1 ∙ get_or_from_slice_get o.types type t t at in
       record { name = name; named = e; type_is = f ∙ ap Some same }
 
   by_name : (n : Option (List ℕ)) → named_class entries index ≡ n

@@ -2,15 +2,13 @@
 -- itself, and built-in classes have only built-in ones, which declare no method.
 use Rattle.std.proofs.Common.{◌≡◌, refl, sym, ◌∙◌, ap, ℕ, zero, suc, ◌<◌, ◌≤◌, ◌⊎◌, inl, inr, ◌&&◌, Bool, true, false, List, [], ◌∷◌, ◌++◌, length, map, replicate, nat_eq, nat_lt, Option, Some, None, is_none, arith, ⊎_elim}
 use Rattle.std.specs.List.{cons_option, filter_map, flat_map, list_any}
-use Rattle.std.proofs.lemmas.Bool.{cases_lt, eqb-true, false≢true, lt-ltb}
+use Rattle.std.proofs.lemmas.Bool.{cases_lt, eqb-true, false≢true, lt-ltb, or_cases, or_parts, or_right}
 use Rattle.std.proofs.lemmas.List.{get_or_append_left}
 use Rattle.fm_code.specs.AccessFlags.{is_interface}
 use Rattle.fm_code.specs.declared.class_file.ClassDef.{ClassDef}
 use Rattle.fm_link_supers.proofs.BuiltInParents.{count_is, number_first}
 use Rattle.fm_link_supers.proofs.Distinct.{among_distinct}
-use Rattle.fm_link_supers.proofs.Downwards.{among_left, among_right, either, or_true}
 use Rattle.fm_link_supers.proofs.InterfaceLemmas.{superinterfaces_past}
-use Rattle.fm_link_supers.proofs.ParentRefusals.{fails}
 use Rattle.fm_link_supers.specs.inner.Hierarchy.{AreSound}
 use Rattle.fm_law_linked.proofs.CellTypes.{built_in_at, table_false}
 use Rattle.fm_law_linked.proofs.FieldOwners.{among_each}
@@ -27,16 +25,7 @@ use Rattle.fm_world.specs.Lookups.{is_interface_at}
 use Rattle.fm_world.specs.Programs.{classes_of}
 use Rattle.fm_world.specs.declared.declarations.DeclaredClass.{DeclaredClass}
 use Rattle.fm_world.specs.inner.Tables.{numbers_below}
-
--- ---- lists
-
-among_flat : (f : ℕ → List ℕ) (xs : List ℕ) (i x : ℕ) → is_among i xs ≡ true → is_among x (f i) ≡ true → is_among x (flat_map f xs) ≡ true
-among_flat f [] i x here there = absurd (false≢true here)
-among_flat f (y ∷ ys) i x here there =
-    ⊎_elim
-    (λ same. among_left x (f y) (flat_map f ys) (ap (λ k. is_among x (f k)) (sym (eqb-true i y same)) ∙ there))
-    (λ later. among_right x (f y) (flat_map f ys) (among_flat f ys i x later there))
-    (either (nat_eq i y) (is_among i ys) here)
+use Rattle.fm_link_refusals.proofs.Among.{in_flat}
 
 -- ---- of superclasses and of superinterfaces
 
@@ -51,11 +40,11 @@ module _ (classes : List DeclaredClass) (sound : AreSound classes) where
       let under : is_among y (superinterfaces_of classes found.0) ≡ true = ⊎_elim
       (λ same. ap (λ k. is_among y (superinterfaces_of classes k)) (sym (eqb-true x found.0 same)) ∙ above)
       (λ deeper. super_within bound found.0 x y inside deeper above)
-      (either (nat_eq x found.0) (is_among x (interfaces_within bound classes found.0)) found.1.1) in
+      (or_cases (nat_eq x found.0) (is_among x (interfaces_within bound classes found.0)) found.1.1) in
       ap (is_among y) (superinterfaces_of-listed classes class (sound.acyclic.interfaces class within))
       ∙ among_distinct y (flat_map (λ i. i ∷ superinterfaces_of classes i) (listed_interfaces classes class))
-      ∙ among_flat (λ i. i ∷ superinterfaces_of classes i) (listed_interfaces classes class) found.0 y found.1.0
-      (or_true (nat_eq y found.0) (is_among y (superinterfaces_of classes found.0)) under)
+      ∙ in_flat (λ i. i ∷ superinterfaces_of classes i) (listed_interfaces classes class) found.0 y found.1.0
+      (or_right (nat_eq y found.0) (is_among y (superinterfaces_of classes found.0)) under)
 
   super_above : (class x y : ℕ) → is_among x (superinterfaces_of classes class) ≡ true → is_among y (superinterfaces_of classes x) ≡ true
       → is_among y (superinterfaces_of classes class) ≡ true
@@ -70,7 +59,7 @@ module _ (classes : List DeclaredClass) (sound : AreSound classes) where
   unfolding interfaces_of
   in_interfaces class above x up there =
       among_distinct x (flat_map (superinterfaces_of classes) (chain_of classes class))
-      ∙ among_flat (superinterfaces_of classes) (chain_of classes class) above x up there
+      ∙ in_flat (superinterfaces_of classes) (chain_of classes class) above x up there
 
   from_interfaces : (class x : ℕ) → is_among x (interfaces_of classes class) ≡ true
       → (above : ℕ) × ((is_among above (chain_of classes class) ≡ true) × (is_among x (superinterfaces_of classes above) ≡ true))
@@ -124,7 +113,7 @@ listed_low : (more : List DeclaredClass) (names : List (List ℕ)) → list_any 
     → is_among i (filter_map (class_number (built_in ++ more)) names) ≡ true → i < length built_in
 listed_low more [] none i among = absurd (false≢true among)
 listed_low more (name ∷ names) none i among =
-    let parts = fails (is_none (class_number built_in name)) (list_any (λ n. is_none (class_number built_in n)) names) none in
+    let parts = or_parts (is_none (class_number built_in name)) (list_any (λ n. is_none (class_number built_in n)) names) none in
     by_number (class_number built_in name) refl parts.0 (listed_low more names parts.1 i) where
       by_number : (o : Option ℕ) → class_number built_in name ≡ o → is_none o ≡ false
           → (is_among i (filter_map (class_number (built_in ++ more)) names) ≡ true → i < length built_in) → i < length built_in
@@ -133,7 +122,7 @@ listed_low more (name ∷ names) none i among =
           ⊎_elim
           (λ here. let same = eqb-true i j here in let low = class_number-within built_in name j e in omega (arith, same, low))
           later
-          (either (nat_eq i j) (is_among i (filter_map (class_number (built_in ++ more)) names))
+          (or_cases (nat_eq i j) (is_among i (filter_map (class_number (built_in ++ more)) names))
           (sym (ap (λ o. is_among i (cons_option o (filter_map (class_number (built_in ++ more)) names))) (number_first built_in more name j e)) ∙ among))
 
 low_listed : (given : List ClassDef) (class i : ℕ) → class < length built_in → is_among i (listed_interfaces (classes_of given) class) ≡ true → i < length built_in
@@ -155,7 +144,7 @@ low_within given (suc bound) class x within among =
     ⊎_elim
     (λ same. let is = eqb-true x found.0 same in omega (arith, is, low))
     (λ deeper. low_within given bound found.0 x low deeper)
-    (either (nat_eq x found.0) (is_among x (interfaces_within bound classes found.0)) found.1.1)
+    (or_cases (nat_eq x found.0) (is_among x (interfaces_within bound classes found.0)) found.1.1)
 
 pub low_supers : (given : List ClassDef) (class x : ℕ) → class < length built_in → is_among x (superinterfaces_of (classes_of given) class) ≡ true
     → x < length built_in

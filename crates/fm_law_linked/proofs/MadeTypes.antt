@@ -1,14 +1,15 @@
 -- Types that have a number: the arrays that instructions make, and the element types of arrays that have one where these are arrays again
 -- (JVMS 6.5.newarray, 6.5.anewarray, 6.5.multianewarray).
-use Rattle.std.proofs.Common.{◌≡◌, refl, sym, ◌∙◌, ap, subst, ℕ, zero, suc, ◌+◌, ◌-◌, ◌<◌, ◌⊎◌, inl, inr, not, Bool, true, false, cond, List, [], ◌∷◌, ◌++◌, length, map, filter, nat_lt, get_or, slice_get, Contains, Option, Some, None, option_and_then, option_map, arith}
+use Rattle.std.proofs.Common.{◌≡◌, refl, sym, ◌∙◌, ap, subst, ℕ, zero, suc, ◌+◌, ◌-◌, ◌<◌, ◌⊎◌, inl, inr, not, Bool, true, false, List, [], ◌∷◌, ◌++◌, length, map, filter, get_or, slice_get, Contains, Option, Some, None, option_and_then, option_map, arith}
 use Rattle.std.specs.List.{filter_map, flat_map, range_with_len}
 use Rattle.std.proofs.lemmas.Bool.{false≢true}
 use Rattle.std.proofs.lemmas.List.Elements.{Contains-append_cases, Contains-append_left, Contains-append_right}
 use Rattle.std.proofs.lemmas.Option.{none-some, same_Some}
+use Rattle.fm_base.proofs.ContainsFacts.{Contains-cons_cases, Contains-flat_map, Contains-none}
 use Rattle.fm_base.specs.declared.ids.TypeId.{TypeId}
 use Rattle.fm_base.specs.declared.kinds.Base.{Base}
 use Rattle.fm_base.specs.declared.kinds.TypeRef.{TypeRef}
-use Rattle.fm_code.proofs.EdgesLemmas.{Contains-cons_cases, Contains-filter, Contains-first, Contains-from_filter, Contains-later}
+use Rattle.fm_code.proofs.EdgesLemmas.{Contains-filter, Contains-first, Contains-from_filter, Contains-from_map, Contains-later, Contains-map}
 use Rattle.fm_code.specs.ConstantPool.{entry_at}
 use Rattle.fm_code.specs.declared.class_file.ClassDef.{ClassDef}
 use Rattle.fm_code.specs.declared.code_array.Item.{Item}
@@ -16,13 +17,14 @@ use Rattle.fm_code.specs.declared.constant_pool.Entry.{Entry}
 use Rattle.fm_code.specs.declared.constant_pool.Entry.TheVariants as entry
 use Rattle.fm_code.specs.declared.instructions.Insn.TheVariants as insn
 use Rattle.fm_code.specs.declared.operations.Elem.{Elem}
-use Rattle.fm_conn.proofs.ListLemmas.{Contains-flat_map, Contains-from_flat_map, Contains-from_map, Contains-map, Contains-none, Contains-range}
+use Rattle.fm_conn.proofs.ListLemmas.{Contains-from_flat_map, Contains-range}
 use Rattle.fm_frames.proofs.Programs.{string-is, string_number}
 use Rattle.fm_frames.specs.ArrayRows.{element_type}
 use Rattle.fm_frames.specs.Runs.{arguments_type}
 use Rattle.fm_link_records.proofs.UseLaws.{resolved_by}
 use Rattle.fm_law_linked.proofs.CodedMethods.{code_there, contains_at, item_there, use_at, uses_of_file}
 use Rattle.fm_law_linked.proofs.InterfaceCalls.{type_named}
+use Rattle.fm_law_sound.proofs.InsnActs.{array_deep}
 use Rattle.fm_law_sound.proofs.MadeObjects.{numbered}
 use Rattle.fm_law_sound.specs.Making.{IsNumbered}
 use Rattle.fm_law_sound.specs.Resolved.{IsNamed}
@@ -278,15 +280,6 @@ type_by o entries index t (entry.InterfaceMethod class member) is =
     no_type_used t (with_number (λ n. with_number (method_use n) method) type) (no_method type method) is
 type_by o entries index t e is = no_type_used t resolved.Unused refl is
 
--- an array with one dimension more has some
-one_more : (t array : TypeRef) → array_of t ≡ Some array → 0 < array.dims
-one_more t array is = by_flag (nat_lt t.dims 255) is where
-  by_flag : (b : Bool) → cond b (Some (record { dims = t.dims + 1; base = t.base })) None ≡ Some array → 0 < array.dims
-  by_flag false e = absurd (none-some array e)
-  by_flag true e =
-      let dims : t.dims + 1 ≡ array.dims = ap (λ (u : TypeRef). u.dims) (same_Some (record { dims = t.dims + 1; base = t.base }) array e) in
-      omega (arith, dims)
-
 -- an array of references
 pub references_made : (given : List ClassDef) (main : List ℕ) (method index : ℕ) (t : TypeId)
     → IsNamed (program_of given main) method (insn.NewRefs index) (resolved.OfType t)
@@ -306,4 +299,4 @@ references_made given main method index t x named array at array_is =
     (ap (made_array (classes_of given) c.pool.entries) found.insn_is
     ∙ ap (λ name. option_and_then array_of (option_and_then (λ n. type_in (classes_of given) (class_type n)) name)) of_type.named
     ∙ ap (option_and_then array_of) of_type.type_is ∙ array_is)
-    (one_more named array array_is)
+    (array_deep named array array_is)

@@ -1,7 +1,6 @@
 -- Throwables have their message at the first place: Throwable gives it, and each class below keeps it there.
 use Rattle.std.proofs.Common.{◌≡◌, refl, sym, ◌∙◌, ap, ℕ, suc, ◌+◌, ◌<◌, ◌≤◌, ◌⊎◌, inl, inr, ◌==◌, ◌||◌, ◌&&◌, Bool, true, false, List, [], ◌∷◌, ◌++◌, length, reverse, nat_le, Some, unwrap_or, slice_get, arith}
 use Rattle.std.specs.List.{flat_map}
-use Rattle.std.specs.Option.{option_map}
 use Rattle.std.proofs.lemmas.Bool.{and_parts, cases_lt, eqb-true, false≢true}
 use Rattle.std.proofs.lemmas.Grind.{flat_map-append}
 use Rattle.std.proofs.lemmas.List.{reverse-append}
@@ -13,7 +12,7 @@ use Rattle.fm_base.specs.declared.kinds.TypeRef.{TypeRef}
 use Rattle.fm_code.specs.Names.{object}
 use Rattle.fm_code.specs.declared.class_file.ClassDef.{ClassDef}
 use Rattle.fm_frames.proofs.BuiltInTypes.{object_there, throwable_there}
-use Rattle.fm_frames.proofs.Programs.{string-is, string_number}
+use Rattle.fm_frames.proofs.Programs.{string-is}
 use Rattle.fm_frames.specs.NativeRows.{text_kind}
 use Rattle.fm_types.proofs.ClassTree.{among_one, chain_past_end}
 use Rattle.fm_types.specs.Fits.{AreTree, depth_of, fits_base, fits_type, is_objects_within, object_of}
@@ -22,13 +21,14 @@ use Rattle.fm_world.proofs.Displays.{chain_ends}
 use Rattle.fm_world.specs.BuiltIns.{built_in, string_name}
 use Rattle.fm_world.specs.Chains.{chain_of, class_at, is_among, upwards}
 use Rattle.fm_world.specs.Declarations.{declared_from}
-use Rattle.fm_world.specs.Descriptors.{declared_kind, kind_with, of_class, typed}
+use Rattle.fm_world.specs.Descriptors.{declared_kind, typed}
 use Rattle.fm_world.specs.Lookups.{is_interface_at}
 use Rattle.fm_world.specs.Members.{kinds_of, own_kinds}
 use Rattle.fm_world.specs.Numbers.{type_of_class}
 use Rattle.fm_world.specs.Programs.{classes_of, kind_at, outline_of}
 use Rattle.fm_world.specs.declared.declarations.DeclaredClass.{DeclaredClass}
-use Rattle.fm_law_sound.proofs.MadeObjects.{two_up, size_is, object_top}
+use Rattle.fm_law_sound.proofs.HiddenFields.{hidden_kind}
+use Rattle.fm_law_sound.proofs.MadeObjects.{two_up, size_is, object_top, both_kinds}
 
 -- ---- the class of what is thrown, which has the number 7 in each program
 
@@ -38,20 +38,13 @@ throwable_chain given =
     ap (λ n. upwards (suc n) (built_in ++ given) (Some 7)) (size_is given)
     ∙ two_up (26 + length given) (built_in ++ given) 7 (object_there given) (object_top given)
 
-abbrev kinds_along : List DeclaredClass → List ℕ → List Kind
-kinds_along classes chain = flat_map (λ above. own_kinds classes (class_at classes above)) (reverse chain)
-
 throwable_kinds : (given : List DeclaredClass) → kinds_of (built_in ++ given) 7 ≡ declared_kind (built_in ++ given) (typed 0 (object string_name)) ∷ []
 unfolding kinds_of built_in
-throwable_kinds given = ap (kinds_along (built_in ++ given)) (throwable_chain given)
+throwable_kinds given = ap (both_kinds (built_in ++ given)) (throwable_chain given)
 
 not_interface : (given : List DeclaredClass) → is_interface_at (built_in ++ given) 7 ≡ false
 unfolding built_in
 not_interface given = refl
-
--- what is declared of the message is a text
-text_declared : (given : List DeclaredClass) → declared_kind (built_in ++ given) (typed 0 (object string_name)) ≡ kind.Ref (type_of_class 1)
-text_declared given = ap (λ n. unwrap_or (option_map (kind_with 0) (option_map of_class n)) kind.Int) (string_number given)
 
 -- ---- objects of classes below
 
@@ -66,10 +59,10 @@ unfolding kinds_of
 kinds_below classes tree class above k within among is =
     let ends = chain_ends classes tree.linear (length (chain_of classes class)) class above (omega arith) within among in
     let own : ℕ → List Kind = λ n. own_kinds classes (class_at classes n) in
-    ap (λ chain. slice_get (kinds_along classes chain) 0) ends.joined
+    ap (λ chain. slice_get (both_kinds classes chain) 0) ends.joined
     ∙ ap (λ list. slice_get (flat_map own list) 0) (reverse-append ends.front (chain_of classes above))
     ∙ ap (λ ks. slice_get ks 0) (flat_map-append own (reverse (chain_of classes above)) (reverse ends.front))
-    ∙ first_kept (kinds_along classes (chain_of classes above)) (flat_map own (reverse ends.front)) k is
+    ∙ first_kept (both_kinds classes (chain_of classes above)) (flat_map own (reverse ends.front)) k is
 
 -- a class that is below another one is there, where the other one is
 pub below_inside : (classes : List DeclaredClass) (class above : ℕ) → is_among above (chain_of classes class) ≡ true → above < length classes → class < length classes
@@ -145,4 +138,4 @@ message_there given main tree of fits =
     let more = declared_from 0 given in
     let thrown : throwable_type o ≡ type_of_class 7 = ap (λ n. type_of_class (unwrap_or n 0)) (throwable_there more) in
     message_first more tree of (ap (fits_type (built_in ++ more) of) (sym thrown) ∙ fits)
-    ∙ ap Some (text_declared more ∙ sym (ap kind.Ref (string-is o more refl)))
+    ∙ ap Some (hidden_kind more ∙ sym (ap kind.Ref (string-is o more refl)))

@@ -1,38 +1,43 @@
 -- The class that declares a method that is found: above the class whose objects are called, or one of its interfaces. So a method is selected for each of these
 -- objects, of a class that their type fits (JVMS 5.4.5, 5.4.6).
 use Rattle.std.proofs.Common.{◌≡◌, refl, sym, ◌∙◌, ap, subst, ℕ, zero, suc, ◌+◌, ◌-◌, ◌<◌, ◌≤◌, ◌⊎◌, inl, inr, ◌==◌, ◌&&◌, not, cond, Bool, true, false, List, [], ◌∷◌, ◌++◌, length, map, nat_eq, get_or, slice_get, position, codes, Option, Some, None, is_some, option_and_then, option_map, option_to_list, unwrap_or, zero-add, arith, ⊎_elim}
-use Rattle.std.specs.List.{AllByRecursion, flat_map, list_any}
+use Rattle.std.specs.List.{AllByRecursion, flat_map}
 use Rattle.std.specs.Str.{bytes_eq}
-use Rattle.std.proofs.lemmas.Bool.{cases_lt, eqb-true, false≢true, or_left}
+use Rattle.std.proofs.lemmas.Bool.{cases_lt, eqb-true, false≢true, or_cases, or_left}
+use Rattle.std.proofs.lemmas.List.Folds.{list_any_at}
 use Rattle.std.proofs.lemmas.List.Quantifiers.{position-Some}
 use Rattle.std.proofs.lemmas.Option.{none-some, same_Some}
 use Rattle.std.proofs.lemmas.Slice.Eq.{bytes_eq-Decides}
+use Rattle.fm_base.proofs.ListFacts.{AllByRecursion-at, is_some-position}
 use Rattle.fm_base.specs.declared.kinds.TypeRef.{TypeRef}
 use Rattle.fm_code.specs.AccessFlags.{is_abstract, is_interface, is_private, is_static}
 use Rattle.fm_code.specs.ConstantPool.{MemberName}
-use Rattle.fm_code.specs.Members.{MethodIsValid}
 use Rattle.fm_code.specs.Names.{FieldType}
+use Rattle.fm_code.specs.Profile.{IsSupported, MethodIsSupported}
 use Rattle.fm_code.specs.Spells.{HasSpelling}
 use Rattle.fm_code.specs.declared.class_file.ClassDef.{ClassDef}
 use Rattle.fm_code.specs.declared.class_file.Member.{Member}
 use Rattle.fm_code.specs.declared.constant_pool.Entry.{Entry}
 use Rattle.fm_check_program.proofs.Trees.{no_parent_refused, tree_of}
 use Rattle.fm_link_supers.proofs.BuiltInParents.{count_is}
-use Rattle.fm_link_supers.proofs.Downwards.{among_head, among_left, either, or_true}
+use Rattle.fm_link_supers.proofs.Downwards.{among_head, among_left}
 use Rattle.fm_link_supers.proofs.HierarchyLemmas.{interfaces_only}
-use Rattle.fm_link_supers.proofs.ParentRefusals.{are_sound, first_true, spelled_at, nil_left, nil_right, none_at, past_none, refused_not, tree_object}
+use Rattle.fm_link_supers.proofs.ParentRefusals.{are_sound, nil_left, nil_right, none_at, past_none, refused_not, tree_object}
 use Rattle.fm_link_supers.specs.inner.Hierarchy.{AreSound}
-use Rattle.fm_link_refusals.proofs.LeftOver.{abstract_or_none, left_over_parts}
-use Rattle.fm_link_refusals.proofs.Positions.{is_some-position}
+use Rattle.fm_link_refusals.proofs.Among.{among_either}
+use Rattle.fm_link_refusals.proofs.LeftOver.{left_over_parts}
+use Rattle.fm_link_refusals.proofs.Sections.{no_owned}
 use Rattle.fm_link_refusals.specs.inner.Abstracts.{left_over_by, left_over_of}
+use Rattle.fm_link_refusals.specs.inner.LeftOver.{is_open}
 use Rattle.fm_law_linked.proofs.ClassChains.{below_object}
-use Rattle.fm_law_linked.proofs.FieldOwners.{all_inside, append_cases, binary_found, found_among}
+use Rattle.fm_law_linked.proofs.FieldOwners.{all_inside, binary_found, found_among}
 use Rattle.fm_law_linked.proofs.GivenFiles.{class_of_file, none_implemented, none_missing}
 use Rattle.fm_law_linked.proofs.InterfaceCalls.{binary_type}
 use Rattle.fm_law_linked.proofs.InterfaceSets.{in_interfaces, interfaces_above, interfaces_up, low_interfaces, marker_bare}
-use Rattle.fm_law_linked.proofs.SelectedMethods.{ClassHasObjects, files_counted, methods_at, none, OfClass, own_abstract, owned}
+use Rattle.fm_law_linked.proofs.SelectedMethods.{files_counted, methods_at, OfClass, own_abstract, owned}
 use Rattle.fm_law_linked.proofs.SpecialCalls.{file_implemented}
 use Rattle.fm_law_sound.proofs.FoundMethods.{own_method_found}
+use Rattle.fm_law_sound.proofs.MadeObjects.{IsPlain}
 use Rattle.fm_types.proofs.ClassTree.{among_one, among_own, among-trans, interface-within, object-within, seen_above, seen-object}
 use Rattle.fm_types.proofs.Order.{below_objects-fits, level-fits}
 use Rattle.fm_types.specs.Fits.{AreTree, fits_type, object_of}
@@ -53,14 +58,9 @@ use Rattle.fm_law_no_fault.proofs.CallRows.{class_type as type_of_its_class}
 
 -- ---- lists
 
-any_at : {X : Type 0} (p : X → Bool) (xs : List X) (k : ℕ) (d : X) → k < length xs → p (get_or xs k d) ≡ true → list_any p xs ≡ true
-any_at p [] k d within h = absurd (omega (arith, within))
-any_at p (x ∷ xs) zero d within h = first_true (p x) (list_any p xs) h
-any_at p (x ∷ xs) (suc k) d within h = or_true (p x) (list_any p xs) (any_at p xs k d (omega (arith, within)) h)
-
 found_some : (find : ℕ → Option ℕ) (path : List ℕ) (x : ℕ) → is_among x path ≡ true → is_some (find x) ≡ true → is_some (first_found find path) ≡ true
 found_some find [] x among some = absurd (false≢true among)
-found_some find (y ∷ ys) x among some = by_first (find y) refl (found_some find ys x) (either (nat_eq x y) (is_among x ys) among) where
+found_some find (y ∷ ys) x among some = by_first (find y) refl (found_some find ys x) (or_cases (nat_eq x y) (is_among x ys) among) where
   by_first : (o : Option ℕ) → find y ≡ o → (is_among x ys ≡ true → is_some (find x) ≡ true → is_some (first_found find ys) ≡ true)
       → (nat_eq x y ≡ true) ⊎ (is_among x ys ≡ true) → is_some (first_found find (y ∷ ys)) ≡ true
   by_first (Some j) e later which = rw e refl
@@ -92,7 +92,7 @@ method_of classes passes name descriptor class method is = by_place (position te
       record {
         place = k;
         inside = inside;
-        at = ap (λ n. get_or (methods_from 0 classes) n none) (sym (same_Some (first_method classes class + k) method found)) ∙ methods_at 0 classes class k inside
+        at = ap (λ n. get_or (methods_from 0 classes) n no_owned) (sym (same_Some (first_method classes class + k) method found)) ∙ methods_at 0 classes class k inside
             ∙ ap (λ n. owned n (get_or methods k no_method)) (zero-add class);
       }
 
@@ -101,7 +101,7 @@ own_passes : (classes : List DeclaredClass) (passes : ℕ → Bool) (class metho
     → passes (method_at classes method).method.flags ≡ true
     → is_some (own_method classes passes (method_at classes method).method.name (method_at classes method).method.descriptor class) ≡ true
 own_passes classes passes class method own passed =
-    kept (position test methods) (is_some-position test methods ∙ any_at test methods own.place no_method own.inside tested) where
+    kept (position test methods) (is_some-position test methods ∙ list_any_at test methods own.place no_method own.inside tested) where
       m : DeclaredMethod
       m = (method_at classes method).method
 
@@ -124,23 +124,23 @@ own_passes classes passes class method own passed =
 
 -- ---- methods of interfaces
 
--- a method of an interface is abstract, but for the start of the interface itself
+-- a method of an interface that is supported is abstract, but for the start of the interface itself
 abbrev IsBare : DeclaredMethod → Type 0
 IsBare m = (is_abstract m.flags ≡ true) ⊎ (m.name ≡ codes "<clinit>")
 
-bare_members : (in_interface : Bool) (entries : List Entry) (members : List Member) → in_interface ≡ true → AllByRecursion (MethodIsValid in_interface entries) members
+bare_members : (in_interface : Bool) (entries : List Entry) (members : List Member) → in_interface ≡ true → AllByRecursion (MethodIsSupported in_interface entries) members
     → AllByRecursion IsBare (map (declared_method entries) members)
-bare_members in_interface entries [] is valid = tt
-bare_members in_interface entries (m ∷ members) is valid = (
-  ⊎_elim (λ abstract. inl abstract) (λ named. inr (ap (λ o. unwrap_or o []) named)) (valid.0.of_interface is),
-  bare_members in_interface entries members is valid.1,
+bare_members in_interface entries [] is supported = tt
+bare_members in_interface entries (m ∷ members) is supported = (
+  ⊎_elim (λ abstract. inl abstract) (λ named. inr (ap (λ o. unwrap_or o []) named)) (supported.0.head.of_interface is),
+  bare_members in_interface entries members is supported.1,
 )
 
 abbrev HasBare : ℕ → DeclaredClass → Type 0
 HasBare place c = is_interface c.flags ≡ true → place < length c.methods → IsBare (get_or c.methods place no_method)
 
-interface_bare : (given : List ClassDef) → AllByRecursion HasSpelling given → (class place : ℕ) → HasBare place (class_at (classes_of given) class)
-interface_bare given spelled class place is inside = by_place (cases_lt class (length built_in)) where
+interface_bare : (given : List ClassDef) → AllByRecursion IsSupported given → (class place : ℕ) → HasBare place (class_at (classes_of given) class)
+interface_bare given supported class place is inside = by_place (cases_lt class (length built_in)) where
   file : (k : ℕ) → class ≡ length built_in + k → (o : Option ClassDef) → slice_get given k ≡ o
       → IsBare (get_or (class_at (classes_of given) class).methods place no_method)
   file k at None e =
@@ -152,7 +152,7 @@ interface_bare given spelled class place is inside = by_place (cases_lt class (l
       let same : class_at (classes_of given) class ≡ declared_of declared.number c = ap (class_at (classes_of given)) at ∙ declared.declared in
       subst (HasBare place) (sym same)
       (λ its there. all_inside IsBare (map (declared_method c.pool.entries) c.methods) place no_method
-      (bare_members (is_interface c.flags) c.pool.entries c.methods its (spelled_at given k c spelled e).1.methods) there)
+      (bare_members (is_interface c.flags) c.pool.entries c.methods its (AllByRecursion-at IsSupported given k c supported e).methods) there)
       is inside
 
   by_place : (class < length built_in) ⊎ (length built_in ≤ class) → IsBare (get_or (class_at (classes_of given) class).methods place no_method)
@@ -176,7 +176,7 @@ left_interface classes c class above method concrete plain left among own =
 
 not_left : (classes : List DeclaredClass) (class method : ℕ) → is_left_over classes class method ≡ false → is_some (select classes class method) ≡ true
 not_left classes class method left = by_select (select classes class method) left where
-  by_select : (o : Option ℕ) → abstract_or_none classes o ≡ false → is_some o ≡ true
+  by_select : (o : Option ℕ) → is_open classes o ≡ false → is_some o ≡ true
   by_select None none_left = absurd (false≢true (sym none_left))
   by_select (Some found) none_left = refl
 
@@ -192,7 +192,7 @@ pub record IsReceiver (given : List ClassDef) (of : TypeRef) : Type 0 where
   pub class : ℕ
   pub is : unwrap_or (class_of_type of) (object_of (classes_of given)) ≡ class
   pub within : class < length (classes_of given)
-  pub objects : length built_in ≤ class → ClassHasObjects (classes_of given) class
+  pub objects : length built_in ≤ class → IsPlain (classes_of given) class
   pub fits : (owner : ℕ) → Reached given class owner → fits_type (classes_of given) of (type_of_class owner) ≡ true
 
 -- where the method that a pool entry names is found
@@ -244,8 +244,8 @@ module _ (given : List ClassDef) (main : List ℕ) (spelled : AllByRecursion Has
       ⊎_elim (λ same. itself (eqb-true owner n same))
       (λ later. ⊎_elim higher
       (λ top. object (among_one owner 0 (sym (ap (λ x. is_among owner (option_to_list x)) (tree_object given)) ∙ top)))
-      (append_cases owner (superinterfaces_of classes n) (option_to_list (object_number classes)) later))
-      (either (nat_eq owner n) (is_among owner (superinterfaces_of classes n ++ option_to_list (object_number classes)))
+      (among_either owner (superinterfaces_of classes n) (option_to_list (object_number classes)) later))
+      (or_cases (nat_eq owner n) (is_among owner (superinterfaces_of classes n ++ option_to_list (object_number classes)))
       (sym (ap (λ b. is_among owner (path_by b n)) is) ∙ among))
 
   top_reached : (class owner : ℕ) → class < length classes → owner ≡ 0 → Reached given class owner
@@ -260,7 +260,7 @@ module _ (given : List ClassDef) (main : List ℕ) (spelled : AllByRecursion Has
         (λ higher. inr (in_interfaces classes sound class n owner up higher)) (λ object. top_reached class owner within object)
     by_sort false is h =
         ⊎_elim (λ here. inl (among-trans classes tree class n owner up here)) (λ there. inr (interfaces_up classes sound tree class n owner up there))
-        (append_cases owner (chain_of classes n) (interfaces_of classes n) h)
+        (among_either owner (chain_of classes n) (interfaces_of classes n) h)
 
   pub implemented_reached : (class n owner : ℕ) → class < length (classes_of given) → is_among n (interfaces_of (classes_of given) class) ≡ true
       → is_among owner (method_path (classes_of given) n) ≡ true → Reached given class owner
@@ -380,11 +380,11 @@ module _ (given : List ClassDef) (main : List ℕ) (spelled : AllByRecursion Has
         found_some (own_method (classes_of given) is_selectable m.name m.descriptor) (chain_of (classes_of given) class) owner among
         (own_passes (classes_of given) is_selectable owner method own (ap (λ s. not s && not (is_private m.flags)) static ∙ ap not e))
 
-  implemented_some : (name descriptor : List ℕ) (class owner method : ℕ) → own_method classes any_flags name descriptor owner ≡ Some method
-      → class < length classes → (length built_in ≤ class → ClassHasObjects classes class)
+  implemented_some : AllByRecursion IsSupported given → (name descriptor : List ℕ) (class owner method : ℕ) → own_method classes any_flags name descriptor owner ≡ Some method
+      → class < length classes → (length built_in ≤ class → IsPlain classes class)
       → bytes_eq (method_at classes method).method.name (codes "<clinit>") ≡ false
       → is_among owner (interfaces_of classes class) ≡ true → is_some (select classes class method) ≡ true
-  implemented_some name descriptor class owner method found within objects plain there = by_place (cases_lt class (length built_in)) where
+  implemented_some supported name descriptor class owner method found within objects plain there = by_place (cases_lt class (length built_in)) where
     own : IsMethodOf (classes_of given) owner method
     own = method_of (classes_of given) any_flags name descriptor owner method found
 
@@ -395,7 +395,7 @@ module _ (given : List ClassDef) (main : List ℕ) (spelled : AllByRecursion Has
     abstract_here =
         ⊎_elim (λ yes. yes)
         (λ named. absurd (false≢true (sym plain ∙ (bytes_eq-Decides (method_at (classes_of given) method).method.name (codes "<clinit>")).1 named)))
-        (subst IsBare (sym (ap (λ (n : OwnedMethod). n.method) own.at)) (interface_bare given spelled owner own.place is own.inside))
+        (subst IsBare (sym (ap (λ (n : OwnedMethod). n.method) own.at)) (interface_bare given supported owner own.place is own.inside))
 
     of_file : (j : ℕ) → class ≡ length built_in + j → (o : Option ClassDef) → slice_get given j ≡ o → is_some (select (classes_of given) class method) ≡ true
     of_file j at None e = absurd (let end = past_none given j e in let l = files_counted given in omega (arith, at, end, l, within))
@@ -433,17 +433,17 @@ module _ (given : List ClassDef) (main : List ℕ) (spelled : AllByRecursion Has
         let found = own_method_found (classes_of given) is_selectable m.name m.descriptor path.0 target path.1.1 in
         ap (λ k. fits_type (classes_of given) of (type_of_class k)) found.owner ∙ r.fits path.0 (inl path.1.0)
 
-  pub selects : (of : TypeRef) (r : IsReceiver given of) (name descriptor : List ℕ) (owner method : ℕ)
+  pub selects : AllByRecursion IsSupported given → (of : TypeRef) (r : IsReceiver given of) (name descriptor : List ℕ) (owner method : ℕ)
       → own_method (classes_of given) any_flags name descriptor owner ≡ Some method → is_static (method_at (classes_of given) method).method.flags ≡ false
       → bytes_eq (method_at (classes_of given) method).method.name (codes "<clinit>") ≡ false → Reached given r.class owner → IsSelected given of r.class method
-  selects of r name descriptor owner method found static plain reached = by_found (select (classes_of given) r.class method) refl some where
+  selects supported of r name descriptor owner method found static plain reached = by_found (select (classes_of given) r.class method) refl some where
     own : IsMethodOf (classes_of given) owner method
     own = method_of (classes_of given) any_flags name descriptor owner method found
 
     some : is_some (select (classes_of given) r.class method) ≡ true
     some =
         ⊎_elim (λ among. chain_some r.class owner method own static among)
-        (λ there. implemented_some name descriptor r.class owner method found r.within r.objects plain there) reached
+        (λ there. implemented_some supported name descriptor r.class owner method found r.within r.objects plain there) reached
 
     by_found : (o : Option ℕ) → select (classes_of given) r.class method ≡ o → is_some o ≡ true → IsSelected given of r.class method
     by_found None e none_found = absurd (false≢true none_found)

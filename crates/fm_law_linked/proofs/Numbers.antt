@@ -1,5 +1,5 @@
 -- What has a number in a program of class files is there: classes of methods, codes, and what uses name.
-use Rattle.std.proofs.Common.{◌≡◌, refl, sym, ◌∙◌, ap, ℕ, zero, suc, ◌<◌, ◌≤◌, ◌⊎◌, inl, inr, Bool, true, false, List, [], ◌∷◌, length, map, replicate, Option, Some, None, option_and_then, if◌then◌else◌, length-append, arith}
+use Rattle.std.proofs.Common.{◌≡◌, refl, sym, ◌∙◌, ap, ℕ, zero, suc, ◌<◌, ◌≤◌, ◌⊎◌, inl, inr, Bool, true, false, List, [], ◌∷◌, length, map, replicate, Option, Some, None, option_and_then, if◌then◌else◌, arith}
 use Rattle.std.specs.List.{AllByRecursion, slice_index_or}
 use Rattle.std.specs.Str.{bytes_eq}
 use Rattle.std.proofs.lemmas.Bool.{cases_lt}
@@ -14,7 +14,6 @@ use Rattle.fm_code.specs.declared.code_array.Code.{Code}
 use Rattle.fm_code.specs.declared.constant_pool.Entry.{Entry}
 use Rattle.fm_code.specs.declared.constant_pool.Entry.TheVariants as entry
 use Rattle.fm_frames.specs.Runnable.{IsUseIn}
-use Rattle.fm_link_supers.proofs.BuiltInParents.{count_is}
 use Rattle.fm_link_records.proofs.CodeLaws.{AreCodes-all}
 use Rattle.fm_link_records.proofs.UseLaws.{resolved_by}
 use Rattle.fm_check_rows.proofs.OwnerLemmas.{owner_within}
@@ -22,7 +21,7 @@ use Rattle.fm_check_rows.proofs.UseLemmas.{uses_name_members}
 use Rattle.fm_check_rows.specs.Members.{NamesMember}
 use Rattle.fm_world.specs.BuiltIns.{built_in}
 use Rattle.fm_world.specs.Chains.{same_type}
-use Rattle.fm_world.specs.Declarations.{declared_from, no_method}
+use Rattle.fm_world.specs.Declarations.{no_method}
 use Rattle.fm_world.specs.Lookups.{resolved_field, resolved_method}
 use Rattle.fm_world.specs.Members.{method_at, methods_of, OwnedMethod}
 use Rattle.fm_world.specs.Numbers.{text_number, text_units, type_number, type_of_class}
@@ -30,12 +29,9 @@ use Rattle.fm_world.specs.Programs.{class_uses, classes_of, codes_of, field_use,
 use Rattle.fm_world.specs.Uses.{is_used, named_member, named_type, pool_indices}
 use Rattle.fm_world.specs.declared.uses.Use.{Use}
 use Rattle.fm_world.specs.declared.uses.Use.TheVariants as resolved
+use Rattle.fm_law_linked.proofs.FewStarts.{some_classes}
 
 -- ---- the classes of methods
-
-some_classes : (given : List ClassDef) → 0 < length (classes_of given)
-unfolding classes_of
-some_classes given = let l = length-append built_in (declared_from 0 given) in let count = count_is in omega (arith, l, count)
 
 pub owner_there : (given : List ClassDef) (method : ℕ) → (method_at (classes_of given) method).class < length (classes_of given)
 owner_there given method = by_place (cases_lt method (length (methods_of (classes_of given)))) where

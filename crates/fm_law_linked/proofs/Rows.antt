@@ -1,16 +1,16 @@
 -- Methods of class files have no rows: only built-in ones do.
-use Rattle.std.proofs.Common.{◌≡◌, refl, sym, ◌∙◌, ap, ℕ, ◌+◌, ◌-◌, ◌≤◌, List, [], ◌∷◌, ◌++◌, length, map, get_or, None, append_assoc, arith}
+use Rattle.std.proofs.Common.{◌≡◌, refl, ◌∙◌, ap, ℕ, ◌+◌, ◌-◌, ◌≤◌, List, [], ◌∷◌, ◌++◌, length, map, get_or, None, arith}
 use Rattle.std.specs.List.{AllByRecursion}
 use Rattle.std.proofs.lemmas.List.{get_or-append_right}
 use Rattle.fm_base.proofs.ListFacts.{AllByRecursion-append, AllByRecursion-get_or}
 use Rattle.fm_code.specs.declared.class_file.ClassDef.{ClassDef}
 use Rattle.fm_code.specs.declared.class_file.Member.{Member}
 use Rattle.fm_code.specs.declared.constant_pool.Entry.{Entry}
+use Rattle.fm_world.proofs.TableLemmas.{methods_from-append}
 use Rattle.fm_world.specs.BuiltIns.{built_in}
 use Rattle.fm_world.specs.Declarations.{declared_from, declared_method, no_method}
 use Rattle.fm_world.specs.Members.{method_at, methods_from, methods_of, OwnedMethod}
 use Rattle.fm_world.specs.Programs.{classes_of}
-use Rattle.fm_world.specs.declared.declarations.DeclaredClass.{DeclaredClass}
 
 abbrev HasNoRow : OwnedMethod → Type 0
 HasNoRow m = m.method.row ≡ None
@@ -26,15 +26,6 @@ no_rows_from class file [] = tt
 no_rows_from class file (c ∷ given) =
     AllByRecursion-append HasNoRow (map (λ m. record { class = class; method = m }) (map (declared_method c.pool.entries) c.methods))
     (methods_from (class + 1) (declared_from (file + 1) given)) (no_rows class c.pool.entries c.methods) (no_rows_from (class + 1) (file + 1) given)
-
-pub methods_from-append : (class : ℕ) (classes more : List DeclaredClass)
-    → methods_from class (classes ++ more) ≡ methods_from class classes ++ methods_from (class + length classes) more
-methods_from-append class [] more = let same : class ≡ class + 0 = omega arith in ap (λ k. methods_from k more) same
-methods_from-append class (c ∷ classes) more =
-    let same : class + 1 + length classes ≡ class + length (c ∷ classes) = omega arith in
-    let own : List OwnedMethod = map (λ m. record { class = class; method = m }) c.methods in
-    ap (λ ms. own ++ ms) (methods_from-append (class + 1) classes more ∙ ap (λ k. methods_from (class + 1) classes ++ methods_from k more) same)
-    ∙ sym (append_assoc own (methods_from (class + 1) classes) (methods_from (class + length (c ∷ classes)) more))
 
 -- the methods of the files come behind the built-in ones
 pub all_methods : (given : List ClassDef) → methods_of (classes_of given) ≡ methods_of built_in ++ methods_from (length built_in) (declared_from 0 given)

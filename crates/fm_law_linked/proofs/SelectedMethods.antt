@@ -2,7 +2,7 @@
 use Rattle.std.proofs.Common.{◌≡◌, refl, sym, ◌∙◌, ap, subst, ℕ, zero, suc, ◌+◌, ◌-◌, ◌<◌, ◌≤◌, ◌⊎◌, inl, inr, ◌&&◌, not, Bool, true, false, cond, List, [], ◌∷◌, ◌++◌, length, map, nat_eq, slice_get, get_or, take, position, Option, Some, None, option_map, unwrap_or, length-append, zero-add, arith}
 use Rattle.std.specs.List.{AllByRecursion, flat_map}
 use Rattle.std.specs.Str.{bytes_eq}
-use Rattle.std.proofs.lemmas.Bool.{and_parts, cases_lt, eqb-true, false≢true}
+use Rattle.std.proofs.lemmas.Bool.{and_parts, cases_lt, eqb-true, false≢true, not-true, or_cases}
 use Rattle.std.proofs.lemmas.List.{get_or-append-add, get_or-map, get_or_append_left, length-map}
 use Rattle.std.proofs.lemmas.List.Quantifiers.{position-Some}
 use Rattle.std.proofs.lemmas.List.Sums.{sum_by-cons}
@@ -15,18 +15,21 @@ use Rattle.fm_code.specs.declared.class_file.ClassDef.{ClassDef}
 use Rattle.fm_code.specs.declared.class_file.Member.{Member}
 use Rattle.fm_code.specs.declared.constant_pool.Entry.{Entry}
 use Rattle.fm_link_supers.proofs.BuiltInParents.{count_is, IsBelow}
-use Rattle.fm_link_supers.proofs.Downwards.{among_head, among_right, either}
+use Rattle.fm_link_supers.proofs.Downwards.{among_head, among_right}
 use Rattle.fm_link_supers.proofs.ParentRefusals.{tree_object, length-declared, nil_left, none_at, past_none, refused_not}
-use Rattle.fm_link_refusals.proofs.LeftOver.{abstract_or_none, left_over_parts}
+use Rattle.fm_link_refusals.proofs.LeftOver.{left_over_parts}
+use Rattle.fm_link_refusals.proofs.Sections.{no_owned}
 use Rattle.fm_link_refusals.specs.inner.Abstracts.{left_over_by, left_over_of}
+use Rattle.fm_link_refusals.specs.inner.LeftOver.{is_open}
 use Rattle.fm_law_linked.proofs.ClassChains.{built_in_above}
 use Rattle.fm_law_linked.proofs.FieldOwners.{found_among}
 use Rattle.fm_law_linked.proofs.GivenFiles.{class_of_file}
 use Rattle.fm_law_linked.proofs.Numbers.{owner_there}
 use Rattle.fm_law_linked.proofs.Rows.{all_methods}
 use Rattle.fm_law_linked.proofs.SpecialCalls.{file_implemented}
-use Rattle.fm_law_linked.proofs.Steps.{none_abstract, not_true, private_there, table_concrete}
+use Rattle.fm_law_linked.proofs.Steps.{none_abstract, private_there, table_concrete}
 use Rattle.fm_law_sound.proofs.FoundMethods.{IsFound, own_method_found}
+use Rattle.fm_law_sound.proofs.MadeObjects.{IsPlain}
 use Rattle.fm_law_sound.specs.Sound.{HasObjects}
 use Rattle.fm_types.proofs.ClassTree.{among_one, chain_past_end}
 use Rattle.fm_types.specs.Fits.{object_of}
@@ -47,17 +50,14 @@ use Rattle.fm_world.specs.declared.declarations.DeclaredMethod.{DeclaredMethod}
 abbrev pub owned : ℕ → DeclaredMethod → OwnedMethod
 owned class m = record { class = class; method = m }
 
-abbrev pub none : OwnedMethod
-none = record { class = 0; method = no_method }
-
 pub methods_at : (number : ℕ) (classes : List DeclaredClass) (class j : ℕ) → j < length (class_at classes class).methods
-    → get_or (methods_from number classes) (first_method classes class + j) none ≡ owned (number + class) (get_or (class_at classes class).methods j no_method)
+    → get_or (methods_from number classes) (first_method classes class + j) no_owned ≡ owned (number + class) (get_or (class_at classes class).methods j no_method)
 methods_at number [] class j inside = absurd (omega (arith, inside))
 methods_at number (c ∷ classes) zero j inside =
     let long = length-map c.methods (owned number) in
     let same : number ≡ number + 0 = omega arith in
-    get_or_append_left (owned_methods number c) (methods_from (number + 1) classes) none (0 + j) (omega (arith, long, inside))
-    ∙ ap (λ i. get_or (owned_methods number c) i none) (omega arith) ∙ get_or-map (owned number) c.methods j no_method none inside
+    get_or_append_left (owned_methods number c) (methods_from (number + 1) classes) no_owned (0 + j) (omega (arith, long, inside))
+    ∙ ap (λ i. get_or (owned_methods number c) i no_owned) (omega arith) ∙ get_or-map (owned number) c.methods j no_method no_owned inside
     ∙ ap (λ n. owned n (get_or c.methods j no_method)) same
 methods_at number (c ∷ classes) (suc class) j inside =
     let long = length-map c.methods (owned number) in
@@ -65,8 +65,8 @@ methods_at number (c ∷ classes) (suc class) j inside =
     let counted = sum_by-cons (λ (d : DeclaredClass). length d.methods) c (take class classes) in
     let place : first_method (c ∷ classes) (suc class) + j ≡ length (owned_methods number c) + (before + j) = omega (arith, long, counted) in
     let same : number + 1 + class ≡ number + suc class = omega arith in
-    ap (λ i. get_or (methods_from number (c ∷ classes)) i none) place
-    ∙ get_or-append-add (owned_methods number c) (methods_from (number + 1) classes) (before + j) none
+    ap (λ i. get_or (methods_from number (c ∷ classes)) i no_owned) place
+    ∙ get_or-append-add (owned_methods number c) (methods_from (number + 1) classes) (before + j) no_owned
     ∙ methods_at (number + 1) classes class j inside ∙ ap (λ n. owned n (get_or (class_at classes class).methods j no_method)) same
 
 -- ---- abstract methods of a class
@@ -102,7 +102,7 @@ own_abstract classes passes name descriptor class target is abstract = by_place 
       let inside = (position-Some test methods k no_method e).0 in
       let same : first_method classes class + k ≡ target = same_Some (first_method classes class + k) target found in
       let here : method_at classes target ≡ owned class (get_or methods k no_method) =
-      ap (λ n. get_or (methods_from 0 classes) n none) (sym same) ∙ methods_at 0 classes class k inside
+      ap (λ n. get_or (methods_from 0 classes) n no_owned) (sym same) ∙ methods_at 0 classes class k inside
       ∙ ap (λ n. owned n (get_or methods k no_method)) (zero-add class) in
       ap (λ n. is_among n (abstract_methods classes class)) (sym same)
       ∙ abstract_there (first_method classes class) methods k inside (sym (ap (λ (m : OwnedMethod). is_abstract m.method.flags) here) ∙ abstract)
@@ -116,7 +116,7 @@ each_built_in : (methods : List OwnedMethod) → none_abstract methods ≡ true 
 each_built_in [] all = tt
 each_built_in (m ∷ methods) all =
     let parts = and_parts (not (is_abstract m.method.flags)) (none_abstract methods) all in
-    (λ within. not_true (is_abstract m.method.flags) parts.0, each_built_in methods parts.1)
+    (λ within. not-true (is_abstract m.method.flags) parts.0, each_built_in methods parts.1)
 
 members_past : (class : ℕ) (entries : List Entry) (members : List Member) → length built_in ≤ class
     → AllByRecursion IsBuiltInConcrete (map (λ m. record { class = class; method = m }) (map (declared_method entries) members))
@@ -149,7 +149,7 @@ within_count classes n step zero o below above among = absurd (false≢true amon
 within_count classes n step (suc bound) None below above among = absurd (false≢true among)
 within_count classes n step (suc bound) (Some k) below above among =
     by_first (within_count classes n step bound (parent_of classes k) (by_parent (parent_of classes k) refl) above)
-    (either (nat_eq above k) (is_among above (upwards bound classes (parent_of classes k))) among) where
+    (or_cases (nat_eq above k) (is_among above (upwards bound classes (parent_of classes k))) among) where
       by_parent : (o : Option ℕ) → parent_of classes k ≡ o → IsBelow n o
       by_parent None e = tt
       by_parent (Some p) e = step k p below e
@@ -195,17 +195,13 @@ unfolding select
 found_itself classes name descriptor class above target found is =
     let m = (method_at classes target).method in
     let parts = and_parts (not (is_static m.flags)) (not (is_private m.flags)) found.flags in
-    ap (λ b. cond b (Some target) (method_among classes is_selectable m.name m.descriptor (chain_of classes class))) (not_true (is_private m.flags) parts.1)
+    ap (λ b. cond b (Some target) (method_among classes is_selectable m.name m.descriptor (chain_of classes class))) (not-true (is_private m.flags) parts.1)
     ∙ ap (λ n. method_among classes is_selectable n m.descriptor (chain_of classes class)) found.name_is
     ∙ ap (λ d. method_among classes is_selectable name d (chain_of classes class)) found.descriptor_is ∙ is
 
--- objects of the class are made
-abbrev pub ClassHasObjects : List DeclaredClass → ℕ → Type 0
-ClassHasObjects classes class = (is_abstract (class_at classes class).flags ≡ false) × (is_interface (class_at classes class).flags ≡ false)
-
 -- what is found for objects of a class, of a file or built in, isn't abstract
 found_concrete : (given : List ClassDef) → refused_not_implemented given ≡ [] → (name descriptor : List ℕ) (class above target : ℕ)
-    → (length built_in ≤ class → ClassHasObjects (classes_of given) class)
+    → (length built_in ≤ class → IsPlain (classes_of given) class)
     → is_among above (chain_of (classes_of given) class) ≡ true
     → own_method (classes_of given) is_selectable name descriptor above ≡ Some target
     → method_among (classes_of given) is_selectable name descriptor (chain_of (classes_of given) class) ≡ Some target
@@ -241,7 +237,7 @@ found_concrete given none_refused name descriptor class above target objects amo
           let kept = left_none classes c class above target (sym (ap (λ (d : DeclaredClass). is_abstract d.flags) here) ∙ its.0)
           (sym (ap (λ (d : DeclaredClass). is_interface d.flags) here) ∙ its.1) left among
           (own_abstract classes is_selectable name descriptor above target own abstract) in
-          sym (ap (abstract_or_none classes) (found_itself classes name descriptor class above target found is)) ∙ kept
+          sym (ap (is_open classes) (found_itself classes name descriptor class above target found is)) ∙ kept
 
       by_place : is_abstract_method classes target ≡ true → (class < length built_in) ⊎ (length built_in ≤ class) → is_abstract_method classes target ≡ false
       by_place abstract (inl low) =
@@ -256,7 +252,7 @@ found_concrete given none_refused name descriptor class above target objects amo
 -- ---- what is selected
 
 selected_concrete : (given : List ClassDef) → AllByRecursion HasSpelling given → refused_not_implemented given ≡ [] → (class method target : ℕ)
-    → (length built_in ≤ class → ClassHasObjects (classes_of given) class)
+    → (length built_in ≤ class → IsPlain (classes_of given) class)
     → select (classes_of given) class method ≡ Some target
     → is_abstract_method (classes_of given) target ≡ false
 unfolding select
@@ -278,7 +274,7 @@ selected_concrete given spelled none_refused class method target objects is = by
 -- what is required of the class of a type, if it has one
 abbrev pub OfClass : List DeclaredClass → Option ℕ → Type 0
 OfClass classes None = Unit {0}
-OfClass classes (Some class) = ClassHasObjects classes class
+OfClass classes (Some class) = IsPlain classes class
 
 -- Object is built in
 object_first : (given : List ClassDef) → length built_in ≤ object_of (classes_of given) → ⊥

@@ -1,5 +1,6 @@
 -- No abstract method is called by invokespecial: nothing is refused of the methods that its entries name (JVMS 6.5.invokespecial).
 use Rattle.std.proofs.Common.{◌≡◌, refl, sym, ◌∙◌, ap, ℕ, zero, suc, ◌+◌, ◌||◌, Bool, false, List, [], ◌∷◌, length, slice_get, Contains, Option, Some, None, option_map, arith}
+use Rattle.std.proofs.lemmas.Bool.{or_parts}
 use Rattle.std.specs.List.{AllByRecursion, flat_map}
 use Rattle.std.proofs.lemmas.Option.{none-some, same_Some}
 use Rattle.fm_base.specs.declared.ids.MethodId.{MethodId}
@@ -21,6 +22,7 @@ use Rattle.fm_law_linked.proofs.CodedMethods.{item_there}
 use Rattle.fm_law_linked.proofs.InterfaceCalls.{class_of_name, named_by, type_named}
 use Rattle.fm_law_sound.specs.Resolved.{IsNamed}
 use Rattle.fm_types.specs.Named.{class_of_method}
+use Rattle.fm_world.proofs.Told.{special_target-unnamed}
 use Rattle.fm_world.specs.BuiltIns.{built_in}
 use Rattle.fm_world.specs.Causes.{abstract_call, calls_abstract, each_from, left_over, method_text, not_implemented, NotImplemented, Refusal, refused, refused_where}
 use Rattle.fm_world.specs.Descriptors.{class_number}
@@ -30,7 +32,7 @@ use Rattle.fm_world.specs.Programs.{class_of_type, classes_of, Outline, outline_
 use Rattle.fm_world.specs.Uses.{class_items, named_class, named_member}
 use Rattle.fm_world.specs.declared.declarations.DeclaredClass.{DeclaredClass}
 use Rattle.fm_world.specs.declared.uses.Use.TheVariants as resolved
-use Rattle.fm_link_supers.proofs.ParentRefusals.{nil_left, nil_right, spelled_at, fails, refused_not}
+use Rattle.fm_link_supers.proofs.ParentRefusals.{nil_left, nil_right, spelled_at, refused_not}
 
 -- ---- what isn't refused of one file
 
@@ -80,11 +82,6 @@ number_named given spelled o code caller index method type wanted call named at 
 
 -- ---- the method that is called
 
--- where none is searched for, it is the one that is named
-named_itself : (classes : List DeclaredClass) (caller method : ℕ) → special_target classes caller None method ≡ method
-unfolding special_target
-named_itself classes caller method = refl
-
 call_right : (classes : List DeclaredClass) (c : ClassDef) (caller index : ℕ) (item : Item) (m : MemberName) (method : ℕ)
     → abstract_call classes c caller item ≡ []
     → item.insn ≡ insn.Special index
@@ -96,7 +93,7 @@ call_right : (classes : List DeclaredClass) (c : ClassDef) (caller index : ℕ) 
 call_right classes c caller index item m method none insn_is named calls =
     let here = sym (ap (refused_where (call_refusals classes c caller)) named)
     ∙ sym (ap (λ i. abstract_call classes c caller (record item { insn = i })) insn_is) ∙ none in
-    fails (is_abstract_method classes method) (is_abstract_method classes (special_target classes caller (class_number classes m.class) method))
+    or_parts (is_abstract_method classes method) (is_abstract_method classes (special_target classes caller (class_number classes m.class) method))
     (calls ∙ refused_not (calls_abstract classes caller m) (refused NotImplemented c (method_text m)) here)
 
 -- no abstract method is called by invokespecial
@@ -135,6 +132,6 @@ special_there given main spelled none_missing none method index m t named x at =
   by_class : (o : Option ℕ) → class_of_type named ≡ o
       → is_abstract_method classes (special_target classes caller (class_of_type named) m.0) ≡ false
   by_class None e =
-      ap (λ n. is_abstract_method classes (special_target classes caller n m.0)) e ∙ ap (is_abstract_method classes) (named_itself classes caller m.0) ∙ right.0
+      ap (λ n. is_abstract_method classes (special_target classes caller n m.0)) e ∙ ap (is_abstract_method classes) (special_target-unnamed classes caller m.0) ∙ right.0
   by_class (Some class) e =
       ap (λ n. is_abstract_method classes (special_target classes caller n m.0)) (e ∙ sym (number class e)) ∙ right.1

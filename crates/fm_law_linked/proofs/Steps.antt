@@ -3,7 +3,7 @@
 use Rattle.std.proofs.Common.{◌≡◌, refl, sym, ◌∙◌, subst, ℕ, ◌+◌, ◌<◌, ◌≤◌, ◌||◌, ◌&&◌, not, Bool, true, false, cond, List, [], ◌∷◌, length, map, Option, Some, None, slice_get}
 use Rattle.std.specs.List.{AllByRecursion, slice_index_or}
 use Rattle.std.specs.Option.{option_map}
-use Rattle.std.proofs.lemmas.Bool.{and_parts, false≢true}
+use Rattle.std.proofs.lemmas.Bool.{and_parts, false≢true, not-true, or_parts}
 use Rattle.std.proofs.lemmas.Option.{none-some, same_Some}
 use Rattle.fm_base.proofs.ListFacts.{AllByRecursion-append, AllByRecursion-get_or}
 use Rattle.fm_base.specs.declared.ids.FieldId.{FieldId}
@@ -42,7 +42,7 @@ use Rattle.fm_world.specs.Programs.{classes_of, codes_of, outline_of, program_of
 use Rattle.fm_world.specs.declared.declarations.Constant.{Constant}
 use Rattle.fm_world.specs.declared.uses.Use.{Use}
 use Rattle.fm_world.specs.declared.uses.Use.TheVariants as resolved
-use Rattle.fm_link_supers.proofs.ParentRefusals.{spelled_at, fails}
+use Rattle.fm_link_supers.proofs.ParentRefusals.{spelled_at}
 
 -- ---- targets
 
@@ -143,15 +143,11 @@ pub table_concrete : none_abstract (methods_of built_in) ≡ true
 unfolding built_in methods_of
 table_concrete = refl
 
-pub not_true : (b : Bool) → not b ≡ true → b ≡ false
-not_true false e = refl
-not_true true e = absurd (false≢true e)
-
 each_concrete : (test : ℕ → Bool) (methods : List OwnedMethod) → none_abstract methods ≡ true → AllByRecursion (IsConcrete test) methods
 each_concrete test [] all = tt
 each_concrete test (m ∷ methods) all =
     let parts = and_parts (not (is_abstract m.method.flags)) (none_abstract methods) all in
-    (λ passes. not_true (is_abstract m.method.flags) parts.0, each_concrete test methods parts.1)
+    (λ passes. not-true (is_abstract m.method.flags) parts.0, each_concrete test methods parts.1)
 
 tested_there : (test : ℕ → Bool) → IsAlone test → (given : List ClassDef) → AllByRecursion HasSpelling given → (method : ℕ)
     → test (method_at (classes_of given) method).method.flags ≡ true
@@ -165,11 +161,11 @@ tested_there test alone given spelled method =
 
 static_alone : IsAlone is_static
 static_alone flags none =
-    (fails (is_static flags) (is_private flags) (fails (is_static flags || is_private flags) (is_native flags) none).0).0
+    (or_parts (is_static flags) (is_private flags) (or_parts (is_static flags || is_private flags) (is_native flags) none).0).0
 
 private_alone : IsAlone is_private
 private_alone flags none =
-    (fails (is_static flags) (is_private flags) (fails (is_static flags || is_private flags) (is_native flags) none).0).1
+    (or_parts (is_static flags) (is_private flags) (or_parts (is_static flags || is_private flags) (is_native flags) none).0).1
 
 -- a static method isn't abstract
 pub concrete_there : (given : List ClassDef) → AllByRecursion HasSpelling given → (method : ℕ) → is_static (method_at (classes_of given) method).method.flags ≡ true

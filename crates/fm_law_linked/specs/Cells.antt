@@ -3,6 +3,7 @@
 use Rattle.std.specs.Prelude.{◌≡◌, ℕ, ◌≤◌, List, [], length}
 use Rattle.std.specs.List.{AllByRecursion}
 use Rattle.fm_base.specs.declared.limits.TheConstants.{MAX_CLASS_FILES}
+use Rattle.fm_code.specs.Profile.{IsSupported}
 use Rattle.fm_code.specs.Spells.{HasSpelling}
 use Rattle.fm_code.specs.declared.class_file.ClassDef.{ClassDef}
 use Rattle.fm_law_no_fault.specs.CellsResolved.{BuiltInsFit, CellsAreResolved, PlacesFit}
@@ -17,9 +18,9 @@ PlacesOfProgramsFit =
     (given : List ClassDef) (main : List ℕ) → AllByRecursion HasSpelling given → refusals given main ≡ [] → length given ≤ MAX_CLASS_FILES
     → BuiltInsFit (program_of given main) × PlacesFit (program_of given main)
 
--- So are the methods that are called: it is all that a program needs so that each cell fits its
--- place.
+-- Of supported files, so are the methods that are called: it is all that a program needs so that
+-- each cell fits its place.
 abbrev pub CellsOfProgramsAreResolved : Type 0
 CellsOfProgramsAreResolved =
-    (given : List ClassDef) (main : List ℕ) → AllByRecursion HasSpelling given → refusals given main ≡ [] → length given ≤ MAX_CLASS_FILES
+    (given : List ClassDef) (main : List ℕ) → AllByRecursion HasSpelling given → AllByRecursion IsSupported given → refusals given main ≡ [] → length given ≤ MAX_CLASS_FILES
     → CellsAreResolved (program_of given main)

@@ -3,7 +3,7 @@
 #![tactic(auto)]
 
 ghost use Rattle.fm_law_linked.specs.Cells.{CellsOfProgramsAreResolved, PlacesOfProgramsFit};
-ghost use Rattle.fm_law_linked.specs.DeadRegions.{LinkedRegionsDie};
+ghost use Rattle.fm_law_linked.specs.DeadRegions.{LinkedRegionsAreUnseen, LinkedRegionsDie};
 ghost use Rattle.fm_law_linked.specs.Laws.{
   MainOfProgramsIsReady,
   ProgramsAreLinkedWell,
@@ -25,7 +25,7 @@ ghost use Rattle.fm_law_linked.specs.TwoMemories.{
 ghost use Rattle.fm_law_no_fault.specs.NoFault.{LinkedProgramsNeverFault};
 
 use fm_law_no_fault::{law_built_ins, law_no_fault};
-use fm_law_two_memories::{law_hidden, law_memories, law_runs};
+use fm_law_two_memories::{law_hidden, law_memories, law_runs, law_unseen};
 use fm_same::{law_dead_regions, law_targets};
 use fm_world::law_class_types;
 
@@ -107,9 +107,9 @@ pub fn law_cell_places()
     law_built_ins();
 }
 
-/// And a method is selected for each object that a call meets, invokespecial leads to methods of
-/// the own class and above, and constructors are of exactly the class that is named: so each cell
-/// fits its place.
+/// And of supported files a method is selected for each object that a call meets, invokespecial
+/// leads to methods of the own class and above, and constructors are of exactly the class that is
+/// named: so each cell fits its place.
 pub fn law_cells()
     ensures { CellsOfProgramsAreResolved }
 {
@@ -158,6 +158,20 @@ pub fn law_without_frees()
     law_makeable();
     law_main();
     law_hidden();
+}
+
+/// And no step looks at it any longer: where such an object is freed, the run of such a program goes on
+/// alike, on memories that reuse cells in any way.
+pub fn law_unseen_regions()
+    ensures { LinkedRegionsAreUnseen }
+{
+    // By these laws.
+    law_sound_steps();
+    law_makeable();
+    law_main();
+    law_linked_regions();
+    law_without_frees();
+    law_unseen();
 }
 
 /// The law of one program on two memories: such a program prints the same and ends alike on memory

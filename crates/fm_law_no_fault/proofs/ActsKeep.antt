@@ -22,7 +22,7 @@ use Rattle.fm_frames.specs.Sights.{has_hidden_field, type_numbered}
 use Rattle.fm_frames.specs.States.{Areas, word_at}
 use Rattle.fm_frames.specs.declared.values.Value.{Value}
 use Rattle.fm_frames.specs.declared.values.Value.TheVariants as value
-use Rattle.fm_same.proofs.ActsKeep.{made_as, make_is, stored_as}
+use Rattle.fm_same.proofs.ActsKeep.{made_as, made_class, make_is, stored_as}
 use Rattle.fm_same.proofs.StoreChanges.{changed-extends, Extends, extends-refl, extends-then, held_later, IsChanged, IsKept, IsMade, made-extends, put_here, Puts}
 use Rattle.fm_law_sound.specs.Placing.{kind_in}
 use Rattle.fm_law_sound.specs.Sound.{IsReference, static_slots}
@@ -136,14 +136,6 @@ went_pushed o store types x made t cell went new = record {
 }
 
 -- ---- makes
-
-made_class : (store : Store) (request : Request) (content : List ℕ) → (made_as store request content).class ≡ request.class
-made_class store request [] = refl
-made_class store request (element ∷ elements) = refl
-
-made_fixed : (store : Store) (request : Request) (content : List ℕ) → (made_as store request content).fixed ≡ request.fixed
-made_fixed store request [] = refl
-made_fixed store request (element ∷ elements) = refl
 
 -- an object without content that doesn't live for ever, or one of a type that has no place for references
 abbrev pub IsBlank : Outline → TypeRef → Bool → List ℕ → Type 0

@@ -2,6 +2,7 @@
 use Rattle.std.proofs.Common.{◌≡◌, ℕ, ◌⊎◌, Bool, true, List, [], ◌∷◌, ◌++◌, Option, Some, refl, sym, ◌∙◌, ap, subst, inl, inr, slice_get}
 use Rattle.std.specs.Prelude.{unwrap_or}
 use Rattle.std.proofs.lemmas.Option.{get_or_from_slice_get, same_Some}
+use Rattle.fm_base.proofs.ListFacts.{slice_get-append_left}
 use Rattle.fm_base.specs.declared.kinds.Kind.{Kind}
 use Rattle.fm_base.specs.declared.kinds.Kind.TheVariants as kind
 use Rattle.fm_base.specs.declared.kinds.TypeRef.{TypeRef}
@@ -20,7 +21,6 @@ use Rattle.fm_frames.specs.Sights.{type_numbered}
 use Rattle.fm_frames.specs.States.{Frame}
 use Rattle.fm_law_sound.specs.Acting.{ActsFit, MakeFits, ObjectFits, PlaceFits}
 use Rattle.fm_law_sound.specs.Sound.{field_slot, static_slots}
-use Rattle.fm_law_sound.proofs.FieldPlaces.{still}
 use Rattle.fm_law_no_fault.specs.CellsResolved.{CellsAreResolved}
 use Rattle.fm_law_no_fault.specs.Doing.{ActsLead, HasNumber, HoldsNoCell, IsReferenceKind, PlaceTakes, SourceIsOf, SourceLeadsTo, StaticTakes}
 use Rattle.fm_law_no_fault.specs.Whole.{HoldsA, LeadsToA}
@@ -59,8 +59,8 @@ slot_reference kind.Long t is = absurd (cc)
 pub made_stays : (actions : List Action) (types : List TypeRef) (n : ℕ) (t : TypeRef) → slice_get types n ≡ Some t
     → slice_get (types_after types actions) n ≡ Some t
 made_stays [] types n t at = at
-made_stays (Make u len content ∷ more) types n t at = made_stays more (types ++ u ∷ []) n t (still types (u ∷ []) n t at)
-made_stays (MakeFixed u ∷ more) types n t at = made_stays more (types ++ u ∷ []) n t (still types (u ∷ []) n t at)
+made_stays (Make u len content ∷ more) types n t at = made_stays more (types ++ u ∷ []) n t (slice_get-append_left types (u ∷ []) n t at)
+made_stays (MakeFixed u ∷ more) types n t at = made_stays more (types ++ u ∷ []) n t (slice_get-append_left types (u ∷ []) n t at)
 made_stays (MakeLiteral text ∷ more) types n t at = made_stays more types n t at
 made_stays (Put object place k v ∷ more) types n t at = made_stays more types n t at
 made_stays (SetStatic field k v ∷ more) types n t at = made_stays more types n t at

@@ -34,6 +34,7 @@ use Rattle.fm_law_sound.specs.Leading.{sources_of}
 use Rattle.fm_law_sound.specs.Sound.{IsReference}
 use Rattle.fm_law_sound.proofs.ArrayRows.{by_array, number_slots}
 use Rattle.fm_law_sound.proofs.Cases.{by_if}
+use Rattle.fm_law_sound.proofs.InsnActs.{elements_deep}
 use Rattle.fm_law_sound.proofs.NestedArrays.{array_kind}
 use Rattle.fm_law_no_fault.specs.Seen.{SeesA}
 use Rattle.fm_law_no_fault.specs.Whole.{LeadsToA, WordFits}
@@ -60,16 +61,6 @@ shallow dims base.Long is = let deep = ltb-true 0 (dims - 1) is in omega (arith,
 
 one_deep : (dims : ℕ) (b : Bool) → ((dims == 1) && b) ≡ true → 0 < dims
 one_deep dims b is = let one : dims ≡ 1 = eqb-true dims 1 (and_parts (dims == 1) b is).0 in omega (arith, one)
-
--- an array has dimensions
-array_deep : (e : Elem) (t : TypeRef) → is_array_of e t ≡ true → 0 < t.dims
-array_deep elem.Ref t is = shallow t.dims t.base is
-array_deep elem.Boolean t is = one_deep t.dims (has_letter elem.Boolean t.base) is
-array_deep elem.Byte t is = one_deep t.dims (has_letter elem.Byte t.base) is
-array_deep elem.Char t is = one_deep t.dims (has_letter elem.Char t.base) is
-array_deep elem.Short t is = one_deep t.dims (has_letter elem.Short t.base) is
-array_deep elem.Int t is = one_deep t.dims (has_letter elem.Int t.base) is
-array_deep elem.Long t is = one_deep t.dims (has_letter elem.Long t.base) is
 
 -- what isn't a reference takes one word or two
 letter_suits : (e : Elem) (k : Kind) → stack_slots (k ∷ []) ≡ typed.element_words e → ((t : TypeRef) → k ≡ kind.Ref t → ⊥)
@@ -147,7 +138,7 @@ module _ (r : Row) where
       → Loads it.type place (stack_slots (element_kind it.type ∷ []))
   element_loads e it found is place y made went =
       loaded_cells r (element_kind it.type) (OfPlace 1 place (element_kind it.type)) y made
-      (place_leads r 1 it found place (element_kind it.type) (array_kind o.classes it.type place (array_deep e it.type is)) [] y made went)
+      (place_leads r 1 it found place (element_kind it.type) (array_kind o.classes it.type place (elements_deep e it.type is)) [] y made went)
 
   -- what is seen of a word that leads to what passes does pass
   seen_passes : (n : ℕ) (below : Slot) → slice_get r.before.stack n ≡ Some below → (it : Looks) → slice_get seen n ≡ Some (Thing it) → (test : TypeRef → Bool)
@@ -168,7 +159,7 @@ module _ (r : Row) where
       let kind_is : element_kind it.type ≡ kind.Ref (element_type it.type) = element_kind-is it.type is in
       let fits_it : fits_type o.classes it.type t ≡ true = seen_passes 1 (slot.Ref t) at it found (λ u. fits_type o.classes u t) h.kind h.cell in
       let element : fits_type o.classes (element_type it.type) (element_type t) ≡ true = element_fits o r.steps.tree it.type t fits_it parts.0 in
-      let leads = place_leads r 1 it found place (element_kind it.type) (array_kind o.classes it.type place (array_deep elem.Ref it.type is)) [] y made went
+      let leads = place_leads r 1 it found place (element_kind it.type) (array_kind o.classes it.type place (elements_deep elem.Ref it.type is)) [] y made went
       (element_type it.type) kind_is in
       subst (λ xs. AllZip (Cell o y.store r.own r.news) xs (map (value_of (sources_of r.frame y made)) (loaded (element_kind it.type) (OfPlace 1 place (element_kind it.type)))))
       (same_Some _ slots parts.1)

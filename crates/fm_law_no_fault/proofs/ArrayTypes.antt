@@ -1,11 +1,9 @@
 -- Arrays of types that fit: what the rows of the checker keep along their order holds of only the
 -- types.
 use Rattle.std.proofs.Common.{◌≡◌, ℕ, ◌-◌, ◌==◌, Bool, true, false, List, [], ◌∷◌, ◌++◌, cond, nat_lt, Option, Some, None, option_map, refl, sym, ap, subst, arith}
-use Rattle.std.proofs.lemmas.Bool.{false≢true}
 use Rattle.std.proofs.lemmas.Bool.Decides.{nat_tests}
 use Rattle.fm_base.specs.declared.kinds.Base.{Base}
 use Rattle.fm_base.specs.declared.kinds.Base.TheVariants as base
-use Rattle.fm_base.specs.declared.kinds.Kind.{Kind}
 use Rattle.fm_base.specs.declared.kinds.Kind.TheVariants as kind
 use Rattle.fm_base.specs.declared.kinds.TypeRef.{TypeRef}
 use Rattle.fm_code.specs.declared.operations.Elem.{Elem}
@@ -21,6 +19,8 @@ use Rattle.fm_types.proofs.Zips.{Follows}
 use Rattle.fm_world.specs.Descriptors.{kind_with}
 use Rattle.fm_world.specs.Programs.{Outline}
 use Rattle.fm_frames.specs.ArrayRows.{element_kind, element_type}
+use Rattle.fm_law_sound.proofs.ArrayRows.{above_zero}
+use Rattle.fm_same.proofs.ArrayRows.{cond_no}
 
 -- an array below an index, and only an array
 abbrev loading : TypeRef → TypeState
@@ -108,25 +108,18 @@ class_kind : (test : Bool) (dims : ℕ) (b : Base) → (test ≡ true → dims �
 class_kind true dims b none = ap (λ n. kind.Ref (record { dims = n; base = b })) (sym (none refl))
 class_kind false dims b none = refl
 
-letter_kind : (test : Bool) (k other : Kind) → test ≡ false → cond test k other ≡ other
-letter_kind true k other is = absurd (false≢true (sym is))
-letter_kind false k other is = refl
-
 no_dims : (n : ℕ) → (n == 0) ≡ true → n ≡ 0
 no_dims n is = grind (arith, nat_tests, is)
-
-some_dims : (n : ℕ) → nat_lt 0 n ≡ true → (n == 0) ≡ false
-some_dims n is = grind (arith, nat_tests, is)
 
 -- an array with some depth has references to what its elements are
 kind_of_elements : (dims : ℕ) (b : Base) → nat_lt 0 (depth_with dims b) ≡ true → kind_with (dims - 1) b ≡ kind.Ref (record { dims = dims - 1; base = b })
 kind_of_elements dims (base.OfClass class) is = class_kind ((dims - 1) == 0) (dims - 1) (base.OfClass class) (no_dims (dims - 1))
-kind_of_elements dims base.Boolean is = letter_kind ((dims - 1) == 0) _ _ (some_dims (dims - 1) is)
-kind_of_elements dims base.Byte is = letter_kind ((dims - 1) == 0) _ _ (some_dims (dims - 1) is)
-kind_of_elements dims base.Char is = letter_kind ((dims - 1) == 0) _ _ (some_dims (dims - 1) is)
-kind_of_elements dims base.Short is = letter_kind ((dims - 1) == 0) _ _ (some_dims (dims - 1) is)
-kind_of_elements dims base.Int is = letter_kind ((dims - 1) == 0) _ _ (some_dims (dims - 1) is)
-kind_of_elements dims base.Long is = letter_kind ((dims - 1) == 0) _ _ (some_dims (dims - 1) is)
+kind_of_elements dims base.Boolean is = cond_no ((dims - 1) == 0) _ _ (above_zero (dims - 1) is)
+kind_of_elements dims base.Byte is = cond_no ((dims - 1) == 0) _ _ (above_zero (dims - 1) is)
+kind_of_elements dims base.Char is = cond_no ((dims - 1) == 0) _ _ (above_zero (dims - 1) is)
+kind_of_elements dims base.Short is = cond_no ((dims - 1) == 0) _ _ (above_zero (dims - 1) is)
+kind_of_elements dims base.Int is = cond_no ((dims - 1) == 0) _ _ (above_zero (dims - 1) is)
+kind_of_elements dims base.Long is = cond_no ((dims - 1) == 0) _ _ (above_zero (dims - 1) is)
 
 pub element_kind-is : (t : TypeRef) → is_array_of elem.Ref t ≡ true → element_kind t ≡ kind.Ref (element_type t)
 element_kind-is t is = kind_of_elements t.dims t.base is

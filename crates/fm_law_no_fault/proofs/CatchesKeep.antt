@@ -3,7 +3,6 @@ use Rattle.std.proofs.Common.{◌≡◌, ℕ, ◌<◌, ◌≤◌, ◌&&◌, Bool
 use Rattle.std.specs.Prelude.{◌==◌, option_map, unwrap_or}
 use Rattle.std.specs.List.{AllByRecursion}
 use Rattle.std.proofs.lemmas.Bool.{and_parts, false≢true}
-use Rattle.std.proofs.lemmas.Bool.Decides.{nat_tests}
 use Rattle.std.proofs.lemmas.Option.{same_Some}
 use Rattle.fm_base.proofs.OptionFacts.{cond-some_then, Some-from_some_and}
 use Rattle.fm_base.specs.declared.kinds.TypeRef.{TypeRef}
@@ -24,16 +23,10 @@ use Rattle.fm_frames.specs.Steps.{catches, caught, Caught, caught_in, handler_am
 use Rattle.fm_frames.specs.declared.ends.Ended.TheVariants as end
 use Rattle.fm_frames.specs.declared.values.Value.{Value}
 use Rattle.fm_law_sound.specs.Sound.{AreTyped, Calling, IsReference, StandBelow, Starting, StandsWithout, Typings}
-use Rattle.fm_law_sound.proofs.FramesStand.{not_left, typing_of}
+use Rattle.fm_law_sound.proofs.FramesStand.{catches_range, not_left, typing_of}
 use Rattle.fm_law_no_fault.specs.Catching.{CatchesFit}
 use Rattle.fm_law_no_fault.specs.Whole.{FrameFits, FrameIsWhole}
 use Rattle.fm_law_no_fault.proofs.FramesKeep.{brought_whole}
-
-range_of : (p : Program) (f : Frame) (t : TypeRef) (h : Handler) → catches p f t h ≡ true → (h.start ≤ f.item) × (f.item < h.end)
-range_of p f t h is =
-    let outer = and_parts (nat_le h.start f.item && nat_lt f.item h.end) _ is in
-    let inner = and_parts (nat_le h.start f.item) (nat_lt f.item h.end) outer.0 in
-    let first = inner.0 in let second = inner.1 in (grind (arith, nat_tests, first), grind (arith, nat_tests, second))
 
 module _ (p : Program) (fit : CatchesFit p) (t : TypeRef) (thrown : fits_type p.outline.classes t (throwable_type p.outline) ≡ true) where
   -- what the entry of a table catches fits the type that it names
@@ -66,7 +59,7 @@ module _ (p : Program) (fit : CatchesFit p) (t : TypeRef) (thrown : fits_type p.
         by_test : (b : Bool) → catches p f t entry ≡ b → (handler_among p f t handlers ≡ Some item → Takes)
             → cond b (Some entry.handler) (handler_among p f t handlers) ≡ Some item → Takes
         by_test true catching later found =
-            let range = range_of p f t entry catching in
+            let range = catches_range p f t entry catching in
             let takes = Some-from_some_and (caught_type p f.method entry) (λ type. FitsAt p (typings f.method) entry.handler (handler_state type s))
             (fits_each.0 (record { after_start = range.0; before_end = range.1; handler_is = refl })) in (
               takes.0,

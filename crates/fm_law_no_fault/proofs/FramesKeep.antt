@@ -1,5 +1,5 @@
 -- Frames stay whole where the frame on top goes on, and where methods begin.
-use Rattle.std.proofs.Common.{◌≡◌, ℕ, zero, suc, ◌+◌, ◌-◌, not, Bool, true, false, cond, List, [], ◌∷◌, ◌++◌, length, replicate, Option, Some, None, sym, ◌∙◌, ap, subst}
+use Rattle.std.proofs.Common.{◌≡◌, ℕ, zero, suc, ◌+◌, ◌-◌, not, Bool, true, false, cond, List, [], ◌∷◌, ◌++◌, length, replicate, Option, Some, sym, ◌∙◌, ap, subst}
 use Rattle.std.specs.List.{AllByRecursion, AllZip}
 use Rattle.std.proofs.lemmas.Option.{same_Some}
 use Rattle.std.proofs.lemmas.Slice.Zip.{AllZip-long}
@@ -26,6 +26,7 @@ use Rattle.fm_frames.specs.declared.values.Value.TheVariants as value
 use Rattle.fm_law_sound.specs.Going.{IsGoingOn, StandsAtRow, StartsClass}
 use Rattle.fm_law_sound.specs.Leading.{LeadsAs, sources_of}
 use Rattle.fm_law_sound.specs.Sound.{AreTyped, Typings}
+use Rattle.fm_law_sound.proofs.CallsStand.{max_locals_in}
 use Rattle.fm_law_sound.proofs.FramesStand.{after_whole, edge_fits, next_edge, target_edge, typing_of}
 use Rattle.fm_law_sound.proofs.KindLemmas.{as_local}
 use Rattle.fm_law_no_fault.specs.Whole.{FrameFits, FrameIsWhole, LocalFits, WordFits}
@@ -101,10 +102,6 @@ zip_appended P [] others [] more h rest = rest
 zip_appended P [] others (v ∷ words) more h rest = absurd h
 zip_appended P (x ∷ xs) others [] more h rest = absurd h
 zip_appended P (x ∷ xs) others (v ∷ words) more h rest = (h.0, zip_appended P xs others words more h.1 rest)
-
-abbrev pub max_locals_in : Option Code → ℕ
-max_locals_in None = 0
-max_locals_in (Some code) = code.max_locals
 
 module _ (o : Outline) (store : Store) (own : ℕ) (news : ℕ → Option TypeRef) where
   as_local_fits : (s : Slot) (v : Value) → WordFits o store own news s v → LocalFits o store own news s v

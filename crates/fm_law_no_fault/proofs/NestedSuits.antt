@@ -4,16 +4,14 @@ use Rattle.std.proofs.Common.{◌≡◌, ℕ, zero, suc, ℤ, ◌+◌, ◌*◌, 
 use Rattle.std.specs.List.{AllByRecursion, flat_map, list_any, range_with_len}
 use Rattle.std.proofs.Math.Nat.{suc-mul}
 use Rattle.std.proofs.lemmas.Bool.{and_parts, leb-true, lt-ltb, ltb-true}
-use Rattle.std.proofs.lemmas.List.{append-nil, length-append, length-replicate, length-reverse, reverse-append}
+use Rattle.std.proofs.lemmas.List.{append-nil, length-append, length-replicate, length-reverse}
 use Rattle.std.proofs.lemmas.List.FromFn.{length-range_with_len}
-use Rattle.fm_base.proofs.ListFacts.{AllByRecursion-append}
+use Rattle.fm_base.proofs.ListFacts.{AllByRecursion-reversed}
 use Rattle.fm_base.proofs.OptionFacts.{cond-some_then, option_map-some}
-use Rattle.fm_base.specs.declared.kinds.Base.{Base}
-use Rattle.fm_base.specs.declared.kinds.Base.TheVariants as base
 use Rattle.fm_base.specs.declared.kinds.Kind.TheVariants as kind
 use Rattle.fm_base.specs.declared.kinds.TypeRef.{TypeRef}
 use Rattle.fm_types.specs.ArrayRows.{multi_array_row}
-use Rattle.fm_types.specs.Fits.{depth_of, depth_with, fits_type}
+use Rattle.fm_types.specs.Fits.{depth_of, fits_type}
 use Rattle.fm_types.specs.States.{taken, worked}
 use Rattle.fm_types.specs.declared.slots.Slot.{Slot}
 use Rattle.fm_types.specs.declared.slots.Slot.TheVariants as slot
@@ -26,6 +24,7 @@ use Rattle.fm_frames.specs.Sights.{sight, Sight, sights, Word}
 use Rattle.fm_frames.specs.States.{word_at}
 use Rattle.fm_frames.specs.declared.values.Value.TheVariants as value
 use Rattle.fm_law_sound.proofs.Cases.{by_if}
+use Rattle.fm_law_sound.proofs.NestedArrays.{deep_enough}
 use Rattle.fm_law_no_fault.proofs.ActsKeep.{types_after}
 use Rattle.fm_law_no_fault.proofs.ActsSuits.{made_stays}
 use Rattle.fm_law_no_fault.proofs.ArrayRows.{negative_whole}
@@ -43,11 +42,6 @@ past_first : {X : Type 0} (xs ys : List X) → slice_get (xs ++ ys) (length xs) 
 past_first [] ys = refl
 past_first (x ∷ xs) ys = past_first xs ys
 
-all_reversed : {X : Type 0} (P : X → Type 0) (xs : List X) → AllByRecursion P xs → AllByRecursion P (reverse xs)
-all_reversed P [] all = tt
-all_reversed P (x ∷ xs) all =
-    subst (AllByRecursion P) (sym (reverse-append (x ∷ []) xs)) (AllByRecursion-append P (reverse xs) (x ∷ []) (all_reversed P xs all.1) (all.0, tt))
-
 all_within : (P : ℕ → Type 0) (n start : ℕ) → ((k : ℕ) → k < start + n → P k) → AllByRecursion P (range_with_len start n)
 all_within P zero start each = tt
 all_within P (suc n) start each =
@@ -57,10 +51,6 @@ all_same : (n k : ℕ) (s : Slot) → k < n → slice_get (replicate n s) k ≡ 
 all_same zero k s less = absurd (omega (arith, less))
 all_same (suc n) zero s less = refl
 all_same (suc n) (suc k) s less = all_same n k s (omega (arith, less))
-
-deep_enough : (dims : ℕ) (b : Base) → 1 < dims → 0 < depth_with dims b
-deep_enough dims (base.OfClass class) deep = omega (arith, deep)
-deep_enough dims b deep = omega (arith, deep)
 
 module _ (r : Row) where
   abbrev o : Outline
@@ -238,7 +228,7 @@ module _ (r : Row) where
       r.after parts.1 in
       let places : List ℕ = reverse (range_with_len 0 dimensions) in
       let found = ints_seen dimensions rest.0 rest.1 places
-      (all_reversed (λ k. k < dimensions) (range_with_len 0 dimensions) (all_within (λ k. k < dimensions) dimensions 0 (λ k less. omega (arith, less)))) in
+      (AllByRecursion-reversed (λ k. k < dimensions) (range_with_len 0 dimensions) (all_within (λ k. k < dimensions) dimensions 0 (λ k less. omega (arith, less)))) in
       subst (λ counts. Whole r (arrays_of o t dimensions counts)) (sym found.1)
       (arrays_whole t dimensions found.0
       (found.2 ∙ length-reverse (range_with_len 0 dimensions) ∙ length-range_with_len 0 dimensions) (ltb-true 0 dimensions both.0)

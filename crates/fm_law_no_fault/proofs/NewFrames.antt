@@ -14,9 +14,10 @@ use Rattle.fm_frames.specs.Steps.{max_locals_of, new_frame}
 use Rattle.fm_frames.specs.declared.values.Value.{Value}
 use Rattle.fm_frames.specs.declared.values.Value.TheVariants as value
 use Rattle.fm_law_sound.specs.Sound.{AreTyped, FrameHasKinds, StandsWithout, Typings}
+use Rattle.fm_law_sound.proofs.CallsStand.{max_locals_in}
 use Rattle.fm_law_sound.proofs.FramesStand.{typing_of}
 use Rattle.fm_law_no_fault.specs.Whole.{FrameIsWhole}
-use Rattle.fm_law_no_fault.proofs.FramesKeep.{max_locals_in, zip_appended}
+use Rattle.fm_law_no_fault.proofs.FramesKeep.{zip_appended}
 use Rattle.fm_law_no_fault.proofs.Owing.{ArgumentsSuit, Cell, CellsFit}
 use Rattle.fm_law_no_fault.proofs.ReturnsKeep.{fits_by}
 

@@ -1,5 +1,5 @@
 -- The opening of a run leaves a whole state that is no fault.
-use Rattle.std.proofs.Common.{◌≡◌, ℕ, zero, suc, ◌+◌, cond, Bool, true, false, List, [], ◌∷◌, ◌++◌, length, map, nat_lt, Option, Some, refl, sym, ◌∙◌, ap, subst, inl, inr, slice_get, slice_set, slice_index_or, arith, ⊎_elim}
+use Rattle.std.proofs.Common.{◌≡◌, ℕ, zero, suc, ◌+◌, cond, Bool, true, false, List, [], ◌∷◌, ◌++◌, length, nat_lt, Option, Some, refl, sym, ◌∙◌, ap, subst, inl, inr, slice_get, slice_set, slice_index_or, arith, ⊎_elim}
 use Rattle.std.specs.List.{AllByRecursion, AllZip, flat_map}
 use Rattle.std.specs.FinMap.{gets}
 use Rattle.std.proofs.lemmas.Bool.Decides.{nat_tests}
@@ -33,6 +33,7 @@ use Rattle.fm_frames.specs.declared.ends.Ended.{Ended}
 use Rattle.fm_frames.specs.declared.ends.Ended.TheVariants as end
 use Rattle.fm_frames.specs.declared.values.Value.{Value}
 use Rattle.fm_frames.specs.declared.values.Value.TheVariants as value
+use Rattle.fm_same.proofs.Opening.{first_field, zeros_found}
 use Rattle.fm_same.proofs.StoreChanges.{extends-refl}
 use Rattle.fm_law_sound.specs.Laws.{no_frame}
 use Rattle.fm_law_sound.specs.Making.{ArgumentsFit, MakesAreResolved}
@@ -141,9 +142,6 @@ null_first kind.Int = refl
 null_first kind.Long = refl
 null_first (kind.Ref t) = refl
 
-abbrev first_field : Outline → OwnedField → List Value
-first_field o f = cond (is_static f.field.flags) (first_of (field_kind o.classes f.field) ∷ []) []
-
 null_static : (b : Bool) (k : Kind) (rest : List Value) → ((n : ℕ) → cell_of (word_at rest n) ≡ 0) → (n : ℕ)
     → cell_of (word_at (cond b (first_of k ∷ []) [] ++ rest) n) ≡ 0
 null_static true k rest each zero = null_first k
@@ -155,15 +153,10 @@ null_statics o [] n = refl
 null_statics o (f ∷ fields) n =
     null_static (is_static f.field.flags) (field_kind o.classes f.field) (flat_map (first_field o) fields) (null_statics o fields) n
 
-no_literals : (texts : List (List ℕ)) (n : ℕ) → slice_index_or (map (λ (text : List ℕ). zero) texts) n zero ≡ zero
-no_literals [] n = refl
-no_literals (text ∷ texts) zero = refl
-no_literals (text ∷ texts) (suc n) = no_literals texts n
-
 first_whole : (o : Outline) (budget : ℕ) (limit : Option ℕ) (free : List (List ℕ)) → AreasAreWhole o (first_areas o (opened budget limit free))
 first_whole o budget limit free = record {
   statics = λ field t is. inl (null_statics o (fields_of o.classes) field);
-  literals = λ text. inl (no_literals o.texts text);
+  literals = λ text. inl (zeros_found o.texts text);
   heap = λ cell held there. absurd (nothing_held cell held there);
 } where
   nothing_held : (cell : ℕ) (held : Object) → object_at (opened budget limit free) cell ≡ Some held → ⊥

@@ -12,7 +12,6 @@ use Rattle.fm_base.specs.declared.kinds.Kind.TheVariants as kind
 use Rattle.fm_base.specs.declared.kinds.TypeRef.{TypeRef}
 use Rattle.fm_cells.specs.Stores.{Store}
 use Rattle.fm_code.specs.Edges.{falls_through, insn_of, IsNormalEdge}
-use Rattle.fm_code.specs.SpellsCode.{targets_of}
 use Rattle.fm_code.specs.declared.code_array.Code.{Code}
 use Rattle.fm_code.specs.declared.instructions.Insn.{Insn}
 use Rattle.fm_code.specs.declared.instructions.Insn.TheVariants as insn
@@ -39,7 +38,7 @@ use Rattle.fm_law_sound.specs.Going.{ConstructorsGiveNothing, StandsAtRow}
 use Rattle.fm_law_sound.specs.Sound.{AreTyped, Calling, FrameHasKinds, HasKind, HaveKinds, LocalHasKind, StandBelow, Starting, Typings, words_of_call}
 use Rattle.fm_law_sound.proofs.FramesStand.{after_whole, edge_fits, next_edge, typing_of}
 use Rattle.fm_law_sound.proofs.Leaving.{dropped}
-use Rattle.fm_law_sound.proofs.ReturnsStand.{arguments_count, call_falls, call_kinds, method_in, row_of_method, taken_drop}
+use Rattle.fm_law_sound.proofs.ReturnsStand.{arguments_count, call_falls, call_kinds, call_targets, method_in, row_of_method, taken_drop}
 use Rattle.fm_law_no_fault.specs.Whole.{FrameFits, FrameIsWhole, is_below, LocalFits, lowest, WordFits}
 use Rattle.fm_law_no_fault.proofs.ActsSuits.{holds_weaker}
 use Rattle.fm_law_no_fault.proofs.CellsLeave.{local_cells, stack_cells}
@@ -266,13 +265,6 @@ module _ (o : Outline) (tree : AreTree o.classes) (store : Store) (own : ℕ) (n
     call_cells (insn.Static index) method item count own_is u after takes names in_stack row =
         static_cells u after names (subst Left (sym (same_Some (words_of_arguments o named) count takes)) in_stack) row
     call_cells i method item count own_is u after takes names in_stack row = absurd (cc)
-
-call_targets : (o : Outline) (i : Insn) (named count : ℕ) (P : ℕ → Type 0) → words_of_call o i named ≡ Some count → AllByRecursion P (targets_of i)
-call_targets o (insn.Virtual index) named count P is = tt
-call_targets o (insn.Interface index) named count P is = tt
-call_targets o (insn.Special index) named count P is = tt
-call_targets o (insn.Static index) named count P is = tt
-call_targets o i named count P is = absurd (cc)
 
 -- ---- the frame below
 

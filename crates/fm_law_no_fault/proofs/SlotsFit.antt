@@ -3,6 +3,7 @@ use Rattle.std.proofs.Common.{◌≡◌, ℕ, ◌-◌, true, List, [], ◌∷◌
 use Rattle.std.specs.List.{AllZip}
 use Rattle.std.proofs.lemmas.Bool.{false≢true}
 use Rattle.std.proofs.lemmas.Bool.Decides.{nat_tests}
+use Rattle.std.proofs.lemmas.List.Elements.{length_all_zip}
 use Rattle.fm_base.specs.declared.kinds.TypeRef.{TypeRef}
 use Rattle.fm_cells.specs.Stores.{Store}
 use Rattle.fm_types.specs.Fits.{AreTree, fits, fits_type}
@@ -11,7 +12,7 @@ use Rattle.fm_types.specs.declared.slots.Slot.{Slot}
 use Rattle.fm_types.specs.declared.slots.Slot.TheVariants as slot
 use Rattle.fm_types.proofs.Order.{type-trans}
 use Rattle.fm_types.proofs.StateOrder.{Fitting, IsUnder, Stands, under-parts}
-use Rattle.fm_types.proofs.Zips.{zip-drop, zip-length}
+use Rattle.fm_types.proofs.Zips.{zip-drop}
 use Rattle.fm_world.specs.Programs.{Outline}
 use Rattle.fm_frames.specs.Acts.{cell_of}
 use Rattle.fm_frames.specs.Sights.{type_numbered}
@@ -67,7 +68,7 @@ module _ (o : Outline) (tree : AreTree o.classes) (store : Store) (own : ℕ) (n
 
   lowest_along : (n : ℕ) (xs ys : List Slot) → AllZip (Stands o) xs ys → AllZip (Stands o) (lowest n xs) (lowest n ys)
   lowest_along n xs ys level =
-      subst (λ k. AllZip (Stands o) (lowest n xs) (drop (k - n) ys)) (zip-length (Stands o) xs ys level)
+      subst (λ k. AllZip (Stands o) (lowest n xs) (drop (k - n) ys)) (length_all_zip (Stands o) xs ys level)
       (zip-drop (Stands o) (length xs - n) xs ys level)
 
   pub frame_along : (s other : TypeState) → is_whole s.stack ≡ true → is_whole other.stack ≡ true → state_fits o s other ≡ true

@@ -23,7 +23,7 @@ use Rattle.fm_frames.specs.Acts.{cell_of, Choose, Did, FullAt, LostAt, performed
 use Rattle.fm_frames.specs.Effects.{Action, Calls, Effect, Enters, Exits, Falls, Faults, Jumps, JumpsIfSame, Next, nothing, OfMade, OfOperand, Returns, Source, Throws}
 use Rattle.fm_frames.specs.Rows.{effect_of}
 use Rattle.fm_frames.specs.Sights.{sights, type_numbered}
-use Rattle.fm_frames.specs.Starts.{start_actions, start_methods, started_by, to_start, with_start}
+use Rattle.fm_frames.specs.Starts.{start_actions, start_methods, to_start, with_start}
 use Rattle.fm_frames.specs.States.{Areas, Frame, Moved, State, word_at}
 use Rattle.fm_frames.specs.Steps.{attempted, Caught, caught, caught_in, continued, effect_by, finished, handler_of, InFrames, next_insn, is_deep, is_over, is_start, Leaves, next_effect, objects_made, returned, stack_after, step, stopped, thrown_by, type_at, written}
 use Rattle.fm_frames.specs.declared.ends.Ended.{Ended}
@@ -40,7 +40,8 @@ use Rattle.fm_law_sound.proofs.ClassStarts.{starts_are_methods}
 use Rattle.fm_law_sound.proofs.FramesStand.{typing_of}
 use Rattle.fm_law_sound.proofs.NextActs.{next_acts_fit}
 use Rattle.fm_law_sound.proofs.Rows.{effect_leads}
-use Rattle.fm_law_sound.proofs.StepsSound.{moved_by, step_sound}
+use Rattle.fm_law_sound.proofs.StartActs.{for_class}
+use Rattle.fm_law_sound.proofs.StepsSound.{moved_by, step_sound, StepLeads}
 use Rattle.fm_law_no_fault.specs.CellsResolved.{CellsAreResolved}
 use Rattle.fm_law_no_fault.specs.Whole.{AreasAreWhole, FrameFits, FrameIsWhole, HasNoFault, HoldsA, IsWholeBy}
 use Rattle.fm_law_no_fault.proofs.ActsKeep.{acts_go, IsAn, types_after, Went, went_first, WentTo}
@@ -59,19 +60,10 @@ use Rattle.fm_law_no_fault.proofs.WaitingFrames.{waiting_whole}
 
 -- ---- where a step leads
 
--- as a call may, or to methods that start classes
-abbrev StepLeads : Program → Frame → Insn → TypeState → Effect → Next → Type 0
-StepLeads p f i after e (Enters methods) = AllByRecursion (StartsClass p) methods
-StepLeads p f i after e next = CallLeads p f i after e next
-
 -- what the start of a class makes of an effect
 abbrev with_methods : Outline → List ℕ → Effect → List ℕ → Effect
 with_methods o classes e [] = record e { starts = None; actions = start_actions o classes ++ e.actions }
 with_methods o classes e (m ∷ methods) = record nothing { actions = start_actions o classes; next = Enters (m ∷ methods) }
-
-abbrev with_class : Outline → List Bool → Effect → Option ℕ → Effect
-with_class o started e None = e
-with_class o started e (Some class) = started_by o (to_start o started class) e
 
 module _ (p : Program) (ready : StepsAreResolved p) (f : Frame) (i : Insn) (after : TypeState) where
   as_call : (e : Effect) (next : Next) → LeadsAs p.outline i after f e next → CallLeads p f i after e next
@@ -103,7 +95,7 @@ module _ (p : Program) (ready : StepsAreResolved p) (f : Frame) (i : Insn) (afte
   methods_lead classes e (m ∷ methods) each leads = each
 
   class_leads : (started : List Bool) (e : Effect) (class : Option ℕ) → CallLeads p f i after e e.next
-      → StepLeads p f i after (with_class p.outline started e class) (with_class p.outline started e class).next
+      → StepLeads p f i after (for_class p.outline started e class) (for_class p.outline started e class).next
   class_leads started e None leads = as_step e e.actions e.starts e.next leads
   class_leads started e (Some class) leads =
       let classes : List ℕ = to_start p.outline started class in

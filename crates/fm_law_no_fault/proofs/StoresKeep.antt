@@ -10,11 +10,12 @@ use Rattle.fm_types.specs.declared.slots.Slot.{Slot}
 use Rattle.fm_types.specs.declared.slots.Slot.TheVariants as slot
 use Rattle.fm_world.specs.Programs.{Outline, Program}
 use Rattle.fm_frames.specs.Acts.{cell_of}
-use Rattle.fm_frames.specs.Sights.{looks, sight, sight_of_cell, sight_of_object, type_numbered}
+use Rattle.fm_frames.specs.Sights.{sight, sight_of_cell, sight_of_object, type_numbered}
 use Rattle.fm_frames.specs.States.{Frame}
 use Rattle.fm_frames.specs.declared.values.Value.{Value}
 use Rattle.fm_frames.specs.declared.values.Value.TheVariants as value
 use Rattle.fm_same.proofs.StoreChanges.{Extends, IsKept}
+use Rattle.fm_law_sound.proofs.SeenObjects.{looks_type}
 use Rattle.fm_law_sound.specs.Sound.{IsReference, Typings}
 use Rattle.fm_law_no_fault.specs.Whole.{CellFits, FrameFits, FrameIsWhole, HoldsA, LeadsToA, LocalFits, lowest, WordFits}
 use Rattle.fm_law_no_fault.specs.Seen.{SeesA}
@@ -72,10 +73,6 @@ frames-later p typings store later more (f ∷ frames) h = (
 )
 
 -- ---- what is seen
-
-looks_type : (o : Outline) (store : Store) (object : Object) → (looks o store object).type ≡ type_numbered o object.class
-unfolding looks
-looks_type o store object = refl
 
 sees_held : (o : Outline) (store : Store) (test : TypeRef → Bool) (object : Object) (found : Option Object) → found ≡ Some object
     → test (type_numbered o object.class) ≡ true → SeesA test (sight_of_object o store found)

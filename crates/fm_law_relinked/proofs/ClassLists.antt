@@ -15,6 +15,7 @@ use Rattle.fm_code.specs.declared.constant_pool.Entry.{Entry}
 use Rattle.fm_code.specs.declared.instructions.Insn.{Insn}
 use Rattle.fm_code.specs.declared.instructions.Insn.TheVariants as insn
 use Rattle.fm_link_names.proofs.MarkLemmas.{other_number}
+use Rattle.fm_link_names.proofs.WantLemmas.{names_it}
 use Rattle.fm_layout.proofs.StillLemmas.{names_target}
 use Rattle.fm_layout.specs.Laid.{laid_of}
 use Rattle.fm_layout.specs.Tables.{moved_handler}
@@ -35,17 +36,12 @@ abbrev kept_if : ℕ → Option ℕ → Option ℕ
 kept_if index None = None
 kept_if index (Some k) = cond (nat_eq index k) (Some k) None
 
--- whether what is named is this index
-abbrev names : ℕ → Option ℕ → Bool
-names index None = false
-names index (Some k) = nat_eq k index
-
 -- a flag that isn't set
 abbrev pub unset : Option Bool → Option Bool
 unset (Some false) = Some false
 unset o = None
 
--- the index that a special call names
+-- the index that a special call names_it
 abbrev pub special_operand : Insn → Option ℕ
 special_operand (insn.Special index) = Some index
 special_operand i = None
@@ -96,9 +92,9 @@ operand_view free index other = record {
 }
 
 -- what is wanted of a field
-field_view : (free index : ℕ) → IsView free (λ i. cond (names index (pool_index i)) (static_field_wanted i) None)
+field_view : (free index : ℕ) → IsView free (λ i. cond (names_it index (pool_index i)) (static_field_wanted i) None)
 field_view free index = record {
-  branches = λ i named. ap (λ o. cond (names index o) (static_field_wanted i) None) (operand_branch i named);
+  branches = λ i named. ap (λ o. cond (names_it index o) (static_field_wanted i) None) (operand_branch i named);
   null = refl;
   doubled = refl;
   load = λ k. refl;
@@ -107,9 +103,9 @@ field_view free index = record {
 }
 
 -- what is wanted of a method that isn't FreeMe.free
-method_view : (free index : ℕ) → (index ≡ free → ⊥) → IsView free (λ i. cond (names index (pool_index i)) (static_method_wanted i) None)
+method_view : (free index : ℕ) → (index ≡ free → ⊥) → IsView free (λ i. cond (names_it index (pool_index i)) (static_method_wanted i) None)
 method_view free index other = record {
-  branches = λ i named. ap (λ o. cond (names index o) (static_method_wanted i) None) (operand_branch i named);
+  branches = λ i named. ap (λ o. cond (names_it index o) (static_method_wanted i) None) (operand_branch i named);
   null = refl;
   doubled = refl;
   load = λ k. refl;
@@ -118,9 +114,9 @@ method_view free index other = record {
 }
 
 -- whether a method is wanted that isn't static
-unset_view : (free index : ℕ) → IsView free (λ i. cond (names index (pool_index i)) (unset (static_method_wanted i)) None)
+unset_view : (free index : ℕ) → IsView free (λ i. cond (names_it index (pool_index i)) (unset (static_method_wanted i)) None)
 unset_view free index = record {
-  branches = λ i named. ap (λ o. cond (names index o) (unset (static_method_wanted i)) None) (operand_branch i named);
+  branches = λ i named. ap (λ o. cond (names_it index o) (unset (static_method_wanted i)) None) (operand_branch i named);
   null = refl;
   doubled = refl;
   load = λ k. refl;
@@ -210,10 +206,10 @@ one_unset true (Some false) rest unset_rest later = refl
 
 -- a flag that isn't set is wanted where some flag is unlike a set one
 any_unset : (index : ℕ) (items : List Item)
-    → list_any (differs true) (filter_map (λ (item : Item). cond (names index (pool_index item.insn)) (static_method_wanted item.insn) None) items)
-    ≡ list_any (λ (flag : Bool). true) (filter_map (λ (item : Item). cond (names index (pool_index item.insn)) (unset (static_method_wanted item.insn)) None) items)
+    → list_any (differs true) (filter_map (λ (item : Item). cond (names_it index (pool_index item.insn)) (static_method_wanted item.insn) None) items)
+    ≡ list_any (λ (flag : Bool). true) (filter_map (λ (item : Item). cond (names_it index (pool_index item.insn)) (unset (static_method_wanted item.insn)) None) items)
 any_unset index [] = refl
-any_unset index (item ∷ items) = one_unset (names index (pool_index item.insn)) (static_method_wanted item.insn) _ _ (any_unset index items)
+any_unset index (item ∷ items) = one_unset (names_it index (pool_index item.insn)) (static_method_wanted item.insn) _ _ (any_unset index items)
 
 -- ---- a changed class
 
@@ -229,12 +225,12 @@ module _ (plans : Plans) (first : ℕ) (c : ClassDef) where
 
   pub fields_wanted : (index : ℕ) → wanted_at static_field_wanted (changed plans first c) index ≡ wanted_at static_field_wanted c index
   fields_wanted index =
-      methods_told (free_index c) (λ i. cond (names index (pool_index i)) (static_field_wanted i) None) (field_view (free_index c) index) plans first c.methods
+      methods_told (free_index c) (λ i. cond (names_it index (pool_index i)) (static_field_wanted i) None) (field_view (free_index c) index) plans first c.methods
 
   pub methods_wanted : (index : ℕ) → (index ≡ free_index c → ⊥)
       → wanted_at static_method_wanted (changed plans first c) index ≡ wanted_at static_method_wanted c index
   methods_wanted index other =
-      methods_told (free_index c) (λ i. cond (names index (pool_index i)) (static_method_wanted i) None) (method_view (free_index c) index other) plans first
+      methods_told (free_index c) (λ i. cond (names_it index (pool_index i)) (static_method_wanted i) None) (method_view (free_index c) index other) plans first
       c.methods
 
   -- at each index instances are wanted where they were
@@ -243,7 +239,7 @@ module _ (plans : Plans) (first : ℕ) (c : ClassDef) where
   instances_wanted index =
       any_unset index (class_items (changed plans first c))
       ∙ ap (list_any (λ (flag : Bool). true))
-      (methods_told (free_index c) (λ i. cond (names index (pool_index i)) (unset (static_method_wanted i)) None) (unset_view (free_index c) index) plans first
+      (methods_told (free_index c) (λ i. cond (names_it index (pool_index i)) (unset (static_method_wanted i)) None) (unset_view (free_index c) index) plans first
       c.methods)
       ∙ sym (any_unset index (class_items c))
 

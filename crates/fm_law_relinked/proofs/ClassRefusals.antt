@@ -2,12 +2,11 @@
 use Rattle.std.proofs.Common.{◌≡◌, refl, sym, ◌∙◌, ap, ℕ, zero, suc, ◌+◌, ◌<◌, ◌≤◌, ◌==◌, ◌||◌, ◌⊎◌, inl, inr, Bool, true, false, cond, List, [], ◌∷◌, ◌++◌, length, length-append, map, Option, Some, None, is_none, is_some, unwrap_or, arith}
 use Rattle.std.specs.List.{AllByRecursion, cons_option, filter, filter_map, flat_map, list_any, range_with_len}
 use Rattle.std.proofs.lemmas.Bool.{cases_eq}
+use Rattle.std.proofs.lemmas.Grind.{flat_map-append}
 use Rattle.std.proofs.lemmas.List.{append-nil}
 use Rattle.fm_law_relinked.proofs.ClassLists.{fields_wanted, instances_wanted, methods_wanted, special_operand, specials_same}
 use Rattle.fm_law_relinked.proofs.ClassStays.{is_other, more_entries, name_is, names_free, superclass_within, text_same, that_index, uses_alike}
 use Rattle.fm_law_relinked.proofs.FreeMethod.{free_class_number, KnowsFree}
-use Rattle.fm_law_relinked.proofs.Outlines.{flat_map_joined}
-use Rattle.fm_law_relinked.proofs.PassedOver.{range_joined}
 use Rattle.fm_law_relinked.proofs.PoolStays.{class_same, entry_same, member_same, method_class, method_entry, method_named, name_same}
 use Rattle.fm_law_relinked.proofs.UsedWithin.{all_items_valid, AreBelow, below_option, flat_map-below, indices_below, insn_below, IsBelow, unused_past, uses_below}
 use Rattle.fm_code.specs.AccessFlags.{is_abstract, is_interface}
@@ -36,6 +35,7 @@ use Rattle.fm_world.specs.Descriptors.{class_in, class_number, class_type, types
 use Rattle.fm_world.specs.Lookups.{is_interface_at, resolved_field, resolved_method}
 use Rattle.fm_world.specs.Uses.{class_items, named_member, pool_indices, uses_in_order}
 use Rattle.fm_world.specs.declared.declarations.DeclaredClass.{DeclaredClass}
+use Rattle.fm_link_records.proofs.MarkedPlaces.{range-append}
 use Rattle.fm_law_spelled.specs.Changed.{changed}
 
 -- ---- lists over indices
@@ -48,8 +48,8 @@ none_past f a (suc n) none = λ k. none a (omega arith) k ++ none_past f (a + 1)
 longer : {A : Type 0} (n m l : ℕ) (f g : ℕ → List A) → l ≡ n + m → ((k : ℕ) → k < n → f k ≡ g k) → ((k : ℕ) → n ≤ k → f k ≡ [])
     → AreBelow n (range_with_len 0 n) → flat_map f (range_with_len 0 l) ≡ flat_map g (range_with_len 0 n)
 longer n m l f g long agree none below =
-    ap (λ k. flat_map f (range_with_len 0 k)) long ∙ ap (flat_map f) (range_joined 0 n m)
-    ∙ flat_map_joined f (range_with_len 0 n) (range_with_len (0 + n) m)
+    ap (λ k. flat_map f (range_with_len 0 k)) long ∙ ap (flat_map f) (range-append 0 n m)
+    ∙ flat_map-append f (range_with_len 0 n) (range_with_len (0 + n) m)
     ∙ (λ k. flat_map-below n f g agree (range_with_len 0 n) below k ++ none_past f (0 + n) m (λ j within. none j (omega (arith, within))) k)
     ∙ append-nil (flat_map g (range_with_len 0 n))
 

@@ -7,10 +7,11 @@ use Rattle.std.proofs.lemmas.List.Elements.{filter-append}
 use Rattle.fm_link_supers.proofs.ParentRefusals.{name_within, some_entries}
 use Rattle.fm_law_relinked.proofs.ClassLists.{arrays_same, used_same}
 use Rattle.fm_law_relinked.proofs.FreeMethod.{free_type}
-use Rattle.fm_law_relinked.proofs.PassedOver.{filter_map-kept, filters_agree, none_in_range, range_joined, values_kept}
+use Rattle.fm_law_relinked.proofs.PassedOver.{filter_map-kept, filters_agree, none_in_range, values_kept}
 use Rattle.fm_law_relinked.proofs.PoolStays.{class_stays, constant_same, method_class, method_no_units, name_same, text_stays, type_same, units_same}
-use Rattle.fm_law_relinked.proofs.UsedWithin.{all_items_valid, class_below, filter_map-below, unused_past, uses_below, value_within}
+use Rattle.fm_law_relinked.proofs.UsedWithin.{all_items_valid, class_below, filter_map-below, such_there, unused_past, uses_below, value_within}
 use Rattle.fm_base.proofs.OptionFacts.{IsSome-from_some, Some-from_some_and, same_value}
+use Rattle.fm_base.proofs.TestFacts.{same-nat_eq}
 use Rattle.fm_base.specs.declared.kinds.TypeRef.{TypeRef}
 use Rattle.fm_code.specs.AccessFlags.{is_interface, is_static}
 use Rattle.fm_code.specs.ConstantPool.{class_name_at, EntryIsValid, method_ref_at, utf8_at}
@@ -27,7 +28,6 @@ use Rattle.fm_code.specs.declared.code_array.Item.{Item}
 use Rattle.fm_code.specs.declared.constant_pool.Entry.{Entry}
 use Rattle.fm_code.specs.declared.instructions.Insn.{Insn}
 use Rattle.fm_code.specs.declared.instructions.Insn.TheVariants as insn
-use Rattle.fm_link_names.proofs.MarkLemmas.{same_number}
 use Rattle.fm_place.specs.Insertions.{Insertions}
 use Rattle.fm_place.specs.Rewriting.{free_index, Plans, rewritten_method, rewritten_methods}
 use Rattle.fm_pool.proofs.FreeEntriesAdded.{free_named}
@@ -39,20 +39,18 @@ use Rattle.fm_world.specs.Descriptors.{class_type, type_in}
 use Rattle.fm_world.specs.Numbers.{text_units}
 use Rattle.fm_world.specs.Uses.{array_of, class_items, is_used, made_array, named_type, uses_in_order}
 use Rattle.fm_world.specs.declared.declarations.DeclaredClass.{DeclaredClass}
+use Rattle.fm_link_records.proofs.MarkedPlaces.{range-append}
 use Rattle.fm_law_spelled.specs.Changed.{changed}
 
 such_text : (entries : List Entry) (index : ℕ) (P : List ℕ → Type 0) → IsSomeAnd (utf8_at entries index) P → IsSome (utf8_at entries index)
 such_text entries index P such = let v = Some-from_some_and (utf8_at entries index) P such in IsSome-from_some (utf8_at entries index) v.0 v.1
-
-pub such_name : (entries : List Entry) (index : ℕ) (P : List ℕ → Type 0) → IsSomeAnd (class_name_at entries index) P → IsSome (class_name_at entries index)
-such_name entries index P such = let v = Some-from_some_and (class_name_at entries index) P such in IsSome-from_some (class_name_at entries index) v.0 v.1
 
 -- all indices but that of FreeMe.free
 abbrev pub is_other : ℕ → ℕ → Bool
 is_other free index = not (nat_eq free index)
 
 pub other_index : (free index : ℕ) → is_other free index ≡ true → index ≡ free → ⊥
-other_index free index other same = false≢true (sym (ap not (ap (nat_eq free) same ∙ same_number free)) ∙ other)
+other_index free index other same = false≢true (sym (ap not (ap (nat_eq free) same ∙ same-nat_eq free)) ∙ other)
 
 pub that_index : (free index : ℕ) → is_other free index ≡ false → free ≡ index
 that_index free index is = by_test (nat_eq free index) refl is where
@@ -136,7 +134,7 @@ module _ (plans : Plans) (first : ℕ) (c : ClassDef) (bytes : List ℕ) (spells
   names_free = free_named c.pool.entries (with_free c.pool.entries) more_entries (free_index c) refl refl
 
   pub name_is : own_name (changed plans first c) ≡ own_name c
-  name_is = ap (λ o. unwrap_or o []) (class_stays c.pool.entries more_entries c.this_class (such_name c.pool.entries c.this_class (λ name. is_binary_name name ≡ true) spells.this_class))
+  name_is = ap (λ o. unwrap_or o []) (class_stays c.pool.entries more_entries c.this_class (such_there c.pool.entries c.this_class (λ name. is_binary_name name ≡ true) spells.this_class))
 
   pub superclass_within : c.super_class < length c.pool.entries
   superclass_within = class_below c.pool.entries (some_entries c.pool.entries spells.pool.slots) c.super_class spells.super_class
@@ -168,7 +166,7 @@ module _ (plans : Plans) (first : ℕ) (c : ClassDef) (bytes : List ℕ) (spells
       let m = length more_entries in
       let old = range_with_len 0 n in
       let new = range_with_len (0 + n) m in
-      let all : range_with_len 0 (length (c.pool.entries ++ more_entries)) ≡ old ++ new = ap (range_with_len 0) (length-append c.pool.entries more_entries) ∙ range_joined 0 n m in
+      let all : range_with_len 0 (length (c.pool.entries ++ more_entries)) ≡ old ++ new = ap (range_with_len 0) (length-append c.pool.entries more_entries) ∙ range-append 0 n m in
       let old_ones : filter other (filter used old) ≡ filter other (filter (is_used c) old) =
       filters_agree other used (is_used c) (λ k passes. used_same plans first c k (other_index (free_index c) k passes)) old in
       let new_ones : filter other (filter used new) ≡ [] =

@@ -1,6 +1,6 @@
 -- States fit still where items have other numbers.
 use Rattle.std.proofs.Common.{◌≡◌, refl, ◌∙◌, ℕ, ◌&&◌, ◌||◌, not, Bool, true, false, List, [], ◌∷◌, ◌++◌, map}
-use Rattle.std.proofs.lemmas.Bool.{false≢true}
+use Rattle.std.proofs.lemmas.Bool.{and_parts, false≢true}
 use Rattle.fm_law_relinked.proofs.RowSteps.{fits_with}
 use Rattle.fm_law_relinked.specs.Rows.{AreApart, slot_with, StatesFitStill}
 use Rattle.fm_types.specs.Fits.{fits}
@@ -8,10 +8,6 @@ use Rattle.fm_types.specs.States.{all_fit, state_fits}
 use Rattle.fm_types.specs.declared.slots.Slot.{Slot}
 use Rattle.fm_types.specs.declared.slots.Slot.TheVariants as slot
 use Rattle.fm_world.specs.Programs.{Outline}
-
-both_hold : (a b : Bool) → (a && b) ≡ true → (a ≡ true) × (b ≡ true)
-both_hold true b e = (refl, e)
-both_hold false b e = absurd (false≢true e)
 
 module _ (numbers : ℕ → ℕ) (apart : AreApart numbers) (o : Outline) where
   abbrev other : Slot → Slot
@@ -41,7 +37,7 @@ module _ (numbers : ℕ → ℕ) (apart : AreApart numbers) (o : Outline) where
   stack_fits [] (y ∷ ys) fit = absurd (false≢true fit)
   stack_fits (x ∷ xs) [] fit = absurd (false≢true fit)
   stack_fits (x ∷ xs) (y ∷ ys) fit =
-      let both = both_hold (fits o x y) (all_fit o xs ys) fit in λ k. (slot_fits x y ∙ both.0) k && stack_fits xs ys both.1 k
+      let both = and_parts (fits o x y) (all_fit o xs ys) fit in λ k. (slot_fits x y ∙ both.0) k && stack_fits xs ys both.1 k
 
   locals_fit : (more others xs ys : List Slot) → all_fit o more others ≡ true → all_fit o xs ys ≡ true
       → all_fit o (map other xs ++ more) (map other ys ++ others) ≡ true
@@ -49,12 +45,12 @@ module _ (numbers : ℕ → ℕ) (apart : AreApart numbers) (o : Outline) where
   locals_fit more others [] (y ∷ ys) behind fit = absurd (false≢true fit)
   locals_fit more others (x ∷ xs) [] behind fit = absurd (false≢true fit)
   locals_fit more others (x ∷ xs) (y ∷ ys) behind fit =
-      let both = both_hold (fits o x y) (all_fit o xs ys) fit in λ k. (slot_fits x y ∙ both.0) k && locals_fit more others xs ys behind both.1 k
+      let both = and_parts (fits o x y) (all_fit o xs ys) fit in λ k. (slot_fits x y ∙ both.0) k && locals_fit more others xs ys behind both.1 k
 
 pub states_fit : StatesFitStill
 unfolding state_fits
 states_fit numbers more others apart o a b fit behind =
-    let first = both_hold (all_fit o a.locals b.locals && all_fit o a.stack b.stack) (a.built || not b.built) fit in
-    let two = both_hold (all_fit o a.locals b.locals) (all_fit o a.stack b.stack) first.0 in
+    let first = and_parts (all_fit o a.locals b.locals && all_fit o a.stack b.stack) (a.built || not b.built) fit in
+    let two = and_parts (all_fit o a.locals b.locals) (all_fit o a.stack b.stack) first.0 in
     λ k.
     (locals_fit numbers apart o more others a.locals b.locals behind two.0 k && stack_fits numbers apart o a.stack b.stack two.1 k) && first.1 k

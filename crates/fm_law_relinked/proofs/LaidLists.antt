@@ -11,7 +11,7 @@ use Rattle.fm_code.specs.declared.instructions.Insn.{Insn}
 use Rattle.fm_code.specs.declared.instructions.Insn.TheVariants as insn
 use Rattle.fm_code.specs.declared.operations.Reg.TheVariants as reg
 use Rattle.fm_layout.proofs.MovedLemmas.{never_wide}
-use Rattle.fm_layout.proofs.ReadsLemmas.{untargeted}
+use Rattle.fm_layout.proofs.ReadsLemmas.{names_target-with, untargeted}
 use Rattle.fm_layout.proofs.StillLemmas.{names_target}
 use Rattle.fm_layout.proofs.WideningLemmas.{AreWider, IsWider, rounds_wider}
 use Rattle.fm_layout.specs.Laid.{firsts_from, item_count, laid_from, laid_items, laid_of, short_item, wide_items}
@@ -34,18 +34,6 @@ pub record IsView {B : Type 0} (free : ℕ) (view : Insn → Option B) : Type 0 
   pub load : (k : ℕ) → view (insn.Load reg.Ref k) ≡ None
   pub store : (k : ℕ) → view (insn.Store reg.Ref k) ≡ None
   pub call : view (insn.Static free) ≡ None
-
--- ---- instructions with targets
-
-named_with : (f : ℕ → ℕ) (i : Insn) → names_target (with_targets f i) ≡ names_target i
-named_with f (insn.IfInt t n) = refl
-named_with f (insn.IfPair t n) = refl
-named_with f (insn.IfSame t n) = refl
-named_with f (insn.IfNull t n) = refl
-named_with f (insn.Goto n) = refl
-named_with f (insn.Table low others targets) = refl
-named_with f (insn.Lookup others keys targets) = refl
-named_with f i = refl
 
 -- ---- rooms of branches
 
@@ -79,7 +67,7 @@ module _ {B : Type 0} (free : ℕ) (view : Insn → Option B) (is : IsView free 
   alike : (f : ℕ → ℕ) (i : Insn) → view (with_targets f i) ≡ view i
   alike f i = by_target (names_target i) refl where
     by_target : (b : Bool) → names_target i ≡ b → view (with_targets f i) ≡ view i
-    by_target true named = is.branches (with_targets f i) (named_with f i ∙ named) ∙ sym (is.branches i named)
+    by_target true named = is.branches (with_targets f i) (names_target-with f i ∙ named) ∙ sym (is.branches i named)
     by_target false plain = ap view (untargeted f i plain)
 
   -- ---- laid items

@@ -3,6 +3,7 @@ use Rattle.std.proofs.Common.{◌≡◌, refl, sym, ◌∙◌, ap, ℕ, ◌+◌,
 use Rattle.std.specs.List.{AllByRecursion, cons_option, filter, filter_map, flat_map, list_any}
 use Rattle.std.specs.Str.{bytes_eq}
 use Rattle.std.proofs.lemmas.Bool.{false≢true}
+use Rattle.std.proofs.lemmas.Grind.{flat_map-append}
 use Rattle.std.proofs.lemmas.List.Elements.{filter-append, filter_map-append}
 use Rattle.fm_law_relinked.proofs.ClassStays.{declared_same, made_same, texts_same, types_alike}
 use Rattle.fm_law_relinked.proofs.FreeMethod.{free_type, free_type_known, type_is}
@@ -39,10 +40,6 @@ either_class plans first c P same new = by_change (changes plans first c) where
   by_change false = same
 
 -- ---- lists
-
-pub flat_map_joined : {A B : Type 0} (f : A → List B) (xs ys : List A) → flat_map f (xs ++ ys) ≡ flat_map f xs ++ flat_map f ys
-flat_map_joined f [] ys = refl
-flat_map_joined f (x ∷ xs) ys = ap (λ l. f x ++ l) (flat_map_joined f xs ys) ∙ sym (append_assoc (f x) (flat_map f xs) (flat_map f ys))
 
 filter_map_mapped : {A B : Type 0} (f : A → Option B) (xs : List A) → filter_map (λ (o : Option B). o) (map f xs) ≡ filter_map f xs
 filter_map_mapped f [] = refl
@@ -150,9 +147,9 @@ module _ (plans : Plans) where
         let new_used = used_types classes (rewritten plans given) in
         let of_used : flat_map arrays_in new_used ≡ flat_map arrays_in used =
         sym (flat_map-kept arrays_in unlike new_used no_arrays) ∙ ap (flat_map arrays_in) (used_alike given spelled) ∙ flat_map-kept arrays_in unlike used no_arrays in
-        flat_map_joined arrays_in new_used (made_arrays classes (rewritten plans given))
+        flat_map-append arrays_in new_used (made_arrays classes (rewritten plans given))
         ∙ (λ k. of_used k ++ flat_map arrays_in (made_alike given spelled k))
-        ∙ sym (flat_map_joined arrays_in used (made_arrays classes given))
+        ∙ sym (flat_map-append arrays_in used (made_arrays classes given))
 
     -- what the types of the classes have already isn't met anew
     types_are : (given : List ClassDef) → AllByRecursion HasSpelling given → list_any (same_type free_type) (class_types classes) ≡ true

@@ -1,5 +1,5 @@
 -- Lists in which some elements are passed over.
-use Rattle.std.proofs.Common.{◌≡◌, refl, sym, ◌∙◌, ap, ℕ, zero, suc, ◌+◌, ◌≤◌, Bool, true, false, cond, not, ◌||◌, List, [], ◌∷◌, ◌++◌, Option, Some, None, arith, zero-add}
+use Rattle.std.proofs.Common.{◌≡◌, refl, sym, ◌∙◌, ap, ℕ, zero, suc, ◌+◌, ◌≤◌, Bool, true, false, cond, not, ◌||◌, List, [], ◌∷◌, ◌++◌, Option, Some, None, arith}
 use Rattle.std.specs.List.{cons_option, filter, filter_map, list_any, range_with_len}
 use Rattle.std.proofs.lemmas.Bool.{false≢true}
 use Rattle.std.proofs.lemmas.List.Elements.{filter-append}
@@ -88,13 +88,6 @@ values_kept f p q fails [] = refl
 values_kept f p q fails (x ∷ xs) = one_value f p q x xs (fails x) (values_kept f p q fails xs)
 
 -- ---- numbers in a row
-
-pub range_joined : (a m n : ℕ) → range_with_len a (m + n) ≡ range_with_len a m ++ range_with_len (a + m) n
-range_joined a zero n = let same : a ≡ a + 0 = omega arith in ap (λ l. range_with_len a l) (zero-add n) ∙ ap (λ s. range_with_len s n) same
-range_joined a (suc m) n =
-    let more : suc m + n ≡ suc (m + n) = omega arith in
-    let start : a + 1 + m ≡ a + suc m = omega arith in
-    ap (λ l. range_with_len a l) more ∙ ap (λ l. a ∷ l) (range_joined (a + 1) m n ∙ ap (λ s. range_with_len (a + 1) m ++ range_with_len s n) start)
 
 first_none : (p q : ℕ → Bool) (a : ℕ) (ks : List ℕ) → (p a ≡ true → q a ≡ false) → filter p (filter q ks) ≡ [] → filter p (filter q (a ∷ ks)) ≡ []
 first_none p q a ks none later = by_test (p a) refl where

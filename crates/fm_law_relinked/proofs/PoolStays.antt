@@ -10,6 +10,7 @@ use Rattle.fm_code.specs.ConstantPool.{class_name_at, entry_at, EntryIsValid, Is
 use Rattle.fm_code.specs.Names.{IsClassName}
 use Rattle.fm_code.specs.declared.constant_pool.Entry.{Entry}
 use Rattle.fm_code.specs.declared.constant_pool.Entry.TheVariants as entry
+use Rattle.fm_link_names.proofs.NameLemmas.{named_member_by}
 use Rattle.fm_link_names.specs.inner.Files.{by_class, class_of_entry, member_of_entry}
 use Rattle.fm_pool.proofs.GrownPool.{class_kept, pair_kept, text_kept}
 use Rattle.fm_link_records.proofs.UseLaws.{resolved_at-by, resolved_by}
@@ -24,14 +25,9 @@ use Rattle.fm_world.specs.declared.declarations.Constant.TheVariants as constant
 use Rattle.fm_world.specs.declared.declarations.DeclaredClass.{DeclaredClass}
 use Rattle.fm_world.specs.declared.uses.Use.{Use}
 use Rattle.fm_world.specs.declared.uses.Use.TheVariants as resolved
+use Rattle.fm_law_spelled.proofs.KeptNames.{no_member}
 
 -- ---- what is at an index, by its entry
-
-member_by : (entries : List Entry) (index : ℕ) (e : Entry) → entry_at entries index ≡ e → named_member entries index ≡ member_of_entry (member_named entries) e
-member_by entries index (entry.Field class member) is = rw is (rw is refl)
-member_by entries index (entry.Method class member) is = rw is (rw is refl)
-member_by entries index (entry.InterfaceMethod class member) is = rw is (rw is refl)
-member_by entries index e is = rw is refl
 
 abbrev units_in : (ℕ → List ℕ) → Entry → Option (List ℕ)
 units_in text_of (entry.Text text) = Some (units (text_of text))
@@ -55,9 +51,6 @@ constant_by entries index e is = rw is refl
 
 -- ---- a method
 
-no_member : (m : MemberName) → None ≡ Some m → ⊥
-no_member m e = cc
-
 -- the entry that names a method
 pub method_entry : (entries : List Entry) (index : ℕ) (m : MemberName) → method_ref_at entries index ≡ Some m
     → (class : ℕ) × (member : ℕ) × (entry_at entries index ≡ entry.Method class member) × (member_named entries class member ≡ Some m)
@@ -68,7 +61,7 @@ method_entry entries index m is = by (entry_at entries index) refl where
   by e here = absurd (no_member m (rw here at is))
 
 pub method_named : (entries : List Entry) (index : ℕ) (m : MemberName) → method_ref_at entries index ≡ Some m → named_member entries index ≡ Some m
-method_named entries index m is = let e = method_entry entries index m is in member_by entries index (entry.Method e.0 e.1) e.2 ∙ e.3
+method_named entries index m is = let e = method_entry entries index m is in named_member_by entries index (entry.Method e.0 e.1) e.2 ∙ e.3
 
 pub method_class : (entries : List Entry) (index : ℕ) (m : MemberName) → method_ref_at entries index ≡ Some m → named_class entries index ≡ Some m.class
 method_class entries index m is =
@@ -165,8 +158,8 @@ module _ (entries more : List Entry) where
 
     pub member_same : named_member (entries ++ more) index ≡ named_member entries index
     member_same =
-        member_by (entries ++ more) index (entry_at entries index) entry_same ∙ member_of_valid (entry_at entries index) valid_here
-        ∙ sym (member_by entries index (entry_at entries index) refl)
+        named_member_by (entries ++ more) index (entry_at entries index) entry_same ∙ member_of_valid (entry_at entries index) valid_here
+        ∙ sym (named_member_by entries index (entry_at entries index) refl)
 
     pub name_same : class_name_at (entries ++ more) index ≡ class_name_at entries index
     name_same =

@@ -110,7 +110,7 @@ ready_this (slot.Ref t) ready = refl
 ready_this (slot.Uninit another) ready = refl
 ready_this slot.UninitThis ready = absurd ready
 
-length_cut : (k : ℕ) (locals : List Slot) → length (cut_before k locals) ≡ length locals
+pub length_cut : (k : ℕ) (locals : List Slot) → length (cut_before k locals) ≡ length locals
 length_cut zero locals = refl
 length_cut (suc k) locals = by_test (is_long (local_at locals k)) where
   by_test : (b : Bool) → length (cond b (set locals k slot.Top) locals) ≡ length locals

@@ -1,6 +1,6 @@
 -- The indices that a spelled class uses are in its pool.
 use Rattle.std.proofs.Common.{◌≡◌, refl, ◌∙◌, ap, subst, ℕ, zero, suc, ◌+◌, ◌<◌, ◌≤◌, ◌==◌, ◌⊎◌, inl, inr, Bool, true, false, cond, ◌||◌, List, [], ◌∷◌, ◌++◌, length, map, Option, Some, None, IsSome, IsSomeAnd, arith, zero-add}
-use Rattle.std.specs.List.{AllByRecursion, cons_option, filter, filter_map, flat_map, range_with_len}
+use Rattle.std.specs.List.{AllByRecursion, cons_option, filter_map, flat_map, range_with_len}
 use Rattle.std.proofs.lemmas.Bool.{cases_lt, false≢true}
 use Rattle.std.proofs.lemmas.List.{get_or_past}
 use Rattle.fm_link_supers.proofs.ParentRefusals.{name_within, some_entries}
@@ -27,6 +27,7 @@ use Rattle.fm_code.specs.declared.opcodes.TheConstants.{LDC2_W}
 use Rattle.fm_link_names.proofs.MarkLemmas.{other_number}
 use Rattle.fm_world.specs.Chains.{is_among}
 use Rattle.fm_world.specs.Uses.{caught_by, class_items, is_used, items_of, pool_indices, used_indices, uses_in_order, values_of}
+use Rattle.fm_conn.proofs.TypeLemmas.{filter_all}
 
 -- numbers below a bound
 abbrev pub AreBelow : ℕ → List ℕ → Type 0
@@ -176,7 +177,7 @@ module _ (entries : List Entry) where
 
 -- ---- a class
 
-such_there : (entries : List Entry) (index : ℕ) (P : List ℕ → Type 0) → IsSomeAnd (class_name_at entries index) P → IsSome (class_name_at entries index)
+pub such_there : (entries : List Entry) (index : ℕ) (P : List ℕ → Type 0) → IsSomeAnd (class_name_at entries index) P → IsSome (class_name_at entries index)
 such_there entries index P such = let v = Some-from_some_and (class_name_at entries index) P such in IsSome-from_some (class_name_at entries index) v.0 v.1
 
 pub used_below : (c : ClassDef) → HasSpelling c → AreBelow (length c.pool.entries) (used_indices c)
@@ -220,15 +221,11 @@ one_filtered : {A : Type 0} (P : A → Type 0) (b : Bool) (x : A) (ys : List A) 
 one_filtered P true x ys here later = (here, later)
 one_filtered P false x ys here later = later
 
-filtered_all : {A : Type 0} (P : A → Type 0) (p : A → Bool) (xs : List A) → AllByRecursion P xs → AllByRecursion P (filter p xs)
-filtered_all P p [] all = tt
-filtered_all P p (x ∷ xs) all = one_filtered P (p x) x (filter p xs) all.0 (filtered_all P p xs all.1)
-
 pub indices_below : (c : ClassDef) → AreBelow (length c.pool.entries) (pool_indices c)
 indices_below c = subst (λ n. AreBelow n (pool_indices c)) (zero-add (length c.pool.entries)) (range_below 0 (length c.pool.entries))
 
 pub uses_below : (c : ClassDef) → AreBelow (length c.pool.entries) (uses_in_order c)
-uses_below c = filtered_all (λ k. k < length c.pool.entries) (is_used c) (pool_indices c) (indices_below c)
+uses_below c = filter_all (λ k. k < length c.pool.entries) (is_used c) (pool_indices c) (indices_below c)
 
 -- ---- lists over such numbers
 

@@ -1,10 +1,11 @@
 -- The row of a call of FreeMe.free takes whatever reference is on top.
 use Rattle.std.proofs.Common.{◌≡◌, refl, ◌∙◌, ap, ℕ, ◌==◌, Bool, true, false, ◌||◌, cond, List, [], ◌∷◌, Option, Some, None, option_and_then, option_map, codes, arith}
+use Rattle.std.proofs.lemmas.Bool.{or_right}
 use Rattle.std.specs.Prelude.{option_to_list, unwrap_or}
 use Rattle.std.specs.Str.{bytes_eq}
-use Rattle.fm_link_supers.proofs.Downwards.{or_true, same_number}
 use Rattle.fm_law_relinked.proofs.FreeMethod.{free_method_number}
 use Rattle.fm_law_relinked.proofs.FreeUse.{HasFree, type_found}
+use Rattle.fm_base.proofs.TestFacts.{same-nat_eq}
 use Rattle.fm_base.specs.declared.kinds.Kind.{Kind}
 use Rattle.fm_base.specs.declared.kinds.Kind.TheVariants as kind
 use Rattle.fm_base.specs.declared.kinds.TypeRef.{TypeRef}
@@ -74,7 +75,7 @@ module _ (given : List ClassDef) (main : List ℕ) (tree : AreTree (outline_of g
   unfolding fits
   fits_object t =
       let there : is_object_base o.classes (of_class (object_of o.classes)) ≡ true =
-      or_true (is_interface_at o.classes (object_of o.classes)) (object_of o.classes == object_of o.classes) (same_number (object_of o.classes)) in
+      or_right (is_interface_at o.classes (object_of o.classes)) (object_of o.classes == object_of o.classes) (same-nat_eq (object_of o.classes)) in
       below_objects-fits o.classes t (type_of_class (object_of o.classes)) (omega arith) there
 
   object_taken : (t : TypeRef) (s : TypeState) → worked o (object_slot o ∷ []) [] (pushed (slot.Ref t ∷ []) s) ≡ Some s

@@ -2,7 +2,6 @@
 use Rattle.std.proofs.Common.{◌≡◌, refl, sym, ◌∙◌, ap, ℕ, true, false, ◌⊎◌, inl, inr, List, [], ◌∷◌, ◌++◌, Option, Some, None, option_map}
 use Rattle.std.proofs.lemmas.Option.{none-some, same_Some}
 use Rattle.fm_base.specs.declared.kinds.TypeRef.{TypeRef}
-use Rattle.fm_code.specs.Edges.{falls_through}
 use Rattle.fm_code.specs.SpellsCode.{with_targets}
 use Rattle.fm_code.specs.declared.instructions.Insn.{Insn}
 use Rattle.fm_code.specs.declared.instructions.Insn.TheVariants as insn
@@ -142,9 +141,3 @@ branch_keeps o method item news u (condition.Int test) t s after is = worked_kee
 branch_keeps o method item news u (condition.Pair test) t s after is = worked_keeps o (int_word ++ int_word) [] s after is
 branch_keeps o method item news u (condition.Same same) t s after is = worked_keeps o (object_slot o ∷ object_slot o ∷ []) [] s after is
 branch_keeps o method item news u (condition.Null null) t s after is = worked_keeps o (object_slot o ∷ []) [] s after is
-
-pub branch_falls : (c : Condition) (t : ℕ) → falls_through (conditional c t) ≡ true
-branch_falls (condition.Int test) t = refl
-branch_falls (condition.Pair test) t = refl
-branch_falls (condition.Same same) t = refl
-branch_falls (condition.Null null) t = refl

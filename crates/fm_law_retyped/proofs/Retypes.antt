@@ -15,9 +15,10 @@ use Rattle.fm_code.specs.declared.code_array.Handler.{Handler}
 use Rattle.fm_code.specs.declared.instructions.Insn.{Insn}
 use Rattle.fm_law_relinked.proofs.RowSteps.{whole_with}
 use Rattle.fm_law_relinked.specs.Rows.{slot_with}
+use Rattle.fm_law_woven_flow.proofs.LaidItems.{falls-conditional}
 use Rattle.fm_law_woven_flow.specs.Roles.{DupAfter, FallsAt, Follows, FreeBefore, HasHolder, HasInsn, IsBranch, IsEntry, IsOwnerReached, JumpOf, Keep, LoadBefore, NullBefore, owner, Role, StartNull, StartStore, StoreAfter, StoreBefore}
 use Rattle.fm_place.specs.Insertions.{after_at}
-use Rattle.fm_law_retyped.proofs.KeptRows.{branch_falls, branch_keeps, KeepsLocals}
+use Rattle.fm_law_retyped.proofs.KeptRows.{branch_keeps, KeepsLocals}
 use Rattle.fm_law_retyped.proofs.RoleRows.{after_small, after_whole, dup_after, entered, entry_count, Fits, free_before, Goes, held_at, held_type, jump_of, keep, load_before, null_before, Old, old_at, old_state, start_null, start_store, state_after_is, store_after, store_before}
 use Rattle.fm_law_retyped.proofs.RoleStates.{begun, CanRetype, held_slot, held_slots, kept_state, Retyping, role_state, role_states, start_state, state_after}
 use Rattle.fm_law_retyped.proofs.SlotLists.{begun_count, begun_none, entry_more, held_count}
@@ -29,6 +30,7 @@ use Rattle.fm_types.specs.Typed.{after_item, caught_type, entry_state, FitsAt, F
 use Rattle.fm_types.specs.declared.slots.Slot.{Slot}
 use Rattle.fm_types.specs.declared.slots.Slot.TheVariants as slot
 use Rattle.fm_world.specs.Programs.{Outline, Program}
+use Rattle.fm_link_supers.proofs.ParentRefusals.{past_none}
 
 -- ---- what is caught
 
@@ -52,11 +54,6 @@ pub each_contained : (P : Handler → Type 0) (handlers : List Handler) (h : Han
 each_contained P [] h all (k, inside, there) = absurd (omega (arith, inside))
 each_contained P (x ∷ handlers) h all (zero, inside, there) = subst P there all.0
 each_contained P (x ∷ handlers) h all (suc k, inside, there) = each_contained P handlers h all.1 (k, omega (arith, inside), there)
-
-none_past : {X : Type 0} (xs : List X) (k : ℕ) → slice_get xs k ≡ None → length xs ≤ k
-none_past [] k none = omega arith
-none_past (x ∷ xs) zero none = absurd (none-some x (sym none))
-none_past (x ∷ xs) (suc k) none = let rest = none_past xs k none in omega (arith, rest)
 
 -- ---- what is reached is there
 
@@ -217,7 +214,7 @@ module _ (w : Retyping) (f : CanRetype w) where
       sym (ap (option_and_then (λ y. row_after o w.method j (made_at w.given w.method w.code) (use_by w.given w.method y) y x.s)) found.1) ∙ x.after_is in
       let cut = ap (λ y. row_after o w.method j (made_at w.given w.method w.code) (use_by w.given w.method i) y x.s) (sym branch.is) ∙ row in (
         branch_keeps o w.method j (made_at w.given w.method w.code) (use_by w.given w.method i) branch.condition branch.target x.s x.after cut,
-        IsSomeAnd-from_some (insn_of w.code j) (λ y. falls_through y ≡ true) i found.1 (ap falls_through branch.is ∙ branch_falls branch.condition branch.target),
+        IsSomeAnd-from_some (insn_of w.code j) (λ y. falls_through y ≡ true) i found.1 (ap falls_through branch.is ∙ falls-conditional branch.condition branch.target),
       )
 
   fine : (n : ℕ) (r : Role) (s : TypeState) → slice_get w.roles n ≡ Some r → role_state w r ≡ Some s → Fine n r s
@@ -342,7 +339,7 @@ module _ (w : Retyping) (f : CanRetype w) where
         ((λ is. reached.1 (own.0 (sym same ∙ is))), (λ path. same ∙ own.1 (reached.0 path)))
     by_role None none = ((λ is. absurd (false≢true (sym (ap is_some past) ∙ is))), (λ path. absurd (outside path))) where
       behind : length w.roles ≤ n
-      behind = none_past w.roles n none
+      behind = past_none w.roles n none
 
       past : state_at (role_states w) n ≡ None
       past = let all = length-map w.roles (role_state w) in get_or_past (role_states w) n None (omega (arith, all, behind))
@@ -377,6 +374,6 @@ module _ (w : Retyping) (f : CanRetype w) where
       by_role : (found : Option Role) → slice_get w.roles n ≡ found → MeetsItem w.written w.method w.woven (role_states w) n s
       by_role (Some r) there = meets n r s there (fine n r s there (sym (role_at n r there) ∙ at))
       by_role None none =
-          let behind = none_past w.roles n none in
+          let behind = past_none w.roles n none in
           let all = length-map w.roles (role_state w) in
           absurd (none-some s (sym (get_or_past (role_states w) n None (omega (arith, all, behind))) ∙ at))

@@ -1,12 +1,14 @@
 -- Each item of code with insertions meets its row at the state written out, and what it brings fits the states of those that follow.
-use Rattle.std.proofs.Common.{◌≡◌, refl, sym, ◌∙◌, ap, subst, ℕ, suc, ◌+◌, ◌<◌, ◌≤◌, ◌⊎◌, inl, inr, Bool, true, false, not, ◌||◌, cond, List, [], ◌∷◌, ◌++◌, length, map, set, Option, Some, None, is_some, option_and_then, option_map, IsSomeAnd, Contains, arith}
+use Rattle.std.proofs.Common.{◌≡◌, refl, sym, ◌∙◌, ap, subst, ℕ, suc, ◌+◌, ◌<◌, ◌≤◌, ◌⊎◌, inl, inr, Bool, true, false, ◌||◌, cond, List, [], ◌∷◌, ◌++◌, length, map, set, Option, Some, None, is_some, option_and_then, option_map, IsSomeAnd, Contains, arith}
 use Rattle.std.specs.Prelude.{nat_lt, slice_get}
 use Rattle.std.specs.List.{AllZip}
 use Rattle.std.proofs.lemmas.Bool.{cases_lt, le-ltb}
 use Rattle.std.proofs.lemmas.List.{length-map, set-get_or}
+use Rattle.std.proofs.lemmas.List.Elements.{length_all_zip}
 use Rattle.std.proofs.lemmas.Option.{none-some}
 use Rattle.fm_base.proofs.OptionFacts.{IsSomeAnd-from_some, IsSomeAnd-weaker, Some-from_some_and}
 use Rattle.fm_base.specs.declared.kinds.TypeRef.{TypeRef}
+use Rattle.fm_code.proofs.EdgesLemmas.{insn_inside}
 use Rattle.fm_code.specs.Edges.{falls_through, insn_of, IsNormalEdge, LeadsTo}
 use Rattle.fm_code.specs.SpellsCode.{LocalsFit, targets_of}
 use Rattle.fm_code.specs.declared.instructions.Insn.{Insn}
@@ -17,19 +19,19 @@ use Rattle.fm_law_relinked.proofs.RowsBlind.{rows_blind}
 use Rattle.fm_law_relinked.proofs.RowSteps.{whole_with}
 use Rattle.fm_law_relinked.specs.Rows.{slot_with}
 use Rattle.fm_law_woven_flow.specs.Roles.{DupAfter, FallsAt, Follows, FreeBefore, GoesOn, GoesTo, HasInsn, IsOpposite, IsRetargeted, IsEntry, JumpOf, Keep, LoadBefore, NullBefore, Role, StartNull, StartStore, StoreAfter, StoreBefore}
-use Rattle.fm_check_walk.proofs.MergingLemmas.{fits-from, fits-parts, state-refl, state-trans}
+use Rattle.fm_check_walk.proofs.MergingLemmas.{built-refl, fits-from, fits-parts, state-refl, state-trans}
 use Rattle.fm_place.specs.Insertions.{after_at}
 use Rattle.fm_place.specs.Woven.{local_of}
 use Rattle.fm_law_retyped.proofs.HolderRows.{holder_loaded, holder_stored}
 use Rattle.fm_law_retyped.proofs.KeptRows.{IsSameRow, same_row}
 use Rattle.fm_law_retyped.proofs.RoleStates.{begun, CanRetype, held_slot, held_slots, IsHeld, kept_state, made_by, Retyping, role_state, start_state, state_after}
-use Rattle.fm_law_retyped.proofs.SlotLists.{begun_all, begun_count, begun_more, begun_short, entry_same, held_count, held_is, held_nulled, held_ready, held_short, insn_inside, no_insn, trimmed_still}
+use Rattle.fm_law_retyped.proofs.SlotLists.{begun_all, begun_count, begun_more, begun_short, entry_same, held_count, held_is, held_nulled, held_ready, held_short, no_insn, trimmed_still}
 use Rattle.fm_law_retyped.proofs.Trims.{locals_at}
 use Rattle.fm_law_retyped.proofs.Trimmed.{trimmed}
 use Rattle.fm_types.proofs.Order.{fits-refl}
 use Rattle.fm_types.proofs.RowOrder.{rows-keep_whole}
 use Rattle.fm_types.proofs.StateOrder.{all_fit-from, Fitting}
-use Rattle.fm_types.proofs.Zips.{zip-append, zip-length, zip-refl}
+use Rattle.fm_types.proofs.Zips.{zip-append, zip-refl}
 use Rattle.fm_types.specs.Moves.{moved}
 use Rattle.fm_types.specs.NumberRows.{load_row, move_row, store_row}
 use Rattle.fm_types.specs.Rows.{row_after}
@@ -38,10 +40,6 @@ use Rattle.fm_types.specs.Typed.{after_item, entry_state, FitsAt, made_at, Meets
 use Rattle.fm_types.specs.declared.slots.Slot.{Slot}
 use Rattle.fm_types.specs.declared.slots.Slot.TheVariants as slot
 use Rattle.fm_world.specs.Programs.{Outline}
-
-built_same : (b : Bool) → (b || not b) ≡ true
-built_same true = refl
-built_same false = refl
 
 module _ (w : Retyping) (f : CanRetype w) where
   abbrev o : Outline
@@ -164,7 +162,7 @@ module _ (w : Retyping) (f : CanRetype w) where
       let inside = inside_of j x falls in
       let next = Some-from_some_and (state_at w.states (j + 1)) (λ s. state_fits o x.after s ≡ true) (x.each (j + 1) (edge_on j falls inside)) in
       let parts = fits-parts o x.after next.0 next.2 in
-      let same = zip-length (Fitting o) x.after.stack next.0.stack parts.stack in
+      let same = length_all_zip (Fitting o) x.after.stack next.0.stack parts.stack in
       let small = (f.typing.items (j + 1) next.0 next.1).stack in
       omega (arith, same, small)
 
@@ -250,7 +248,7 @@ module _ (w : Retyping) (f : CanRetype w) where
         locals = zip-append (Fitting o) e.locals e.locals (set (begun h w.types) h slot.Null) (begun (suc h) w.types) (same_fits e.locals)
             (begun_more o f.tree h w.types (omega (arith, within, all)));
         stack = tt;
-        built = built_same e.built;
+        built = built-refl e.built;
       })
 
   -- once all holders are null the state is that of the first item
@@ -351,7 +349,7 @@ module _ (w : Retyping) (f : CanRetype w) where
           locals = zip-append (Fitting o) (own x.s) (own x.s) (set slots h slot.Null) slots (same_fits (own x.s))
               (held_nulled o f.tree h w.types (omega (arith, within, all)));
           stack = same_fits (map (slot_with w.numbers) x.s.stack);
-          built = built_same x.s.built;
+          built = built-refl x.s.built;
         })
 
     each : (to : Role) → Follows w.code w.plan (StoreBefore j h) to → Fits to after

@@ -8,11 +8,14 @@ use Rattle.fm_link_supers.proofs.ParentRefusals.{spelled_at}
 use Rattle.fm_law_relinked.proofs.Codes.{codes_woven, no_code}
 use Rattle.fm_law_relinked.proofs.FreeUse.{ClassTypesAreNumbered, has_free}
 use Rattle.fm_law_relinked.specs.Codes.{code_with}
+use Rattle.fm_base.proofs.ContainsFacts.{Contains-none}
+use Rattle.fm_base.proofs.ListFacts.{AllByRecursion-at}
 use Rattle.fm_base.proofs.OptionFacts.{IsSomeAnd-from_some, option_map-some, same_value, Some-from_some_and}
+use Rattle.fm_base.proofs.TestFacts.{and_left}
 use Rattle.fm_base.specs.declared.ids.MethodId.{MethodId}
 use Rattle.fm_base.specs.declared.ids.TypeId.{TypeId}
 use Rattle.fm_base.specs.declared.kinds.TypeRef.{TypeRef}
-use Rattle.fm_code.proofs.EdgesLemmas.{Contains-first, Contains-later, MeetsCodeRules-method}
+use Rattle.fm_code.proofs.EdgesLemmas.{Contains-first, Contains-later, insn_inside, MeetsCodeRules-method}
 use Rattle.fm_code.specs.AccessFlags.{is_static}
 use Rattle.fm_code.specs.Edges.{falls_through, insn_of, MeetsCodeRules}
 use Rattle.fm_code.specs.Spells.{HasSpelling}
@@ -34,14 +37,14 @@ use Rattle.fm_place.specs.Rewriting.{free_index, Plans, rewritten, rewritten_cla
 use Rattle.fm_place.specs.Safe.{AreSafe, IsSafeHolder, method_in_facts}
 use Rattle.fm_place.specs.Sites.{is_captured, kind_of_site, site_class, site_kind}
 use Rattle.fm_place.specs.Woven.{woven_code}
+use Rattle.fm_law_linked.proofs.CodedMethods.{contains_at}
 use Rattle.fm_law_linked.specs.Laws.{IsLinkedWell, ProgramsAreLinkedWell, StepsAreLinked, StepsOfProgramsAreLinked}
 use Rattle.fm_law_retyped.proofs.FreeRow.{free_row}
 use Rattle.fm_law_retyped.proofs.KeptRows.{same_row}
 use Rattle.fm_law_retyped.proofs.Retypes.{retyped}
 use Rattle.fm_law_retyped.proofs.RoleStates.{CanRetype, Frees, held_slots, IsHeld, Retyping, role_states}
 use Rattle.fm_law_retyped.proofs.SameTypings.{made_same, same_typing}
-use Rattle.fm_law_retyped.proofs.SiteStates.{GivesObject, site-falls, site-gives}
-use Rattle.fm_law_retyped.proofs.SlotLists.{insn_inside}
+use Rattle.fm_law_retyped.proofs.SiteStates.{GivesObject, site-gives}
 use Rattle.fm_law_retyped.proofs.Trims.{all_trimmed, locals_at, trimmed_at, trimmed_row, trimmed_twice, typings_trimmed}
 use Rattle.fm_law_retyped.proofs.WrittenMethods.{HasMember, IsWritten, written_method}
 use Rattle.fm_law_retyped.proofs.WrittenUses.{free_use, freed_use, handler_use, insn_use, outlines_same, program_outline, used_by_item}
@@ -58,31 +61,15 @@ use Rattle.fm_world.specs.Numbers.{type_of_class}
 use Rattle.fm_world.specs.Programs.{code_at, Outline, Program, program_of}
 use Rattle.fm_code.specs.Operands.{pool_index}
 use Rattle.fm_world.specs.declared.uses.Use.TheVariants as resolved
+use Rattle.fm_same.proofs.SiteNodes.{sites-fall}
 
 -- ---- lists
-
-all_at : {X : Type 0} (P : X → Type 0) (xs : List X) (k : ℕ) (x : X) → AllByRecursion P xs → slice_get xs k ≡ Some x → P x
-all_at P [] k x all at = absurd (none-some x at)
-all_at P (y ∷ xs) zero x all at = subst P (same_Some y x at) all.0
-all_at P (y ∷ xs) (suc k) x all at = all_at P xs k x all.1 at
-
-contained_at : {X : Type 0} (xs : List X) (k : ℕ) (x : X) → slice_get xs k ≡ Some x → Contains xs x
-contained_at [] k x at = absurd (none-some x at)
-contained_at (y ∷ xs) zero x at = Contains-first y xs x (sym (same_Some y x at))
-contained_at (y ∷ xs) (suc k) x at = Contains-later y xs x (contained_at xs k x at)
 
 contained_mapped : (moved : Handler → Handler) (handlers : List Handler) (h : Handler) → Contains handlers h → Contains (map moved handlers) (moved h)
 contained_mapped moved [] h (k, inside, there) = absurd (omega (arith, inside))
 contained_mapped moved (x ∷ handlers) h (zero, inside, there) = Contains-first (moved x) (map moved handlers) (moved h) (ap moved (sym there))
 contained_mapped moved (x ∷ handlers) h (suc k, inside, there) =
     Contains-later (moved x) (map moved handlers) (moved h) (contained_mapped moved handlers h (k, omega (arith, inside), there))
-
-none_contained : {X : Type 0} (x : X) → Contains [] x → ⊥
-none_contained x (k, inside, there) = omega (arith, inside)
-
-first_of : (a b : Bool) → (a && b) ≡ true → a ≡ true
-first_of true b is = refl
-first_of false b is = absurd (false≢true is)
 
 -- ---- the types of holders
 
@@ -146,13 +133,13 @@ holder_after facts t plan safe j h there =
     let n = numbers-found (λ (g : Holder). g.site == j) 0 plan.holders h there in
     let number : n.place ≡ h = let is = n.number in omega (arith, is) in
     let site_is : n.holder.site ≡ j = eqb-true n.holder.site j n.passes in
-    let one = all_at (IsSafeHolder facts t) plan.holders n.place n.holder safe.holders n.there in
+    let one = AllByRecursion-at (IsSafeHolder facts t) plan.holders n.place n.holder safe.holders n.there in
     record {
       holder = n.holder;
       at = ap (slice_get plan.holders) (sym number) ∙ n.there;
       site_is = site_is;
       some = ap (λ k. is_some (site_kind facts t k)) (sym site_is)
-          ∙ first_of (is_some (site_kind facts t n.holder.site)) (is_captured facts t (site_class facts t n.holder.site)) one.captured;
+          ∙ and_left (is_some (site_kind facts t n.holder.site)) (is_captured facts t (site_class facts t n.holder.site)) one.captured;
     }
 
 -- what is inserted safely can be
@@ -161,7 +148,7 @@ safe_can facts t plan safe = record {
   some = safe.some;
   goes_on = λ j h there.
       let site = site_at facts t j (holder_after facts t plan safe j h there).some in
-      IsSomeAnd-from_some (insn_of t.code j) (λ i. falls_through i ≡ true) site.i site.there (site-falls facts t j site.i site.kind_some);
+      IsSomeAnd-from_some (insn_of t.code j) (λ i. falls_through i ≡ true) site.i site.there (sites-fall facts t j site.i site.kind_some);
 }
 
 -- ---- a method
@@ -273,7 +260,7 @@ module _ (numbered : ClassTypesAreNumbered) (stand : CodesStand) (given : List C
         let row = sym (ap (option_and_then (λ k.
         row_after (program_of given main).outline method j (made_at (program_of given main) method code) (use_by (program_of given main) method k) k s)) site.there) ∙ is in
         site-gives facts t j (made_at (program_of given main) method code) s after steps.constructors i site.kind_some at
-        (λ kind. ready holder.holder s (contained_at plan.holders h holder.holder holder.at)
+        (λ kind. ready holder.holder s (contains_at plan.holders h holder.holder holder.at)
         (ap (site_kind facts t) holder.site_is ∙ site.same ∙ kind) (ap (state_at (facts.typing method)) holder.site_is ∙ at))
         (no_static j i site.there) row
 
@@ -355,7 +342,7 @@ module _ (numbered : ClassTypesAreNumbered) (stand : CodesStand) (given : List C
           let may = (safe.items j within).may h there in slice_get_within plan.holders h may.holder may.is
       by_place (inr past) =
           let count = safe.one_each in
-          absurd (none_contained h (subst (λ l. Contains l h) (get_or_past plan.before j [] (omega (arith, past, count))) there))
+          absurd (Contains-none h (subst (λ l. Contains l h) (get_or_past plan.before j [] (omega (arith, past, count))) there))
 
     can_retype : CanRetype w
     can_retype = record {

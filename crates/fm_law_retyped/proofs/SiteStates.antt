@@ -4,9 +4,10 @@ use Rattle.std.proofs.Common.{◌≡◌, refl, ap, sym, ◌∙◌, ℕ, zero, su
 use Rattle.std.specs.Prelude.{nat_le, nat_lt, option_to_list}
 use Rattle.std.specs.List.{list_any}
 use Rattle.std.proofs.lemmas.Bool.{false≢true}
-use Rattle.std.proofs.lemmas.List.{length-reverse, reverse-append}
+use Rattle.std.proofs.lemmas.List.Elements.{length_all_zip}
 use Rattle.std.proofs.lemmas.Option.{none-some, option_and_then_some, same_Some}
 use Rattle.fm_base.proofs.OptionFacts.{cond-some_else, cond-some_then}
+use Rattle.fm_base.proofs.TestFacts.{and_left, and_right}
 use Rattle.fm_base.specs.declared.ids.MethodId.{MethodId}
 use Rattle.fm_base.specs.declared.ids.TypeId.{TypeId}
 use Rattle.fm_base.specs.declared.kinds.Base.{Base}
@@ -14,7 +15,6 @@ use Rattle.fm_base.specs.declared.kinds.Kind.{Kind}
 use Rattle.fm_base.specs.declared.kinds.Kind.TheVariants as kind
 use Rattle.fm_base.specs.declared.kinds.TypeRef.{TypeRef}
 use Rattle.fm_code.specs.AccessFlags.{is_static}
-use Rattle.fm_code.specs.Edges.{falls_through}
 use Rattle.fm_code.specs.declared.instructions.Insn.{Insn}
 use Rattle.fm_code.specs.declared.instructions.Insn.TheVariants as insn
 use Rattle.fm_conn.specs.Facts.{Facts}
@@ -23,11 +23,13 @@ use Rattle.fm_conn.specs.Pairs.{call_of, call_with, use_at}
 use Rattle.fm_conn.specs.Rows.{is_reference_kind, words_taken}
 use Rattle.fm_conn.specs.Summaries.{same_number}
 use Rattle.fm_frames.specs.CallRows.{words_of_arguments}
+use Rattle.fm_place.proofs.BusyLemmas.{depth_of}
 use Rattle.fm_place.specs.Sites.{constructs, Constructs, has_reference_result, is_doubled, kind_of_site, makes_array, MakesArray, may_give_old, names_constructor, new_item, receives_new, ReceivesNew, SiteKind}
 use Rattle.fm_law_retyped.specs.Retyped.{AreInitialised}
-use Rattle.fm_same.proofs.CallWords.{arguments_length, slice_after, taken_off}
+use Rattle.fm_same.proofs.CallWords.{taken_off}
+use Rattle.fm_same.proofs.SiteNodes.{chosen, doubled-stack, doubled_in, refers, word_above}
+use Rattle.fm_law_sound.proofs.ReturnsStand.{arguments_count}
 use Rattle.fm_law_sound.specs.Going.{ConstructorsGiveNothing}
-use Rattle.fm_types.proofs.Zips.{zip-length}
 use Rattle.fm_types.specs.ArrayRows.{multi_array_row, new_array_row, new_references_row}
 use Rattle.fm_types.specs.CallRows.{constructed, constructor_called, initialised, instance_call_row, is_constructor, is_initializer, is_type, names_own_or_above, special_call_row, static_call_row}
 use Rattle.fm_types.specs.Named.{argument_words, class_of_method, on_method, on_type, result_of, result_words}
@@ -94,10 +96,6 @@ array-gives o method item news u i s after is there = absurd (false≢true is)
 
 -- ---- calls that give a reference
 
-abbrev refers : Option Kind → Bool
-refers None = false
-refers (Some k) = is_reference_kind k
-
 -- the word of such a result
 result-word : (o : Outline) (m : ℕ) → has_reference_result o m ≡ true → (t : TypeRef) × (result_words o m ≡ slot.Ref t ∷ [])
 result-word o m is = by_result (result_of o m) is where
@@ -115,15 +113,6 @@ result-gives o m wanted s after is there =
     let word = result-word o m is in
     worked-gives o wanted word.0 s after (sym (ap (λ given. worked o wanted given s) word.1) ∙ there)
 
--- both of two hold
-first_of : (a b : Bool) → (a && b) ≡ true → a ≡ true
-first_of true b is = refl
-first_of false b is = absurd (false≢true is)
-
-second_of : (a b : Bool) → (a && b) ≡ true → b ≡ true
-second_of true b is = is
-second_of false b is = absurd (false≢true is)
-
 -- a call's row, where it receives a new object
 method-gives : (facts : Facts) (x : TypedMethod) (k : CallKind) (s after : TypeState) (u : Use) (follows : ℕ → TypeRef → Option TypeState)
     → ((m : ℕ) (named : TypeRef) → has_reference_result x.program.outline m ≡ true → follows m named ≡ Some after → GivesObject s after)
@@ -138,8 +127,8 @@ method-gives facts x k s after (resolved.OfMethod m t) follows each is there = b
   by_type (Some named) is there =
       let some = nat_lt 0 (length (targets x.program (made named))) in
       each m.0 named
-      (first_of (has_reference_result x.program.outline m.0) some
-      (first_of (has_reference_result x.program.outline m.0 && some)
+      (and_left (has_reference_result x.program.outline m.0) some
+      (and_left (has_reference_result x.program.outline m.0 && some)
       (not (list_any (may_give_old x.program.outline facts) (targets x.program (made named)))) is)) there
 method-gives facts x k s after u follows each is there = absurd (none-some after there)
 
@@ -178,20 +167,6 @@ built-gives o method news named (slot.Uninit item) (slot.Uninit other) rest s af
 built-gives o method news named (slot.Uninit item) below rest s after none same there = absurd (false≢true same)
 built-gives o method news named receiver below rest s after none same there = absurd (false≢true same)
 
--- the word under which this many lie
-word_above : (xs ys : List Slot) (v : Slot) → slice_get (reverse (xs ++ v ∷ ys)) (length ys) ≡ Some v
-word_above xs ys v =
-    let size : length ys ≡ length (reverse ys) + 0 = omega (arith, length-reverse ys) in
-    ap (λ list. slice_get list (length ys)) (reverse-append xs (v ∷ ys) ∙ ap (λ list. list ++ reverse xs) (reverse-append (v ∷ []) ys)
-    ∙ append_assoc (reverse ys) (v ∷ []) (reverse xs))
-    ∙ ap (slice_get (reverse ys ++ v ∷ reverse xs)) size ∙ slice_after (reverse ys) (v ∷ reverse xs) 0
-
--- the words of a stack with its top first, by how many lie below
-abbrev doubled_in : List Slot → ℕ → Bool
-doubled_in stack zero = false
-doubled_in stack (suc below) =
-    same_number (option_and_then new_item (slice_get (reverse stack) (suc below))) (option_and_then new_item (slice_get (reverse stack) below))
-
 constructor-gives : (o : Outline) (method : ℕ) (news : ℕ → Option TypeRef) (m : ℕ) (named : TypeRef) (s after : TypeState) → AreInitialised s.locals
     → doubled_in s.stack (length s.stack - (1 + words_of_arguments o m)) ≡ true → constructor_called o method news m named s ≡ Some after
     → GivesObject s after
@@ -204,13 +179,13 @@ constructor-gives o method news m named s after none doubled there = by_rest (ta
   below [] found further = absurd (none-some after further)
   below (receiver ∷ []) found further =
       let off = taken_off o (argument_words o m) s.stack (receiver ∷ []) found in
-      let words : length off.words ≡ words_of_arguments o m = zip-length _ off.words (argument_words o m) off.fitting ∙ arguments_length o m in
+      let words : length off.words ≡ words_of_arguments o m = length_all_zip _ off.words (argument_words o m) off.fitting ∙ arguments_count o m in
       let all : length s.stack ≡ length off.words + 1 = ap length off.is ∙ length-append off.words (receiver ∷ []) in
       let none_below : length s.stack - (1 + words_of_arguments o m) ≡ 0 = omega (arith, words, all) in
       absurd (false≢true (sym (ap (doubled_in s.stack) none_below) ∙ doubled))
   below (receiver ∷ under ∷ rest) found further =
       let off = taken_off o (argument_words o m) s.stack (receiver ∷ under ∷ rest) found in
-      let words : length off.words ≡ words_of_arguments o m = zip-length _ off.words (argument_words o m) off.fitting ∙ arguments_length o m in
+      let words : length off.words ≡ words_of_arguments o m = length_all_zip _ off.words (argument_words o m) off.fitting ∙ arguments_count o m in
       let all : length s.stack ≡ length off.words + suc (suc (length rest)) = ap length off.is ∙ length-append off.words (receiver ∷ under ∷ rest) in
       let depth : length s.stack - (1 + words_of_arguments o m) ≡ suc (length rest) = omega (arith, words, all) in
       let first : slice_get (reverse s.stack) (suc (length rest)) ≡ Some receiver =
@@ -227,20 +202,6 @@ constructor-gives o method news m named s after none doubled there = by_rest (ta
   by_rest None found further = absurd (none-some after further)
   by_rest (Some rest) found further = below rest found further
 
-chosen : (b : Bool) (x y : Option TypeState) (after : TypeState) → b ≡ true → cond b x y ≡ Some after → x ≡ Some after
-chosen true x y after is there = there
-chosen false x y after is there = absurd (false≢true is)
-
-doubled-stack : (x : TypedMethod) (j : ℕ) (s : TypeState) → state_at x.states j ≡ Some s → (depth : ℕ) → is_doubled x j depth ≡ doubled_in s.stack depth
-doubled-stack x j s at zero = refl
-doubled-stack x j s at (suc below) =
-    λ k. same_number (option_and_then new_item (option_and_then (λ (t : TypeState). slice_get (reverse t.stack) (suc below)) (at k)))
-    (option_and_then new_item (option_and_then (λ (t : TypeState). slice_get (reverse t.stack) below) (at k)))
-
-abbrev depth_in : Option TypeState → ℕ
-depth_in None = 0
-depth_in (Some s) = length s.stack
-
 -- ---- sites
 
 module _ (facts : Facts) (x : TypedMethod) (j : ℕ) (news : ℕ → Option TypeRef) (s after : TypeState) (constructors : ConstructorsGiveNothing x.program.outline) where
@@ -255,15 +216,15 @@ module _ (facts : Facts) (x : TypedMethod) (j : ℕ) (news : ℕ → Option Type
   unfolding special_call_row words_taken
   special-gives index at none no_static made there = by_use (use_at x (insn.Special index)) refl made there where
     depth : depth_at x j ≡ length s.stack
-    depth = ap depth_in at
+    depth = ap depth_of at
 
     by_use : (u : Use) → use_at x (insn.Special index) ≡ u
         → (names_constructor o u && is_doubled x j (depth_at x j - words_taken o u (insn.Special index))) ≡ true
         → special_call_row o x.number news u s ≡ Some after → GivesObject s after
     by_use (resolved.OfMethod m t) used both row =
         let doubled_so = is_doubled x j (depth_at x j - words_taken o (resolved.OfMethod m t) (insn.Special index)) in
-        let constructor : is_constructor o m.0 ≡ true = first_of (is_constructor o m.0) doubled_so both in
-        let doubled = second_of (is_constructor o m.0) doubled_so both in
+        let constructor : is_constructor o m.0 ≡ true = and_left (is_constructor o m.0) doubled_so both in
+        let doubled = and_right (is_constructor o m.0) doubled_so both in
         let words : words_taken o (resolved.OfMethod m t) (insn.Special index) ≡ 1 + words_of_arguments o m.0 =
         ap (λ b. cond b 0 1 + words_of_arguments o m.0) (no_static m t used) in
         let under : doubled_in s.stack (length s.stack - (1 + words_of_arguments o m.0)) ≡ true =
@@ -361,12 +322,3 @@ module _ (facts : Facts) (x : TypedMethod) (j : ℕ) (news : ℕ → Option Type
     by_array : (b : Bool) → makes_array i ≡ b → GivesObject s after
     by_array true so = array-gives o x.number j news (use_at x i) i s after so there
     by_array false so = by_new so (constructs x j i) refl
-
--- control goes on after a site
-pub site-falls : (facts : Facts) (x : TypedMethod) (j : ℕ) (i : Insn) → is_some (kind_of_site facts x j i) ≡ true → falls_through i ≡ true
-site-falls facts x j (insn.Goto target) is = absurd (false≢true is)
-site-falls facts x j (insn.Table low others targets) is = absurd (false≢true is)
-site-falls facts x j (insn.Lookup others keys targets) is = absurd (false≢true is)
-site-falls facts x j (insn.Return value) is = absurd (false≢true is)
-site-falls facts x j insn.Throw is = absurd (false≢true is)
-site-falls facts x j i is = refl

@@ -1,11 +1,9 @@
 -- The slots of holders, and the first state with them.
-use Rattle.std.proofs.Common.{◌≡◌, refl, sym, ◌∙◌, ap, ℕ, zero, suc, ◌+◌, ◌-◌, ◌<◌, ◌≤◌, Bool, true, false, not, cond, List, [], ◌∷◌, ◌++◌, length, length-append, map, replicate, set, Some, None, option_map, append_assoc, zero-add, arith}
-use Rattle.std.specs.Prelude.{slice_get}
+use Rattle.std.proofs.Common.{◌≡◌, refl, sym, ◌∙◌, ap, ℕ, zero, suc, ◌+◌, ◌-◌, ◌<◌, ◌≤◌, Bool, true, false, not, cond, List, [], ◌∷◌, ◌++◌, length, length-append, map, replicate, set, None, option_map, append_assoc, zero-add, arith}
 use Rattle.std.specs.List.{AllByRecursion, AllZip, flat_map}
 use Rattle.std.proofs.lemmas.List.{length-map, length-replicate, map-append}
-use Rattle.std.proofs.lemmas.Option.{slice_get_past, slice_get_within}
+use Rattle.std.proofs.lemmas.Option.{slice_get_past}
 use Rattle.fm_law_relinked.specs.Rows.{IsReady, slot_with}
-use Rattle.fm_base.proofs.OptionFacts.{option_map-some}
 use Rattle.fm_base.specs.declared.kinds.Kind.{Kind}
 use Rattle.fm_base.specs.declared.kinds.Kind.TheVariants as kind
 use Rattle.fm_base.specs.declared.kinds.TypeRef.{TypeRef}
@@ -13,7 +11,6 @@ use Rattle.fm_code.specs.AccessFlags.{is_static}
 use Rattle.fm_code.specs.Edges.{insn_of}
 use Rattle.fm_code.specs.declared.code_array.Code.{Code}
 use Rattle.fm_code.specs.declared.code_array.Item.{Item}
-use Rattle.fm_code.specs.declared.instructions.Insn.{Insn}
 use Rattle.fm_law_retyped.proofs.HolderRows.{IsShort}
 use Rattle.fm_law_retyped.proofs.RoleStates.{begun, held_slots}
 use Rattle.fm_law_retyped.proofs.Trimmed.{trimmed}
@@ -65,11 +62,6 @@ trimmed_still numbers locals same = each locals ∙ ap (map (slot_with numbers))
   each (slot.Uninit item ∷ []) = refl
   each (slot.UninitThis ∷ []) = refl
   each (s ∷ t ∷ locals) = ap (λ l. slot_with numbers s ∷ l) (each (t ∷ locals))
-
-pub insn_inside : (code : Code) (j : ℕ) (i : Insn) → insn_of code j ≡ Some i → j < length code.items
-insn_inside code j i is =
-    let found = option_map-some (λ (item : Item). item.insn) (slice_get code.items j) i is in
-    slice_get_within code.items j found.0 found.1
 
 pub no_insn : (code : Code) (j : ℕ) → length code.items ≤ j → insn_of code j ≡ None
 no_insn code j past = ap (option_map (λ (item : Item). item.insn)) (slice_get_past code.items j past)

@@ -11,7 +11,7 @@ use Rattle.fm_code.specs.declared.instructions.Insn.{Insn}
 use Rattle.fm_code.specs.declared.instructions.Insn.TheVariants as insn
 use Rattle.fm_code.specs.declared.operations.Reg.{Reg}
 use Rattle.fm_code.specs.declared.operations.Reg.TheVariants as reg
-use Rattle.fm_law_relinked.proofs.RowsBlind.{rows_blind}
+use Rattle.fm_law_relinked.proofs.RowsBlind.{length_cut, rows_blind}
 use Rattle.fm_law_relinked.specs.Rows.{slot_with, state_with}
 use Rattle.fm_law_retyped.proofs.Trimmed.{trimmed, trimmed_state}
 use Rattle.fm_types.specs.NumberRows.{increment_row, is_int, load_row, loaded, store_row, stored_from, suits}
@@ -71,13 +71,6 @@ module _ (front : List Slot) (last : Slot) where
         by_test : (b : Bool) → cond b (with_last (set front k slot.Top) last) (with_last front last) ≡ with_last (cond b (set front k slot.Top) front) last
         by_test true = refl
         by_test false = refl
-
-length_cut : (k : ℕ) (locals : List Slot) → length (cut_before k locals) ≡ length locals
-length_cut zero locals = refl
-length_cut (suc k) locals = by_test (is_long (local_at locals k)) where
-  by_test : (b : Bool) → length (cond b (set locals k slot.Top) locals) ≡ length locals
-  by_test true = length-set locals k slot.Top
-  by_test false = refl
 
 -- ---- what is stored
 

@@ -1,4 +1,4 @@
--- What is to be proved of class files and of those that are written for them. These are statements: their proofs aren't made yet.
+-- What holds of class files and of those that are written for them, as statements: proofs are made in crates above this one, where they are made.
 use Rattle.std.specs.Prelude.{◌≡◌, ℕ, ◌+◌, ◌<◌, ◌≤◌, Bool, true, false, List, [], length, Some, None, slice_get}
 use Rattle.std.specs.List.{AllByRecursion}
 use Rattle.fm_base.specs.declared.limits.TheConstants.{MAX_CLASS_FILES, MAX_LIVE_WORDS, MAX_MADE_WORDS}

@@ -36,9 +36,10 @@ use Rattle.fm_frames.specs.States.{Frame}
 use Rattle.fm_law_sound.specs.Leading.{LeadsAs, LeavesAs}
 use Rattle.fm_law_sound.specs.Sound.{FrameHasKinds}
 use Rattle.fm_law_sound.proofs.Cases.{by_held, by_if, by_int, by_on_type, by_passing}
-use Rattle.fm_law_sound.proofs.Leaving.{Gives, loaded_gives, read_kind, worked_below_leaves, worked_leaves}
+use Rattle.fm_law_sound.proofs.Leaving.{loaded_gives, read_kind, worked_below_leaves, worked_leaves}
 use Rattle.fm_law_sound.proofs.NumberRows.{int_gives, Leads, thrown_leads}
 use Rattle.fm_law_sound.proofs.ObjectRows.{row_of_type}
+use Rattle.fm_law_sound.specs.BuiltIns.{GivesSlots}
 
 -- ---- what an array's elements are
 
@@ -68,7 +69,7 @@ letter_reference : (test : Bool) (k : Kind) (t : TypeRef) → test ≡ false →
 letter_reference true k t is = absurd (false≢true (sym is))
 letter_reference false k t is = (t, refl)
 
-above_zero : (n : ℕ) → nat_lt 0 n ≡ true → (n == 0) ≡ false
+pub above_zero : (n : ℕ) → nat_lt 0 n ≡ true → (n == 0) ≡ false
 above_zero n is = grind (arith, nat_tests, is)
 
 pub reference_kind : (dims : ℕ) (b : Base) → nat_lt 0 (depth_with dims b) ≡ true → (u : TypeRef) × (kind_with (dims - 1) b ≡ kind.Ref u)
@@ -99,41 +100,41 @@ by_array Q passes null given slot.UninitThis slots of_null of_type is = absurd (
 
 module _ (o : Outline) (f : Frame) where
   number_gives : (e : Elem) (t : TypeRef) (place : ℕ) → ((t.dims == 1) && has_letter e t.base) ≡ true
-      → Gives o f (typed.element_words e) (loaded (element_kind t) (OfPlace 1 place (element_kind t)))
+      → GivesSlots o f (typed.element_words e) (loaded (element_kind t) (OfPlace 1 place (element_kind t)))
   number_gives e t place is =
-      subst (λ slots. Gives o f slots (loaded (element_kind t) (OfPlace 1 place (element_kind t)))) (number_slots e t.dims t.base is)
+      subst (λ slots. GivesSlots o f slots (loaded (element_kind t) (OfPlace 1 place (element_kind t)))) (number_slots e t.dims t.base is)
       (loaded_gives o f (element_kind t) (OfPlace 1 place (element_kind t)) (λ areas made statics. read_kind (element_kind t) _))
 
   reference_gives : (t u : TypeRef) (place : ℕ) → nat_lt 0 (depth_of t) ≡ true
-      → Gives o f (slot.Ref u ∷ []) (loaded (element_kind t) (OfPlace 1 place (element_kind t)))
+      → GivesSlots o f (slot.Ref u ∷ []) (loaded (element_kind t) (OfPlace 1 place (element_kind t)))
   reference_gives t u place is =
       let found = reference_kind t.dims t.base is in
-      subst (λ k. Gives o f (slot.Ref u ∷ []) (loaded k (OfPlace 1 place k))) (sym found.1)
+      subst (λ k. GivesSlots o f (slot.Ref u ∷ []) (loaded k (OfPlace 1 place k))) (sym found.1)
       (λ areas made statics. (read_kind (kind.Ref found.0) _, tt))
 
   element_gives : (e : Elem) (t : TypeRef) (place : ℕ) (below : Slot) (slots : List Slot) → is_array_of e t ≡ true
       → on_array (is_array_of e) (null_element e) (typed.element_of e) below ≡ Some slots
-      → Gives o f slots (loaded (element_kind t) (OfPlace 1 place (element_kind t)))
+      → GivesSlots o f slots (loaded (element_kind t) (OfPlace 1 place (element_kind t)))
   element_gives elem.Ref t place below slots is given =
-      by_array (λ xs. Gives o f xs (loaded (element_kind t) (OfPlace 1 place (element_kind t)))) (is_array_of elem.Ref) (slot.Null ∷ []) (typed.element_of elem.Ref)
+      by_array (λ xs. GivesSlots o f xs (loaded (element_kind t) (OfPlace 1 place (element_kind t)))) (is_array_of elem.Ref) (slot.Null ∷ []) (typed.element_of elem.Ref)
       below slots (reference_gives t t place is) (λ other. reference_gives t (record { dims = other.dims - 1; base = other.base }) place is) given
   element_gives elem.Boolean t place below slots is given =
-      by_array (λ xs. Gives o f xs (loaded (element_kind t) (OfPlace 1 place (element_kind t)))) _ _ _ below slots
+      by_array (λ xs. GivesSlots o f xs (loaded (element_kind t) (OfPlace 1 place (element_kind t)))) _ _ _ below slots
       (number_gives elem.Boolean t place is) (λ other. number_gives elem.Boolean t place is) given
   element_gives elem.Byte t place below slots is given =
-      by_array (λ xs. Gives o f xs (loaded (element_kind t) (OfPlace 1 place (element_kind t)))) _ _ _ below slots
+      by_array (λ xs. GivesSlots o f xs (loaded (element_kind t) (OfPlace 1 place (element_kind t)))) _ _ _ below slots
       (number_gives elem.Byte t place is) (λ other. number_gives elem.Byte t place is) given
   element_gives elem.Char t place below slots is given =
-      by_array (λ xs. Gives o f xs (loaded (element_kind t) (OfPlace 1 place (element_kind t)))) _ _ _ below slots
+      by_array (λ xs. GivesSlots o f xs (loaded (element_kind t) (OfPlace 1 place (element_kind t)))) _ _ _ below slots
       (number_gives elem.Char t place is) (λ other. number_gives elem.Char t place is) given
   element_gives elem.Short t place below slots is given =
-      by_array (λ xs. Gives o f xs (loaded (element_kind t) (OfPlace 1 place (element_kind t)))) _ _ _ below slots
+      by_array (λ xs. GivesSlots o f xs (loaded (element_kind t) (OfPlace 1 place (element_kind t)))) _ _ _ below slots
       (number_gives elem.Short t place is) (λ other. number_gives elem.Short t place is) given
   element_gives elem.Int t place below slots is given =
-      by_array (λ xs. Gives o f xs (loaded (element_kind t) (OfPlace 1 place (element_kind t)))) _ _ _ below slots
+      by_array (λ xs. GivesSlots o f xs (loaded (element_kind t) (OfPlace 1 place (element_kind t)))) _ _ _ below slots
       (number_gives elem.Int t place is) (λ other. number_gives elem.Int t place is) given
   element_gives elem.Long t place below slots is given =
-      by_array (λ xs. Gives o f xs (loaded (element_kind t) (OfPlace 1 place (element_kind t)))) _ _ _ below slots
+      by_array (λ xs. GivesSlots o f xs (loaded (element_kind t) (OfPlace 1 place (element_kind t)))) _ _ _ below slots
       (number_gives elem.Long t place is) (λ other. number_gives elem.Long t place is) given
 
 -- how many words a store takes
@@ -182,7 +183,7 @@ module _ (o : Outline) (s : TypeState) (f : Frame) (h : FrameHasKinds s f.locals
   put_leaves e it place row =
       worked_below_leaves o s f h (stored_element o e ++ slot.Int ∷ []) (on_array (is_array_of e) [] (λ t. [])) after
       (put_element (element_words e) it place) row (store_takes o e) refl
-      (λ below slots given. by_array (λ xs. Gives o f xs []) (is_array_of e) [] (λ t. []) below slots (λ areas made statics. tt)
+      (λ below slots given. by_array (λ xs. GivesSlots o f xs []) (is_array_of e) [] (λ t. []) below slots (λ areas made statics. tt)
       (λ t areas made statics. tt) given)
 
   pub array_store_leads : (e : Elem) (sights : List Sight) → array_store_row o e s ≡ Some after
@@ -216,7 +217,7 @@ module _ (o : Outline) (s : TypeState) (f : Frame) (h : FrameHasKinds s f.locals
       (λ it seen passes. (
         refl,
         worked_below_leaves o s f h [] (on_array (λ t. nat_lt 0 t.dims) (slot.Int ∷ []) (λ t. slot.Int ∷ [])) after (words 1 (int_word (pos it.len))) row refl refl
-            (λ below slots given. by_array (λ xs. Gives o f xs (int_word (pos it.len))) (λ t. nat_lt 0 t.dims) (slot.Int ∷ []) (λ t. slot.Int ∷ []) below slots
+            (λ below slots given. by_array (λ xs. GivesSlots o f xs (int_word (pos it.len))) (λ t. nat_lt 0 t.dims) (slot.Int ∷ []) (λ t. slot.Int ∷ []) below slots
             (int_gives o f (pos it.len)) (λ t. int_gives o f (pos it.len)) given),
       ))
 

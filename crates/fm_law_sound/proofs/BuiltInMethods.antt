@@ -1,9 +1,9 @@
 -- The built-in methods have the words of their rows for arguments and for results, by computation over all of them.
-use Rattle.std.proofs.Common.{◌≡◌, ℕ, zero, suc, ◌+◌, ◌<◌, ◌==◌, ◌&&◌, not, cond, Bool, true, false, List, [], ◌∷◌, ◌++◌, length, map, reverse, Option, Some, None, codes, option_and_then, option_to_list, refl, sym, ◌∙◌, ap, slice_index_or, arith, append_assoc, ⊎_elim}
+use Rattle.std.proofs.Common.{◌≡◌, ℕ, zero, suc, ◌+◌, ◌<◌, ◌==◌, ◌&&◌, not, cond, Bool, true, false, List, [], ◌∷◌, ◌++◌, length, map, reverse, Option, Some, None, codes, option_and_then, option_to_list, refl, sym, ◌∙◌, ap, slice_index_or, arith, ⊎_elim}
 use Rattle.std.specs.Prelude.{is_some, option_map, unwrap_or}
 use Rattle.std.specs.List.{flat_map, position_from}
 use Rattle.std.specs.Str.{bytes_eq}
-use Rattle.std.proofs.lemmas.Bool.{and_parts, cases_lt, false≢true}
+use Rattle.std.proofs.lemmas.Bool.{and_parts, cases_lt, false≢true, not-true}
 use Rattle.std.proofs.lemmas.Iterator.Adapters.{position_from-zero}
 use Rattle.std.proofs.lemmas.List.{get_or_append_left, map-append, reverse-append}
 use Rattle.std.proofs.lemmas.Option.{none-some}
@@ -16,6 +16,7 @@ use Rattle.fm_types.specs.Named.{argument_words, result_words}
 use Rattle.fm_types.specs.States.{local_slots, stack_slots}
 use Rattle.fm_types.specs.declared.slots.Slot.{Slot}
 use Rattle.fm_types.specs.declared.slots.Slot.TheVariants as slot
+use Rattle.fm_world.proofs.TableLemmas.{methods_from-append}
 use Rattle.fm_world.specs.BuiltIns.{built_in}
 use Rattle.fm_world.specs.Declarations.{no_method}
 use Rattle.fm_world.specs.Descriptors.{class_number, declared_kind, kind_in, kind_with, of_class, parameter_types, primitive_base, result_type}
@@ -239,15 +240,6 @@ fits_at (m ∷ methods) (suc n) h = fits_at methods n (and_parts (fits m.method)
 
 -- ---- built-in methods have the numbers that they have in each program
 
-pub methods_from-append : (class : ℕ) (cs ds : List DeclaredClass)
-    → methods_from class (cs ++ ds) ≡ methods_from class cs ++ methods_from (class + length cs) ds
-methods_from-append class [] ds = let e : class ≡ class + 0 = omega arith in ap (λ k. methods_from k ds) e
-methods_from-append class (c ∷ cs) ds =
-    let e : class + 1 + length cs ≡ class + length (c ∷ cs) = omega arith in
-    let own : List OwnedMethod = map (λ m. record { class = class; method = m }) c.methods in
-    ap (λ ms. own ++ ms) (methods_from-append (class + 1) cs ds ∙ ap (λ k. methods_from (class + 1) cs ++ methods_from k ds) e)
-    ∙ sym (append_assoc own (methods_from (class + 1) cs) (methods_from (class + length (c ∷ cs)) ds))
-
 pub method_same : (given : List DeclaredClass) (method : ℕ) → method < length (methods_of built_in)
     → method_at (built_in ++ given) method ≡ method_at built_in method
 unfolding methods_of
@@ -259,10 +251,6 @@ method_same given method inside =
 pub record HasRow (o : Outline) (target : ℕ) (row : Native) : Type 0 where
   pub arguments : map plain (argument_words o target) ++ receiver_slot (is_static (method_at o.classes target).method.flags) ≡ native_slots row
   pub result : map plain (result_words o target) ≡ native_result row
-
-pub untrue : (b : Bool) → not b ≡ true → b ≡ false
-untrue true h = absurd (false≢true h)
-untrue false h = refl
 
 module _ (p : Program) (ready : CallsAreResolved p) (target : ℕ) where
   abbrev here : DeclaredMethod
@@ -279,7 +267,7 @@ module _ (p : Program) (ready : CallsAreResolved p) (target : ℕ) where
   start_is_given name = ⊎_elim
       (λ inside.
       let parts = and_parts (not (bytes_eq here.name (codes "<clinit>"))) (fits_row here (option_and_then native_of_row here.row)) (fits_here inside) in
-      absurd (false≢true (sym (untrue (bytes_eq here.name (codes "<clinit>")) parts.0) ∙ (bytes_eq-Decides here.name (codes "<clinit>")).1 name)))
+      absurd (false≢true (sym (not-true (bytes_eq here.name (codes "<clinit>")) parts.0) ∙ (bytes_eq-Decides here.name (codes "<clinit>")).1 name)))
       (λ past. ap (option_and_then native_of_row) (ready.rows target past))
       (cases_lt target (length (methods_of built_in)))
 

@@ -7,6 +7,7 @@ use Rattle.std.proofs.lemmas.List.{length-append, length-map, map-append}
 use Rattle.std.proofs.lemmas.Option.{same_Some}
 use Rattle.std.proofs.lemmas.Slice.Eq.{bytes_eq-Decides}
 use Rattle.fm_base.proofs.OptionFacts.{cond-some_else}
+use Rattle.fm_base.proofs.TestFacts.{or_right_fails}
 use Rattle.fm_base.specs.declared.ids.MethodId.{MethodId}
 use Rattle.fm_base.specs.declared.ids.TypeId.{TypeId}
 use Rattle.fm_base.specs.declared.kinds.TypeRef.{TypeRef}
@@ -56,10 +57,6 @@ use Rattle.fm_law_sound.proofs.SeenObjects.{IsSeen, seen_at}
 
 -- ---- the name of the method that is named
 
-or_false : (a b : Bool) → (a || b) ≡ false → b ≡ false
-or_false true b h = absurd (false≢true (sym h))
-or_false false b h = h
-
 constructor_no_start : (name : List ℕ) → bytes_eq name (codes "<init>") ≡ true → bytes_eq name (codes "<clinit>") ≡ false
 constructor_no_start name is = ap (λ n. bytes_eq n (codes "<clinit>")) ((bytes_eq-Decides name (codes "<init>")).0 is)
 
@@ -71,7 +68,7 @@ module _ (o : Outline) (s : TypeState) (named : ℕ) where
       → has_name o named (codes "<clinit>") ≡ false
   special_names method news t true after is row = constructor_no_start (method_at o.classes named).method.name is
   special_names method news t false after is row =
-      or_false (is_constructor o named) (has_name o named (codes "<clinit>")) (cond-some_else (is_initializer o named) _ after row).0
+      or_right_fails (is_constructor o named) (has_name o named (codes "<clinit>")) (cond-some_else (is_initializer o named) _ after row).0
 
   -- none that starts a class is named
   row_names : (i : Insn) (method item : ℕ) (news : ℕ → Option TypeRef) (u : Use) (after : TypeState) → is_call i ≡ true
@@ -79,15 +76,15 @@ module _ (o : Outline) (s : TypeState) (named : ℕ) where
   unfolding row_after instance_call_row static_call_row special_call_row
   row_names (insn.Virtual index) method item news u after is names row =
       let found = row_of_method o u _ named after names row in
-      or_false (is_constructor o named) (has_name o named (codes "<clinit>")) (cond-some_else (is_initializer o named) _ after found.1).0
+      or_right_fails (is_constructor o named) (has_name o named (codes "<clinit>")) (cond-some_else (is_initializer o named) _ after found.1).0
   row_names (insn.Interface index) method item news u after is names row =
       let found = row_of_method o u _ named after names row in
-      or_false (is_constructor o named) (has_name o named (codes "<clinit>")) (cond-some_else (is_initializer o named) _ after found.1).0
+      or_right_fails (is_constructor o named) (has_name o named (codes "<clinit>")) (cond-some_else (is_initializer o named) _ after found.1).0
   row_names (insn.Special index) method item news u after is names row =
       let found = row_of_method o u _ named after names row in special_names method news found.0 (is_constructor o named) after refl found.1
   row_names (insn.Static index) method item news u after is names row =
       let found = row_of_method o u _ named after names row in
-      or_false (is_constructor o named) (has_name o named (codes "<clinit>")) (cond-some_else (is_initializer o named) _ after found.1).0
+      or_right_fails (is_constructor o named) (has_name o named (codes "<clinit>")) (cond-some_else (is_initializer o named) _ after found.1).0
   row_names i method item news u after is names row = absurd (false≢true is)
 
 -- ---- the words of a call

@@ -73,7 +73,7 @@ locals-append (x ∷ xs) others (v ∷ words) more h rest = (as_local x v h.0, l
 
 -- ---- the first item of a method
 
-abbrev max_locals_in : Option Code → ℕ
+abbrev pub max_locals_in : Option Code → ℕ
 max_locals_in None = 0
 max_locals_in (Some code) = code.max_locals
 

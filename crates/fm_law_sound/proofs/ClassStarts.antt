@@ -13,6 +13,7 @@ use Rattle.fm_world.specs.Descriptors.{parameter_kinds}
 use Rattle.fm_world.specs.Members.{method_at, start_of}
 use Rattle.fm_world.specs.Numbers.{type_of_class}
 use Rattle.fm_world.specs.Programs.{Outline, Program}
+use Rattle.fm_frames.proofs.Programs.{start_by}
 use Rattle.fm_frames.specs.Starts.{start_methods}
 use Rattle.fm_frames.specs.Steps.{is_start}
 use Rattle.fm_law_sound.specs.Going.{StartsClass}
@@ -22,15 +23,10 @@ use Rattle.fm_law_sound.proofs.FoundMethods.{IsFound, own_method_found}
 
 -- ---- which methods start classes
 
--- whether the method found is this one
-abbrev is_found : ℕ → Option ℕ → Bool
-is_found method None = false
-is_found method (Some start) = start == method
-
 -- a method of another name starts none
 pub not_start : (o : Outline) (target : ℕ) → has_name o target (codes "<clinit>") ≡ false → is_start o target ≡ false
 not_start o target other = by_start (start_of o.classes (class_of_method o target)) refl where
-  by_start : (s : Option ℕ) → start_of o.classes (class_of_method o target) ≡ s → is_found target s ≡ false
+  by_start : (s : Option ℕ) → start_of o.classes (class_of_method o target) ≡ s → start_by target s ≡ false
   by_start None is = refl
   by_start (Some start) is = by_same (start == target) refl where
     by_same : (b : Bool) → (start == target) ≡ b → (start == target) ≡ false
@@ -58,7 +54,7 @@ module _ (p : Program) (ready : CallsAreResolved p) (class method : ℕ) (is : s
       record {
         code = coded.0;
         code_is = coded.1;
-        starts = ap (is_found method) (ap (start_of p.outline.classes) found.owner ∙ is) ∙ eq-eqb method method refl;
+        starts = ap (start_by method) (ap (start_of p.outline.classes) found.owner ∙ is) ∙ eq-eqb method method refl;
         no_arguments = no_slots (is_static (method_at p.outline.classes method).method.flags) (is_constructor p.outline method)
             (slot.Ref (type_of_class (class_of_method p.outline method))) (method_at p.outline.classes method).method.descriptor found.flags found.descriptor_is;
       }

@@ -9,6 +9,7 @@ use Rattle.std.proofs.lemmas.List.{append-nil, get_or_append_left, get_or-append
 use Rattle.std.proofs.lemmas.List.Concat.{flat_map-cons}
 use Rattle.std.proofs.lemmas.List.Sums.{sum_by-cons}
 use Rattle.std.proofs.lemmas.Option.{same_Some, slice_get-get_or}
+use Rattle.fm_base.proofs.ListFacts.{slice_get-append_left, slice_get-append_right}
 use Rattle.fm_base.specs.declared.kinds.Kind.{Kind}
 use Rattle.fm_code.specs.AccessFlags.{is_static}
 use Rattle.fm_code.specs.Names.{object}
@@ -23,18 +24,6 @@ use Rattle.fm_world.specs.Numbers.{type_of_class}
 use Rattle.fm_world.specs.Programs.{kind_at}
 use Rattle.fm_world.specs.declared.declarations.DeclaredClass.{DeclaredClass}
 use Rattle.fm_world.specs.declared.declarations.DeclaredField.{DeclaredField}
-
--- ---- lists
-
-past : {X : Type 0} (xs ys : List X) (n : ℕ) → slice_get (xs ++ ys) (length xs + n) ≡ slice_get ys n
-past [] ys n = let same : 0 + n ≡ n = omega arith in ap (λ k. slice_get ys k) same
-past (x ∷ xs) ys n =
-    let next : length (x ∷ xs) + n ≡ suc (length xs + n) = omega arith in ap (λ k. slice_get (x ∷ xs ++ ys) k) next ∙ past xs ys n
-
-pub still : {X : Type 0} (xs ys : List X) (n : ℕ) (x : X) → slice_get xs n ≡ Some x → slice_get (xs ++ ys) n ≡ Some x
-still [] ys n x at = absurd (cc)
-still (y ∷ xs) ys zero x at = at
-still (y ∷ xs) ys (suc n) x at = still xs ys n x at
 
 -- ---- a kind that a class gives or not
 
@@ -150,8 +139,8 @@ module _ (classes : List DeclaredClass) where
       omega (arith, above, hidden) in
       ap (λ ks. slice_get ks (instance_slot classes class k)) (kinds_parted class)
       ∙ ap (λ n. slice_get (kinds_along (superclasses_of classes class) ++ own class) n) place
-      ∙ past (kinds_along (superclasses_of classes class)) (own class) (length (hidden_given c.hidden) + before)
-      ∙ past (hidden_given c.hidden) (filter_map kind_given c.fields) before
+      ∙ slice_get-append_right (kinds_along (superclasses_of classes class)) (own class) (length (hidden_given c.hidden) + before)
+      ∙ slice_get-append_right (hidden_given c.hidden) (filter_map kind_given c.fields) before
       ∙ given_found c.fields k f at is
 
   -- ---- fields by their numbers
@@ -241,5 +230,5 @@ module _ (classes : List DeclaredClass) where
       let grows = kinds_grow tree class owned.class within among in
       ap (λ b. slice_get (kinds_of classes class) (cond b (static_slot classes field) (instance_slot classes owned.class index))) not_static
       ∙ ap (λ ks. slice_get ks (instance_slot classes owned.class index)) grows.1
-      ∙ still (kinds_of classes owned.class) grows.0 (instance_slot classes owned.class index) (field_kind classes owned.field)
+      ∙ slice_get-append_left (kinds_of classes owned.class) grows.0 (instance_slot classes owned.class index) (field_kind classes owned.field)
       (own_place owned.class index owned.field (field_in_class field there) (ap not not_static))

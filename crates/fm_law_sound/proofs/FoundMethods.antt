@@ -2,7 +2,7 @@
 use Rattle.std.proofs.Common.{◌≡◌, ℕ, zero, suc, ◌+◌, ◌-◌, ◌<◌, ◌⊎◌, ◌&&◌, not, cond, Bool, true, false, List, [], ◌∷◌, length, take, Option, Some, None, refl, sym, ◌∙◌, ap, subst, inl, inr, slice_index_or, position, arith}
 use Rattle.std.specs.Prelude.{option_map, unwrap_or}
 use Rattle.std.specs.Str.{bytes_eq}
-use Rattle.std.proofs.lemmas.Bool.{and_parts, false≢true}
+use Rattle.std.proofs.lemmas.Bool.{and_parts, not-true}
 use Rattle.std.proofs.lemmas.List.{get_or-append_right, get_or-map, get_or_append_left, length-append, length-map}
 use Rattle.std.proofs.lemmas.List.Quantifiers.{position-Some}
 use Rattle.std.proofs.lemmas.List.Sums.{sum_by-cons}
@@ -127,10 +127,6 @@ alike_itself classes method target is = record {
   flags = inl is;
 }
 
-instance_of : (b : Bool) → not b ≡ true → b ≡ false
-instance_of true h = absurd (false≢true h)
-instance_of false h = refl
-
 pub select_alike : (classes : List DeclaredClass) (class method target : ℕ) → select classes class method ≡ Some target → IsAlike classes method target
 unfolding select
 select_alike classes class method target h = by_private (is_private (method_at classes method).method.flags) h where
@@ -148,7 +144,7 @@ select_alike classes class method target h = by_private (is_private (method_at c
       record {
         name = found.name_is;
         descriptor = found.descriptor_is;
-        flags = inr (instance_of (is_static (method_at classes target).method.flags) parts.0);
+        flags = inr (not-true (is_static (method_at classes target).method.flags) parts.0);
       }
 
 -- it is one of the methods, where the named one is
@@ -179,7 +175,7 @@ special_alike classes caller named method = by_search (searches_above classes ca
       record {
         name = found.name_is;
         descriptor = found.descriptor_is;
-        flags = inr (instance_of (is_static (method_at classes target).method.flags) found.flags);
+        flags = inr (not-true (is_static (method_at classes target).method.flags) found.flags);
       }
 
   by_search : (b : Bool)

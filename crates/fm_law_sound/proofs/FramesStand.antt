@@ -1,17 +1,17 @@
 -- Frames have what the checker knows where the frame on top goes on, and where an exception is
 -- caught.
-use Rattle.std.proofs.Common.{◌≡◌, ◌≢◌, ℕ, zero, suc, ◌+◌, ◌<◌, ◌≤◌, ◌&&◌, not, Bool, true, false, cond, List, [], ◌∷◌, length, nat_le, nat_lt, Option, Some, None, option_and_then, is_some, refl, sym, ◌∙◌, ap, subst, inl, inr, slice_get, slice_index_or, arith, ⊎_elim}
+use Rattle.std.proofs.Common.{◌≡◌, ◌≢◌, ℕ, zero, suc, ◌+◌, ◌<◌, ◌≤◌, ◌&&◌, not, Bool, true, false, cond, List, [], ◌∷◌, length, nat_le, nat_lt, Option, Some, None, option_and_then, is_some, refl, sym, ◌∙◌, ap, subst, inl, inr, slice_index_or, arith, ⊎_elim}
 use Rattle.std.specs.List.{AllByRecursion}
 use Rattle.std.proofs.lemmas.Bool.{and_parts, cases_eq, false≢true}
 use Rattle.std.proofs.lemmas.Bool.Decides.{nat_tests}
-use Rattle.std.proofs.lemmas.Option.{same_Some, slice_get_within}
-use Rattle.fm_base.proofs.OptionFacts.{IsSomeAnd-at_some, IsSomeAnd-from_some, option_map-some, Some-from_some_and}
+use Rattle.std.proofs.lemmas.Option.{same_Some}
+use Rattle.fm_base.proofs.OptionFacts.{IsSomeAnd-at_some, IsSomeAnd-from_some, Some-from_some_and}
 use Rattle.fm_base.specs.declared.kinds.TypeRef.{TypeRef}
+use Rattle.fm_code.proofs.EdgesLemmas.{insn_inside}
 use Rattle.fm_code.specs.Edges.{falls_through, insn_of, IsNormalEdge, IsReachable, LeadsTo}
 use Rattle.fm_code.specs.SpellsCode.{targets_of}
 use Rattle.fm_code.specs.declared.code_array.Code.{Code}
 use Rattle.fm_code.specs.declared.code_array.Handler.{Handler}
-use Rattle.fm_code.specs.declared.code_array.Item.{Item}
 use Rattle.fm_code.specs.declared.instructions.Insn.{Insn}
 use Rattle.fm_types.proofs.RowOrder.{rows-keep_whole}
 use Rattle.fm_types.specs.Fits.{AreTree}
@@ -68,10 +68,6 @@ pub typing_of : (p : Program) (typings : Typings) → AreTyped p typings → (me
     → IsTypingOf p method code (typings method)
 typing_of p typings typed method code is =
     IsSomeAnd-at_some (code_at p method) (λ other. IsTypingOf p method other (typings method)) code is (typed method code is)
-
-pub item_within : (code : Code) (j : ℕ) (i : Insn) → insn_of code j ≡ Some i → j < length code.items
-item_within code j i is =
-    let found = option_map-some (λ (item : Item). item.insn) (slice_get code.items j) i is in slice_get_within code.items j found.0 found.1
 
 -- what is brought to an item with its kinds has what the checker knows there
 pub fits_stands : (p : Program) (typings : Typings) → AreTyped p typings → (method : ℕ) (code : Code) → code_at p method ≡ Some code
@@ -139,7 +135,7 @@ module _ (p : Program) (typings : Typings) (tree : AreTree p.outline.classes) (t
           last = last;
           falls = IsSomeAnd-from_some (insn_of h.code f.item) (λ other. falls_through other ≡ true) i h.insn_is falls;
         })))
-        (λ (apart : f.item + 1 ≢ length h.code.items). let within = item_within h.code f.item i h.insn_is in omega (arith, within, apart))
+        (λ (apart : f.item + 1 ≢ length h.code.items). let within = insn_inside h.code f.item i h.insn_is in omega (arith, within, apart))
         (cases_eq (f.item + 1) (length h.code.items));
     leads = IsSomeAnd-from_some (insn_of h.code f.item) (λ other. LeadsTo other f.item (f.item + 1)) i h.insn_is (inr (falls, refl));
   }
@@ -210,7 +206,7 @@ going_stand p typings tree typed f callers i after h below e going leads areas m
 
 -- ---- an exception that is caught
 
-catches_range : (p : Program) (f : Frame) (t : TypeRef) (h : Handler) → catches p f t h ≡ true → (h.start ≤ f.item) × (f.item < h.end)
+pub catches_range : (p : Program) (f : Frame) (t : TypeRef) (h : Handler) → catches p f t h ≡ true → (h.start ≤ f.item) × (f.item < h.end)
 catches_range p f t h is =
     let outer = and_parts (nat_le h.start f.item && nat_lt f.item h.end) _ is in
     let inner = and_parts (nat_le h.start f.item) (nat_lt f.item h.end) outer.0 in

@@ -67,7 +67,7 @@ use Rattle.fm_law_sound.proofs.ObjectRows.{row_of_field, row_of_type, static_slo
 
 -- ---- values of a kind on the stack
 
-kind_is_whole : (k : Kind) → is_whole (stack_slots (k ∷ [])) ≡ true
+pub kind_is_whole : (k : Kind) → is_whole (stack_slots (k ∷ [])) ≡ true
 kind_is_whole kind.Boolean = refl
 kind_is_whole kind.Byte = refl
 kind_is_whole kind.Char = refl
@@ -124,7 +124,7 @@ first_reference t (v ∷ values) h = h.0
 
 -- ---- new arrays
 
-array_deep : (t array : TypeRef) → array_of t ≡ Some array → 0 < array.dims
+pub array_deep : (t array : TypeRef) → array_of t ≡ Some array → 0 < array.dims
 array_deep t array is =
     let parts = cond-some_then (nat_lt t.dims 255) (Some (record { dims = t.dims + 1; base = t.base })) array is in
     let P : TypeRef → Type 0 = λ u. 0 < u.dims in subst P (same_Some (record { dims = t.dims + 1; base = t.base }) array parts.1) (omega arith)
@@ -136,10 +136,10 @@ of_letter o b array is number =
     let P : TypeRef → Type 0 = λ u. 0 < u.dims in (subst (IsNumbered o) same number, subst P same (omega arith))
 
 -- an array of numbers of the letter has a dimension
-letter_deep : (t : TypeRef) (rest : Bool) → ((t.dims == 1) && rest) ≡ true → 0 < t.dims
+pub letter_deep : (t : TypeRef) (rest : Bool) → ((t.dims == 1) && rest) ≡ true → 0 < t.dims
 letter_deep t rest is = let one : t.dims ≡ 1 = eqb-true t.dims 1 (and_parts (t.dims == 1) rest is).0 in omega (arith, one)
 
-depth_deep : (dims : ℕ) (b : Base) → 0 < depth_with dims b → 0 < dims
+pub depth_deep : (dims : ℕ) (b : Base) → 0 < depth_with dims b → 0 < dims
 depth_deep dims (base.OfClass class) deep = deep
 depth_deep dims b deep = omega (arith, deep)
 
@@ -155,15 +155,15 @@ elements_deep elem.Ref t is = depth_deep t.dims t.base (ltb-true 0 (depth_of t) 
 
 -- ---- counts of arrays
 
-abbrev magnitudes : List ℤ → List ℕ
+abbrev pub magnitudes : List ℤ → List ℕ
 magnitudes [] = []
 magnitudes (n ∷ others) = unsigned_abs n ∷ magnitudes others
 
-magnitudes_many : (counts : List ℤ) → length (magnitudes counts) ≡ length counts
+pub magnitudes_many : (counts : List ℤ) → length (magnitudes counts) ≡ length counts
 magnitudes_many [] = refl
 magnitudes_many (n ∷ counts) = ap suc (magnitudes_many counts)
 
-ints_many : (s : List Sight) (operands : List ℕ) (counts : List ℤ) → arrays.ints_at s operands ≡ Some counts → length counts ≡ length operands
+pub ints_many : (s : List Sight) (operands : List ℕ) (counts : List ℤ) → arrays.ints_at s operands ≡ Some counts → length counts ≡ length operands
 ints_many s [] counts is = sym (ap length (same_Some [] counts is))
 ints_many s (operand ∷ operands) counts is = by_parts (λ others at. ints_many s operands others at) (arrays.int_at s operand) (arrays.ints_at s operands) refl is where
   joined : Option ℤ → Option (List ℤ) → Option (List ℤ)

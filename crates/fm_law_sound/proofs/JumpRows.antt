@@ -1,6 +1,6 @@
 -- The rows of moves of the stack, jumps, switches, returns and athrow lead where the checker's rows do.
 use Rattle.std.proofs.Common.{◌≡◌, ◌≤◌, not, nat_lt, ltb-true, position, ℕ, ℤ, suc, ◌+◌, ◌<◌, ◌||◌, pos, ◌+ℤ◌, ◌-ℤ◌, int_lt, int_le, unsigned_abs, Bool, true, false, List, [], ◌∷◌, ◌++◌, length, take, cond, codes, Option, Some, None, option_to_list, refl, sym, ◌∙◌, subst, arith}
-use Rattle.std.proofs.lemmas.Bool.{false≢true}
+use Rattle.std.proofs.lemmas.Bool.{false≢true, or_parts}
 use Rattle.std.specs.List.{prefix_len}
 use Rattle.std.specs.Ordering.{int_eq}
 use Rattle.std.proofs.lemmas.Int.{ints}
@@ -32,6 +32,7 @@ use Rattle.fm_frames.specs.States.{Frame}
 use Rattle.fm_law_sound.specs.Leading.{LeavesAs}
 use Rattle.fm_law_sound.specs.Sound.{FrameHasKinds, HaveKinds}
 use Rattle.fm_law_sound.proofs.Cases.{by_int, by_object, by_reference}
+use Rattle.fm_law_sound.proofs.InsnActs.{kind_is_whole}
 use Rattle.fm_law_sound.proofs.KindLemmas.{taken_words}
 use Rattle.fm_law_sound.proofs.Leaving.{moved_leaves, reference_taken, same_leaves, worked_leaves}
 use Rattle.fm_law_sound.proofs.NumberRows.{Leads, thrown_leads}
@@ -40,11 +41,6 @@ use Rattle.fm_law_sound.proofs.NumberRows.{Leads, thrown_leads}
 
 pub between : (low : ℤ) (count : ℕ) (key : ℤ) → int_lt key low ≡ false → int_le (low +ℤ pos count) key ≡ false → unsigned_abs (key -ℤ low) < count
 between low count key first second = omega (arith, ints)
-
-pub or_parts : (a b : Bool) → (a || b) ≡ false → (a ≡ false) × (b ≡ false)
-or_parts false false e = (refl, refl)
-or_parts false true e = absurd (false≢true (sym e))
-or_parts true b e = absurd (false≢true (sym e))
 
 pub table_if : (b : Bool) (i n : ℕ) → (b ≡ false → i < n) → cond b 0 (i + 1) < suc n
 table_if true i n h = omega arith
@@ -76,15 +72,6 @@ result_count reg.Int kind.Long same = absurd (false≢true same)
 result_count reg.Int k same = refl
 result_count reg.Ref kind.Long same = absurd (false≢true same)
 result_count reg.Ref k same = refl
-
-kind_whole : (k : Kind) → is_whole (stack_slots (k ∷ [])) ≡ true
-kind_whole kind.Boolean = refl
-kind_whole kind.Byte = refl
-kind_whole kind.Char = refl
-kind_whole kind.Short = refl
-kind_whole kind.Int = refl
-kind_whole kind.Long = refl
-kind_whole (kind.Ref t) = refl
 
 -- the state after a return, by the kind of the result
 abbrev pub return_by : Outline → TypeState → Reg → Option Kind → Option TypeState
@@ -215,7 +202,7 @@ module _ (o : Outline) (s : TypeState) (f : Frame) (h : FrameHasKinds s f.locals
       let parts = cond-some_then (same_reg r (returned_by k)) (worked o (stack_slots (k ∷ [])) [] s) after row in
       let rest = option_map-some (λ stack. record s { stack = [] ++ stack }) (taken o (stack_slots (k ∷ [])) s.stack) after parts.1 in
       subst (λ n. HaveKinds (stack_slots (k ∷ [])) (take n f.stack)) (result_count r k parts.0)
-      (taken_words o (stack_slots (k ∷ [])) s.stack rest.0 f.stack (kind_whole k) whole rest.1 h.in_stack)
+      (taken_words o (stack_slots (k ∷ [])) s.stack rest.0 f.stack (kind_is_whole k) whole rest.1 h.in_stack)
 
   returned_nothing : (result : Option Kind) → plain_return_by s result ≡ Some after → HaveKinds (stack_slots (option_to_list result)) (take 0 f.stack)
   returned_nothing None row = tt

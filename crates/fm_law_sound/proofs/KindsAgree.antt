@@ -1,11 +1,8 @@
 -- Places are read and put by their kinds: what an instruction sees of an object passes its test, so the object's place has the kind that the row goes by.
-use Rattle.std.proofs.Common.{◌≡◌, ℕ, pos, ◌+◌, ◌-◌, ◌*◌, ◌<◌, ◌==◌, ◌&&◌, ◌||◌, not, int_lt, Bool, true, List, [], ◌∷◌, ◌++◌, map, Some, codes, unsigned_abs, sym, ◌∙◌, ap, slice_get, arith, eqb-true, ltb-true}
+use Rattle.std.proofs.Common.{◌≡◌, ℕ, pos, ◌+◌, ◌-◌, ◌*◌, ◌<◌, ◌==◌, ◌&&◌, ◌||◌, not, int_lt, Bool, true, List, [], ◌∷◌, ◌++◌, map, Some, codes, unsigned_abs, sym, ◌∙◌, ap, slice_get, arith}
 use Rattle.std.specs.List.{AllByRecursion, range_with_len}
-use Rattle.std.proofs.lemmas.Bool.{and_parts}
 use Rattle.std.proofs.lemmas.Option.{same_Some}
 use Rattle.fm_base.proofs.ListFacts.{AllByRecursion-append}
-use Rattle.fm_base.specs.declared.kinds.Base.{Base}
-use Rattle.fm_base.specs.declared.kinds.Base.TheVariants as base
 use Rattle.fm_base.specs.declared.kinds.Kind.{Kind}
 use Rattle.fm_base.specs.declared.kinds.Kind.TheVariants as kind
 use Rattle.fm_base.specs.declared.kinds.TypeRef.{TypeRef}
@@ -13,8 +10,7 @@ use Rattle.fm_cells.specs.Objects.{Object}
 use Rattle.fm_cells.specs.Stores.{object_at, Store}
 use Rattle.fm_code.specs.declared.operations.Elem.{Elem}
 use Rattle.fm_code.specs.declared.operations.Elem.TheVariants as elem
-use Rattle.fm_types.specs.ArrayRows.{has_letter, is_array_of}
-use Rattle.fm_types.specs.Fits.{depth_of, depth_with}
+use Rattle.fm_types.specs.ArrayRows.{is_array_of}
 use Rattle.fm_world.specs.Programs.{kind_at, Outline}
 use Rattle.fm_frames.specs.Acts.{cell_of}
 use Rattle.fm_frames.specs.ArrayRows.{array_actions, array_load_effect, array_store_effect, arrays_made, element_kind, element_type, on_element, put_element, put_reference}
@@ -25,6 +21,7 @@ use Rattle.fm_frames.specs.States.{word_at}
 use Rattle.fm_frames.specs.declared.values.Value.{Value}
 use Rattle.fm_law_sound.specs.Placing.{kind_in, PlacesAgree, PutAgrees, ReadAgrees, sources_in, thrown_in}
 use Rattle.fm_law_sound.proofs.Cases.{by_held, by_if, by_int, by_passing}
+use Rattle.fm_law_sound.proofs.InsnActs.{elements_deep}
 use Rattle.fm_law_sound.proofs.Opening.{all_flat}
 use Rattle.fm_law_sound.proofs.SeenObjects.{seen_at}
 use Rattle.fm_law_sound.proofs.StartActs.{all_after}
@@ -102,17 +99,6 @@ gives_agree o store stack e h =
 
 -- ---- arrays
 
-letter_deep : (t : TypeRef) (rest : Bool) → ((t.dims == 1) && rest) ≡ true → 0 < t.dims
-letter_deep t rest h = let one : t.dims ≡ 1 = eqb-true t.dims 1 (and_parts (t.dims == 1) rest h).0 in omega (arith, one)
-
-depth_deep : (dims : ℕ) (b : Base) → 0 < depth_with dims b → 0 < dims
-depth_deep dims (base.OfClass class) h = h
-depth_deep dims b h = omega (arith, h)
-
-array_deep : (e : Elem) (t : TypeRef) → is_array_of e t ≡ true → 0 < t.dims
-array_deep elem.Ref t h = depth_deep t.dims t.base (ltb-true 0 (depth_of t) h)
-array_deep e t h = letter_deep t (has_letter e t.base) h
-
 module _ (o : Outline) (store : Store) (stack : List Value) where
   abbrev pub Agrees : Effect → Type 0
   Agrees e = PlacesAgree o store stack e
@@ -145,7 +131,7 @@ module _ (o : Outline) (store : Store) (stack : List Value) where
       (follows it (unsigned_abs i)) (λ out. throws (codes "java/lang/ArrayIndexOutOfBoundsException"))
       (λ inside. some it (unsigned_abs i)
       (seen_place o store stack (index + 1) (unsigned_abs i) (element_kind it.type) it seen
-      (array_kind o.classes it.type (unsigned_abs i) (array_deep e it.type passes))))))
+      (array_kind o.classes it.type (unsigned_abs i) (elements_deep e it.type passes))))))
 
   pub array_load_agrees : (e : Elem) → Agrees (array_load_effect o e s)
   unfolding array_load_effect

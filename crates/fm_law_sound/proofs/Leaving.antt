@@ -23,11 +23,7 @@ use Rattle.fm_frames.specs.declared.values.Value.{Value}
 use Rattle.fm_law_sound.specs.Leading.{LeavesAs, sources_of}
 use Rattle.fm_law_sound.specs.Sound.{field_slot, FrameHasKinds, HasKind, HaveKinds, IsReference, static_slots}
 use Rattle.fm_law_sound.proofs.KindLemmas.{kind_at, kinds-append, kinds-drop, taken_rest}
-
--- the sources give the slots
-abbrev pub Gives : Outline → Frame → List Slot → List Source → Type 0
-Gives o f slots gives =
-    (areas : Areas) (made : List ℕ) → HaveKinds (static_slots o) areas.statics → HaveKinds slots (map (value_of (sources_of f areas made)) gives)
+use Rattle.fm_law_sound.specs.BuiltIns.{GivesSlots}
 
 -- ---- values of a kind
 
@@ -44,7 +40,7 @@ read_kind (kind.Ref t) n = tt
 -- the words of a value of the kind
 pub loaded_gives : (o : Outline) (f : Frame) (k : Kind) (source : Source)
     → ((areas : Areas) (made : List ℕ) → HaveKinds (static_slots o) areas.statics → HasKind (field_slot k) (value_of (sources_of f areas made) source))
-    → Gives o f (stack_slots (k ∷ [])) (loaded k source)
+    → GivesSlots o f (stack_slots (k ∷ [])) (loaded k source)
 loaded_gives o f kind.Boolean source h areas made statics = (h areas made statics, tt)
 loaded_gives o f kind.Byte source h areas made statics = (h areas made statics, tt)
 loaded_gives o f kind.Char source h areas made statics = (h areas made statics, tt)
@@ -114,7 +110,7 @@ module _ (o : Outline) (s : TypeState) (f : Frame) (h : FrameHasKinds s f.locals
 
   -- more on top
   pub pushed_leaves : (given : List Slot) (after : TypeState) (e : Effect) → Some (record s { stack = given ++ s.stack }) ≡ Some after → e.takes ≡ 0
-      → e.writes ≡ [] → Gives o f given e.gives → LeavesAs o after f e
+      → e.writes ≡ [] → GivesSlots o f given e.gives → LeavesAs o after f e
   pushed_leaves given after e is takes writes gives =
       leaves_stack after (given ++ s.stack) e (same_Some _ after is) writes
       (λ areas made statics. kinds-append given s.stack (map (value_of (sources_of f areas made)) e.gives) (drop e.takes f.stack) (gives areas made statics)
@@ -122,7 +118,7 @@ module _ (o : Outline) (s : TypeState) (f : Frame) (h : FrameHasKinds s f.locals
 
   -- other slots in place of those on top
   pub worked_leaves : (wanted given : List Slot) (after : TypeState) (e : Effect) → worked o wanted given s ≡ Some after → e.takes ≡ length wanted
-      → e.writes ≡ [] → Gives o f given e.gives → LeavesAs o after f e
+      → e.writes ≡ [] → GivesSlots o f given e.gives → LeavesAs o after f e
   worked_leaves wanted given after e row takes writes gives =
       let parts = option_map-some (λ stack. record s { stack = given ++ stack }) (taken o wanted s.stack) after row in
       leaves_stack after (given ++ parts.0) e parts.2 writes
@@ -140,7 +136,7 @@ module _ (o : Outline) (s : TypeState) (f : Frame) (h : FrameHasKinds s f.locals
 
   pub worked_below_leaves : (wanted : List Slot) (given : Slot → Option (List Slot)) (after : TypeState) (e : Effect) → worked_below o wanted given s ≡ Some after
       → e.takes ≡ length wanted + 1 → e.writes ≡ []
-      → ((below : Slot) (slots : List Slot) → given below ≡ Some slots → Gives o f slots e.gives)
+      → ((below : Slot) (slots : List Slot) → given below ≡ Some slots → GivesSlots o f slots e.gives)
       → LeavesAs o after f e
   worked_below_leaves wanted given after e row takes writes gives =
       let found = option_and_then-some (below_state given) (taken o wanted s.stack) after row in
@@ -155,7 +151,7 @@ module _ (o : Outline) (s : TypeState) (f : Frame) (h : FrameHasKinds s f.locals
       (subst (λ xs. HaveKinds parts.2 xs) (dropped (length wanted) f.stack) left)))
 
   -- words of the stack by their places
-  words_given : (places : List ℕ) (slots : List Slot) → words_at s.stack places ≡ Some slots → Gives o f slots (map OfOperand places)
+  words_given : (places : List ℕ) (slots : List Slot) → words_at s.stack places ≡ Some slots → GivesSlots o f slots (map OfOperand places)
   words_given [] slots is areas made statics =
       subst (λ xs. HaveKinds xs []) (same_Some [] slots is) tt
   words_given (place ∷ places) slots is areas made statics =

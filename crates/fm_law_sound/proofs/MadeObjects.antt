@@ -2,7 +2,7 @@
 use Rattle.std.proofs.Common.{◌≡◌, ℕ, zero, suc, ◌+◌, ◌^◌, ◌<◌, ◌≤◌, ◌==◌, not, Bool, true, false, cond, List, [], ◌∷◌, ◌++◌, length, codes, reverse, Option, Some, None, refl, sym, ◌∙◌, ap, subst, inl, inr, slice_get, get_or, arith}
 use Rattle.std.specs.List.{flat_map, position_or_len}
 use Rattle.std.specs.Str.{bytes_eq}
-use Rattle.std.proofs.lemmas.Bool.{and_parts, false≢true, lt-ltb, ne_eqb}
+use Rattle.std.proofs.lemmas.Bool.{and_parts, false≢true, lt-ltb, ne_eqb, not-true}
 use Rattle.std.proofs.lemmas.Iterator.Adapters.{position_from-zero}
 use Rattle.std.proofs.lemmas.List.{length-append}
 use Rattle.std.proofs.lemmas.List.Quantifiers.{position-Some}
@@ -116,13 +116,9 @@ class_length o false class below = refl
 
 -- ---- objects
 
-not_true : (b : Bool) → not b ≡ true → b ≡ false
-not_true true is = absurd (false≢true is)
-not_true false is = refl
-
 -- the class of a base, what is required of the class of a type, and how many elements its objects
 -- have
-abbrev class_of_base : Base → Option ℕ
+abbrev pub class_of_base : Base → Option ℕ
 class_of_base (base.OfClass class) = Some class.0
 class_of_base b = None
 
@@ -159,7 +155,7 @@ array_fits o t len number deep few = array_made o t len number deep (length_few 
 class_of_objects : (o : Outline) (b : Base) → has_objects o.classes b ≡ true → (c : ℕ) × (class_of_base b ≡ Some c) × HasObjectsBy o (Some c)
 class_of_objects o (base.OfClass c) is =
     let parts = and_parts (not (is_abstract (class_at o.classes c.0).flags)) (not (is_interface (class_at o.classes c.0).flags)) is in
-    (c.0, refl, (not_true (is_abstract (class_at o.classes c.0).flags) parts.0, not_true (is_interface (class_at o.classes c.0).flags) parts.1))
+    (c.0, refl, (not-true (is_abstract (class_at o.classes c.0).flags) parts.0, not-true (is_interface (class_at o.classes c.0).flags) parts.1))
 class_of_objects o b is = absurd (false≢true is)
 
 -- an object of a class that has objects

@@ -5,6 +5,7 @@ use Rattle.std.specs.List.{AllByRecursion, flat_map, range_with_len}
 use Rattle.std.proofs.Math.Nat.{suc-mul}
 use Rattle.std.proofs.lemmas.Bool.{lt-ltb, ne_eqb}
 use Rattle.std.proofs.lemmas.List.{append-nil, length-append}
+use Rattle.fm_base.proofs.ListFacts.{slice_get-append_left}
 use Rattle.fm_base.specs.declared.kinds.Base.{Base}
 use Rattle.fm_base.specs.declared.kinds.Base.TheVariants as base
 use Rattle.fm_base.specs.declared.kinds.TypeRef.{TypeRef}
@@ -22,7 +23,6 @@ use Rattle.fm_frames.specs.States.{Frame}
 use Rattle.fm_law_sound.specs.Acting.{ActsFit, PlaceFits, ValueFits}
 use Rattle.fm_law_sound.specs.Making.{AreFew, IsFew, IsMakeable, IsNumbered}
 use Rattle.fm_law_sound.proofs.ArrayRows.{reference_kind}
-use Rattle.fm_law_sound.proofs.FieldPlaces.{still}
 use Rattle.fm_law_sound.proofs.MadeObjects.{array_fits, number_there}
 
 -- ---- elements
@@ -32,14 +32,14 @@ array_kind classes t place deep =
     ap (λ b. cond b (option_and_then (λ class. slice_get (kinds_of classes class) place) (class_of_type t)) (Some (element_kind t)))
     (ne_eqb t.dims 0 (λ same. omega (arith, deep, same)))
 
-array_is_no_text : (o : Outline) (t : TypeRef) → 0 < t.dims → is_text_type o t ≡ false
+pub array_is_no_text : (o : Outline) (t : TypeRef) → 0 < t.dims → is_text_type o t ≡ false
 array_is_no_text o t deep =
     ap (λ b. b && same_base (text_type o).base t.base) (ne_eqb 0 t.dims (λ same. omega (arith, deep, same)))
 
 pub array_place : (o : Outline) (t : TypeRef) (place : ℕ) → 0 < t.dims → PlaceFits o t place (element_kind t)
 array_place o t place deep = record { kind = array_kind o.classes t place deep; no_text = array_is_no_text o t deep }
 
-deep_enough : (dims : ℕ) (b : Base) → 1 < dims → 0 < depth_with dims b
+pub deep_enough : (dims : ℕ) (b : Base) → 1 < dims → 0 < depth_with dims b
 deep_enough dims (base.OfClass class) deep = omega (arith, deep)
 deep_enough dims b deep = omega (arith, deep)
 
@@ -110,7 +110,7 @@ module _ (p : Program) (ready : IsMakeable p) (store : Store) (f : Frame) where
         let all : length (done ++ arrays) ≡ (start + 1) * size =
         (let sum = length-append done arrays in let next : (start + 1) * size ≡ start * size + size = mul_next start in omega (arith, sum, made, number, next)) in
         let level : start + 1 + n ≡ start + suc n = omega arith in (
-          (t, ap (λ xs. slice_get xs first) again ∙ still types (done ++ arrays) first t outer, array_place o t start (omega (arith, deep))),
+          (t, ap (λ xs. slice_get xs first) again ∙ slice_get-append_left types (done ++ arrays) first t outer, array_place o t start (omega (arith, deep))),
           array_taken o f t place deep,
           subst (λ xs. Fits xs (more ++ rest)) (sym again)
               (places_fit n (start + 1) (done ++ arrays) rest all parts.1 (subst (λ k. FitsAfter types (k * size) rest) (sym level) follows)),

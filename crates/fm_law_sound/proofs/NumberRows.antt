@@ -30,14 +30,15 @@ use Rattle.fm_law_sound.specs.Leading.{LeadsAs, LeavesAs}
 use Rattle.fm_law_sound.specs.Sound.{FrameHasKinds, HasKind, HaveKinds, LocalHasKind, LocalsHaveKinds}
 use Rattle.fm_law_sound.proofs.Cases.{by_int, by_long, by_thrown}
 use Rattle.fm_law_sound.proofs.KindLemmas.{as_local, from_int, int_local, local_kind, local_kind_or, locals-cut_before, locals-set, locals-written, suited}
-use Rattle.fm_law_sound.proofs.Leaving.{Gives, pushed_leaves, worked_leaves}
+use Rattle.fm_law_sound.proofs.Leaving.{pushed_leaves, worked_leaves}
+use Rattle.fm_law_sound.specs.BuiltIns.{GivesSlots}
 
 -- ---- words of numbers
 
-pub int_gives : (o : Outline) (f : Frame) (n : ℤ) → Gives o f (slot.Int ∷ []) (int_word n)
+pub int_gives : (o : Outline) (f : Frame) (n : ℤ) → GivesSlots o f (slot.Int ∷ []) (int_word n)
 int_gives o f n areas made statics = ((n, refl), tt)
 
-pub long_gives : (o : Outline) (f : Frame) (n : ℤ) → Gives o f (slot.Top ∷ slot.Long ∷ []) (long_words n)
+pub long_gives : (o : Outline) (f : Frame) (n : ℤ) → GivesSlots o f (slot.Top ∷ slot.Long ∷ []) (long_words n)
 long_gives o f n areas made statics = (refl, ((n, refl), tt))
 
 -- ---- what a stack holds as a local
@@ -190,7 +191,7 @@ module _ (o : Outline) (s : TypeState) (f : Frame) (h : FrameHasKinds s f.locals
   -- ---- numbers
 
   pub worked_leads : (i : Insn) (wanted given : List Slot) (e : Effect) → worked o wanted given s ≡ Some after → e.takes ≡ length wanted → e.writes ≡ []
-      → Gives o f given e.gives → LeavesAs o after f e
+      → GivesSlots o f given e.gives → LeavesAs o after f e
   worked_leads i wanted given e row takes writes gives = worked_leaves o s f h wanted given after e row takes writes gives
 
   pub int_op_leads : (op : Op) (sights : List Sight) → worked o (slot.Int ∷ slot.Int ∷ []) (slot.Int ∷ []) s ≡ Some after

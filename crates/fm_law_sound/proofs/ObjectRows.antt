@@ -34,8 +34,9 @@ use Rattle.fm_law_sound.specs.Leading.{LeavesAs, NamesField}
 use Rattle.fm_law_sound.specs.Sound.{field_slot, FrameHasKinds, HasKind, HaveKinds, LocalsHaveKinds, static_slots}
 use Rattle.fm_law_sound.proofs.Cases.{by_held, by_if, by_object, by_on_field, by_on_type}
 use Rattle.fm_law_sound.proofs.KindLemmas.{kind_at}
-use Rattle.fm_law_sound.proofs.Leaving.{Gives, kind_slots, leaves_stack, loaded_gives, pushed_leaves, read_kind, reference_taken, worked_below_leaves, worked_leaves}
+use Rattle.fm_law_sound.proofs.Leaving.{kind_slots, leaves_stack, loaded_gives, pushed_leaves, read_kind, reference_taken, worked_below_leaves, worked_leaves}
 use Rattle.fm_law_sound.proofs.NumberRows.{int_gives, Leads, thrown_leads}
+use Rattle.fm_law_sound.specs.BuiltIns.{GivesSlots}
 
 -- ---- what an instruction names, for the checker as for the machine
 
@@ -171,7 +172,7 @@ module _ (o : Outline) (s : TypeState) (f : Frame) (h : FrameHasKinds s f.locals
             (λ areas made statics. read_kind (kind_of_field o g.0) _)),
       )))
 
-  none_given : (method g : ℕ) (t : TypeRef) (below : Slot) (slots : List Slot) → takes_field o method g t below ≡ Some slots → Gives o f slots []
+  none_given : (method g : ℕ) (t : TypeRef) (below : Slot) (slots : List Slot) → takes_field o method g t below ≡ Some slots → GivesSlots o f slots []
   none_given method g t below slots is areas made statics =
       let parts = cond-some_then _ (Some []) slots is in subst (λ xs. HaveKinds xs []) (same_Some [] slots parts.1) tt
 

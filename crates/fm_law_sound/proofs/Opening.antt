@@ -1,10 +1,11 @@
 -- The opening of a run leaves a sound state.
-use Rattle.std.proofs.Common.{◌≡◌, ℕ, ◌+◌, ◌^◌, ◌<◌, cond, Bool, true, false, List, [], ◌∷◌, ◌++◌, length, map, nat_lt, codes, Option, Some, None, refl, sym, ◌∙◌, ap, subst, slice_set, slice_index_or, arith, append_assoc}
+use Rattle.std.proofs.Common.{◌≡◌, ℕ, ◌+◌, ◌^◌, ◌<◌, cond, Bool, true, false, List, [], ◌∷◌, ◌++◌, length, nat_lt, codes, Option, Some, None, refl, sym, ◌∙◌, ap, subst, slice_set, slice_index_or, arith}
 use Rattle.std.specs.Prelude.{option_map, unwrap_or}
 use Rattle.std.specs.List.{AllByRecursion, flat_map}
 use Rattle.std.specs.FinMap.{gets}
 use Rattle.std.proofs.lemmas.Bool.Decides.{nat_tests}
 use Rattle.std.proofs.lemmas.List.{length-append, length-map}
+use Rattle.fm_base.proofs.ListFacts.{AllByRecursion-append}
 use Rattle.fm_base.specs.Texts.{units}
 use Rattle.fm_base.specs.declared.kinds.Kind.TheVariants as kind
 use Rattle.fm_base.specs.declared.kinds.TypeRef.{TypeRef}
@@ -17,6 +18,7 @@ use Rattle.fm_cells.specs.Stores.{live_words, object_at, opened, Store}
 use Rattle.fm_code.specs.AccessFlags.{is_static}
 use Rattle.fm_code.specs.Names.{object}
 use Rattle.fm_types.specs.declared.slots.Slot.{Slot}
+use Rattle.fm_world.proofs.TableLemmas.{fields_from-append}
 use Rattle.fm_world.specs.BuiltIns.{built_in, static_field}
 use Rattle.fm_world.specs.Descriptors.{class_number, kind_with, of_class}
 use Rattle.fm_world.specs.Members.{slot_of, size_of, field_at, field_kind, fields_from, fields_of, OwnedField}
@@ -70,13 +72,9 @@ IsOfStart (SetStatic slot k v) = Unit {0}
 IsOfStart (Start class) = Unit {0}
 IsOfStart action = ⊥
 
-all_append : {A : Type 0} (P : A → Type 0) (xs ys : List A) → AllByRecursion P xs → AllByRecursion P ys → AllByRecursion P (xs ++ ys)
-all_append P [] ys h more = more
-all_append P (x ∷ xs) ys h more = (h.0, all_append P xs ys h.1 more)
-
 pub all_flat : {A B : Type 0} (P : B → Type 0) (g : A → List B) (xs : List A) → ((x : A) → AllByRecursion P (g x)) → AllByRecursion P (flat_map g xs)
 all_flat P g [] h = tt
-all_flat P g (x ∷ xs) h = all_append P (g x) (flat_map g xs) (h x) (all_flat P g xs h)
+all_flat P g (x ∷ xs) h = AllByRecursion-append P (g x) (flat_map g xs) (h x) (all_flat P g xs h)
 
 abbrev pub with_text : Outline → ℕ → Option ℕ → List Action
 with_text o field None = []
@@ -245,14 +243,6 @@ first_sound o budget limit free = record {
   nothing_held cell held there = grind (arith, gets, nat_tests)
 
 -- ---- the streams
-
-fields_from-append : (class : ℕ) (cs ds : List DeclaredClass) → fields_from class (cs ++ ds) ≡ fields_from class cs ++ fields_from (class + length cs) ds
-fields_from-append class [] ds = let e : class ≡ class + 0 = omega arith in ap (λ k. fields_from k ds) e
-fields_from-append class (c ∷ cs) ds =
-    let e : class + 1 + length cs ≡ class + length (c ∷ cs) = omega arith in
-    let own : List OwnedField = map (λ f. record { class = class; field = f }) c.fields in
-    ap (λ fs. own ++ fs) (fields_from-append (class + 1) cs ds ∙ ap (λ k. fields_from (class + 1) cs ++ fields_from k ds) e)
-    ∙ sym (append_assoc own (fields_from (class + 1) cs) (fields_from (class + length (c ∷ cs)) ds))
 
 abbrev slots_in : List DeclaredClass → List OwnedField → List Slot
 slots_in cs fields = flat_map (λ (f : OwnedField). cond (is_static f.field.flags) (field_slot (field_kind cs f.field) ∷ []) []) fields

@@ -3,6 +3,7 @@ use Rattle.std.proofs.Common.{◌≡◌, ℕ, ◌+◌, ◌^◌, ◌<◌, Bool, t
 use Rattle.std.specs.List.{AllByRecursion}
 use Rattle.std.specs.Str.{bytes_eq}
 use Rattle.std.proofs.lemmas.Iterator.Adapters.{position_from-zero}
+use Rattle.fm_base.proofs.ListFacts.{slice_get-append_left}
 use Rattle.fm_base.specs.declared.kinds.TypeRef.{TypeRef}
 use Rattle.fm_cells.specs.Stores.{Store}
 use Rattle.fm_types.specs.Named.{built_in_type}
@@ -18,7 +19,6 @@ use Rattle.fm_frames.specs.States.{Frame}
 use Rattle.fm_law_sound.specs.Acting.{ActsFit, MakeFits, PlaceFits}
 use Rattle.fm_law_sound.specs.Making.{ArgumentsFit, AreUnits, IsMakeable}
 use Rattle.fm_law_sound.specs.Sound.{HasLengthBy}
-use Rattle.fm_law_sound.proofs.FieldPlaces.{still}
 use Rattle.fm_law_sound.proofs.MadeObjects.{array_made, chain_is, class_fits, IsPlain, object_top, text_fits}
 use Rattle.fm_law_sound.proofs.NestedArrays.{array_place}
 
@@ -65,7 +65,7 @@ module _ (p : Program) (ready : IsMakeable p) (store : Store) (f : Frame) where
       → AllByRecursion (λ text. (length text < 2 ^ 31) × AreUnits text) texts → ActsFit o store f types (argument_actions o place texts)
   arguments_fit place [] types array all = tt
   arguments_fit place (text ∷ texts) types array all =
-      let later : slice_get (types ++ text_type o ∷ []) 2 ≡ Some (arguments_type o) = still types (text_type o ∷ []) 2 (arguments_type o) array in (
+      let later : slice_get (types ++ text_type o ∷ []) 2 ≡ Some (arguments_type o) = slice_get-append_left types (text_type o ∷ []) 2 (arguments_type o) array in (
         text_fits p ready text all.0.0 all.0.1,
         (
           (arguments_type o, later, argument_place place),

@@ -43,7 +43,7 @@ use Rattle.fm_law_sound.proofs.Leaving.{dropped}
 
 -- ---- counts of words
 
-kind_count : (k : Kind) → length (local_slots k) ≡ kind_words k
+pub kind_count : (k : Kind) → length (local_slots k) ≡ kind_words k
 kind_count kind.Boolean = refl
 kind_count kind.Byte = refl
 kind_count kind.Char = refl
@@ -52,7 +52,7 @@ kind_count kind.Int = refl
 kind_count kind.Long = refl
 kind_count (kind.Ref t) = refl
 
-kinds_count : (kinds : List Kind) → length (flat_map local_slots kinds) ≡ sum_by kind_words kinds
+pub kinds_count : (kinds : List Kind) → length (flat_map local_slots kinds) ≡ sum_by kind_words kinds
 kinds_count [] = refl
 kinds_count (k ∷ kinds) =
     length-append (local_slots k) (flat_map local_slots kinds) ∙ ap (λ n. n + length (flat_map local_slots kinds)) (kind_count k)
@@ -157,7 +157,7 @@ abbrev pub method_in : Use → Option ℕ
 method_in (resolved.OfMethod m t) = Some m.0
 method_in u = None
 
-named_in : (u : Use) (named : ℕ) → method_in u ≡ Some named → (m : MethodId) × (n : TypeId) × (u ≡ resolved.OfMethod m n) × (m.0 ≡ named)
+pub named_in : (u : Use) (named : ℕ) → method_in u ≡ Some named → (m : MethodId) × (n : TypeId) × (u ≡ resolved.OfMethod m n) × (m.0 ≡ named)
 named_in (resolved.OfMethod m t) named is = (m, t, refl, same_Some m.0 named is)
 named_in u named is = absurd (cc)
 
@@ -271,7 +271,7 @@ call_falls o (insn.Special index) named count is = refl
 call_falls o (insn.Static index) named count is = refl
 call_falls o i named count is = absurd (cc)
 
-call_targets : (o : Outline) (i : Insn) (named count : ℕ) (P : ℕ → Type 0) → words_of_call o i named ≡ Some count → AllByRecursion P (targets_of i)
+pub call_targets : (o : Outline) (i : Insn) (named count : ℕ) (P : ℕ → Type 0) → words_of_call o i named ≡ Some count → AllByRecursion P (targets_of i)
 call_targets o (insn.Virtual index) named count P is = tt
 call_targets o (insn.Interface index) named count P is = tt
 call_targets o (insn.Special index) named count P is = tt

@@ -17,7 +17,7 @@ pub record IsSeen (o : Outline) (store : Store) (cell : ℕ) (it : Looks) : Type
   pub looks_so : looks o store object ≡ it
   pub type_is : it.type ≡ type_numbered o object.class
 
-looks_type : (o : Outline) (store : Store) (object : Object) → (looks o store object).type ≡ type_numbered o object.class
+pub looks_type : (o : Outline) (store : Store) (object : Object) → (looks o store object).type ≡ type_numbered o object.class
 unfolding looks
 looks_type o store object = refl
 

@@ -83,7 +83,7 @@ written_within from P fits (w ∷ writes) reads locals all =
     written_within from P fits writes reads.1 (slice_set locals w.0 (value_of from w.1))
     (All-set LeadsWithin locals w.0 (value_of from w.1) (fits w.1 reads.0) all)
 
-all_before : (P : Source → Type 0) (xs ys : List Source) → AllByRecursion P (xs ++ ys) → AllByRecursion P xs
+pub all_before : (P : Source → Type 0) (xs ys : List Source) → AllByRecursion P (xs ++ ys) → AllByRecursion P xs
 all_before P [] ys all = tt
 all_before P (x ∷ xs) ys all = (all.0, all_before P xs ys all.1)
 

@@ -16,10 +16,10 @@ use Rattle.fm_types.specs.Typed.{after_item, FitsAt, IsTypingOf, made_at, MeetsI
 use Rattle.fm_world.specs.Programs.{Outline, Program}
 use Rattle.fm_types.specs.Named.{result_words}
 use Rattle.fm_frames.specs.Acts.{Choose, Did, FullAt, LostAt, performed, Performed, value_of}
-use Rattle.fm_frames.specs.Effects.{Action, Calls, Effect, Enters, Exits, Falls, Faults, Jumps, JumpsIfSame, Next, nothing, Returns, Throws}
+use Rattle.fm_frames.specs.Effects.{Action, Calls, Effect, Enters, Exits, Falls, Faults, Jumps, JumpsIfSame, Next, Returns, Throws}
 use Rattle.fm_frames.specs.Rows.{effect_of}
 use Rattle.fm_frames.specs.Sights.{sights}
-use Rattle.fm_frames.specs.Starts.{start_actions, start_methods, started_by, to_start, with_start}
+use Rattle.fm_frames.specs.Starts.{start_actions, start_methods, to_start, with_start}
 use Rattle.fm_frames.specs.States.{Areas, Frame, Moved, State}
 use Rattle.fm_frames.specs.Steps.{attempted, Caught, caught, caught_in, continued, effect_by, finished, frames_needed, handler_of, InFrames, next_insn, is_deep, is_over, is_start, Leaves, new_frame, next_effect, objects_made, returned, start_frames, step, stopped, thrown_by, type_at}
 use Rattle.fm_frames.specs.declared.ends.Ended.{Ended}
@@ -38,6 +38,7 @@ use Rattle.fm_law_sound.proofs.ClassStarts.{starts_are_methods}
 use Rattle.fm_law_sound.proofs.FramesStand.{caught_stand, going_stand, typing_of}
 use Rattle.fm_law_sound.proofs.ReturnsStand.{returned_stand}
 use Rattle.fm_law_sound.proofs.Rows.{effect_leads}
+use Rattle.fm_law_sound.proofs.StartActs.{after_methods, for_class}
 
 -- ---- how many frames
 
@@ -61,18 +62,9 @@ caught_length p t v (f ∷ callers) after is = by_handler (handler_of p f t) (ca
 -- ---- where a step leads
 
 -- as a call may, or to methods that start classes
-abbrev StepLeads : Program → Frame → Insn → TypeState → Effect → Next → Type 0
+abbrev pub StepLeads : Program → Frame → Insn → TypeState → Effect → Next → Type 0
 StepLeads p f i after e (Enters methods) = AllByRecursion (StartsClass p) methods
 StepLeads p f i after e next = CallLeads p f i after e next
-
--- what the start of a class makes of an effect
-abbrev with_methods : Outline → List ℕ → Effect → List ℕ → Effect
-with_methods o classes e [] = record e { starts = None; actions = start_actions o classes ++ e.actions }
-with_methods o classes e (m ∷ methods) = record nothing { actions = start_actions o classes; next = Enters (m ∷ methods) }
-
-abbrev with_class : Outline → List Bool → Effect → Option ℕ → Effect
-with_class o started e None = e
-with_class o started e (Some class) = started_by o (to_start o started class) e
 
 module _ (p : Program) (ready : StepsAreResolved p) (f : Frame) (i : Insn) (after : TypeState) where
   as_call : (e : Effect) (next : Next) → LeadsAs p.outline i after f e next → CallLeads p f i after e next
@@ -99,12 +91,12 @@ module _ (p : Program) (ready : StepsAreResolved p) (f : Frame) (i : Insn) (afte
   as_step e actions starts (Faults s) leads = leads
 
   methods_lead : (classes : List ℕ) (e : Effect) (methods : List ℕ) → AllByRecursion (StartsClass p) methods → CallLeads p f i after e e.next
-      → StepLeads p f i after (with_methods p.outline classes e methods) (with_methods p.outline classes e methods).next
+      → StepLeads p f i after (after_methods p.outline classes e methods) (after_methods p.outline classes e methods).next
   methods_lead classes e [] each leads = as_step e (start_actions p.outline classes ++ e.actions) None e.next leads
   methods_lead classes e (m ∷ methods) each leads = each
 
   class_leads : (started : List Bool) (e : Effect) (class : Option ℕ) → CallLeads p f i after e e.next
-      → StepLeads p f i after (with_class p.outline started e class) (with_class p.outline started e class).next
+      → StepLeads p f i after (for_class p.outline started e class) (for_class p.outline started e class).next
   class_leads started e None leads = as_step e e.actions e.starts e.next leads
   class_leads started e (Some class) leads =
       let classes : List ℕ = to_start p.outline started class in

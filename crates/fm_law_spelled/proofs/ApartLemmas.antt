@@ -5,12 +5,12 @@ use Rattle.std.specs.Char.Escape.{encode_utf16}
 use Rattle.std.specs.Char.Utf16.{is_high_surrogate, is_low_surrogate, lone_unit_char, surrogate_pair_char, utf16_chars}
 use Rattle.std.specs.List.{AllByRecursion, flat_map, list_any}
 use Rattle.std.specs.Str.{bytes_eq}
-use Rattle.std.proofs.lemmas.Bool.{false≢true, leb-true, le-ltb, ltb-true, lt-ltb}
+use Rattle.std.proofs.lemmas.Bool.{false≢true, leb-true, le-ltb, ltb-true, lt-ltb, and_parts, or_parts}
 use Rattle.std.proofs.lemmas.Str.{encodes_same}
 use Rattle.std.proofs.lemmas.Slice.Eq.{bytes_eq-Decides}
-use Rattle.fm_code.proofs.EdgesLemmas.{Contains-cons_cases, Contains-first, Contains-later}
-use Rattle.fm_layout.proofs.BoundsLemmas.{at_index}
-use Rattle.fm_base.proofs.ListFacts.{AllByRecursion-get_or, AllByRecursion-weaker}
+use Rattle.fm_code.proofs.EdgesLemmas.{Contains-first, Contains-later}
+use Rattle.fm_base.proofs.ContainsFacts.{Contains-cons_cases}
+use Rattle.fm_base.proofs.ListFacts.{AllByRecursion-at, AllByRecursion-get_or, AllByRecursion-weaker}
 use Rattle.fm_base.proofs.OptionFacts.{IsSomeAnd-at_some, Some-from_some_and}
 use Rattle.fm_base.specs.Texts.{IsModifiedUtf8, unit_bytes, units}
 use Rattle.fm_code.specs.ConstantPool.{class_name_at, entry_at, EntryIsValid}
@@ -24,16 +24,6 @@ use Rattle.fm_cli.specs.Printed.{printed, shown}
 use Rattle.fm_world.specs.Causes.{duplicates, own_name, Refusal, refused_if}
 use Rattle.fm_world.specs.Linking.{refusals, refused_duplicates}
 use Rattle.fm_law_spelled.specs.Names.{AreNew, NamesAreApart}
-
--- ---- two tests
-
-both_false : (a b : Bool) → (a || b) ≡ false → (a ≡ false) × (b ≡ false)
-both_false false b e = (refl, e)
-both_false true b e = cc
-
-both_true : (a b : Bool) → (a && b) ≡ true → (a ≡ true) × (b ≡ true)
-both_true true b e = (refl, e)
-both_true false b e = cc
 
 -- ---- units of whole pairs are those of their characters
 
@@ -56,9 +46,9 @@ two_units c from = rw (le-ltb c 0x1_0000 from) refl
 
 pair_again : (u v : ℕ) → (is_high_surrogate u && is_low_surrogate v) ≡ true → encode_utf16 (surrogate_pair_char u v) ≡ u ∷ v ∷ []
 pair_again u v pair =
-    let parts : (is_high_surrogate u ≡ true) × (is_low_surrogate v ≡ true) = both_true (is_high_surrogate u) (is_low_surrogate v) pair in
-    let high : (nat_le 0xD800 u ≡ true) × (nat_lt u 0xDC00 ≡ true) = both_true (nat_le 0xD800 u) (nat_lt u 0xDC00) parts.0 in
-    let low : (nat_le 0xDC00 v ≡ true) × (nat_lt v 0xE000 ≡ true) = both_true (nat_le 0xDC00 v) (nat_lt v 0xE000) parts.1 in
+    let parts : (is_high_surrogate u ≡ true) × (is_low_surrogate v ≡ true) = and_parts (is_high_surrogate u) (is_low_surrogate v) pair in
+    let high : (nat_le 0xD800 u ≡ true) × (nat_lt u 0xDC00 ≡ true) = and_parts (nat_le 0xD800 u) (nat_lt u 0xDC00) parts.0 in
+    let low : (nat_le 0xDC00 v ≡ true) × (nat_lt v 0xE000 ≡ true) = and_parts (nat_le 0xDC00 v) (nat_lt v 0xE000) parts.1 in
     let from_high : 0xD800 ≤ u = leb-true 0xD800 u high.0 in
     let from_low : 0xDC00 ≤ v = leb-true 0xDC00 v low.0 in
     let below : v < 0xE000 = ltb-true v 0xE000 low.1 in
@@ -70,7 +60,7 @@ whole_again : (us : List ℕ) → AllByRecursion (λ u. u < 65536) us → list_a
 whole_again [] fit whole = ap units_again (no_units [] refl)
 whole_again (u ∷ []) fit whole =
     let same : utf16_chars (u ∷ []) ≡ lone_unit_char u ∷ [] = with_last (u ∷ []) [] u refl refl ∙ ap (λ cs. lone_unit_char u ∷ cs) (no_units [] refl) in
-    let some = both_false (is_missing (lone_unit_char u)) false (sym (ap (list_any is_missing) same) ∙ whole) in
+    let some = or_parts (is_missing (lone_unit_char u)) false (sym (ap (list_any is_missing) same) ∙ whole) in
     ap units_again same ∙ ap (λ ws. ws ++ []) (lone_again u fit.0 some.0)
 whole_again (u ∷ v ∷ us) fit whole = by (is_high_surrogate u && is_low_surrogate v) refl (whole_again us fit.1.1) (whole_again (v ∷ us) fit.1) where
   Again : List ℕ → Type 0
@@ -83,7 +73,7 @@ whole_again (u ∷ v ∷ us) fit whole = by (is_high_surrogate u && is_low_surro
       ap units_again same ∙ ap (λ ws. ws ++ units_again (utf16_chars us)) (pair_again u v e) ∙ ap (λ ws. u ∷ v ∷ ws) (past rest)
   by false e past next =
       let same : utf16_chars (u ∷ v ∷ us) ≡ lone_unit_char u ∷ utf16_chars (v ∷ us) = without_pair (u ∷ v ∷ us) (v ∷ us) us u v refl refl (sym e) in
-      let both = both_false (is_missing (lone_unit_char u)) (list_any is_missing (utf16_chars (v ∷ us))) (sym (ap (list_any is_missing) same) ∙ whole) in
+      let both = or_parts (is_missing (lone_unit_char u)) (list_any is_missing (utf16_chars (v ∷ us))) (sym (ap (list_any is_missing) same) ∙ whole) in
       ap units_again same ∙ ap (λ ws. ws ++ units_again (utf16_chars (v ∷ us))) (lone_again u fit.0 both.0) ∙ ap (λ ws. u ∷ ws) (next both.1)
 
 -- ---- names that are printed alike are one
@@ -129,8 +119,8 @@ clean_names (c ∷ given) spelled supported = (clean_name c spelled.0 supported.
 not_among : (name : List ℕ) (earlier : List (List ℕ)) → list_any (bytes_eq name) earlier ≡ false → ¬ Contains earlier name
 not_among name [] none there = omega (arith, there.1)
 not_among name (other ∷ earlier) none there = ⊎_elim
-    (λ (same : name ≡ other). absurd (false≢true (sym (both_false _ _ none).0 ∙ (bytes_eq-Decides name other).1 same)))
-    (λ (later : Contains earlier name). not_among name earlier (both_false _ _ none).1 later)
+    (λ (same : name ≡ other). absurd (false≢true (sym (or_parts _ _ none).0 ∙ (bytes_eq-Decides name other).1 same)))
+    (λ (later : Contains earlier name). not_among name earlier (or_parts _ _ none).1 later)
     (Contains-cons_cases other earlier name there)
 
 left_none : {X : Type 0} (xs ys : List X) → xs ++ ys ≡ [] → (xs ≡ []) × (ys ≡ [])
@@ -153,7 +143,7 @@ new_after earlier (c ∷ given) none =
     let later = new_after (own_name c ∷ earlier) given parts.1 in
     (own, AllByRecursion-weaker (IsNewAfter (own_name c ∷ earlier)) (IsNewAfter earlier) (λ d new there. new (Contains-later (own_name c) earlier (own_name d) there)) given later)
 
-abbrev printed_name : ClassDef → List ℕ
+abbrev pub printed_name : ClassDef → List ℕ
 printed_name c = printed (own_name c)
 
 -- the class is printed under another name than this one
@@ -175,7 +165,7 @@ new_before text texts apart new (suc place) = at (slice_get texts place) refl (n
   at : (o : Option (List ℕ)) → slice_get texts place ≡ o → IfSome o (λ t. ¬ Contains (take place texts) t) → IfSome o (λ t. ¬ Contains (text ∷ take place texts) t)
   at None is own = tt
   at (Some t) is own = λ there. ⊎_elim
-      (λ (same : t ≡ text). at_index (λ other. other ≢ text) texts place t apart is same)
+      (λ (same : t ≡ text). AllByRecursion-at (λ other. other ≢ text) texts place t apart is same)
       (λ (later : Contains (take place texts) t). own later)
       (Contains-cons_cases text (take place texts) t there)
 

@@ -24,9 +24,9 @@ use Rattle.fm_code.specs.declared.constant_pool.Entry.{Entry}
 use Rattle.fm_place.specs.Insertions.{Insertions}
 use Rattle.fm_place.specs.Rewriting.{free_index, Plans, rewritten_attribute, rewritten_method, rewritten_methods}
 use Rattle.fm_pool.proofs.FreeEntriesAdded.{free_named, free_spelled}
-use Rattle.fm_pool.proofs.GrownPool.{class_kept, text_kept}
+use Rattle.fm_pool.proofs.GrownPool.{and_kept, class_kept, text_kept, there_kept}
 use Rattle.fm_law_spelled.proofs.CodeSpelled.{code_fits, code_valid}
-use Rattle.fm_law_spelled.proofs.KeptNames.{code_attribute_kept, field_valid_kept, handler_kept, operand_kept, some_of_such, still_some, still_such, such_kept, super_kept, text_back, text_same}
+use Rattle.fm_law_spelled.proofs.KeptNames.{code_attribute_kept, field_valid_kept, handler_kept, operand_kept, some_of_such, such_kept, super_kept, text_back, text_same}
 use Rattle.fm_law_spelled.proofs.WrittenSizes.{codes_short, HasShortCode}
 use Rattle.fm_law_spelled.specs.Changed.{AttributeCan, changed, ChangedHaveSpellings, MethodCan, MethodsCan}
 
@@ -223,15 +223,15 @@ changed_spelled plans first c (bytes, spells) short few can =
           attributes = spells.fits.attributes;
         };
         pool = free_spelled c.pool (record { entries = with_free entries }) more (free_index c) spells.pool (omega (arith, few)) refl refl;
-        this_class = still_such (class_name_at entries c.this_class) (class_name_at (with_free entries) c.this_class) _ (class_kept entries more c.this_class) spells.this_class;
+        this_class = and_kept (class_name_at entries c.this_class) (class_name_at (with_free entries) c.this_class) _ (class_kept entries more c.this_class) spells.this_class;
         super_class = super_kept entries more c.super_class spells.super_class;
         interfaces = AllByRecursion-weaker (λ (index : ℕ). IsSome (class_name_at entries index)) (λ (index : ℕ). IsSome (class_name_at (with_free entries) index))
-            (λ index there. still_some (class_name_at entries index) (class_name_at (with_free entries) index) (class_kept entries more index) there) c.interfaces spells.interfaces;
+            (λ index there. there_kept (class_name_at entries index) (class_name_at (with_free entries) index) (class_kept entries more index) there) c.interfaces spells.interfaces;
         fields = AllByRecursion-weaker (FieldIsValid (is_interface c.flags) entries) (FieldIsValid (is_interface c.flags) (with_free entries)) (field_valid_kept entries more (is_interface c.flags)) c.fields spells.fields;
         distinct_fields = fields_distinct entries more (free_index c) named c.fields (field_texts (is_interface c.flags) entries c.fields spells.fields) spells.distinct_fields;
         methods = methods_valid entries more (free_index c) named (is_interface c.flags) plans first c.methods can spells.methods;
         distinct_methods = methods_distinct entries more (free_index c) named plans first c.methods (method_texts (is_interface c.flags) entries c.methods spells.methods) spells.distinct_methods;
         attributes = AllByRecursion-weaker (λ (raw : Raw). IsSome (utf8_at entries raw.name)) (λ (raw : Raw). IsSome (utf8_at (with_free entries) raw.name))
-            (λ raw there. still_some (utf8_at entries raw.name) (utf8_at (with_free entries) raw.name) (text_kept entries more raw.name) there) c.attributes spells.attributes;
+            (λ raw there. there_kept (utf8_at entries raw.name) (utf8_at (with_free entries) raw.name) (text_kept entries more raw.name) there) c.attributes spells.attributes;
       },
     )

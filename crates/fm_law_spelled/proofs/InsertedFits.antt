@@ -5,7 +5,6 @@ use Rattle.std.specs.Prelude.{nat_eq}
 use Rattle.std.specs.List.{AllByRecursion, flat_map, range_with_len}
 use Rattle.std.proofs.lemmas.Option.{slice_get_within}
 use Rattle.fm_base.proofs.ListFacts.{AllByRecursion-append}
-use Rattle.fm_code.proofs.EdgesLemmas.{Contains-first, Contains-later}
 use Rattle.fm_code.specs.declared.code_array.Code.{Code}
 use Rattle.fm_code.specs.declared.code_array.Item.{Item}
 use Rattle.fm_code.specs.declared.instructions.Insn.{Insn}
@@ -14,6 +13,7 @@ use Rattle.fm_code.specs.declared.operations.Reg.TheVariants as reg
 use Rattle.fm_conn.proofs.ListLemmas.{Contains-from_range}
 use Rattle.fm_layout.specs.declared.new_items.NewItem.{NewItem}
 use Rattle.fm_place.proofs.FullLemmas.{numbers-found}
+use Rattle.fm_place.proofs.WovenLemmas.{all-flat}
 use Rattle.fm_place.specs.Insertions.{after_at, before_at, Holder, Insertions}
 use Rattle.fm_place.specs.Laws.{Suits}
 use Rattle.fm_place.specs.Woven.{anchors_of, freed, kept, local_of, null_stored, top_stored, woven, woven_from, woven_item}
@@ -36,11 +36,6 @@ abbrev pub NewFits : (free locals : ℕ) → NewItem → Type 0
 NewFits free locals new = FitsAs free locals new.insn new.kept
 
 -- ---- what is inserted for each holder of a list, and for each item
-
-all_of : (P : NewItem → Type 0) (f : ℕ → List NewItem) (hs : List ℕ) → ((h : ℕ) → Contains hs h → AllByRecursion P (f h)) → AllByRecursion P (flat_map f hs)
-all_of P f [] each = tt
-all_of P f (h ∷ hs) each =
-    AllByRecursion-append P (f h) (flat_map f hs) (each h (Contains-first h hs h refl)) (all_of P f hs (λ k found. each k (Contains-later h hs k found)))
 
 module _ (free : ℕ) (code : Code) (plan : Insertions) (suits : Suits free code plan) where
   locals : ℕ
@@ -73,8 +68,8 @@ module _ (free : ℕ) (code : Code) (plan : Insertions) (suits : Suits free code
       AllByRecursion-append Fits (woven_item free code plan anchors j item.insn) (woven_from free code plan anchors (j + 1) items)
       (AllByRecursion-append Fits (flat_map (λ h. freed free (local_of code h)) (before_at plan j))
       (kept anchors j item.insn ∷ flat_map (λ h. top_stored (local_of code h)) (after_at plan j))
-      (all_of Fits (λ h. freed free (local_of code h)) (before_at plan j) (λ h found. freed_fits h (suits.before j h found)))
-      (tt, all_of Fits (λ h. top_stored (local_of code h)) (after_at plan j) (λ h found. top_fits h (after_inside j h found))))
+      (all-flat Fits (λ h. freed free (local_of code h)) (before_at plan j) (λ h found. freed_fits h (suits.before j h found)))
+      (tt, all-flat Fits (λ h. top_stored (local_of code h)) (after_at plan j) (λ h found. top_fits h (after_inside j h found))))
       (from_fits anchors (j + 1) items)
 
   -- all new items fit
@@ -82,6 +77,6 @@ module _ (free : ℕ) (code : Code) (plan : Insertions) (suits : Suits free code
   woven_fits =
       AllByRecursion-append Fits (flat_map (λ h. null_stored (local_of code h)) (range_with_len 0 (length plan.holders)))
       (woven_from free code plan (anchors_of plan code.items) 0 code.items)
-      (all_of Fits (λ h. null_stored (local_of code h)) (range_with_len 0 (length plan.holders))
+      (all-flat Fits (λ h. null_stored (local_of code h)) (range_with_len 0 (length plan.holders))
       (λ h found. null_fits h (let in_range = Contains-from_range 0 (length plan.holders) h found in omega (arith, in_range))))
       (from_fits (anchors_of plan code.items) 0 code.items)

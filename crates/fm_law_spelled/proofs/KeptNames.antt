@@ -20,18 +20,11 @@ use Rattle.fm_code.specs.declared.constant_pool.Entry.TheVariants as entry
 use Rattle.fm_code.specs.declared.instructions.Insn.{Insn}
 use Rattle.fm_code.specs.declared.instructions.Insn.TheVariants as insn
 use Rattle.fm_code.specs.declared.opcodes.TheConstants.{LDC2_W}
-use Rattle.fm_pool.proofs.GrownPool.{class_kept, entry_kept, pair_kept, text_kept}
+use Rattle.fm_pool.proofs.GrownPool.{and_kept, class_kept, entry_kept, pair_kept, text_kept, there_kept}
 
 -- ---- results that stay
 
--- where each result stays, there is one still
-pub still_some : {X : Type 0} (o p : Option X) → ((x : X) → o ≡ Some x → p ≡ Some x) → IsSome o → IsSome p
-still_some o p stays there = let v = Some-from_is_some o there in IsSome-from_some p v.0 (stays v.0 v.1)
-
-pub still_such : {X : Type 0} (o p : Option X) (P : X → Type 0) → ((x : X) → o ≡ Some x → p ≡ Some x) → IsSomeAnd o P → IsSomeAnd p P
-still_such o p P stays there = let v = Some-from_some_and o P there in IsSomeAnd-from_some p P v.0 (stays v.0 v.1) v.2
-
-no_member : (m : MemberName) → None ≡ Some m → ⊥
+pub no_member : (m : MemberName) → None ≡ Some m → ⊥
 no_member m e = cc
 
 module _ (entries more : List Entry) where
@@ -84,28 +77,28 @@ module _ (entries more : List Entry) where
     by two e at_index own = absurd own
 
   any_kept : (index : ℕ) → IsAnyMethod entries index → IsAnyMethod (entries ++ more) index
-  any_kept index (inl of_class) = inl (still_some (method_ref_at entries index) (method_ref_at (entries ++ more) index) (method_kept index) of_class)
+  any_kept index (inl of_class) = inl (there_kept (method_ref_at entries index) (method_ref_at (entries ++ more) index) (method_kept index) of_class)
   any_kept index (inr of_interface) =
-      inr (still_some (interface_method_ref_at entries index) (interface_method_ref_at (entries ++ more) index) (interface_method_kept index) of_interface)
+      inr (there_kept (interface_method_ref_at entries index) (interface_method_ref_at (entries ++ more) index) (interface_method_kept index) of_interface)
 
   operand_in : (offset : ℕ) (bytes : List ℕ) (i : Insn) → OperandIsValid entries (record { offset = offset; bytes = bytes; insn = i })
       → OperandIsValid (entries ++ more) (record { offset = offset; bytes = bytes; insn = i })
   operand_in offset bytes (insn.LoadPool index) valid = constant_kept (opcode_of (record { offset = offset; bytes = bytes; insn = insn.LoadPool index }) == LDC2_W) index valid
-  operand_in offset bytes (insn.GetStatic index) valid = still_some (field_ref_at entries index) (field_ref_at (entries ++ more) index) (field_kept index) valid
-  operand_in offset bytes (insn.PutStatic index) valid = still_some (field_ref_at entries index) (field_ref_at (entries ++ more) index) (field_kept index) valid
-  operand_in offset bytes (insn.GetField index) valid = still_some (field_ref_at entries index) (field_ref_at (entries ++ more) index) (field_kept index) valid
-  operand_in offset bytes (insn.PutField index) valid = still_some (field_ref_at entries index) (field_ref_at (entries ++ more) index) (field_kept index) valid
-  operand_in offset bytes (insn.Virtual index) valid = still_some (method_ref_at entries index) (method_ref_at (entries ++ more) index) (method_kept index) valid
+  operand_in offset bytes (insn.GetStatic index) valid = there_kept (field_ref_at entries index) (field_ref_at (entries ++ more) index) (field_kept index) valid
+  operand_in offset bytes (insn.PutStatic index) valid = there_kept (field_ref_at entries index) (field_ref_at (entries ++ more) index) (field_kept index) valid
+  operand_in offset bytes (insn.GetField index) valid = there_kept (field_ref_at entries index) (field_ref_at (entries ++ more) index) (field_kept index) valid
+  operand_in offset bytes (insn.PutField index) valid = there_kept (field_ref_at entries index) (field_ref_at (entries ++ more) index) (field_kept index) valid
+  operand_in offset bytes (insn.Virtual index) valid = there_kept (method_ref_at entries index) (method_ref_at (entries ++ more) index) (method_kept index) valid
   operand_in offset bytes (insn.Special index) valid = any_kept index valid
   operand_in offset bytes (insn.Static index) valid = any_kept index valid
   operand_in offset bytes (insn.Interface index) valid =
-      still_such (interface_method_ref_at entries index) (interface_method_ref_at (entries ++ more) index) _ (interface_method_kept index) valid
-  operand_in offset bytes (insn.New index) valid = still_some (class_name_at entries index) (class_name_at (entries ++ more) index) (class_kept entries more index) valid
-  operand_in offset bytes (insn.NewRefs index) valid = still_some (class_name_at entries index) (class_name_at (entries ++ more) index) (class_kept entries more index) valid
-  operand_in offset bytes (insn.Cast index) valid = still_some (class_name_at entries index) (class_name_at (entries ++ more) index) (class_kept entries more index) valid
-  operand_in offset bytes (insn.IsA index) valid = still_some (class_name_at entries index) (class_name_at (entries ++ more) index) (class_kept entries more index) valid
+      and_kept (interface_method_ref_at entries index) (interface_method_ref_at (entries ++ more) index) _ (interface_method_kept index) valid
+  operand_in offset bytes (insn.New index) valid = there_kept (class_name_at entries index) (class_name_at (entries ++ more) index) (class_kept entries more index) valid
+  operand_in offset bytes (insn.NewRefs index) valid = there_kept (class_name_at entries index) (class_name_at (entries ++ more) index) (class_kept entries more index) valid
+  operand_in offset bytes (insn.Cast index) valid = there_kept (class_name_at entries index) (class_name_at (entries ++ more) index) (class_kept entries more index) valid
+  operand_in offset bytes (insn.IsA index) valid = there_kept (class_name_at entries index) (class_name_at (entries ++ more) index) (class_kept entries more index) valid
   operand_in offset bytes (insn.MultiArray index dimensions) valid =
-      still_some (class_name_at entries index) (class_name_at (entries ++ more) index) (class_kept entries more index) valid
+      there_kept (class_name_at entries index) (class_name_at (entries ++ more) index) (class_kept entries more index) valid
   operand_in offset bytes i valid = tt
 
   pub operand_kept : (item : Item) → OperandIsValid entries item → OperandIsValid (entries ++ more) item
@@ -115,7 +108,7 @@ module _ (entries more : List Entry) where
 
   class_or_none : (index : ℕ) → (index ≡ 0) ⊎ IsSome (class_name_at entries index) → (index ≡ 0) ⊎ IsSome (class_name_at (entries ++ more) index)
   class_or_none index (inl none) = inl none
-  class_or_none index (inr there) = inr (still_some (class_name_at entries index) (class_name_at (entries ++ more) index) (class_kept entries more index) there)
+  class_or_none index (inr there) = inr (there_kept (class_name_at entries index) (class_name_at (entries ++ more) index) (class_kept entries more index) there)
 
   pub super_kept : (index : ℕ) → (index ≡ 0) ⊎ IsSome (class_name_at entries index) → (index ≡ 0) ⊎ IsSome (class_name_at (entries ++ more) index)
   super_kept = class_or_none
@@ -132,8 +125,8 @@ module _ (entries more : List Entry) where
   var_kept count v valid = record {
     start = valid.start;
     end = valid.end;
-    name = still_some (utf8_at entries v.name) (utf8_at (entries ++ more) v.name) (text_kept entries more v.name) valid.name;
-    kind = still_some (utf8_at entries v.kind) (utf8_at (entries ++ more) v.kind) (text_kept entries more v.kind) valid.kind;
+    name = there_kept (utf8_at entries v.name) (utf8_at (entries ++ more) v.name) (text_kept entries more v.name) valid.name;
+    kind = there_kept (utf8_at entries v.kind) (utf8_at (entries ++ more) v.kind) (text_kept entries more v.kind) valid.kind;
   }
 
   pub code_attribute_kept : (count : ℕ) (a : CodeAttr) → CodeAttrIsValid entries count a → CodeAttrIsValid (entries ++ more) count a
@@ -143,7 +136,7 @@ module _ (entries more : List Entry) where
   code_attribute_kept count (code_attribute.Vars name true vars) valid =
       (text_kept entries more name (codes "LocalVariableTypeTable") valid.0, AllByRecursion-weaker (VarIsValid entries count) (VarIsValid (entries ++ more) count) (var_kept count) vars valid.1)
   code_attribute_kept count (code_attribute.Other raw) valid =
-      still_such (utf8_at entries raw.name) (utf8_at (entries ++ more) raw.name) _ (text_kept entries more raw.name) valid
+      and_kept (utf8_at entries raw.name) (utf8_at (entries ++ more) raw.name) _ (text_kept entries more raw.name) valid
 
   -- ---- members
 
@@ -161,7 +154,7 @@ module _ (entries more : List Entry) where
   some_of_such index P there = let v = Some-from_some_and (utf8_at entries index) P there in IsSome-from_some (utf8_at entries index) v.0 v.1
 
   pub such_kept : (index : ℕ) (P : List ℕ → Type 0) → IsSomeAnd (utf8_at entries index) P → IsSomeAnd (utf8_at (entries ++ more) index) P
-  such_kept index P there = still_such (utf8_at entries index) (utf8_at (entries ++ more) index) P (text_kept entries more index) there
+  such_kept index P there = and_kept (utf8_at entries index) (utf8_at (entries ++ more) index) P (text_kept entries more index) there
 
   -- a value is an entry that stays
   value_kept : (index : ℕ) → IsValue (entry_at entries index) → entry_at (entries ++ more) index ≡ entry_at entries index

@@ -2,7 +2,7 @@
 use Rattle.std.proofs.Common.{◌≡◌, ℕ, ◌+◌, Bool, true, false, List, [], ◌∷◌, length, Option, Some, None, IsSome, IsSomeAnd, refl, sym, subst, ◌∙◌, option_and_then, inl}
 use Rattle.std.specs.Prelude.{nat_lt, slice_get, slice_index}
 use Rattle.std.specs.List.{AllByRecursion}
-use Rattle.fm_base.proofs.ListFacts.{AllByRecursion-append}
+use Rattle.fm_base.proofs.ListFacts.{AllByRecursion-append, AllByRecursion-at}
 use Rattle.fm_code.specs.ConstantPool.{method_ref_at}
 use Rattle.fm_code.specs.Operands.{OperandIsValid}
 use Rattle.fm_code.specs.SpellsCode.{LocalsFit, with_targets}
@@ -11,7 +11,6 @@ use Rattle.fm_code.specs.declared.constant_pool.Entry.{Entry}
 use Rattle.fm_code.specs.declared.instructions.Insn.{Insn}
 use Rattle.fm_code.specs.declared.instructions.Insn.TheVariants as insn
 use Rattle.fm_code.specs.declared.operations.Reg.TheVariants as reg
-use Rattle.fm_layout.proofs.BoundsLemmas.{at_index}
 use Rattle.fm_layout.proofs.ReadsLemmas.{same_untargeted, untargeted}
 use Rattle.fm_layout.proofs.StillLemmas.{names_target}
 use Rattle.fm_layout.specs.Conditions.{HasOrigin, IsOrigin, IsSameButTargets}
@@ -55,7 +54,7 @@ module _ (P : Item → Type 0) (targeted : HoldsOfTargets P) where
     moved_holds starts firsts start i (Some k) is fits = go (slice_get old k) refl is where
       go : (o : Option Item) → slice_get old k ≡ o → IsSomeAnd o (λ item. IsSameButTargets i item.insn) → P (moved_item starts firsts start o i)
       go None found same = absurd same
-      go (Some item) found same = kept starts firsts start item i same (at_index P old k item known found)
+      go (Some item) found same = kept starts firsts start item i same (AllByRecursion-at P old k item known found)
 
     one_holds : (starts firsts : List ℕ) (start first : ℕ) (follows : Bool) (new : NewItem) (r : Room) → HasOrigin old new → NewFits free locals new
         → AllByRecursion P (laid_items starts firsts start first follows (kept_item old new) new.insn r)

@@ -1,5 +1,5 @@
 -- A changed class is accepted where the class is: its version, the counts of its methods, and all that stands in it.
-use Rattle.std.proofs.Common.{◌≡◌, ℕ, ◌+◌, inr, Bool, true, false, List, [], ◌∷◌, ◌++◌, length, map, Option, Some, None, IfSome, IsSome, refl, sym, ap, subst, ◌∙◌, arith, is_some}
+use Rattle.std.proofs.Common.{◌≡◌, ℕ, ◌+◌, inl, inr, ⊎_elim, codes, Bool, true, false, List, [], ◌∷◌, ◌++◌, length, map, Option, Some, None, IfSome, IsSome, refl, sym, ap, subst, ◌∙◌, arith, is_some}
 use Rattle.std.specs.List.{AllByRecursion}
 use Rattle.std.specs.Option.{option_map}
 use Rattle.std.proofs.lemmas.Bool.{false≢true}
@@ -33,11 +33,11 @@ use Rattle.fm_place.specs.Insertions.{Insertions}
 use Rattle.fm_place.specs.Rewriting.{free_index, Plans, rewritten_attribute, rewritten_method, rewritten_methods}
 use Rattle.fm_place.specs.Woven.{anchors_of, woven, woven_code}
 use Rattle.fm_pool.proofs.FreeEntriesAdded.{free_named, free_supported}
-use Rattle.fm_pool.proofs.GrownPool.{class_kept, entry_kept}
+use Rattle.fm_pool.proofs.GrownPool.{and_kept, class_kept, entry_kept, text_kept, there_kept}
 use Rattle.fm_read_limits.proofs.FloatingLemmas.{array_begins}
 use Rattle.fm_read_limits.proofs.LimitLemmas.{code_is, first_code}
 use Rattle.fm_law_spelled.proofs.InsertedFits.{InsertedFits, woven_fits}
-use Rattle.fm_law_spelled.proofs.KeptNames.{field_kept, interface_method_kept, method_kept, still_some, still_such, such_kept}
+use Rattle.fm_law_spelled.proofs.KeptNames.{field_kept, interface_method_kept, method_kept, such_kept}
 use Rattle.fm_law_spelled.proofs.LaidFits.{HoldsOfTargets, laid_hold}
 use Rattle.fm_law_spelled.specs.Changed.{AttributeCan, CanWeave, ChangedAreAccepted, MethodCan, MethodsCan}
 
@@ -125,8 +125,8 @@ module _ (entries more : List Entry) where
 
   -- and may call what it calls
   calls_kept : (i : Insn) → calls_of_class entries i ≡ true → calls_of_class (entries ++ more) i ≡ true
-  calls_kept (insn.Special index) called = still_some (method_ref_at entries index) (method_ref_at (entries ++ more) index) (method_kept entries more index) called
-  calls_kept (insn.Static index) called = still_some (method_ref_at entries index) (method_ref_at (entries ++ more) index) (method_kept entries more index) called
+  calls_kept (insn.Special index) called = there_kept (method_ref_at entries index) (method_ref_at (entries ++ more) index) (method_kept entries more index) called
+  calls_kept (insn.Static index) called = there_kept (method_ref_at entries index) (method_ref_at (entries ++ more) index) (method_kept entries more index) called
   calls_kept i called = refl
 
   item_kept : (item : Item) → OperandIsValid entries item → ItemIsSupported entries item → HasSupportedInsn (entries ++ more) item
@@ -181,8 +181,12 @@ module _ (entries more : List Entry) (free : ℕ) (named : method_ref_at (entrie
 
   -- ---- methods
 
-  head_kept : (m : Member) → HeadIsSupported entries m → HeadIsSupported (entries ++ more) m
-  head_kept m head = record { descriptor = such_kept entries more m.descriptor _ head.descriptor; not_native = head.not_native }
+  head_kept : (in_interface : Bool) (m : Member) → HeadIsSupported in_interface entries m → HeadIsSupported in_interface (entries ++ more) m
+  head_kept in_interface m head = record {
+    descriptor = such_kept entries more m.descriptor _ head.descriptor;
+    not_native = head.not_native;
+    of_interface = λ within. ⊎_elim (λ abstract. inl abstract) (λ start. inr (text_kept entries more m.name (codes "<clinit>") start)) (head.of_interface within);
+  }
 
   -- the items of a code that may be there
   abbrev ItemsIn : List Entry → Option Code → Type 0
@@ -203,14 +207,16 @@ module _ (entries more : List Entry) (free : ℕ) (named : method_ref_at (entrie
     by None is own = tt
     by (Some code) is own = code_supported code plan (first_can free plan attributes code can is) (first_valid entries attributes code valid is).operands own
 
-  method_supported : (plan : Option Insertions) (m : Member) → MethodCan free plan m → AllByRecursion (MethodAttrIsValid entries) m.attributes → MethodIsSupported entries m
-      → MethodIsSupported (entries ++ more) (rewritten_method free plan m)
-  method_supported None m can valid supported = record {
-    head = head_kept m supported.head;
+  method_supported : (in_interface : Bool) (plan : Option Insertions) (m : Member) → MethodCan free plan m → AllByRecursion (MethodAttrIsValid entries) m.attributes
+      → MethodIsSupported in_interface entries m → MethodIsSupported in_interface (entries ++ more) (rewritten_method free plan m)
+  method_supported in_interface None m can valid supported = record {
+    head = head_kept in_interface m supported.head;
     items = subst (ItemsIn (entries ++ more)) (sym (code_is m)) (same_items m.attributes valid (subst (ItemsIn entries) (code_is m) supported.items));
   }
-  method_supported (Some plan) m can valid supported = record {
-    head = record { descriptor = (head_kept m supported.head).descriptor; not_native = supported.head.not_native };
+  method_supported in_interface (Some plan) m can valid supported = record {
+    head =
+        let kept = head_kept in_interface m supported.head in
+        record { descriptor = kept.descriptor; not_native = kept.not_native; of_interface = kept.of_interface };
     items =
         let new = map (rewritten_attribute free plan) m.attributes in
         let is : code_of (record m { attributes = new }) ≡ option_map (λ code. woven_code free code plan) (first_code m.attributes) = code_is (record m { attributes = new }) ∙ woven_first free plan m.attributes in
@@ -218,10 +224,10 @@ module _ (entries more : List Entry) (free : ℕ) (named : method_ref_at (entrie
   }
 
   methods_supported : (in_interface : Bool) (plans : Plans) (first : ℕ) (methods : List Member) → MethodsCan plans free first methods → AllByRecursion (MethodIsValid in_interface entries) methods
-      → AllByRecursion (MethodIsSupported entries) methods → AllByRecursion (MethodIsSupported (entries ++ more)) (rewritten_methods plans free first methods)
+      → AllByRecursion (MethodIsSupported in_interface entries) methods → AllByRecursion (MethodIsSupported in_interface (entries ++ more)) (rewritten_methods plans free first methods)
   methods_supported in_interface plans first [] can valid supported = tt
   methods_supported in_interface plans first (m ∷ methods) can valid supported = (
-    method_supported (plans first) m can.0 valid.0.attributes supported.0,
+    method_supported in_interface (plans first) m can.0 valid.0.attributes supported.0,
     methods_supported in_interface plans (first + 1) methods can.1 valid.1 supported.1,
   )
 
@@ -268,7 +274,7 @@ changed_accepted plans first c (bytes, spells) profile can =
       version = inr (omega arith, omega arith, refl);
       limits = methods_within (free_index c) plans first c.methods can profile.limits;
       supported = record {
-        name = still_such (class_name_at entries c.this_class) (class_name_at (with_free entries) c.this_class) IsSupportedName (class_kept entries more c.this_class) profile.supported.name;
+        name = and_kept (class_name_at entries c.this_class) (class_name_at (with_free entries) c.this_class) IsSupportedName (class_kept entries more c.this_class) profile.supported.name;
         fields = AllByRecursion-weaker (FieldIsSupported entries) (FieldIsSupported (with_free entries)) (λ m own. such_kept entries more m.descriptor _ own) c.fields profile.supported.fields;
         methods = methods_supported entries more (free_index c) named (is_interface c.flags) plans first c.methods can spells.methods profile.supported.methods;
         pool = free_supported entries profile.supported.pool;

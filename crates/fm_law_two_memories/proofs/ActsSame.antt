@@ -27,8 +27,9 @@ use Rattle.fm_law_two_memories.specs.Reading.{IsNumeric, IsOfKind, NumberAgrees}
 use Rattle.fm_law_two_memories.specs.Seeing.{IsSeen, IsThere}
 use Rattle.fm_law_two_memories.proofs.SightsSame.{twins_alike}
 use Rattle.fm_law_two_memories.proofs.SourcesSame.{read_same, source_same}
-use Rattle.fm_law_two_memories.proofs.Stores.{cell_later, put_paired, Stays, value_later, with_stays}
+use Rattle.fm_law_two_memories.proofs.Stores.{cell_later, put_paired, value_later, with_stays}
 use Rattle.fm_law_two_memories.proofs.Twins.{found_same, not_null}
+use Rattle.fm_law_two_memories.specs.Laws.{KeepsBirths}
 
 -- ---- values that are kept
 
@@ -65,7 +66,7 @@ no_number : (t : TypeRef) (n : ℕ) → IsNumeric (read (kind.Ref t) n) → ⊥
 unfolding read
 no_number t n h = h
 
-module _ (gone : Gone) (o : Outline) (one other : Store) (f g : Frame) (frame : FramesPaired gone one other f g) (seen : AllByRecursion (IsSeen gone o one) f.stack) (x y : Areas) (made others : List ℕ) (paired : AreasPaired gone o x y) (stays : Stays one x.store) (other_stays : Stays other y.store) (classes : SameClasses one x.store) (cells : AllZip (SameFound x.store y.store) made others) where
+module _ (gone : Gone) (o : Outline) (one other : Store) (f g : Frame) (frame : FramesPaired gone one other f g) (seen : AllByRecursion (IsSeen gone o one) f.stack) (x y : Areas) (made others : List ℕ) (paired : AreasPaired gone o x y) (stays : KeepsBirths one x.store) (other_stays : KeepsBirths other y.store) (classes : SameClasses one x.store) (cells : AllZip (SameFound x.store y.store) made others) where
   abbrev first : Source → Value
   first s = value_of (sources_of f x made) s
 
@@ -101,7 +102,7 @@ module _ (gone : Gone) (o : Outline) (one other : Store) (f g : Frame) (frame : 
 -- ---- areas
 
 -- the areas with later stores
-pub areas_later : (gone : Gone) (o : Outline) (x y : Areas) (next following : Store) → AreasPaired gone o x y → Stays x.store next → Stays y.store following
+pub areas_later : (gone : Gone) (o : Outline) (x y : Areas) (next following : Store) → AreasPaired gone o x y → KeepsBirths x.store next → KeepsBirths y.store following
     → ArePaired gone o next following → AreasPaired gone o (record x { store = next }) (record y { store = following })
 areas_later gone o x y next following paired stays other_stays stores = record {
   store = stores;

@@ -1,7 +1,7 @@
 -- The second store may free any object that doesn't live for ever: it is gone from then on.
 use Rattle.std.proofs.Common.{◌≡◌, ℕ, zero, suc, ◌+◌, ◌<◌, inl, inr, ◌==◌, ◌||◌, Bool, true, false, cond, List, Option, Some, None, refl, sym, ◌∙◌, ap, subst, arith, ⊎_elim}
 use Rattle.std.specs.List.{AllZip}
-use Rattle.std.proofs.lemmas.Bool.{cases_Bool, cases_eq, eq-eqb, eqb-true, false≢true, ne_eqb, or_cases, or_left, or_right}
+use Rattle.std.proofs.lemmas.Bool.{cases_Bool, cases_eq, eq-eqb, eqb-true, false≢true, ne_eqb, or_cases, or_left, or_parts, or_right}
 use Rattle.std.proofs.lemmas.Option.{same_Some}
 use Rattle.fm_base.specs.declared.kinds.Kind.{Kind}
 use Rattle.fm_base.specs.declared.kinds.Kind.TheVariants as kind
@@ -19,12 +19,8 @@ use Rattle.fm_frames.specs.declared.values.Value.{Value}
 use Rattle.fm_frames.specs.declared.values.Value.TheVariants as value
 use Rattle.fm_law_sound.specs.Placing.{kind_in}
 use Rattle.fm_law_two_memories.specs.Pairing.{AreAlike, ArePaired, AreasPaired, FramesPaired, Gone, HasTwin, SameCell, SameElement, SameValue, with_gone}
+use Rattle.fm_law_two_memories.specs.Results.{KeepsLimits}
 use Rattle.fm_law_two_memories.proofs.Twins.{not_null}
-
--- neither of two tests holds where one of them or the other doesn't
-neither : (a b : Bool) → (a || b) ≡ false → (a ≡ false) × (b ≡ false)
-neither false b is = (refl, is)
-neither true b is = absurd (false≢true (sym is))
 
 module _ (gone : Gone) (o : Outline) (one other : Store) (paired : ArePaired gone o one other) (cell : ℕ) (object : Object) (held : object_at other cell ≡ Some object) (loose : object.fixed ≡ false) where
   abbrev more : Gone
@@ -101,7 +97,7 @@ module _ (gone : Gone) (o : Outline) (one other : Store) (paired : ArePaired gon
 
   freed_twin : (q : ℕ) (found : Object) → object_at one q ≡ Some found → more.births found.birth ≡ false → HasTwin more o one following found
   freed_twin q found at there =
-      let apart = neither (found.birth == object.birth) (gone.births found.birth) there in
+      let apart = or_parts (found.birth == object.birth) (gone.births found.birth) there in
       let old : HasTwin gone o one other found = paired.objects q found at apart.1 in
       record {
         cell = old.cell;
@@ -191,6 +187,10 @@ module _ (gone : Gone) (o : Outline) (x y : Areas) (paired : AreasPaired gone o 
       ∙ ap (λ b. cond b y (record y { store = freed_by y.store cell; frees = y.frees + 1; freed_words = y.freed_words + object_words object })) loose
       ∙ ap (λ (s : Store). record y { store = s; frees = y.frees + 1; freed_words = y.freed_words + object_words object })
       (following_is gone o x.store y.store paired.store cell object held loose)
+
+  -- with the limit and the budget that the store had
+  pub freed_limits : KeepsLimits y.store (freed y cell).store
+  freed_limits = record { limit = ap (λ (a : Areas). a.store.limit) freed_is; budget = ap (λ (a : Areas). a.store.budget) freed_is }
 
   later_paired : AreasPaired more_gone o x later
   later_paired = record {

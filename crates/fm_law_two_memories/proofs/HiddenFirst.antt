@@ -24,24 +24,21 @@ use Rattle.fm_frames.specs.NativeRows.{text_type}
 use Rattle.fm_frames.specs.Runnable.{IsRunnable}
 use Rattle.fm_law_sound.specs.Making.{HaveTextFirst}
 use Rattle.fm_law_sound.proofs.HiddenFields.{text_first}
+use Rattle.fm_law_sound.proofs.MadeObjects.{class_of_base}
 use Rattle.fm_law_two_memories.specs.Hidden.{HiddenComesFirst, OwnHideNothing}
 
 -- ---- types
 
-abbrev of_base : Base → Option ℕ
-of_base (base.OfClass class) = Some class.0
-of_base b = None
-
 -- the type of a class fits those of its superclasses
 module _ (classes : List DeclaredClass) (class above : ℕ) (among : is_among above (chain_of classes class) ≡ true) where
-  base_fits : (b : Base) → of_base b ≡ Some class → fits_base classes b (type_of_class above).base ≡ true
+  base_fits : (b : Base) → class_of_base b ≡ Some class → fits_base classes b (type_of_class above).base ≡ true
   base_fits (base.OfClass c) is = subst (λ n. is_among above (chain_of classes n) ≡ true) (sym (same_Some c.0 class is)) among
   base_fits b is = absurd (cc)
 
   class_fits : (t : TypeRef) → class_of_type t ≡ Some class → fits_type classes t (type_of_class above) ≡ true
   unfolding fits_type
   class_fits t is =
-      let parts = cond-some_then (t.dims == 0) (of_base t.base) class is in
+      let parts = cond-some_then (t.dims == 0) (class_of_base t.base) class is in
       or_right _ ((t.dims == 0) && fits_base classes t.base (type_of_class above).base)
       (and_from (t.dims == 0) (fits_base classes t.base (type_of_class above).base) parts.0 (base_fits t.base parts.1))
 

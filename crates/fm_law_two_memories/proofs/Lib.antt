@@ -19,3 +19,4 @@ pub mod ActsSame
 pub mod MakesSame
 pub mod FreesSame
 pub mod StepActs
+pub mod DeadUnseen

@@ -13,11 +13,11 @@ use Rattle.fm_frames.specs.Acts.{with_content}
 use Rattle.fm_frames.specs.Sights.{type_numbered}
 use Rattle.fm_law_sound.proofs.ActsKeep.{content_in, new_held}
 use Rattle.fm_law_sound.specs.Acting.{ContentFits}
-use Rattle.fm_law_two_memories.specs.Laws.{MadeAlike}
+use Rattle.fm_law_two_memories.specs.Laws.{KeepsBirths, MadeAlike}
 use Rattle.fm_law_two_memories.specs.Pairing.{AreAlike, ArePaired, Gone, SameElement, SameFound}
-use Rattle.fm_law_two_memories.proofs.Stores.{changed_paired, found_later, made_paired, made_stays, new_twins, Stays, with_stays}
+use Rattle.fm_law_two_memories.proofs.Stores.{changed_paired, found_later, made_paired, made_stays, new_twins, with_stays}
 
-pub stays_then : (store middle later : Store) → Stays store middle → Stays middle later → Stays store later
+pub stays_then : (store middle later : Store) → KeepsBirths store middle → KeepsBirths middle later → KeepsBirths store later
 stays_then store middle later first second cell object held =
     let now = first cell object held in
     let then_ = second cell now.0 now.1 in (then_.0, then_.1, then_.2 ∙ now.2)
@@ -64,8 +64,8 @@ module _ (gone : Gone) (o : Outline) (one other : Store) (paired : ArePaired gon
       } in
       let next : Store = with_object middle cell now in
       let following : Store = with_object other_middle twin second_now in
-      let stays : Stays middle next = with_stays middle cell first now there refl in
-      let other_stays : Stays other_middle following = with_stays other_middle twin second second_now second_there refl in
+      let stays : KeepsBirths middle next = with_stays middle cell first now there refl in
+      let other_stays : KeepsBirths other_middle following = with_stays other_middle twin second second_now second_there refl in
       subst (λ s. MadeAlike gone o one other s (with_content other_middle twin (unit ∷ units)) cell twin) (sym (ap (content_in middle cell unit units) there))
       (subst (λ s. MadeAlike gone o one other next s cell twin) (sym (ap (content_in other_middle twin unit units) second_there))
       (record {

@@ -2,12 +2,13 @@
 use Rattle.std.proofs.Common.{◌≡◌, ℕ, zero, suc, ◌+◌, ◌-◌, not, inl, inr, Bool, true, false, cond, List, [], ◌∷◌, ◌++◌, length, map, take, reverse, replicate, Option, Some, None, refl, sym, ◌∙◌, ap, subst, slice_set}
 use Rattle.std.specs.List.{AllByRecursion, AllZip}
 use Rattle.std.proofs.lemmas.List.{reverse-append}
+use Rattle.std.proofs.lemmas.List.Elements.{length_all_zip}
 use Rattle.fm_base.specs.declared.kinds.TypeRef.{TypeRef}
-use Rattle.fm_cells.specs.Objects.{Object}
 use Rattle.fm_cells.specs.Stores.{object_at, Store}
-use Rattle.fm_types.proofs.Zips.{zip-append, zip-drop, zip-length, zip-set}
-use Rattle.fm_types.specs.Named.{class_of_method, throwable_type}
+use Rattle.fm_types.proofs.Zips.{zip-append, zip-drop, zip-set}
+use Rattle.fm_types.specs.Named.{class_of_method}
 use Rattle.fm_world.specs.Programs.{Outline, Program}
+use Rattle.fm_frames.proofs.Throwing.{type_of}
 use Rattle.fm_frames.specs.Acts.{cell_of, same_cell, Sources, value_of}
 use Rattle.fm_frames.specs.Effects.{Calls, Effect, Enters, Exits, Falls, Faults, Jumps, JumpsIfSame, Next, Returns, Source, Throws}
 use Rattle.fm_frames.specs.Sights.{type_numbered}
@@ -63,7 +64,7 @@ module _ (gone : Gone) (p : Program) (one other : Store) where
     item = refl;
     locals = zip-append S vs ws (replicate (max_locals_of p method - length vs) value.Top) (replicate (max_locals_of p method - length ws) value.Top) h
         (subst (λ n. AllZip S (replicate (max_locals_of p method - length vs) value.Top) (replicate (max_locals_of p method - n) value.Top))
-        (zip-length S vs ws h) (zip_copies S value.Top refl (max_locals_of p method - length vs)));
+        (length_all_zip S vs ws h) (zip_copies S value.Top refl (max_locals_of p method - length vs)));
     stack = tt;
   }
 
@@ -119,22 +120,17 @@ module _ (gone : Gone) (p : Program) (one other : Store) where
       (sym (handler_same t f g h.0))
       (in_same v w same f g fs gs h.0 h.1 (handler_of p f t) (caught p t v fs) (caught p t w gs) (caught_same t v w same fs gs h.1))
 
--- the type of what is thrown, which isn't gone
-abbrev type_of_found : Outline → Option Object → TypeRef
-type_of_found o None = throwable_type o
-type_of_found o (Some object) = type_numbered o object.class
-
 type_same : (gone : Gone) (o : Outline) (x y : Areas) → AreasPaired gone o x y → (v w : Value) → SameValue gone x.store y.store v w
     → IsThere gone x.store (cell_of v) → type_at o y.store w ≡ type_at o x.store v
 type_same gone o x y paired v w same there =
     by_cells (cell_of v) (cell_of w) (found_same gone x.store y.store (cell_of v) (cell_of w) there (cell_same gone x.store y.store v w same)) where
-      by_cells : (a b : ℕ) → SameFound x.store y.store a b → type_of_found o (object_at y.store b) ≡ type_of_found o (object_at x.store a)
+      by_cells : (a b : ℕ) → SameFound x.store y.store a b → type_of o (object_at y.store b) ≡ type_of o (object_at x.store a)
       by_cells a b (inl null) =
-          ap (type_of_found o) (ap (object_at y.store) null.1 ∙ paired.store.other_orderly.null_not_held)
-          ∙ sym (ap (type_of_found o) (ap (object_at x.store) null.0 ∙ paired.store.orderly.null_not_held))
+          ap (type_of o) (ap (object_at y.store) null.1 ∙ paired.store.other_orderly.null_not_held)
+          ∙ sym (ap (type_of o) (ap (object_at x.store) null.0 ∙ paired.store.orderly.null_not_held))
       by_cells a b (inr t) =
-          ap (type_of_found o) t.twin_held ∙ ap (type_numbered o) (twins_alike gone o x.store y.store paired.store a b t).class
-          ∙ sym (ap (type_of_found o) t.held)
+          ap (type_of o) t.twin_held ∙ ap (type_numbered o) (twins_alike gone o x.store y.store paired.store a b t).class
+          ∙ sym (ap (type_of o) t.held)
 
 -- ---- what comes next
 

@@ -2,6 +2,7 @@
 use Rattle.std.proofs.Common.{◌≡◌, ℕ, ◌+◌, ◌<◌, ◌≤◌, ◌||◌, inl, Bool, true, false, cond, List, [], ◌∷◌, ◌++◌, length, map, nat_lt, Option, Some, None, refl, sym, ◌∙◌, ap, subst, slice_index_or, arith}
 use Rattle.std.specs.List.{AllByRecursion, AllZip, flat_map}
 use Rattle.std.proofs.lemmas.Bool.{false≢true}
+use Rattle.std.proofs.lemmas.List.Elements.{length_all_zip}
 use Rattle.fm_base.specs.declared.kinds.TypeRef.{TypeRef}
 use Rattle.fm_base.specs.declared.limits.TheConstants.{MAX_LIVE_WORDS}
 use Rattle.fm_cells.proofs.Changes.{live_words-opened}
@@ -11,7 +12,7 @@ use Rattle.fm_cells.specs.Choices.{lawful, MayReuse}
 use Rattle.fm_cells.specs.Objects.{Object, Request, request_words}
 use Rattle.fm_cells.specs.Stores.{live_words, object_at, opened, Store}
 use Rattle.fm_code.specs.AccessFlags.{is_static}
-use Rattle.fm_types.proofs.Zips.{zip-append, zip-length, zip-set}
+use Rattle.fm_types.proofs.Zips.{zip-append, zip-set}
 use Rattle.fm_world.specs.Members.{field_kind, fields_of, OwnedField}
 use Rattle.fm_world.specs.Programs.{Outline, Program}
 use Rattle.fm_world.specs.declared.declarations.DeclaredClass.{DeclaredClass}
@@ -314,7 +315,7 @@ module _ (p : Program) (ready : IsReady p) (first second : Choose) (job : Job) (
       zip-append (FramesPaired none_gone x.store y.store) (start_frames p methods) (start_frames p methods) main other_main (starts_same none_gone p x.store y.store methods)
       (new_same none_gone p x.store y.store p.outline.main (ref cell ∷ []) (ref twin ∷ []) ((twin, refl, same), tt), tt) in
       let count : length (opening_frames p methods cell) ≡ length (opening_frames p methods twin) =
-      zip-length (FramesPaired none_gone x.store y.store) (opening_frames p methods cell) (opening_frames p methods twin) frames in
+      length_all_zip (FramesPaired none_gone x.store y.store) (opening_frames p methods cell) (opening_frames p methods twin) frames in
       by_both Go (nat_lt job.depth (length (opening_frames p methods cell))) (nat_lt job.depth (length (opening_frames p methods twin))) _ _ _ _
       (λ deep other_deep. ends_alike x y types made others h (end.TooDeep 1) (end.TooDeep 1) refl)
       (λ deep shallow. absurd (false≢true (sym shallow ∙ ap (nat_lt job.depth) (sym count) ∙ deep)))

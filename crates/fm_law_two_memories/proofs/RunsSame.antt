@@ -10,7 +10,7 @@ use Rattle.fm_frames.specs.Acts.{Choose}
 use Rattle.fm_frames.specs.Effects.{Effect}
 use Rattle.fm_frames.specs.Runs.{after}
 use Rattle.fm_frames.specs.States.{Moved, State}
-use Rattle.fm_frames.specs.Steps.{attempted, is_deep, is_over, next_effect, stack_of, step}
+use Rattle.fm_frames.specs.Steps.{attempted, is_deep, is_over, next_effect, step}
 use Rattle.fm_frames.specs.declared.ends.Ended.{Ended}
 use Rattle.fm_frames.specs.declared.ends.Ended.TheVariants as end
 use Rattle.fm_frames.specs.declared.values.Value.{Value}
@@ -21,7 +21,7 @@ use Rattle.fm_law_sound.specs.Sound.{IsSoundBy, Typings}
 use Rattle.fm_law_two_memories.specs.Pairing.{EndAlike, Gone, none_gone}
 use Rattle.fm_law_two_memories.specs.Results.{IsFewGone}
 use Rattle.fm_law_two_memories.specs.Runs.{Alike, FirstLacks, GoAlike, IsPrefix, SecondIsFull, SecondLacks}
-use Rattle.fm_law_two_memories.specs.Seeing.{IsSeen}
+use Rattle.fm_law_two_memories.specs.Seeing.{IsSeen, SeesNothingGone}
 use Rattle.fm_law_two_memories.proofs.EffectsSame.{effects_same}
 use Rattle.fm_law_two_memories.proofs.StepSame.{AlikeStill, Both, GoesAlike, IsReady, OneLacks, OtherIsFull, OtherLacks, step_alike}
 use Rattle.fm_frames.proofs.StepCounts.{step_ended, step_going}
@@ -67,12 +67,16 @@ all_seen o store (v ∷ vs) = (record { word = λ object held. refl; hidden = λ
 pub few_none : IsFewGone none_gone
 few_none = omega arith
 
-module _ (p : Program) (typings : Typings) (ready : IsReady p) (first second : Choose) (budget other : ℕ) (limit : Option ℕ) (few : other ≤ MAX_LIVE_WORDS) where
+module _ (gone : Gone) (few_gone : IsFewGone gone) (p : Program) (typings : Typings) (ready : IsReady p) (first second : Choose) (budget other : ℕ) (limit : Option ℕ) (few : other ≤ MAX_LIVE_WORDS) where
   abbrev Go : Moved → Moved → Type 0
-  Go x y = GoesAlike none_gone p.outline budget other limit x y
+  Go x y = GoesAlike gone p.outline budget other limit x y
 
   abbrev Still : State → State → Type 0
-  Still x y = AlikeStill none_gone p.outline budget other limit x y
+  Still x y = AlikeStill gone p.outline budget other limit x y
+
+  -- as long as the first run goes on it sees nothing that is gone
+  abbrev Sees : State → Type 0
+  Sees x = x.ended ≡ None → SeesNothingGone gone p.outline x
 
   -- the run has ended
   abbrev HasEnded : State → Type 0
@@ -85,17 +89,17 @@ module _ (p : Program) (typings : Typings) (ready : IsReady p) (first second : C
   -- paired states that have ended stay so
   ended_alike : (x y : State) (e : Ended) → x.ended ≡ Some e → Still x y → Go (step p (lawful first) x) (step p (lawful second) y)
   ended_alike x y e is still =
-      let others = subst (λ ended. EndAlike none_gone x.areas.store y.areas.store ended y.ended) is still.paired.ended in
+      let others = subst (λ ended. EndAlike gone x.areas.store y.areas.store ended y.ended) is still.paired.ended in
       subst (λ m. Go m (step p (lawful second) y)) (sym (step_ended p (lawful first) x e is))
       (subst (λ m. Go (record { state = x; printed = [] }) m) (sym (step_ended p (lawful second) y others.0 others.1)) (Both still refl))
 
-  moves_alike : (x y : State) → IsFollowed x y → Still x y → Go (step p (lawful first) x) (step p (lawful second) y)
-  moves_alike x y followed still = by_end x.ended refl where
+  moves_alike : (x y : State) → IsFollowed x y → Sees x → Still x y → Go (step p (lawful first) x) (step p (lawful second) y)
+  moves_alike x y followed seen still = by_end x.ended refl where
     by_followed : x.ended ≡ None → IsFollowed x y → Go (step p (lawful first) x) (step p (lawful second) y)
     by_followed is (inl sound) =
-        step_alike none_gone few_none p typings ready first second budget other limit few x y sound still (all_seen p.outline x.areas.store (stack_of x)) is
+        step_alike gone few_gone p typings ready first second budget other limit few x y sound still (seen is) is
     by_followed is (inr ended) =
-        let going : y.ended ≡ None = subst (λ end. EndAlike none_gone x.areas.store y.areas.store end y.ended) is still.paired.ended in
+        let going : y.ended ≡ None = subst (λ end. EndAlike gone x.areas.store y.areas.store end y.ended) is still.paired.ended in
         let no : Some ended.0 ≡ None = sym ended.1 ∙ going in absurd (cc)
 
     by_end : (ended : Option Ended) → x.ended ≡ ended → Go (step p (lawful first) x) (step p (lawful second) y)
@@ -103,20 +107,20 @@ module _ (p : Program) (typings : Typings) (ready : IsReady p) (first second : C
     by_end (Some e) is = ended_alike x y e is still
 
   -- one more step
-  goes_on : (x y : Moved) → IsFollowed x.state y.state → Go x y
+  goes_on : (x y : Moved) → IsFollowed x.state y.state → Sees x.state → Go x y
       → Go (joined x (step p (lawful first) x.state)) (joined y (step p (lawful second) y.state))
-  goes_on x y followed (Both still printed) =
-      both_joined none_gone p.outline budget other limit x y (step p (lawful first) x.state) (step p (lawful second) y.state) printed
-      (moves_alike x.state y.state followed still)
-  goes_on x y followed (OneLacks less lacks prefix) =
+  goes_on x y followed seen (Both still printed) =
+      both_joined gone p.outline budget other limit x y (step p (lawful first) x.state) (step p (lawful second) y.state) printed
+      (moves_alike x.state y.state followed seen still)
+  goes_on x y followed seen (OneLacks less lacks prefix) =
       subst (λ m. Go (joined x m) (joined y (step p (lawful second) y.state)))
       (sym (step_ended p (lawful first) x.state (end.Exhausted lacks.0 lacks.1) lacks.2))
       (OneLacks less lacks (prefix_more x.printed y.printed (step p (lawful second) y.state).printed prefix))
-  goes_on x y followed (OtherLacks less lacks prefix) =
+  goes_on x y followed seen (OtherLacks less lacks prefix) =
       subst (λ m. Go (joined x (step p (lawful first) x.state)) (joined y m))
       (sym (step_ended p (lawful second) y.state (end.Exhausted lacks.0 lacks.1) lacks.2))
       (OtherLacks less lacks (prefix_more y.printed x.printed (step p (lawful first) x.state).printed prefix))
-  goes_on x y followed (OtherIsFull small full prefix) =
+  goes_on x y followed seen (OtherIsFull small full prefix) =
       subst (λ m. Go (joined x (step p (lawful first) x.state)) (joined y m))
       (sym (step_ended p (lawful second) y.state (end.StoreFull full.0 full.1) full.2))
       (OtherIsFull small full (prefix_more y.printed x.printed (step p (lawful first) x.state).printed prefix))
@@ -135,16 +139,16 @@ module _ (p : Program) (typings : Typings) (ready : IsReady p) (first second : C
       moved_by HasEnded (is_deep y e.next) _ _ (λ deep. (_, refl))
       (λ shallow. moved_by HasEnded (is_over p.outline y.areas e.actions) _ _ (λ is. (_, refl)) (λ within. absurd (false≢true (sym within ∙ over))))
 
-  both_follow : (x y : State) → IsSoundBy p typings x → Still x y → x.ended ≡ None
+  both_follow : (x y : State) → IsSoundBy p typings x → Sees x → Still x y → x.ended ≡ None
       → IsFollowed (step p (lawful first) x).state (step p (lawful second) y).state
-  both_follow x y sound still going = by_over (is_over p.outline y.areas (next_effect p x).actions) refl where
+  both_follow x y sound seen still going = by_over (is_over p.outline y.areas (next_effect p x).actions) refl where
     other_going : y.ended ≡ None
-    other_going = subst (λ ended. EndAlike none_gone x.areas.store y.areas.store ended y.ended) going still.paired.ended
+    other_going = subst (λ ended. EndAlike gone x.areas.store y.areas.store ended y.ended) going still.paired.ended
 
     theirs : step p (lawful second) y ≡ attempted p (lawful second) y (next_effect p x)
     theirs =
         step_going p (lawful second) y other_going
-        ∙ ap (attempted p (lawful second) y) (effects_same none_gone p ready.hidden x y still.paired (all_seen p.outline x.areas.store (stack_of x))).0
+        ∙ ap (attempted p (lawful second) y) (effects_same gone p ready.hidden x y still.paired (seen going)).0
 
     now_few : y.areas.store.budget ≤ MAX_LIVE_WORDS
     now_few = subst (λ n. n ≤ MAX_LIVE_WORDS) (sym still.other_is) few
@@ -155,25 +159,26 @@ module _ (p : Program) (typings : Typings) (ready : IsReady p) (first second : C
         (λ running. next_acts_fit p typings ready.steps ready.makes x sound (λ fits. few_within p.outline y.areas (next_effect p x).actions now_few within)))
     by_over true over = inr (subst (λ (m : Moved). HasEnded m.state) (sym theirs) (over_ends y (next_effect p x) over))
 
-  follows_on : (x y : Moved) → IsFollowed x.state y.state → Go x y → IsFollowed (step p (lawful first) x.state).state (step p (lawful second) y.state).state
-  follows_on x y (inr ended) go = end_stays x.state y.state ended
-  follows_on x y (inl sound) (Both still printed) = by_end x.state.ended refl where
+  follows_on : (x y : Moved) → IsFollowed x.state y.state → Sees x.state → Go x y → IsFollowed (step p (lawful first) x.state).state (step p (lawful second) y.state).state
+  follows_on x y (inr ended) seen go = end_stays x.state y.state ended
+  follows_on x y (inl sound) seen (Both still printed) = by_end x.state.ended refl where
     by_end : (ended : Option Ended) → x.state.ended ≡ ended → IsFollowed (step p (lawful first) x.state).state (step p (lawful second) y.state).state
-    by_end None is = both_follow x.state y.state sound still is
+    by_end None is = both_follow x.state y.state sound seen still is
     by_end (Some e) is = sound_stays x.state y.state e is sound
-  follows_on x y (inl sound) (OneLacks less lacks prefix) = sound_stays x.state y.state (end.Exhausted lacks.0 lacks.1) lacks.2 sound
-  follows_on x y (inl sound) (OtherLacks less lacks prefix) = end_stays x.state y.state (end.Exhausted lacks.0 lacks.1, lacks.2)
-  follows_on x y (inl sound) (OtherIsFull small full prefix) = end_stays x.state y.state (end.StoreFull full.0 full.1, full.2)
+  follows_on x y (inl sound) seen (OneLacks less lacks prefix) = sound_stays x.state y.state (end.Exhausted lacks.0 lacks.1) lacks.2 sound
+  follows_on x y (inl sound) seen (OtherLacks less lacks prefix) = end_stays x.state y.state (end.Exhausted lacks.0 lacks.1, lacks.2)
+  follows_on x y (inl sound) seen (OtherIsFull small full prefix) = end_stays x.state y.state (end.StoreFull full.0 full.1, full.2)
 
-  both_so : (x y : Moved) → IsSoundBy p typings x.state → Go x y
+  both_so : (x y : Moved) → IsSoundBy p typings x.state → ((k : ℕ) → Sees (after p (lawful first) k x).state) → Go x y
       → (k : ℕ) → Go (after p (lawful first) k x) (after p (lawful second) k y) × IsFollowed (after p (lawful first) k x).state (after p (lawful second) k y).state
   unfolding after
-  both_so x y sound begins zero = (begins, inl sound)
-  both_so x y sound begins (suc k) =
-      let before = both_so x y sound begins k in (
-        goes_on (after p (lawful first) k x) (after p (lawful second) k y) before.1 before.0,
-        follows_on (after p (lawful first) k x) (after p (lawful second) k y) before.1 before.0,
+  both_so x y sound seen begins zero = (begins, inl sound)
+  both_so x y sound seen begins (suc k) =
+      let before = both_so x y sound seen begins k in (
+        goes_on (after p (lawful first) k x) (after p (lawful second) k y) before.1 (seen k) before.0,
+        follows_on (after p (lawful first) k x) (after p (lawful second) k y) before.1 (seen k) before.0,
       )
 
-  pub runs_alike : (x y : Moved) → IsSoundBy p typings x.state → Go x y → (k : ℕ) → Go (after p (lawful first) k x) (after p (lawful second) k y)
-  runs_alike x y sound begins k = (both_so x y sound begins k).0
+  pub runs_alike : (x y : Moved) → IsSoundBy p typings x.state → ((k : ℕ) → Sees (after p (lawful first) k x).state) → Go x y
+      → (k : ℕ) → Go (after p (lawful first) k x) (after p (lawful second) k y)
+  runs_alike x y sound seen begins k = (both_so x y sound seen begins k).0

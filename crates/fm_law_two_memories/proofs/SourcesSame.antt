@@ -23,8 +23,9 @@ use Rattle.fm_law_two_memories.specs.Pairing.{AreAlike, AreasPaired, AreTwins, F
 use Rattle.fm_law_two_memories.specs.Reading.{NumberAgrees}
 use Rattle.fm_law_two_memories.specs.Seeing.{IsSeen, IsThere}
 use Rattle.fm_law_two_memories.proofs.SightsSame.{twins_alike}
-use Rattle.fm_law_two_memories.proofs.Stores.{found_later, Stays, value_later}
+use Rattle.fm_law_two_memories.proofs.Stores.{found_later, value_later}
 use Rattle.fm_law_two_memories.proofs.Twins.{cell_same, found_same, found_tests}
+use Rattle.fm_law_two_memories.specs.Laws.{KeepsBirths}
 
 -- ---- values of lists
 
@@ -80,7 +81,7 @@ module _ (gone : Gone) (one other : Store) where
 
 -- ---- the values of sources
 
-module _ (gone : Gone) (o : Outline) (one other : Store) (f g : Frame) (frame : FramesPaired gone one other f g) (seen : AllByRecursion (IsSeen gone o one) f.stack) (x y : Areas) (made others : List ℕ) (paired : AreasPaired gone o x y) (stays : Stays one x.store) (other_stays : Stays other y.store) (classes : SameClasses one x.store) (cells : AllZip (SameFound x.store y.store) made others) where
+module _ (gone : Gone) (o : Outline) (one other : Store) (f g : Frame) (frame : FramesPaired gone one other f g) (seen : AllByRecursion (IsSeen gone o one) f.stack) (x y : Areas) (made others : List ℕ) (paired : AreasPaired gone o x y) (stays : KeepsBirths one x.store) (other_stays : KeepsBirths other y.store) (classes : SameClasses one x.store) (cells : AllZip (SameFound x.store y.store) made others) where
   word_now : (vs ws : List Value) (n : ℕ) → AllZip (SameValue gone one other) vs ws → SameValue gone x.store y.store (word_at vs n) (word_at ws n)
   word_now vs ws n h = value_later gone one other x.store y.store stays other_stays (word_at vs n) (word_at ws n) (word_same gone one other vs ws n h)
 

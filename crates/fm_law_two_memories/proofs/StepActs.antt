@@ -2,7 +2,7 @@
 use Rattle.std.proofs.Common.{◌≡◌, ℕ, ◌+◌, ◌^◌, ◌<◌, ◌≤◌, inl, ◌||◌, Bool, true, false, cond, List, [], ◌∷◌, ◌++◌, length, Option, Some, None, refl, sym, ◌∙◌, ap, subst, slice_get, slice_index_or, slice_set, arith}
 use Rattle.std.specs.List.{AllByRecursion, AllZip}
 use Rattle.std.specs.Option.{unwrap_or}
-use Rattle.std.proofs.lemmas.List.Elements.{AllZip-push}
+use Rattle.std.proofs.lemmas.List.Elements.{AllZip-push, length_all_zip}
 use Rattle.std.proofs.lemmas.Option.{get_or_from_slice_get, same_Some}
 use Rattle.fm_base.specs.declared.kinds.Kind.{Kind}
 use Rattle.fm_base.specs.declared.kinds.TypeRef.{TypeRef}
@@ -14,7 +14,7 @@ use Rattle.fm_cells.specs.Choices.{lawful, MayReuse}
 use Rattle.fm_cells.proofs.StoreLaws.{live_words-put_by}
 use Rattle.fm_cells.specs.Objects.{Object, Request, request_words}
 use Rattle.fm_cells.specs.Stores.{live_words, object_at, Store}
-use Rattle.fm_types.proofs.Zips.{zip-implied, zip-length, zip-set}
+use Rattle.fm_types.proofs.Zips.{zip-implied, zip-set}
 use Rattle.fm_world.specs.Members.{size_of}
 use Rattle.fm_world.specs.Programs.{Outline}
 use Rattle.fm_frames.specs.Acts.{cell_of, Choose, FullAt, is_there, literal_made, literal_text, made_then, performed, Performed, put_value, requested, set_static, value_of, with_content}
@@ -30,7 +30,7 @@ use Rattle.fm_law_sound.specs.Acting.{ActsFit, MakeFits, ObjectFits, PlaceFits, 
 use Rattle.fm_law_sound.specs.Leading.{sources_of}
 use Rattle.fm_law_sound.specs.Placing.{PutAgrees, ReadAgrees}
 use Rattle.fm_law_sound.specs.Sound.{AreasAreSound, field_slot, static_slots}
-use Rattle.fm_law_two_memories.specs.Laws.{MadeAlike}
+use Rattle.fm_law_two_memories.specs.Laws.{KeepsBirths, MadeAlike}
 use Rattle.fm_law_two_memories.specs.Pairing.{AreasPaired, FramesPaired, Gone, SameCell, SameFound}
 use Rattle.fm_law_two_memories.specs.Reading.{ActsAlike, NumberAgrees, StaticFits}
 use Rattle.fm_law_two_memories.specs.Results.{ActionsKeepPaired, IsFewGone, IsTooSmall, KeepsLimits, ResultsAlike}
@@ -39,18 +39,18 @@ use Rattle.fm_law_two_memories.proofs.ActsSame.{areas_later, cut_same, kept_same
 use Rattle.fm_law_two_memories.proofs.Limits.{full_small, limits_filled, limits_put, limits_same, limits_then, small_before, unlimited, words_filled}
 use Rattle.fm_law_two_memories.proofs.MakesSame.{made_alike, stays_then}
 use Rattle.fm_law_two_memories.proofs.SourcesSame.{number_same, source_same, word_there}
-use Rattle.fm_law_two_memories.proofs.Stores.{found_later, Stays, with_stays}
+use Rattle.fm_law_two_memories.proofs.Stores.{found_later, with_stays}
 use Rattle.fm_law_two_memories.proofs.Twins.{cell_same, found_there}
 use Rattle.fm_law_two_memories.proofs.WordsSame.{Fits, next_within, Room, there_same, Within, within_budgets, within_literal, within_rest, within_there}
 
 -- ---- stores
 
-put_stays : (store : Store) (cell place element : ℕ) → Stays store (put_by store cell place element)
+put_stays : (store : Store) (cell place element : ℕ) → KeepsBirths store (put_by store cell place element)
 put_stays store cell place element = by_object (object_at store cell) refl where
-  by_object : (found : Option Object) → object_at store cell ≡ found → Stays store (put_by store cell place element)
-  by_object None is = subst (Stays store) (sym (put_by-none store cell place element is)) (λ q object held. (object, held, refl))
+  by_object : (found : Option Object) → object_at store cell ≡ found → KeepsBirths store (put_by store cell place element)
+  by_object None is = subst (KeepsBirths store) (sym (put_by-none store cell place element is)) (λ q object held. (object, held, refl))
   by_object (Some object) is =
-      subst (Stays store) (sym (put_by-some store cell place element object is)) (with_stays store cell object (with_element object place element) is refl)
+      subst (KeepsBirths store) (sym (put_by-some store cell place element object is)) (with_stays store cell object (with_element object place element) is refl)
 
 type_is : (o : Outline) (t : TypeRef) (len : ℕ) (content : List ℕ) (fixed : Bool) → MakeFits o t len content
     → type_numbered o (requested o t len fixed).class ≡ t
@@ -68,8 +68,8 @@ module _ (gone : Gone) (few_gone : IsFewGone gone) (o : Outline) (sizes : (class
     pub limits : KeepsLimits one x.store
     pub other_limits : KeepsLimits other y.store
     pub paired : AreasPaired gone o x y
-    pub stays : Stays one x.store
-    pub other_stays : Stays other y.store
+    pub stays : KeepsBirths one x.store
+    pub other_stays : KeepsBirths other y.store
     pub cells : AllZip (SameFound x.store y.store) made others
 
   classes_of : (x : Areas) (types : List TypeRef) (made : List ℕ) → Keeps o one x types made → SameClasses one x.store
@@ -198,8 +198,8 @@ module _ (gone : Gone) (few_gone : IsFewGone gone) (o : Outline) (sizes : (class
         let same = source_same gone o one other f g frame seen x y made others h.paired h.stays h.other_stays classes h.cells object now.4 now.5 in
         let next : Store = put_by x.store (cell_of (mine object)) place (kept k (mine v)) in
         let following : Store = put_by y.store (cell_of (theirs object)) place (kept k (theirs v)) in
-        let stays : Stays x.store next = put_stays x.store (cell_of (mine object)) place (kept k (mine v)) in
-        let other_stays : Stays y.store following = put_stays y.store (cell_of (theirs object)) place (kept k (theirs v)) in
+        let stays : KeepsBirths x.store next = put_stays x.store (cell_of (mine object)) place (kept k (mine v)) in
+        let other_stays : KeepsBirths y.store following = put_stays y.store (cell_of (theirs object)) place (kept k (theirs v)) in
         record {
           keeps = object_keeps o sizes choose may one f x types made object v place k h.keeps fits value_fits;
           limits = limits_then one x.store next h.limits (limits_put x.store (cell_of (mine object)) place (kept k (mine v)));
@@ -250,7 +250,7 @@ module _ (gone : Gone) (few_gone : IsFewGone gone) (o : Outline) (sizes : (class
       → text < length y.literals
   texts_there x y types made others h text inside =
       let count : length x.literals ≡ length o.texts = h.keeps.sound.literals in
-      let same : length x.literals ≡ length y.literals = zip-length (SameCell gone x.store y.store) x.literals y.literals h.paired.literals in
+      let same : length x.literals ≡ length y.literals = length_all_zip (SameCell gone x.store y.store) x.literals y.literals h.paired.literals in
       omega (arith, inside, count, same)
 
   pub acts_alike : (actions : List Action) (x y : Areas) (types : List TypeRef) (made others : List ℕ) → Within o room y actions → ActsFit o one f types actions

@@ -2,10 +2,11 @@
 use Rattle.std.proofs.Common.{◌≡◌, ℕ, ◌+◌, ◌*◌, ◌<◌, ◌≤◌, max, Bool, true, false, cond, List, [], ◌∷◌, ◌++◌, length, map, nat_lt, Option, None, refl, sym, ◌∙◌, ap, subst, slice_index_or, arith}
 use Rattle.std.specs.List.{AllByRecursion, AllZip}
 use Rattle.std.proofs.lemmas.Bool.{false≢true}
+use Rattle.std.proofs.lemmas.List.Elements.{length_all_zip}
 use Rattle.fm_base.specs.declared.limits.TheConstants.{MAX_LIVE_WORDS}
 use Rattle.fm_cells.specs.Choices.{lawful}
 use Rattle.fm_cells.specs.Stores.{live_words, Store}
-use Rattle.fm_types.proofs.Zips.{zip-implied, zip-length}
+use Rattle.fm_types.proofs.Zips.{zip-implied}
 use Rattle.fm_world.specs.Programs.{Outline, Program}
 use Rattle.fm_frames.specs.Acts.{cell_of, Choose, Did, FullAt, LostAt, Performed, Sources, value_of}
 use Rattle.fm_frames.specs.Effects.{Calls, Effect, Enters, JumpsIfSame, Next, OfMade, OfOperand, Source, Throws}
@@ -27,9 +28,10 @@ use Rattle.fm_law_sound.proofs.FewWords.{few_within}
 use Rattle.fm_law_sound.proofs.NextActs.{next_acts_fit}
 use Rattle.fm_law_sound.proofs.NextPlaces.{next_agrees}
 use Rattle.fm_law_sound.proofs.StartActs.{all_after}
+use Rattle.fm_law_sound.proofs.StepCells.{all_before}
 use Rattle.fm_law_two_memories.specs.Constants.{ConstantsFit}
 use Rattle.fm_law_two_memories.specs.Hidden.{HiddenComesFirst}
-use Rattle.fm_law_two_memories.specs.Laws.{IsSameFrom}
+use Rattle.fm_law_two_memories.specs.Laws.{IsSameFrom, KeepsBirths}
 use Rattle.fm_law_two_memories.specs.Pairing.{EndAlike, FramesPaired, Gone, SameEnd, SameValue, StatesPaired}
 use Rattle.fm_law_two_memories.specs.Reading.{EffectAlike, NumberAgrees, sources_of_next}
 use Rattle.fm_law_two_memories.specs.Results.{IsFewGone, IsTooSmall, ResultsAlike}
@@ -40,7 +42,7 @@ use Rattle.fm_law_two_memories.proofs.NextAlike.{next_alike}
 use Rattle.fm_law_two_memories.proofs.NextSame.{continued_same}
 use Rattle.fm_law_two_memories.proofs.SourcesSame.{made_now, operand_now, source_same}
 use Rattle.fm_law_two_memories.proofs.StepActs.{actions_alike}
-use Rattle.fm_law_two_memories.proofs.Stores.{Stays, value_later}
+use Rattle.fm_law_two_memories.proofs.Stores.{value_later}
 use Rattle.fm_law_two_memories.proofs.Twins.{found_there}
 use Rattle.fm_law_two_memories.proofs.WordsSame.{first_less, lacks_same, second_less}
 
@@ -71,10 +73,6 @@ pub data GoesAlike (gone : Gone) (o : Outline) (budget other : ℕ) (limit : Opt
 
 -- ---- lists and choices
 
-all_front : (P : Source → Type 0) (xs ys : List Source) → AllByRecursion P (xs ++ ys) → AllByRecursion P xs
-all_front P [] ys all = tt
-all_front P (x ∷ xs) ys all = (all.0, all_front P xs ys all.1)
-
 pub by_both : {X : Type 0} (P : X → X → Type 0) (b d : Bool) (m n u v : X) → (b ≡ true → d ≡ true → P m u) → (b ≡ true → d ≡ false → P m v)
     → (b ≡ false → d ≡ true → P n u) → (b ≡ false → d ≡ false → P n v) → P (cond b m n) (cond d u v)
 by_both P true true m n u v all first second none = all refl refl
@@ -84,7 +82,7 @@ by_both P false false m n u v all first second none = none refl refl
 
 -- ---- frames
 
-frame_later : (gone : Gone) (one other next following : Store) → Stays one next → Stays other following → (f g : Frame) → FramesPaired gone one other f g
+frame_later : (gone : Gone) (one other next following : Store) → KeepsBirths one next → KeepsBirths other following → (f g : Frame) → FramesPaired gone one other f g
     → FramesPaired gone next following f g
 frame_later gone one other next following stays other_stays f g h = record {
   method = h.method;
@@ -131,7 +129,7 @@ module _ (gone : Gone) (few_gone : IsFewGone gone) (p : Program) (typings : Typi
       places = next_agrees p typings ready.steps text z f callers sound.frames.0
 
       count : length (f ∷ callers) ≡ length (g ∷ others)
-      count = zip-length (FramesPaired gone one two) (f ∷ callers) (g ∷ others) paired.frames
+      count = length_all_zip (FramesPaired gone one two) (f ∷ callers) (g ∷ others) paired.frames
 
       other_going : w.ended ≡ None
       other_going = subst (λ ended. EndAlike gone one two ended w.ended) going paired.ended
@@ -215,8 +213,8 @@ module _ (gone : Gone) (few_gone : IsFewGone gone) (p : Program) (typings : Typi
         writes_same : AllByRecursion S (map (λ (v : ℕ × Source). v.1) e.writes)
         writes_same =
             let writes : List Source = map (λ (v : ℕ × Source). v.1) e.writes in
-            each_same writes (all_after R (thrown_in e.next) writes (all_front R front e.gives places.reads))
-            (all_after N (thrown_in e.next) writes (all_front N front e.gives alike.numbers))
+            each_same writes (all_after R (thrown_in e.next) writes (all_before R front e.gives places.reads))
+            (all_after N (thrown_in e.next) writes (all_before N front e.gives alike.numbers))
 
         frame_now : (a b : Frame) → FramesPaired gone one two a b → FramesPaired gone now.store later.store a b
         frame_now = frame_later gone one two now.store later.store h.1 h.2

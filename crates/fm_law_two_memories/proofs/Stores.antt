@@ -22,15 +22,11 @@ use Rattle.fm_law_sound.proofs.ActsKeep.{new_held, zeros_at}
 use Rattle.fm_law_sound.specs.Placing.{kind_in}
 use Rattle.fm_law_two_memories.specs.Pairing.{AreAlike, ArePaired, Gone, HasTwin, none_gone, SameCell, SameElement, SameFound, SameValue}
 use Rattle.fm_law_two_memories.proofs.Twins.{back}
+use Rattle.fm_law_two_memories.specs.Laws.{KeepsBirths}
 
 -- ---- what goes over to later stores
 
--- what is held stays held, of one birth
-abbrev pub Stays : Store → Store → Type 0
-Stays store later =
-    (cell : ℕ) (object : Object) → object_at store cell ≡ Some object → (now : Object) × (object_at later cell ≡ Some now) × (now.birth ≡ object.birth)
-
-module _ (gone : Gone) (one other next following : Store) (stays : Stays one next) (other_stays : Stays other following) where
+module _ (gone : Gone) (one other next following : Store) (stays : KeepsBirths one next) (other_stays : KeepsBirths other following) where
   pub found_later : (a b : ℕ) → SameFound one other a b → SameFound next following a b
   found_later a b (inl null) = inl null
   found_later a b (inr twins) =
@@ -96,7 +92,7 @@ set_both R (a ∷ xs) (b ∷ ys) (suc i) x y (suc k) same new old = set_both R x
 
 -- an object in place of another one of its birth
 pub with_stays : (store : Store) (cell : ℕ) (old object : Object) → object_at store cell ≡ Some old → object.birth ≡ old.birth
-    → Stays store (with_object store cell object)
+    → KeepsBirths store (with_object store cell object)
 with_stays store cell old object held born q found at =
     elim (cases_eq q cell) as (λ _. (now : Object) × (object_at (with_object store cell object) q ≡ Some now) × (now.birth ≡ found.birth)) [
       | inl here ↦ (
@@ -120,10 +116,10 @@ module _ (gone : Gone) (o : Outline) (one other : Store) (paired : ArePaired gon
     second_birth : second_now.birth ≡ second.birth
     second_birth = alike.birth ∙ same_birth ∙ sym born
 
-    next_stays : Stays one next
+    next_stays : KeepsBirths one next
     next_stays = with_stays one cell object now held same_birth
 
-    following_stays : Stays other following
+    following_stays : KeepsBirths other following
     following_stays = with_stays other twin second second_now twin_held second_birth
 
     -- the object and its twin aren't gone
@@ -229,7 +225,7 @@ same_zero gone one other k = refl
 
 -- a new object leaves those that are held
 pub made_stays : (store : Store) (request : Request) (cell : ℕ) (grows : Bool) → object_at store cell ≡ None
-    → Stays store (made_by store request (Take cell grows))
+    → KeepsBirths store (made_by store request (Take cell grows))
 made_stays store request cell grows free q found at =
     elim (cases_eq q cell) as (λ _. (now : Object) × (object_at (made_by store request (Take cell grows)) q ≡ Some now) × (now.birth ≡ found.birth)) [
       | inl here ↦ let no : None ≡ Some found = sym free ∙ sym (ap (object_at store) here) ∙ at in absurd (cc)

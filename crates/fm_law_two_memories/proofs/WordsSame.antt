@@ -8,8 +8,9 @@ use Rattle.fm_cells.specs.Stores.{live_words, object_at, Store}
 use Rattle.fm_types.proofs.ClassTree.{among_one}
 use Rattle.fm_world.specs.Chains.{is_among}
 use Rattle.fm_world.specs.Programs.{Outline}
+use Rattle.fm_frames.proofs.Underways.{none-made}
 use Rattle.fm_frames.specs.Acts.{is_there, literal_made, literal_text, requested}
-use Rattle.fm_frames.specs.Effects.{Action, Free, FreeChain, Make, MakeFixed, MakeLiteral, Put, SetChain, SetStatic, Start}
+use Rattle.fm_frames.specs.Effects.{Action, MakeLiteral}
 use Rattle.fm_frames.specs.NativeRows.{text_type}
 use Rattle.fm_frames.specs.States.{Areas}
 use Rattle.fm_frames.specs.Steps.{is_over, literal_of, makes, most_words, words_among, words_made, words_of}
@@ -101,19 +102,6 @@ module _ (gone : Gone) (o : Outline) (x y : Areas) (paired : AreasPaired gone o 
       (end.Exhausted (live_words y.store) (words_made o y actions))
   lacks_same = (live_words y.store, ap (λ n. end.Exhausted (live_words y.store) n) (needed_same gone o x y paired actions), paired.store.words)
 
--- what makes nothing needs no words
-none_needed : (o : Outline) (x : Areas) (literals : List ℕ) (actions : List Action) → makes actions ≡ false → words_among o x literals actions ≡ 0
-none_needed o x literals [] none = refl
-none_needed o x literals (Make t len content ∷ more) none = absurd (false≢true (sym none))
-none_needed o x literals (MakeFixed t ∷ more) none = absurd (false≢true (sym none))
-none_needed o x literals (MakeLiteral text ∷ more) none = absurd (false≢true (sym none))
-none_needed o x literals (Put object place k v ∷ more) none = ap (λ n. 0 + n) (none_needed o x literals more none)
-none_needed o x literals (SetStatic slot k v ∷ more) none = ap (λ n. 0 + n) (none_needed o x literals more none)
-none_needed o x literals (Start class ∷ more) none = ap (λ n. 0 + n) (none_needed o x literals more none)
-none_needed o x literals (Free operand ∷ more) none = ap (λ n. 0 + n) (none_needed o x literals more none)
-none_needed o x literals (SetChain operand to ∷ more) none = ap (λ n. 0 + n) (none_needed o x literals more none)
-none_needed o x literals (FreeChain operand ∷ more) none = ap (λ n. 0 + n) (none_needed o x literals more none)
-
 needed_within : (needed live budget : ℕ) → 0 < needed → (nat_lt 0 (min needed most_words) && nat_lt budget (live + min needed most_words)) ≡ false
     → live + min needed most_words ≤ budget
 needed_within needed live budget some over =
@@ -147,7 +135,7 @@ pub within_budgets : (gone : Gone) (o : Outline) (x y : Areas) (actions : List A
 within_budgets gone o x y actions paired few over other_over some = by_making (makes actions) refl where
   by_making : (b : Bool) → makes actions ≡ b
       → Fits (record { first = x.store.budget; second = y.store.budget; gone = gone.words }) (live_words y.store + words_among o y [] actions)
-  by_making false none = let nothing : words_among o y [] actions ≡ 0 = none_needed o y [] actions none in absurd (omega (arith, some, nothing))
+  by_making false none = let nothing : words_among o y [] actions ≡ 0 = none-made o y [] actions none in absurd (omega (arith, some, nothing))
   by_making true making =
       let same : words_among o y [] actions ≡ words_among o x [] actions = words_same gone o x y paired [] actions in
       let theirs : live_words y.store + min (words_among o y [] actions) most_words ≤ y.store.budget =

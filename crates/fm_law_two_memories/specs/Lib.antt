@@ -7,4 +7,5 @@ pub mod Results
 pub mod Runs
 pub mod Reuses
 pub mod Whole
+pub mod Unseen
 pub mod Laws

@@ -5,6 +5,7 @@ ghost use Rattle.fm_law_two_memories.specs.Hidden.{HiddenFieldsComeFirst};
 ghost use Rattle.fm_law_two_memories.specs.Results.{ActionsKeepPaired};
 ghost use Rattle.fm_law_two_memories.specs.Reuses.{MemoriesServeAlike, WholeRunsServeAlike};
 ghost use Rattle.fm_law_two_memories.specs.Runs.{RunsAreTheSame, RunsEndAlike, RunsGoAlike};
+ghost use Rattle.fm_law_two_memories.specs.Unseen.{DeadIsUnseen};
 ghost use Rattle.fm_law_two_memories.specs.Whole.{NextEffectsAreAlike, StepsKeepAlike};
 
 /// Cells that correspond to each other do so one to one, unless what they hold is gone.
@@ -96,4 +97,10 @@ pub fn law_runs()
 pub fn law_memories()
     ensures states { MemoriesServeAlike }
     ensures runs { WholeRunsServeAlike }
+{}
+
+/// What is dead in each state of a run of such a program from one state on isn't looked at: where it
+/// is freed at that state, the run goes on alike, on memories that reuse cells in any way.
+pub fn law_unseen()
+    ensures { DeadIsUnseen }
 {}

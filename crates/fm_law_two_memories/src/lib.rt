@@ -5,5 +5,5 @@ mod laws;
 
 pub use laws::{
     law_actions, law_areas, law_cells, law_effects, law_hidden, law_makes, law_memories, law_next,
-    law_rows, law_runs, law_sights, law_sources, law_step, law_stores, law_values,
+    law_rows, law_runs, law_sights, law_sources, law_step, law_stores, law_unseen, law_values,
 };

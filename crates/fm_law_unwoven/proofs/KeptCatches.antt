@@ -3,8 +3,10 @@ use Rattle.std.proofs.Common.{◌≡◌, ℕ, ◌<◌, ◌≤◌, ◌⊎◌, inl
 use Rattle.std.specs.Prelude.{nat_le}
 use Rattle.std.specs.List.{AllByRecursion}
 use Rattle.std.proofs.lemmas.Bool.{cases_lt, false≢true, le-leb, le-ltb, lt-leb, lt-ltb}
+use Rattle.std.proofs.lemmas.Option.{none-some, same_Some}
 use Rattle.fm_base.specs.declared.kinds.TypeRef.{TypeRef}
 use Rattle.fm_code.proofs.EdgesLemmas.{Contains-first, Contains-later}
+use Rattle.fm_code.specs.Edges.{IsEdge, IsHandlerEdge}
 use Rattle.fm_code.specs.declared.code_array.Code.{Code}
 use Rattle.fm_code.specs.declared.code_array.Handler.{Handler}
 use Rattle.fm_conn.specs.Facts.{Facts}
@@ -20,6 +22,7 @@ use Rattle.fm_law_unwoven.specs.Laid.{moved_to}
 use Rattle.fm_law_unwoven.specs.WovenFrom.{HasInserted, inserted_by, IsWovenFrom}
 use Rattle.fm_law_woven_flow.proofs.Caught.{handler_valid}
 use Rattle.fm_place.specs.Rewriting.{Plans}
+use Rattle.fm_same.proofs.EdgesKeep.{handler_edge}
 use Rattle.fm_types.specs.Named.{class_of_method}
 use Rattle.fm_types.specs.Typed.{type_of_use, use_in}
 use Rattle.fm_world.specs.Chains.{is_sub}
@@ -110,6 +113,27 @@ module _ (p q : Program) (facts : Facts) (plans : Plans) (marks : Marks) (from :
         ap (among q g) w.new_is ∙ ap (handler_among q g t) w.laid.handlers
         ∙ among_same code.handlers (λ h there. there) ∙ sym (ap (λ o. option_map w.laid.entries (among p f o)) code_is)
 
+    -- the handler is an item, to which an edge leads
+    among_inside : (handlers : List Handler) → ((h : Handler) → Contains handlers h → Contains code.handlers h) → (handler : ℕ)
+        → handler_among p f t handlers ≡ Some handler → handler < length code.items
+    among_inside [] listed handler is = absurd (none-some handler is)
+    among_inside (h ∷ handlers) listed handler is =
+        by_catch (catches p f t h) is (among_inside handlers (λ other there. listed other (Contains-later h handlers other there)) handler) where
+          by_catch : (b : Bool) → (if b then Some h.handler else handler_among p f t handlers) ≡ Some handler
+              → (handler_among p f t handlers ≡ Some handler → handler < length code.items) → handler < length code.items
+          by_catch true here later =
+              let valid = (handler_valid code (from.rules g.method code code_is) h (listed h (Contains-first h handlers h refl))).handler in
+              let same = same_Some h.handler handler here in
+              omega (arith, valid, same)
+          by_catch false here later = later here
+
+    pub leads_caught : (handler : ℕ) → handler_of p f t ≡ Some handler → IsEdge code j handler
+    leads_caught handler is =
+        let inside = among_inside code.handlers (λ h there. there) handler (sym (ap (among p f) code_is) ∙ is) in
+        let here = at.0 in
+        inr (subst (λ k. IsHandlerEdge code k handler) item_is
+        (handler_edge p f t code handler code_is is inside (let same = item_is in omega (arith, here, same))))
+
   -- ---- down the frames
 
   -- the frames once it is caught are alike, or the run ends in one way
@@ -131,7 +155,7 @@ module _ (p q : Program) (facts : Facts) (plans : Plans) (marks : Marks) (from :
   unfolding caught
   one_frame g callers code code_is stands below rest =
       subst (λ h. CaughtAlike (caught_in p v f fs (handler_of p f t) cp) (caught_in q v g callers h cq)) (sym (handler_same g code code_is stands.item stands.item_is))
-      (by_handler (handler_of p f t)) where
+      (by_handler (handler_of p f t) refl) where
         f : Frame
         f = old_frame p marks g
 
@@ -153,18 +177,18 @@ module _ (p q : Program) (facts : Facts) (plans : Plans) (marks : Marks) (from :
         by_start true is = refl
         by_start false is = rest is
 
-        by_handler : (o : Option ℕ) → CaughtAlike (caught_in p v f fs o cp) (caught_in q v g callers (option_map w.laid.entries o) cq)
-        by_handler (Some handler) = record {
+        by_handler : (o : Option ℕ) → handler_of p f t ≡ o → CaughtAlike (caught_in p v f fs o cp) (caught_in q v g callers (option_map w.laid.entries o) cq)
+        by_handler (Some handler) found = record {
           method = refl;
           locals = refl;
           stack = refl;
-          top = InMethod stands.item code code_is w (GoesBefore refl)
+          top = InMethod stands.item code code_is w (GoesBefore refl) (leads_caught g code code_is stands.item stands.item_is handler found)
               (holders_other p q facts plans marks from (typed_method p facts.typing g.method code) (inserted_by (plans g.method)) g
               (record g { item = w.laid.entries handler; stack = v ∷ [] }) stands.item refl (λ m past. refl) (stands.holders code code_is));
           callers_are = refl;
           stands_below = below_other p q facts plans marks from g (record g { item = w.laid.entries handler; stack = v ∷ [] }) refl callers below;
         }
-        by_handler None =
+        by_handler None found =
             subst (λ (o : Outline). CaughtAlike (cond (is_start p.outline g.method) (Leaves (end.InitFailed (record { 0 = class_of_method p.outline g.method }))) cp)
             (cond (is_start o g.method) (Leaves (end.InitFailed (record { 0 = class_of_method o g.method }))) cq)) (sym from.outline)
             (by_start (is_start p.outline g.method) refl)

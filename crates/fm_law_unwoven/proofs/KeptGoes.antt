@@ -3,18 +3,19 @@ use Rattle.std.proofs.Common.{◌≡◌, ℕ, ◌+◌, ◌-◌, ◌<◌, ◌≤�
 use Rattle.std.proofs.Math.Seq.{take-append-add}
 use Rattle.std.proofs.lemmas.List.{length-replicate, take-replicate}
 use Rattle.std.proofs.lemmas.Option.{none-some, same_Some}
+use Rattle.fm_code.specs.Edges.{IsEdge}
 use Rattle.fm_code.specs.declared.code_array.Code.{Code}
 use Rattle.fm_code.specs.declared.instructions.Insn.{Insn}
 use Rattle.fm_conn.specs.Facts.{Facts}
 use Rattle.fm_conn.specs.Links.{typed_method}
 use Rattle.fm_conn.specs.Nodes.{TypedMethod}
 use Rattle.fm_frames.specs.Effects.{Effect}
-use Rattle.fm_frames.specs.States.{Areas, Frame, word_at}
+use Rattle.fm_frames.specs.States.{Areas, Frame, null, word_at}
 use Rattle.fm_frames.specs.Steps.{is_start, max_locals_of, new_frame, went}
 use Rattle.fm_frames.specs.declared.values.Value.{Value}
 use Rattle.fm_frames.specs.declared.values.Value.TheVariants as value
-use Rattle.fm_law_no_fault.proofs.FramesKeep.{max_locals_in}
 use Rattle.fm_law_same_runs.specs.Beside.{kept_item, Marks}
+use Rattle.fm_law_sound.proofs.CallsStand.{max_locals_in}
 use Rattle.fm_law_sound.specs.Sound.{IsReference}
 use Rattle.fm_law_unwoven.proofs.OldFrames.{further_stay, new_from, old_from, same_gives, same_written, written_length}
 use Rattle.fm_law_unwoven.specs.Kept.{Begins, FramesGo, GoesOn, HasNotBegun, HoldersStand, InMethod, old_frame, StandBelow, StandsAtKept}
@@ -22,6 +23,7 @@ use Rattle.fm_law_unwoven.specs.Laid.{all_insns_to, frees_at, LieInserted, mark_
 use Rattle.fm_law_unwoven.specs.UnseenCode.{UsesNamed}
 use Rattle.fm_law_unwoven.specs.WovenFrom.{HasInserted, inserted_by, IsWovenFrom, own_marks}
 use Rattle.fm_place.specs.Insertions.{Insertions}
+use Rattle.fm_place.specs.Places.{is_busy, MayHold}
 use Rattle.fm_place.specs.Rewriting.{Plans}
 use Rattle.fm_place.specs.Woven.{local_of}
 use Rattle.fm_world.specs.Programs.{code_at, Program}
@@ -86,7 +88,7 @@ module _ (p q : Program) (facts : Facts) (plans : Plans) (marks : Marks) (from :
       → take (max_locals_of p method) (new_frame q method arguments).locals ≡ (new_frame p method arguments).locals
   new_locals method arguments few = take_more arguments (max_locals_of p method) (max_locals_of q method) value.Top few (more_locals method)
 
-  new_width : (method : ℕ) (arguments : List Value) → length arguments ≤ max_locals_of p method
+  pub new_width : (method : ℕ) (arguments : List Value) → length arguments ≤ max_locals_of p method
       → length (new_frame q method arguments).locals ≡ max_locals_of q method
   new_width method arguments few =
       let more = more_locals method in
@@ -141,7 +143,9 @@ module _ (p q : Program) (facts : Facts) (plans : Plans) (marks : Marks) (from :
   holders_other x plan g other j count same stand = record {
     width = count ∙ stand.width;
     references = λ h inside. subst IsReference (sym (same (local_of x.code h) (omega arith))) (stand.references h inside);
-    clear = λ h holder is quiet. same (local_of x.code h) (omega arith) ∙ stand.clear h holder is quiet;
+    may = λ h holder is.
+        subst (λ v. (v ≡ null) ⊎ ((is_busy facts x holder.class j ≡ true) × MayHold facts x holder.site holder.class j))
+        (sym (same (local_of x.code h) (omega arith))) (stand.may h holder is);
   }
 
   module _ (g : Frame) (callers : List Frame) (code : Code) (code_is : code_at p g.method ≡ Some code) (j : ℕ) (below : StandBelow p q facts plans marks g callers)
@@ -160,14 +164,14 @@ module _ (p q : Program) (facts : Facts) (plans : Plans) (marks : Marks) (from :
     old_went m = went (old_from (max_locals_of p g.method) g.locals g.stack areas made) e (old_frame p marks g) m
 
     pub goes : (m n : ℕ) → GoesOn q marks (old_went m) (new_went n) code (inserted_by (plans g.method)) (from.methods g.method code code_is) j
-        → FramesGo p q facts plans marks (old_went m) (new_went n) (map (old_frame p marks) callers) callers
-    goes m n on =
+        → IsEdge code j m → FramesGo p q facts plans marks (old_went m) (new_went n) (map (old_frame p marks) callers) callers
+    goes m n on edge =
         let given = same_gives max g.locals g.stack areas made e.gives uses.gives in
         record {
           method = refl;
           locals = same_written max g.locals g.stack areas made e.writes g.locals uses.writes;
           stack = ap (λ words. words ++ drop e.takes g.stack) given;
-          top = InMethod j code code_is (from.methods g.method code code_is) on
+          top = InMethod j code code_is (from.methods g.method code code_is) on edge
               (holders_other (typed_method p facts.typing g.method code) (inserted_by (plans g.method)) g (new_went n) j
               (written_length max g.locals g.stack areas made e.writes g.locals)
               (λ k past. further_stay max g.locals g.stack areas made k (let is = max_is in omega (arith, is, past)) e.writes g.locals uses.writes) stand);

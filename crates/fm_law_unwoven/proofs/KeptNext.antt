@@ -5,7 +5,7 @@ use Rattle.std.proofs.lemmas.Bool.{false≢true}
 use Rattle.std.proofs.lemmas.Option.{none-some}
 use Rattle.fm_base.proofs.OptionFacts.{same_value as one_value}
 use Rattle.fm_base.specs.declared.kinds.TypeRef.{TypeRef}
-use Rattle.fm_code.specs.Edges.{insn_of}
+use Rattle.fm_code.specs.Edges.{insn_of, IsEdge}
 use Rattle.fm_code.specs.SpellsCode.{targets_of, with_targets}
 use Rattle.fm_code.specs.declared.code_array.Code.{Code}
 use Rattle.fm_code.specs.declared.instructions.Insn.{Insn}
@@ -21,9 +21,11 @@ use Rattle.fm_frames.specs.declared.values.Value.{Value}
 use Rattle.fm_law_same_runs.specs.Beside.{kept_item, Marks}
 use Rattle.fm_law_sound.proofs.FramesStand.{target_in}
 use Rattle.fm_law_unwoven.proofs.KeptCatches.{caught_alike, CaughtAlike}
+use Rattle.fm_law_unwoven.proofs.KeptEdges.{LeadsOn}
 use Rattle.fm_law_unwoven.proofs.KeptEffects.{at_number, item_is, new_next, old_next}
-use Rattle.fm_law_unwoven.proofs.KeptGoes.{begins, below_other, first_old, goes, holders_other, new_went, not_begun, old_new, old_went}
+use Rattle.fm_law_unwoven.proofs.KeptGoes.{begins, below_other, first_old, goes, holders_other, new_went, old_went}
 use Rattle.fm_law_unwoven.proofs.OldFrames.{new_from, old_from}
+use Rattle.fm_law_unwoven.proofs.StartFrames.{old_starts, starts_below}
 use Rattle.fm_law_unwoven.proofs.UnseenLocals.{same_value}
 use Rattle.fm_law_unwoven.specs.Kept.{Begins, BothDo, BothFault, but_frames, GoesBefore, GoesBehind, HasNotBegun, HoldersStand, InMethod, old_frame, Resumes, StandBelow, StandsAtKept, StatesGo, StepsAlike}
 use Rattle.fm_law_unwoven.specs.UnseenCode.{GoesWithin, IsWithin, UsesNamed}
@@ -112,23 +114,6 @@ module _ (p q : Program) (facts : Facts) (plans : Plans) (marks : Marks) (from :
       begins p q facts plans marks from m (reverse (take e.takes g.stack)) (record f { stack = drop e.takes f.stack } ∷ fs) (record g { stack = drop e.takes g.stack } ∷ callers)
       few refl (inl (waits (drop e.takes g.stack)), below_other p q facts plans marks from g (record g { stack = drop e.takes g.stack }) refl callers below)
 
-  old_starts : (methods : List ℕ) → AllByRecursion (λ m. (c : Code) × (code_at p m ≡ Some c)) methods
-      → map (old_frame p marks) (start_frames q methods ++ g ∷ callers) ≡ start_frames p methods ++ f ∷ fs
-  old_starts [] all = refl
-  old_starts (m ∷ methods) all =
-      let first = old_new p q facts plans marks from m all.0.0 [] all.0.1 (omega arith) in
-      let rest = old_starts methods all.1 in
-      (λ t. first t ∷ rest t)
-
-  starts_below : (above : Frame) → is_start q.outline above.method ≡ true → (methods : List ℕ)
-      → AllByRecursion (λ m. is_start p.outline m ≡ true) methods → StandBelow p q facts plans marks above (start_frames q methods ++ g ∷ callers)
-  starts_below above start [] all = (inl (waits g.stack), below)
-  starts_below above start (m ∷ methods) all =
-      let starts = ap (λ (o : Outline). is_start o m) from.outline ∙ all.0 in (
-        inr (not_begun p q facts plans marks from above m [] start (omega arith)),
-        starts_below (new_frame q m []) starts methods all.1,
-      )
-
   entered : (methods : List ℕ) → AllByRecursion (λ m. is_start p.outline m ≡ true) methods → AllByRecursion (λ m. (c : Code) × (code_at p m ≡ Some c)) methods
       → StatesGo p q facts plans marks (start_frames p methods ++ f ∷ fs) (start_frames q methods ++ g ∷ callers)
   entered [] all codes = record {
@@ -142,7 +127,8 @@ module _ (p q : Program) (facts : Facts) (plans : Plans) (marks : Marks) (from :
   entered (m ∷ methods) all codes =
       let starts = ap (λ (o : Outline). is_start o m) from.outline ∙ all.0 in
       begins p q facts plans marks from m [] (start_frames p methods ++ f ∷ fs) (start_frames q methods ++ g ∷ callers) (omega arith)
-      (old_starts methods codes.1) (starts_below (new_frame q m []) starts methods all.1)
+      (old_starts p q facts plans marks from methods (f ∷ fs) (g ∷ callers) codes.1 refl)
+      (starts_below p q facts plans marks from (new_frame q m []) starts methods all.1 (g ∷ callers) (λ last start. (inl (waits g.stack), below)))
 
   -- ---- returns
 
@@ -152,11 +138,11 @@ module _ (p q : Program) (facts : Facts) (plans : Plans) (marks : Marks) (from :
     abbrev own : HasInserted q marks next.method c (inserted_by (plans next.method))
     own = from.methods next.method c c_is
 
-    behind_call : own.laid.behind kept.item ≡ own.laid.numbers kept.item + 1
+    behind_call : (own.laid.behind kept.item ≡ own.laid.numbers kept.item + 1) × IsEdge c kept.item (kept.item + 1)
         → StatesGo p q facts plans marks
         (record (old_frame p marks next) { item = (old_frame p marks next).item + 1; stack = take n f.stack ++ (old_frame p marks next).stack } ∷ map (old_frame p marks) rest)
         (record next { item = next.item + 1; stack = take n g.stack ++ next.stack } ∷ rest)
-    behind_call behind =
+    behind_call (behind, edge) =
         let at = own.laid.once next.item kept.item kept.item_is in
         let old_at : (old_frame p marks next).item ≡ kept.item = ap (λ o. unwrap_or o 0) kept.item_is in
         let now : Frame = record next { item = next.item + 1; stack = take n g.stack ++ next.stack } in
@@ -165,6 +151,7 @@ module _ (p q : Program) (facts : Facts) (plans : Plans) (marks : Marks) (from :
           locals = refl;
           stack = refl;
           top = InMethod kept.item c c_is own (GoesBehind (ap (λ k. k + 1) old_at) (ap (λ k. k + 1) at.1 ∙ sym behind))
+              (subst (λ k. IsEdge c kept.item (k + 1)) (sym old_at) edge)
               (holders_other p q facts plans marks from (typed_method p facts.typing next.method c) (inserted_by (plans next.method)) next now kept.item refl
               (λ m past. refl) (kept.holders c c_is));
           callers_are = refl;
@@ -194,12 +181,12 @@ module _ (p q : Program) (facts : Facts) (plans : Plans) (marks : Marks) (from :
     stands_below = under;
   }
 
-  -- what a call was: nothing is between it and what comes behind it
+  -- what a call was: nothing is between it and what comes behind it, to which it leads
   abbrev pub CallsAreWhole : List Frame → Type 0
   CallsAreWhole [] = Unit {0}
   CallsAreWhole (next ∷ rest) =
       (c : Code) (c_is : code_at p next.method ≡ Some c) (item : ℕ) → kept_item marks next.method next.item ≡ Some item → is_start p.outline g.method ≡ false
-      → (from.methods next.method c c_is).laid.behind item ≡ (from.methods next.method c c_is).laid.numbers item + 1
+      → ((from.methods next.method c c_is).laid.behind item ≡ (from.methods next.method c c_is).laid.numbers item + 1) × IsEdge c item (item + 1)
 
   returns_by : (next : Frame) (rest : List Frame) (n : ℕ) (b : Bool) → is_start p.outline g.method ≡ b → CallsAreWhole (next ∷ rest)
       → StandBelow p q facts plans marks g (next ∷ rest) → (c : Code) (c_is : code_at p next.method ≡ Some c) (x y : State) → but_frames y ≡ but_frames x
@@ -256,25 +243,25 @@ module _ (p q : Program) (facts : Facts) (plans : Plans) (marks : Marks) (from :
 
   module _ (is : insn_of w.new (w.laid.numbers j) ≡ Some (with_targets w.laid.entries i)) (behind : w.laid.behind j ≡ w.laid.numbers j + 1)
       (whole : CallsAreWhole callers) where
-    before : (n : ℕ) → n < length (targets_of i) → StatesGo p q facts plans marks
+    before : (n : ℕ) → n < length (targets_of i) → IsEdge code j (target_at p f n) → StatesGo p q facts plans marks
         (old_went p q facts plans marks from g callers code code_is j below stand (length (targets_of i)) e uses areas made (target_at p f n) ∷ fs)
         (new_went p q facts plans marks from g callers code code_is j below stand (length (targets_of i)) e uses areas made (target_at q g n) ∷ callers)
-    before n inside =
+    before n inside edge =
         goes p q facts plans marks from g callers code code_is j below stand (length (targets_of i)) e uses areas made (target_at p f n) (target_at q g n)
-        (GoesBefore (target_same (with_targets w.laid.entries i) is refl n inside))
+        (GoesBefore (target_same (with_targets w.laid.entries i) is refl n inside)) edge
 
-    on : StatesGo p q facts plans marks
+    on : IsEdge code j (f.item + 1) → StatesGo p q facts plans marks
         (old_went p q facts plans marks from g callers code code_is j below stand (length (targets_of i)) e uses areas made (f.item + 1) ∷ fs)
         (new_went p q facts plans marks from g callers code code_is j below stand (length (targets_of i)) e uses areas made (g.item + 1) ∷ callers)
-    on =
+    on edge =
         goes p q facts plans marks from g callers code code_is j below stand (length (targets_of i)) e uses areas made (f.item + 1) (g.item + 1)
-        (GoesBehind (ap (λ k. k + 1) old_item_is) (ap (λ k. k + 1) new_item_is ∙ sym behind))
+        (GoesBehind (ap (λ k. k + 1) old_item_is) (ap (λ k. k + 1) new_item_is ∙ sym behind)) edge
 
-    by_test : (b : Bool) → 0 < length (targets_of i) → StatesGo p q facts plans marks
+    by_test : (b : Bool) → 0 < length (targets_of i) → IsEdge code j (target_at p f 0) × IsEdge code j (f.item + 1) → StatesGo p q facts plans marks
         (old_went p q facts plans marks from g callers code code_is j below stand (length (targets_of i)) e uses areas made (if b then target_at p f 0 else f.item + 1) ∷ fs)
         (new_went p q facts plans marks from g callers code code_is j below stand (length (targets_of i)) e uses areas made (if b then target_at q g 0 else g.item + 1) ∷ callers)
-    by_test true some = before 0 some
-    by_test false some = on
+    by_test true some edges = before 0 some edges.0
+    by_test false some edges = on edges.1
 
     -- what a call or a start of classes is given, while the run goes on
     abbrev pub IsEntered : Next → Type 0
@@ -282,23 +269,23 @@ module _ (p q : Program) (facts : Facts) (plans : Plans) (marks : Marks) (from :
     IsEntered (Enters methods) = AllByRecursion (λ m. (c : Code) × (code_at p m ≡ Some c)) methods
     IsEntered next = Unit {0}
 
-    pub next_alike : (next : Next) → GoesWithin p.outline (length (targets_of i)) next → IsEntered next
+    pub next_alike : (next : Next) → GoesWithin p.outline (length (targets_of i)) next → LeadsOn p code f j next → IsEntered next
         → Alike (continued p old_source (record e { next = next }) f fs (done_with next (f ∷ fs)))
         (continued q new_source (record e { next = next }) g callers (done_with next (g ∷ callers)))
     unfolding continued
-    next_alike Falls within given = BothDo refl refl (λ going. on)
-    next_alike (Jumps n) within given = BothDo refl refl (λ going. before n within)
-    next_alike (JumpsIfSame same) within given =
+    next_alike Falls within leads given = BothDo refl refl (λ going. on leads)
+    next_alike (Jumps n) within leads given = BothDo refl refl (λ going. before n within leads)
+    next_alike (JumpsIfSame same) within leads given =
         let is_same = same_cell (word_at g.stack 0) (word_at g.stack 1) in
-        BothDo refl refl (λ going. by_test (if same then is_same else not is_same) within)
-    next_alike (Calls m) within given = BothDo refl refl (λ going. called m given)
-    next_alike (Returns n) within given =
+        BothDo refl refl (λ going. by_test (if same then is_same else not is_same) within leads)
+    next_alike (Calls m) within leads given = BothDo refl refl (λ going. called m given)
+    next_alike (Returns n) within leads given =
         returned_alike callers refl n (done_with (Returns n) (f ∷ fs)) (done_with (Returns n) (g ∷ callers)) refl whole
-    next_alike (Throws source) within given =
+    next_alike (Throws source) within leads given =
         thrown_alike source within (done_with (Throws source) (f ∷ fs)) (done_with (Throws source) (g ∷ callers)) refl
-    next_alike (Enters methods) within given = BothDo refl refl (λ going. entered methods within given)
-    next_alike (Exits n) within given =
+    next_alike (Enters methods) within leads given = BothDo refl refl (λ going. entered methods within given)
+    next_alike (Exits n) within leads given =
         ended (stopped (done_with (Exits n) (f ∷ fs)) (end.Exit n)) (stopped (done_with (Exits n) (g ∷ callers)) (end.Exit n)) (end.Exit n) refl refl
-    next_alike (Faults source) within given =
+    next_alike (Faults source) within leads given =
         BothFault g.method (offset_at p f) (offset_at q g) (cell_of (value_of old_source source)) refl
         (ap (λ v. Some (end.Fault (record { 0 = g.method }) (offset_at q g) (cell_of v))) (without_local source within))

@@ -1,20 +1,24 @@
 -- What soundness says of the frames that a step at a kept item leads to: their methods have code, arguments fit their locals, and a frame waits at a call.
-use Rattle.std.proofs.Common.{◌≡◌, ℕ, suc, ◌+◌, ◌-◌, ◌<◌, ◌≤◌, ◌⊎◌, inl, inr, false, List, [], ◌∷◌, ◌++◌, length, length-append, replicate, Some, option_and_then, unwrap_or, refl, sym, ap, ◌∙◌, arith}
+use Rattle.std.proofs.Common.{◌≡◌, ℕ, suc, ◌+◌, ◌-◌, ◌<◌, ◌≤◌, ◌⊎◌, inl, inr, false, List, [], ◌∷◌, ◌++◌, length, length-append, replicate, Some, option_and_then, unwrap_or, refl, sym, ap, subst, ◌∙◌, arith}
 use Rattle.std.specs.List.{AllByRecursion, AllZip}
 use Rattle.std.proofs.lemmas.Bool.{false≢true}
 use Rattle.std.proofs.lemmas.Option.{none-some}
-use Rattle.fm_base.proofs.OptionFacts.{option_and_then-some, Some-from_some_and}
-use Rattle.fm_code.specs.Edges.{insn_of, IsNormalEdge}
+use Rattle.fm_base.proofs.OptionFacts.{option_and_then-some, same_value, Some-from_some_and}
+use Rattle.fm_code.proofs.EdgesLemmas.{insn_inside}
+use Rattle.fm_code.specs.Edges.{insn_of, IsEdge, IsNormalEdge}
 use Rattle.fm_code.specs.declared.code_array.Code.{Code}
 use Rattle.fm_conn.specs.Facts.{Facts}
 use Rattle.fm_frames.specs.States.{Frame}
 use Rattle.fm_frames.specs.Steps.{is_start, max_locals_of, new_frame, start_frames}
 use Rattle.fm_frames.specs.declared.values.Value.{Value}
 use Rattle.fm_frames.specs.declared.values.Value.TheVariants as value
-use Rattle.fm_law_no_fault.proofs.FramesKeep.{max_locals_in}
 use Rattle.fm_law_same_runs.specs.Beside.{kept_item, Marks}
-use Rattle.fm_law_sound.proofs.FramesStand.{item_within, typing_of}
+use Rattle.fm_law_sound.proofs.CallsStand.{max_locals_in}
+use Rattle.fm_law_sound.proofs.FramesStand.{typing_of}
+use Rattle.fm_law_sound.proofs.ReturnsStand.{call_falls}
+use Rattle.fm_law_sound.specs.Resolved.{StepsAreResolved}
 use Rattle.fm_law_sound.specs.Sound.{AreTyped, Calling, LocalHasKind, Stand, StandBelow as SoundBelow, StandsWithout, Starting, Typings, words_of_call}
+use Rattle.fm_law_unwoven.proofs.KeptEdges.{leads_behind}
 use Rattle.fm_law_unwoven.specs.Kept.{old_frame}
 use Rattle.fm_law_unwoven.specs.Laid.{IsKept, IsSplit, IsWhole}
 use Rattle.fm_law_unwoven.specs.WovenFrom.{HasInserted, inserted_by, IsWovenFrom, own_marks}
@@ -60,7 +64,7 @@ module _ (p : Program) (typings : Typings) (typed : AreTyped p typings) where
       (λ given. (next : ℕ) → IsNormalEdge stands.code f.item next → FitsAt p (typings f.method) next given) meets.row in
       let parts = option_and_then-some
       (λ i. row_after p.outline f.method f.item (made_at p f.method stands.code) (use_by p f.method i) i stands.known) (insn_of stands.code f.item) row.0 row.1 in
-      item_within stands.code f.item parts.0 parts.1
+      insn_inside stands.code f.item parts.0 parts.1
 
   -- the arguments of a new frame fit its locals
   pub arguments_fit : (method : ℕ) (arguments : List Value) → StandsWithout p typings 0 (new_frame p method arguments) → length arguments ≤ max_locals_of p method
@@ -91,12 +95,23 @@ module _ (p : Program) (typings : Typings) (typed : AreTyped p typings) where
 
 -- ---- a frame that waits at a call
 
-module _ (p q : Program) (facts : Facts) (plans : Plans) (marks : Marks) (from : IsWovenFrom p q facts plans marks) (typings : Typings) where
+module _ (p q : Program) (facts : Facts) (plans : Plans) (marks : Marks) (from : IsWovenFrom p q facts plans marks) (typings : Typings)
+    (ready : StepsAreResolved p) (typed : AreTyped p typings) where
   pub call_whole : (f next : Frame) → Calling p typings f (old_frame p marks next) ⊎ Starting p typings f (old_frame p marks next) → is_start p.outline f.method ≡ false
       → (c : Code) (c_is : code_at p next.method ≡ Some c) (item : ℕ) → kept_item marks next.method next.item ≡ Some item
-      → (from.methods next.method c c_is).laid.behind item ≡ (from.methods next.method c c_is).laid.numbers item + 1
+      → ((from.methods next.method c c_is).laid.behind item ≡ (from.methods next.method c c_is).laid.numbers item + 1) × IsEdge c item (item + 1)
   call_whole f next (inr starting) none c c_is item item_is = absurd (false≢true (sym none ∙ starting.starts))
-  call_whole f next (inl calling) none c c_is item item_is = by_kept (w.laid.kept item calling.called called_there) where
+  call_whole f next (inl calling) none c c_is item item_is = (by_kept (w.laid.kept item calling.called called_there), edge) where
+    edge : IsEdge c item (item + 1)
+    edge =
+        let there : insn_of calling.stands.code (old_frame p marks next).item ≡ Some calling.called =
+        sym (ap (option_and_then (λ (d : Code). insn_of d (old_frame p marks next).item)) calling.stands.code_is) ∙ calling.at in
+        let falls = call_falls p.outline calling.called calling.named calling.words calling.takes in
+        subst (λ k. IsEdge c k (k + 1)) (ap (λ o. unwrap_or o 0) item_is)
+        (subst (λ d. IsEdge d (old_frame p marks next).item ((old_frame p marks next).item + 1))
+        (same_value (code_at p next.method) calling.stands.code c calling.stands.code_is c_is)
+        (leads_behind p typings ready typed calling.words (old_frame p marks next) calling.stands calling.called there falls))
+
     w : HasInserted q marks next.method c (inserted_by (plans next.method))
     w = from.methods next.method c c_is
 

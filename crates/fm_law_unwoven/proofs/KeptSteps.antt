@@ -4,6 +4,7 @@ use Rattle.std.specs.Prelude.{slice_get}
 use Rattle.std.specs.List.{AllByRecursion}
 use Rattle.std.proofs.lemmas.List.{length-map}
 use Rattle.std.proofs.lemmas.Option.{none-some}
+use Rattle.fm_base.proofs.ListFacts.{AllByRecursion-at}
 use Rattle.fm_base.proofs.OptionFacts.{same_value}
 use Rattle.fm_cells.specs.Choices.{lawful}
 use Rattle.fm_cells.specs.Stores.{live_words}
@@ -25,14 +26,16 @@ use Rattle.fm_frames.specs.States.{Areas, Frame, Moved, State}
 use Rattle.fm_frames.specs.Steps.{attempted, continued, done_by, halted, is_deep, is_over, max_locals_of, next_effect, objects_made, step, target_at, words_made}
 use Rattle.fm_frames.specs.declared.ends.Ended.TheVariants as end
 use Rattle.fm_frames.specs.declared.values.Value.{Value}
-use Rattle.fm_law_no_fault.proofs.FramesKeep.{max_locals_in}
 use Rattle.fm_law_same_runs.specs.Beside.{kept_item, Marks}
+use Rattle.fm_law_sound.proofs.CallsStand.{max_locals_in}
+use Rattle.fm_law_sound.proofs.RunsSound.{makes_few}
 use Rattle.fm_law_sound.proofs.StartActs.{for_class}
 use Rattle.fm_law_sound.specs.Laws.{SoundStatesStep}
-use Rattle.fm_law_sound.specs.Making.{MakesAreResolved}
+use Rattle.fm_law_sound.specs.Making.{MakesAreResolved, MakesFew}
 use Rattle.fm_law_sound.specs.Resolved.{StepsAreResolved}
 use Rattle.fm_law_sound.specs.Sound.{IsSoundBy, StandBelow as SoundBelow, StandsWithout}
-use Rattle.fm_law_unwoven.proofs.KeptEffects.{branch_starts, old_effect, split_effect, whole_effect}
+use Rattle.fm_law_unwoven.proofs.KeptEdges.{FallsAs, LeadsOn, next_leads, step_falls}
+use Rattle.fm_law_unwoven.proofs.KeptEffects.{branch_starts, item_is, old_effect, split_effect, whole_effect}
 use Rattle.fm_law_unwoven.proofs.KeptNext.{Alike, CallsAreWhole, done_with, IsEntered, new_source, next_alike, old_source}
 use Rattle.fm_law_unwoven.proofs.KeptSound.{arguments_fit, call_whole, codes_below, item_of, methods_coded}
 use Rattle.fm_law_unwoven.proofs.KeptSplit.{branch_next, FollowsBranch, HasNext, split_alike}
@@ -44,7 +47,6 @@ use Rattle.fm_law_unwoven.specs.WovenFrom.{HasInserted, inserted_by, IsWovenFrom
 use Rattle.fm_law_woven_flow.proofs.RoleLists.{element_at}
 use Rattle.fm_layout.specs.Spelling.{conditional, opposite}
 use Rattle.fm_layout.specs.declared.rooms.Condition.{Condition}
-use Rattle.fm_place.proofs.WovenLemmas.{all-at}
 use Rattle.fm_place.specs.Rewriting.{Plans}
 use Rattle.fm_types.specs.Typed.{use_by}
 use Rattle.fm_world.specs.Programs.{code_at, Program}
@@ -71,11 +73,13 @@ module _ (p q : Program) (facts : Facts) (plans : Plans) (marks : Marks) (from :
   sound = record {
     typed = at.sound.typed;
     areas = at.sound.areas;
-    input = at.sound.input;
     frames = at.sound.frames;
     running = at.sound.running;
     within = at.sound.within;
   }
+
+  few : MakesFew p x
+  few = makes_few p x at.words
 
   abbrev code : Code
   code = at.sound.frames.0.code
@@ -130,14 +134,23 @@ module _ (p q : Program) (facts : Facts) (plans : Plans) (marks : Marks) (from :
       subst (λ n. UsesNamed p.outline n (length (targets_of i)) (next_effect p x)) max_is
       (subst (λ d. UsesNamed p.outline code.max_locals (length (targets_of i)) d) (sym effect_is)
       (only_named code.max_locals p.outline z.areas.started g.method (use_by p g.method i) i (slice_get z.input 0) (sights p.outline z.areas.store g.stack)
-      (all-at (λ (k : Item). LocalsFit code.max_locals k.insn) code.items j item.0 (rules.1).locals item.1)))
+      (AllByRecursion-at (λ (k : Item). LocalsFit code.max_locals k.insn) code.items j item.0 (rules.1).locals item.1)))
+
+  -- it leads along edges
+  leads : LeadsOn p code f j (next_effect p x).next
+  leads =
+      let here : f.item ≡ j = item_is p q facts plans marks from z g callers code code_is j j_is i found in
+      let falls : FallsAs i (next_effect p x).next =
+      subst (λ d. FallsAs i d.next) (sym effect_is)
+      (step_falls p.outline z.areas.started g.method (use_by p g.method i) i (slice_get z.input 0) (sights p.outline z.areas.store g.stack)) in
+      next_leads p facts.typing ready at.sound.typed 0 f at.sound.frames.0 i (ap (insn_of code) here ∙ found) j here (next_effect p x).next falls uses.next
 
   whole_callers : CallsAreWhole p q facts plans marks from z g callers code code_is j j_is i found below stand coded e uses z.areas [] 0 [] callers
   whole_callers = by_callers callers at.sound.frames.1 where
     by_callers : (gs : List Frame) → SoundBelow p facts.typing f (map (old_frame p marks) gs)
         → CallsAreWhole p q facts plans marks from z g callers code code_is j j_is i found below stand coded e uses z.areas [] 0 [] gs
     by_callers [] sounds = tt
-    by_callers (next ∷ rest) sounds = λ c c_is item item_is none. call_whole p q facts plans marks from facts.typing f next sounds.0 none c c_is item item_is
+    by_callers (next ∷ rest) sounds = λ c c_is item item_is none. call_whole p q facts plans marks from facts.typing ready at.sound.typed f next sounds.0 none c c_is item item_is
 
   count : length (g ∷ callers) ≡ length (f ∷ fs)
   count = ap suc (sym (length-map callers (old_frame p marks)))
@@ -207,7 +220,7 @@ module _ (p q : Program) (facts : Facts) (plans : Plans) (marks : Marks) (from :
   steps_alike : (next : Next) → next_effect q y ≡ record e { next = next } → is_deep y next ≡ is_deep x e.next → Follows next
       → StepsAlike p q facts plans marks (step p ch x) (step q ch y)
   steps_alike next effect deep follows =
-      let moved = (sound_steps p facts.typing ready makes choose x sound).1 in
+      let moved = (sound_steps p facts.typing ready makes choose x sound few).1 in
       subst (λ m. StepsAlike p q facts plans marks (step p ch x) m) (sym (new_step next effect deep))
       (subst (λ m. StepsAlike p q facts plans marks m (moved_new next (is_deep x e.next) (is_over p.outline z.areas e.actions) result)) (sym old_step)
       (moved_alike next follows (is_deep x e.next) (is_over p.outline z.areas e.actions) result
@@ -248,7 +261,7 @@ module _ (p q : Program) (facts : Facts) (plans : Plans) (marks : Marks) (from :
         steps_alike e.next (whole_effect p q facts plans marks from z g callers code code_is j j_is i found is) (deep_same e.next)
         (λ areas made kept.
         next_alike p q facts plans marks from z g callers code code_is j j_is i found below stand coded e uses areas made price e.prints is behind whole_callers
-        e.next uses.next (given_by areas made e.next kept))
+        e.next uses.next leads (given_by areas made e.next kept))
 
   -- ---- a branch that is split
 
@@ -315,7 +328,7 @@ module _ (p q : Program) (facts : Facts) (plans : Plans) (marks : Marks) (from :
         steps_alike (exchanged e.next) (split_effect p q facts plans marks from z g callers code code_is j j_is i found c target other branch test) (deep_split e.next kind)
         (λ areas made kept.
         split_alike p q facts plans marks from z g callers code code_is j j_is i found below stand coded e uses areas made price e.prints c target other branch test follows jump mark
-        e.next kind uses.next (given_split areas made e.next kept))
+        e.next kind uses.next leads (given_split areas made e.next kept))
 
   -- ---- both
 

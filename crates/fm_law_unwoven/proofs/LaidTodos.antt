@@ -5,6 +5,8 @@ use Rattle.std.specs.List.{AllByRecursion, flat_map, range_with_len}
 use Rattle.std.specs.Option.{option_map}
 use Rattle.std.proofs.lemmas.Bool.{cases_lt, lt-ltb}
 use Rattle.std.proofs.lemmas.Option.{none-some, slice_get_within, slice_get-map}
+use Rattle.fm_base.proofs.ListFacts.{slice_get-append_right}
+use Rattle.fm_code.proofs.EdgesLemmas.{insn_inside}
 use Rattle.fm_code.specs.Edges.{insn_of, MeetsCodeRules}
 use Rattle.fm_code.specs.SpellsCode.{with_targets}
 use Rattle.fm_code.specs.declared.code_array.Code.{Code}
@@ -15,12 +17,11 @@ use Rattle.fm_flow.proofs.CodeFacts.{items_counted}
 use Rattle.fm_place.proofs.FullLemmas.{some-same}
 use Rattle.fm_place.specs.Insertions.{after_at, before_at, Insertions}
 use Rattle.fm_place.specs.Woven.{anchors_of, local_of, woven, woven_code, woven_marks}
-use Rattle.fm_law_sound.proofs.FramesStand.{item_within}
 use Rattle.fm_law_woven_flow.proofs.Caught.{anchor_inside, first_le, goes_le}
 use Rattle.fm_law_woven_flow.proofs.LaidItems.{first_of, goes_to, is_split_of, item_total, laid_insn, lays, split_insn, whole_insn}
 use Rattle.fm_law_woven_flow.proofs.LaidRoles.{width}
 use Rattle.fm_law_woven_flow.proofs.NewItems.{HasWhole, new_count}
-use Rattle.fm_law_woven_flow.proofs.RoleLists.{first_anchor, get_behind, kept_role, length-after, length-before, length-start, next_anchor, part_of}
+use Rattle.fm_law_woven_flow.proofs.RoleLists.{first_anchor, kept_role, length-after, length-before, length-start, next_anchor, part_of}
 use Rattle.fm_law_woven_flow.proofs.Standing.{code_stands, number_inside}
 use Rattle.fm_law_woven_flow.specs.Roles.{CanStand, DupAfter, FreeBefore, JumpOf, Keep, LoadBefore, NullBefore, Role, StandsFor, StartNull, StartStore, StoreAfter, StoreBefore}
 use Rattle.fm_law_woven_flow.specs.inner.RolesOf.{after_roles, before_roles, kept_new, moved_by, new_roles, number_of, roles_from, roles_of, start_roles}
@@ -131,7 +132,7 @@ module _ (free : ℕ) (old : Code) (plan : Insertions) where
   run (r ∷ rest) front back k next is at ends all =
       let size = length-append front (r ∷ []) in
       let place : k ≡ length front + 0 = omega arith in
-      let there : slice_get roles k ≡ Some r = (λ i. slice_get (is i) (place i)) ∙ get_behind front (r ∷ (rest ++ back)) 0 in
+      let there : slice_get roles k ≡ Some r = (λ i. slice_get (is i) (place i)) ∙ slice_get-append_right front (r ∷ (rest ++ back)) 0 in
       let way = not_split k r there all.0 (is_split_of free old plan k) refl in
       let step = step_whole k r there way in
       let insn = some_is (laid_insn free old plan (first k)) (role_insn free old r)
@@ -340,7 +341,7 @@ module _ (free : ℕ) (old : Code) (plan : Insertions) where
         (all_insns_to free old (keeps_at plan j)) (all_insns_to free old (frees_at plan (j + 1)))
         (subst (λ t. LieInserted new marks (first (suc (kept_new old plan j))) (all_insns_to free old (keeps_at plan j)) (goes_to free old plan t)) next (behind_kept j (omega arith)))
         (before_kept (j + 1) more));
-    kept = λ j i found. kept_as j i (item_within old j i found) found (is_split_of free old plan (kept_new old plan j)) refl;
+    kept = λ j i found. kept_as j i (insn_inside old j i found) found (is_split_of free old plan (kept_new old plan j)) refl;
     marked = marked;
     once = once rules can;
     handlers = refl;

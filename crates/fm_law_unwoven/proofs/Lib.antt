@@ -8,6 +8,7 @@ pub mod InsertedSteps
 pub mod TodosDone
 pub mod WovenPrograms
 pub mod OldFrames
+pub mod KeptEdges
 pub mod KeptEffects
 pub mod KeptGoes
 pub mod KeptCatches
@@ -17,3 +18,14 @@ pub mod KeptSplit
 pub mod KeptSteps
 pub mod TodoLocals
 pub mod TodoAreas
+pub mod TodoCounts
+pub mod HoldersGo
+pub mod KeptSites
+pub mod Cleared
+pub mod KeptReached
+pub mod KeptOnwards
+pub mod RunsCleared
+pub mod StartFrames
+pub mod Openings
+pub mod KeptOpenings
+pub mod ClearedPrograms

@@ -69,13 +69,14 @@ module _ (old : Code) (stack : List Value) where
         may_start hs (slice_set locals (local_of old h) null) (λ k there. let within = inside k (Contains-later h hs k there) in omega (arith, within, count)),
       )
 
-  pub may_keep : (hs : List ℕ) (locals : List Value) → 0 < length stack → ((h : ℕ) → Contains hs h → local_of old h < length locals)
+  pub may_keep : (hs : List ℕ) (locals : List Value) → ((h : ℕ) → Contains hs h → 0 < length stack)
+      → ((h : ℕ) → Contains hs h → local_of old h < length locals)
       → MayDoAll old stack locals (map ToKeep hs)
   may_keep [] locals some inside = tt
   may_keep (h ∷ hs) locals some inside =
       let count = length_after old stack (ToKeep h ∷ []) locals in (
-        (some, inside h (Contains-first h hs h refl)),
-        may_keep hs (slice_set locals (local_of old h) (word_at stack 0)) some
+        (some h (Contains-first h hs h refl), inside h (Contains-first h hs h refl)),
+        may_keep hs (slice_set locals (local_of old h) (word_at stack 0)) (λ k there. some k (Contains-later h hs k there))
             (λ k there. let within = inside k (Contains-later h hs k there) in omega (arith, within, count)),
       )
 

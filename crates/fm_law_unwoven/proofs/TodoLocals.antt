@@ -22,7 +22,7 @@ holder_of (ToFree h) = h
 
 module _ (old : Code) (stack : List Value) where
   -- what a holder gets
-  abbrev got : Todo → Value
+  abbrev pub got : Todo → Value
   got (ToStart h) = null
   got (ToKeep h) = word_at stack 0
   got (ToFree h) = null

@@ -1,5 +1,5 @@
 -- What is inserted is done, one thing after the other.
-use Rattle.std.proofs.Common.{◌≡◌, ℕ, zero, suc, ◌+◌, List, [], ◌∷◌, Option, Some, None, option_and_then, is_some, refl, sym, ap, subst, ◌∙◌, arith}
+use Rattle.std.proofs.Common.{◌≡◌, ℕ, zero, suc, ◌+◌, List, [], ◌∷◌, drop, Option, Some, None, option_and_then, is_some, refl, sym, ap, subst, ◌∙◌, arith}
 use Rattle.std.specs.Prelude.{slice_set}
 use Rattle.fm_code.specs.Edges.{insn_of}
 use Rattle.fm_code.specs.declared.code_array.Code.{Code}
@@ -30,15 +30,16 @@ passed-append q marks choose zero b n x y z count here there =
     subst (λ m. IsPassed q marks choose m x z) same (subst (λ s. IsPassed q marks choose b s z) (sym here) there)
 passed-append q marks choose (suc a) b zero x y z count here there = absurd (omega (arith, count))
 passed-append q marks choose (suc a) b (suc n) x y z count here there =
-    (here.0, here.1, passed-append q marks choose a b n (step q choose x).state y z (omega (arith, count)) here.2 there)
+    (here.0, here.1, here.2, passed-append q marks choose a b n (step q choose x).state y z (omega (arith, count)) here.3 there)
 
 -- one step, at an item without a mark
-one_passed : (q : Program) (marks : Marks) (choose : Choose) (y : State) (f : Frame) (callers : List Frame) (next : State) (n : ℕ) (z : State)
+pub one_passed : (q : Program) (marks : Marks) (choose : Choose) (y : State) (f : Frame) (callers : List Frame) (next : State) (n : ℕ) (z : State)
     → mark_at (own_marks marks f.method) f.item ≡ None → step q choose (with_frame y f callers) ≡ record { state = next; printed = [] }
-    → IsPassed q marks choose n next z → IsPassed q marks choose (suc n) (with_frame y f callers) z
-one_passed q marks choose y f callers next n z mark is rest = (
+    → drop 1 next.frames ≡ callers → IsPassed q marks choose n next z → IsPassed q marks choose (suc n) (with_frame y f callers) z
+one_passed q marks choose y f callers next n z mark is below rest = (
   record { goes_on = refl; inserted = ap is_some mark },
   ap (λ (m : Moved). m.printed) is,
+  ap (λ (m : Moved). drop 1 m.state.frames) is ∙ below,
   subst (λ s. IsPassed q marks choose n s z) (sym (ap (λ (m : Moved). m.state) is)) rest,
 )
 
@@ -123,9 +124,10 @@ module _ (q : Program) (marks : Marks) (choose : Choose) (method : ℕ) (old : C
       let k = local_of old h in
       let last = with_frame (counted q choose (counted q choose y)) (at (item + 1 + 1) (slice_set locals k null) stack) callers in
       one_passed q marks choose y (at item locals stack) callers (with_frame (counted q choose y) (at (item + 1) locals (null ∷ stack)) callers) 1
-      last lies.1 (null_step q choose y (at item locals stack) callers (insn_at item locals stack insn.Null lies.0))
+      last lies.1 (null_step q choose y (at item locals stack) callers (insn_at item locals stack insn.Null lies.0)) refl
       (one_passed q marks choose (counted q choose y) (at (item + 1) locals (null ∷ stack)) callers last 0 last lies.3
-      (store_step q choose (counted q choose y) (at (item + 1) locals stack) callers k null stack (insn_at (item + 1) locals stack (insn.Store reg.Ref k) lies.2)) refl)
+      (store_step q choose (counted q choose y) (at (item + 1) locals stack) callers k null stack (insn_at (item + 1) locals stack (insn.Store reg.Ref k) lies.2))
+      refl refl)
 
   -- the same of what is on top
   keep_passed : (y : State) (item : ℕ) (locals : List Value) (v : Value) (rest : List Value) (h : ℕ) → LiesTwo item insn.Dup (insn.Store reg.Ref (local_of old h))
@@ -135,10 +137,10 @@ module _ (q : Program) (marks : Marks) (choose : Choose) (method : ℕ) (old : C
       let k = local_of old h in
       let last = with_frame (counted q choose (counted q choose y)) (at (item + 1 + 1) (slice_set locals k v) (v ∷ rest)) callers in
       one_passed q marks choose y (at item locals (v ∷ rest)) callers (with_frame (counted q choose y) (at (item + 1) locals (v ∷ v ∷ rest)) callers) 1
-      last lies.1 (dup_step q choose y (at item locals rest) callers v rest (insn_at item locals rest insn.Dup lies.0))
+      last lies.1 (dup_step q choose y (at item locals rest) callers v rest (insn_at item locals rest insn.Dup lies.0)) refl
       (one_passed q marks choose (counted q choose y) (at (item + 1) locals (v ∷ v ∷ rest)) callers last 0 last lies.3
       (store_step q choose (counted q choose y) (at (item + 1) locals (v ∷ rest)) callers k v (v ∷ rest)
-      (insn_at (item + 1) locals (v ∷ rest) (insn.Store reg.Ref k) lies.2)) refl)
+      (insn_at (item + 1) locals (v ∷ rest) (insn.Store reg.Ref k) lies.2)) refl refl)
 
   -- what is inserted to free a holder
   module _ (y : State) (item : ℕ) (locals stack : List Value) (h : ℕ) (todos : List Todo) (next : ℕ)
@@ -174,13 +176,13 @@ module _ (q : Program) (marks : Marks) (choose : Choose) (method : ℕ) (old : C
         let last = with_frame (counted q choose (counted q choose z)) (at (item + 1 + 1 + 1 + 1) (slice_set locals k null) stack) callers in
         subst (λ (a : Areas). Passed 4 (with_frame y (at item locals stack) callers)
         (with_frame (record y { areas = a; steps = y.steps + 1 + 1 + 1 + 1 }) (frame_after item locals stack (ToFree h)) callers)) (sym freed)
-        (one_passed q marks choose y (at item locals stack) callers loaded 3 last lies.1 load_is
-        (one_passed q marks choose (counted q choose y) (at (item + 1) locals (v ∷ stack)) callers (with_frame z (at (item + 1 + 1) locals stack) callers) 2 last lies.2.1 is
+        (one_passed q marks choose y (at item locals stack) callers loaded 3 last lies.1 load_is refl
+        (one_passed q marks choose (counted q choose y) (at (item + 1) locals (v ∷ stack)) callers (with_frame z (at (item + 1 + 1) locals stack) callers) 2 last lies.2.1 is refl
         (one_passed q marks choose z (at (item + 1 + 1) locals stack) callers nulled 1 last lies.2.2.1
-        (null_step q choose z (at (item + 1 + 1) locals stack) callers (insn_at (item + 1 + 1) locals stack insn.Null lies.2.2.0))
+        (null_step q choose z (at (item + 1 + 1) locals stack) callers (insn_at (item + 1 + 1) locals stack insn.Null lies.2.2.0)) refl
         (one_passed q marks choose (counted q choose z) (at (item + 1 + 1 + 1) locals (null ∷ stack)) callers last 0 last lies.2.2.2.1
         (store_step q choose (counted q choose z) (at (item + 1 + 1 + 1) locals stack) callers k null stack
-        (insn_at (item + 1 + 1 + 1) locals stack (insn.Store reg.Ref k) lies.2.2.2.0)) refl))))
+        (insn_at (item + 1 + 1 + 1) locals stack (insn.Store reg.Ref k) lies.2.2.2.0)) refl refl))))
 
     pub free_done : Done (onwards y locals (ToFree h)) (frame_after item locals stack (ToFree h)) todos next
         → Done y (at item locals stack) (ToFree h ∷ todos) next
@@ -199,7 +201,7 @@ module _ (q : Program) (marks : Marks) (choose : Choose) (method : ℕ) (old : C
           OneLost 1 method (offset_at q (at (item + 1) locals stack)) (cell_of v) loaded
           (record { before = []; holder = h; behind = todos; is = refl; cell = n; cell_is = cell_is; lost = lost })
           (omega arith)
-          (one_passed q marks choose y (at item locals stack) callers loaded 0 loaded lies.1 load_is refl)
+          (one_passed q marks choose y (at item locals stack) callers loaded 0 loaded lies.1 load_is refl refl)
           (record { goes_on = refl; inserted = ap is_some lies.2.1 }) fault.0 fault.1
 
   -- ---- all things

@@ -4,7 +4,7 @@ use Rattle.std.specs.Prelude.{slice_get}
 use Rattle.std.specs.List.{AllByRecursion, range_with_len, slice_index_or}
 use Rattle.std.proofs.lemmas.Option.{none-some, same_Some}
 use Rattle.fm_base.proofs.OptionFacts.{same_value}
-use Rattle.fm_code.proofs.EdgesLemmas.{MeetsCodeRules-method}
+use Rattle.fm_code.proofs.EdgesLemmas.{Contains-map, insn_inside, MeetsCodeRules-method}
 use Rattle.fm_code.specs.Edges.{insn_of, MeetsCodeRules}
 use Rattle.fm_code.specs.SpellsCode.{with_targets}
 use Rattle.fm_code.specs.Spells.{HasSpelling}
@@ -12,7 +12,6 @@ use Rattle.fm_code.specs.declared.class_file.ClassDef.{ClassDef}
 use Rattle.fm_code.specs.declared.code_array.Code.{Code}
 use Rattle.fm_code.specs.declared.instructions.Insn.{Insn}
 use Rattle.fm_code.specs.declared.instructions.Insn.TheVariants as insn
-use Rattle.fm_conn.proofs.ListLemmas.{Contains-map}
 use Rattle.fm_conn.specs.Facts.{Facts}
 use Rattle.fm_conn.specs.Links.{typed_method}
 use Rattle.fm_exec_calls.proofs.BuiltInStarts.{nothing-starts}
@@ -25,7 +24,6 @@ use Rattle.fm_law_relinked.proofs.FreeUse.{ClassTypesAreNumbered, has_free, type
 use Rattle.fm_law_relinked.specs.Codes.{code_with}
 use Rattle.fm_law_retyped.proofs.KeptRows.{same_row}
 use Rattle.fm_law_retyped.proofs.SafeMethods.{safe_can}
-use Rattle.fm_law_sound.proofs.FramesStand.{item_within}
 use Rattle.fm_law_retyped.proofs.WrittenMethods.{HasMember, IsWritten, marks_in, written_method}
 use Rattle.fm_law_retyped.proofs.WrittenUses.{free_use, freed_use, handler_use, insn_use, outlines_same, program_outline, used_by_item}
 use Rattle.fm_law_same_runs.specs.Beside.{Marks}
@@ -147,7 +145,7 @@ module _ (numbered : ClassTypesAreNumbered) (given : List ClassDef) (main : List
       new_is = same_code;
       laid = same_laid free code (own_marks (marks_with plans given) method) all_marked marked_once;
       frees = λ n there none.
-          let inside = item_within code n (insn.Static free) there in
+          let inside = insn_inside code n (insn.Static free) there in
           absurd (none-some n (sym none ∙ all_marked n inside));
     }
 

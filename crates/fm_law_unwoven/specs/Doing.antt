@@ -1,5 +1,5 @@
 -- What inserted items do to a state: they change holders and free what these kept, and nothing else.
-use Rattle.std.specs.Prelude.{◌≡◌, ℕ, zero, suc, ◌+◌, ◌<◌, List, [], ◌∷◌, ◌++◌, length, Some, None, slice_set}
+use Rattle.std.specs.Prelude.{◌≡◌, ℕ, zero, suc, ◌+◌, ◌<◌, List, [], ◌∷◌, ◌++◌, length, drop, Some, None, slice_set}
 use Rattle.fm_code.specs.declared.code_array.Code.{Code}
 use Rattle.fm_frames.specs.Acts.{cell_of, Choose, freed}
 use Rattle.fm_cells.specs.Stores.{object_at}
@@ -17,10 +17,12 @@ use Rattle.fm_law_unwoven.specs.WovenFrom.{HasInserted, own_marks}
 
 -- ---- inserted steps
 
--- from one state this many steps lead to another; each begins at an inserted item, and prints nothing
+-- from one state this many steps lead to another; each begins at an inserted item, prints nothing, and leaves the frames below the topmost one as they are
 abbrev pub IsPassed : Program → Marks → Choose → ℕ → State → State → Type 0
 IsPassed q marks choose zero y z = y ≡ z
-IsPassed q marks choose (suc n) y z = IsAtInserted marks y × ((step q choose y).printed ≡ []) × IsPassed q marks choose n (step q choose y).state z
+IsPassed q marks choose (suc n) y z =
+    IsAtInserted marks y × ((step q choose y).printed ≡ []) × (drop 1 (step q choose y).state.frames ≡ drop 1 y.frames)
+    × IsPassed q marks choose n (step q choose y).state z
 
 -- ---- what is done
 

@@ -1,6 +1,7 @@
 -- A state of the program with insertions at an item that is kept, and the state of the first program that it holds.
-use Rattle.std.specs.Prelude.{◌≡◌, ℕ, ◌+◌, ◌<◌, ◌⊎◌, true, false, List, [], ◌∷◌, length, map, take, Some, None, unwrap_or, slice_get}
-use Rattle.fm_code.specs.Edges.{insn_of}
+use Rattle.std.specs.Prelude.{◌≡◌, ℕ, ◌+◌, ◌<◌, ◌≤◌, ◌⊎◌, true, List, [], ◌∷◌, length, map, take, Some, None, unwrap_or, slice_get}
+use Rattle.fm_base.specs.declared.limits.TheConstants.{MAX_LIVE_WORDS}
+use Rattle.fm_code.specs.Edges.{insn_of, IsEdge}
 use Rattle.fm_code.specs.declared.code_array.Code.{Code}
 use Rattle.fm_code.specs.declared.instructions.Insn.TheVariants as insn
 use Rattle.fm_cells.specs.Choices.{lawful}
@@ -18,7 +19,7 @@ use Rattle.fm_law_sound.specs.Sound.{IsReference, IsSoundBy}
 use Rattle.fm_law_unwoven.specs.Laid.{mark_at}
 use Rattle.fm_law_unwoven.specs.WovenFrom.{HasInserted, inserted_by, IsWovenFrom, own_marks}
 use Rattle.fm_place.specs.Insertions.{Holder, Insertions}
-use Rattle.fm_place.specs.Places.{is_busy}
+use Rattle.fm_place.specs.Places.{is_busy, MayHold}
 use Rattle.fm_place.specs.Rewriting.{Plans}
 use Rattle.fm_place.specs.Woven.{local_of}
 use Rattle.fm_world.specs.Programs.{code_at, Program}
@@ -44,12 +45,12 @@ old_state p marks steps y = record y { frames = map (old_frame p marks) y.frames
 
 -- ---- frames
 
--- the holders of a frame at an old item: each is a reference, and null where its class isn't busy
+-- The holders of a frame at an old item: each is a reference; and it is null, or its class is busy there and it may hold something.
 pub record HoldersStand (facts : Facts) (x : TypedMethod) (plan : Insertions) (g : Frame) (j : ℕ) : Type 0 where
   pub width : length g.locals ≡ x.code.max_locals + length plan.holders
   pub references : (h : ℕ) → h < length plan.holders → IsReference (word_at g.locals (local_of x.code h))
-  pub clear : (h : ℕ) (holder : Holder) → slice_get plan.holders h ≡ Some holder → is_busy facts x holder.class j ≡ false
-      → word_at g.locals (local_of x.code h) ≡ null
+  pub may : (h : ℕ) (holder : Holder) → slice_get plan.holders h ≡ Some holder
+      → (word_at g.locals (local_of x.code h) ≡ null) ⊎ ((is_busy facts x holder.class j ≡ true) × MayHold facts x holder.site holder.class j)
 
 -- the frame's holders stand at an old item of its method
 abbrev pub HoldersStandAt : Program → Facts → Plans → Frame → ℕ → Type 0
@@ -80,10 +81,11 @@ abbrev pub StandKept : Program → Program → Facts → Plans → Marks → Lis
 StandKept p q facts plans marks [] = Unit {0}
 StandKept p q facts plans marks (g ∷ callers) = StandsAtKept p facts plans marks g × StandBelow p q facts plans marks g callers
 
--- a state of the second program at a kept item, which holds a sound state of the first one
+-- a state of the second program at a kept item, which holds a sound state of the first one; as many words may live as `fmrun` allows at most
 pub record IsAtKept (p q : Program) (facts : Facts) (plans : Plans) (marks : Marks) (y : State) : Type 0 where
   pub sound : IsSoundBy p facts.typing (old_state p marks 0 y)
   pub frames : StandKept p q facts plans marks y.frames
+  pub words : y.areas.store.budget ≤ MAX_LIVE_WORDS
 
 -- ---- a step
 
@@ -95,10 +97,10 @@ pub data GoesOn (q : Program) (marks : Marks) (f g : Frame) (old : Code) (plan :
   GoesByJump : insn_of w.new g.item ≡ Some (insn.Goto (w.laid.entries f.item)) → mark_at (own_marks marks g.method) g.item ≡ None
       → GoesOn q marks f g old plan w j
 
--- the frame goes on with its holders as they were at old item j; or it begins
+-- the frame goes on along an edge from old item j, with its holders as they were there; or it begins; or it is as it was
 pub data FrameGoes (p q : Program) (facts : Facts) (plans : Plans) (marks : Marks) (f g : Frame) : Type 0 where
   InMethod : (j : ℕ) (old : Code) (code_is : code_at p g.method ≡ Some old) (w : HasInserted q marks g.method old (inserted_by (plans g.method)))
-      → GoesOn q marks f g old (inserted_by (plans g.method)) w j
+      → GoesOn q marks f g old (inserted_by (plans g.method)) w j → IsEdge old j f.item
       → HoldersStand facts (typed_method p facts.typing g.method old) (inserted_by (plans g.method)) g j
       → FrameGoes p q facts plans marks f g
   Begins : f.item ≡ 0 → g.item ≡ 0 → g.stack ≡ [] → length g.locals ≡ max_locals_of q g.method → FrameGoes p q facts plans marks f g

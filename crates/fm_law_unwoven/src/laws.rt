@@ -2,12 +2,15 @@
 
 ghost use Rattle.fm_law_unwoven.specs.Doing.{TodosAreDone};
 ghost use Rattle.fm_law_unwoven.specs.Kept.{KeptStepsAreSteps};
+ghost use Rattle.fm_law_same_runs.specs.Programs.{HoldersAreCleared};
 ghost use Rattle.fm_law_unwoven.specs.Laid.{CodesAreLaid};
+ghost use Rattle.fm_law_unwoven.specs.Runs.{AllRunsAreCleared, FewAreInsertedInRuns, KeptStatesGoOn, OpeningsComeToKept, SafeRunsAreCleared};
 ghost use Rattle.fm_law_unwoven.specs.UnseenCode.{LocalsAreUnseen, OnlyNamedIsUsed, OppositesExchange, TargetsAreUnseen};
 ghost use Rattle.fm_law_unwoven.specs.WovenFrom.{SafeProgramsAreWoven};
 
-use fm_law_linked::law_resolved;
+use fm_law_linked::{law_main, law_makeable, law_resolved, law_sound_steps};
 use fm_law_sound::law_sound;
+use fm_same::law_sites;
 use fm_world::law_class_types;
 
 /// The program of classes with safe insertions has the outline of the given one, and its methods with what
@@ -49,4 +52,48 @@ pub fn law_kept_steps()
 {
     // By this law.
     law_sound();
+}
+
+/// After a step at a kept item few inserted steps lead to the next kept item, with holders that are null or
+/// may hold something of a class that is busy there; or the run ends.
+pub fn law_kept_states()
+    ensures { KeptStatesGoOn }
+{
+    // By these laws.
+    law_kept_steps();
+    law_sound();
+    law_sites();
+}
+
+/// From the opening of a run of the second program few inserted steps lead to a kept item, or the run ends.
+pub fn law_openings()
+    ensures { OpeningsComeToKept }
+{
+    // By this law.
+    law_sound();
+}
+
+/// In each state of each run of the second program that goes on, the holders of all frames are null where
+/// their classes aren't busy; and few inserted steps follow one another.
+pub fn law_runs()
+    ensures { AllRunsAreCleared }
+{
+    // By these laws.
+    law_kept_states();
+    law_openings();
+}
+
+/// So it is in each run of classes with safe insertions, over memory that reuses cells in any way; and with
+/// all insertions.
+pub fn law_cleared()
+    ensures runs { SafeRunsAreCleared }
+    ensures few { FewAreInsertedInRuns }
+    ensures full { HoldersAreCleared }
+{
+    // By these laws.
+    law_runs();
+    law_woven();
+    law_sound_steps();
+    law_makeable();
+    law_main();
 }

@@ -6,6 +6,8 @@ use Rattle.std.specs.Option.{option_map}
 use Rattle.std.proofs.lemmas.Bool.{cases_lt, false≢true, le-ltb, lt-ltb}
 use Rattle.std.proofs.lemmas.List.Elements.{All-contains, All-from_recursion}
 use Rattle.std.proofs.lemmas.Option.{none-some, slice_get_within}
+use Rattle.fm_base.proofs.ContainsFacts.{Contains-none}
+use Rattle.fm_base.proofs.ListFacts.{AllByRecursion-at}
 use Rattle.fm_code.proofs.EdgesLemmas.{Contains-first, Contains-from_map}
 use Rattle.fm_code.specs.Edges.{falls_through, insn_of, IsNormalEdge, LeadsTo, MeetsCodeRules}
 use Rattle.fm_code.specs.SpellsCode.{targets_of, with_targets}
@@ -14,12 +16,12 @@ use Rattle.fm_code.specs.declared.code_array.Item.{Item}
 use Rattle.fm_code.specs.declared.instructions.Insn.{Insn}
 use Rattle.fm_code.specs.declared.instructions.Insn.TheVariants as insn
 use Rattle.fm_code.specs.declared.operations.Reg.TheVariants as reg
-use Rattle.fm_conn.proofs.ListLemmas.{Contains-none, Contains-one}
+use Rattle.fm_conn.proofs.ListLemmas.{Contains-one}
 use Rattle.fm_flow.proofs.CodeFacts.{targets_inside}
 use Rattle.fm_flow.proofs.ReachLemmas.{edge_from_item}
 use Rattle.fm_layout.specs.Spelling.{conditional, opposite}
 use Rattle.fm_place.proofs.FullLemmas.{some-same}
-use Rattle.fm_place.proofs.WovenLemmas.{all-at, targets-of-with}
+use Rattle.fm_place.proofs.WovenLemmas.{targets-of-with}
 use Rattle.fm_place.specs.Insertions.{Insertions}
 use Rattle.fm_place.specs.Woven.{anchors_of, woven, woven_code}
 use Rattle.fm_law_woven_flow.proofs.LaidItems.{falls-conditional, falls-with, first_of, goes_to, laid_insn, is_split_of, item_total, Jump, laid_item, LaidItem, lays, SplitAt, targets-conditional, Test, Whole, whole_insn}
@@ -41,7 +43,7 @@ pub target_inside : (old : Code) → MeetsCodeRules old → (j : ℕ) (i : Insn)
 target_inside old rules j i t found named =
     let item = insn-item (slice_get old.items j) i found in
     let P : ℕ → Type 0 = λ target. target < length old.items in
-    let all = all-at (λ (x : Item). AllByRecursion P (targets_of x.insn)) old.items j item.0 (targets_inside old rules) item.1 in
+    let all = AllByRecursion-at (λ (x : Item). AllByRecursion P (targets_of x.insn)) old.items j item.0 (targets_inside old rules) item.1 in
     let each : AllByRecursion P (targets_of i) = subst (λ x. AllByRecursion P (targets_of x)) item.2 all in
     All-contains P (targets_of i) t (All-from_recursion P (targets_of i) each) named
 

@@ -4,6 +4,7 @@ use Rattle.std.specs.Prelude.{slice_get, slice_index}
 use Rattle.std.specs.List.{flat_map, range_with_len}
 use Rattle.std.proofs.lemmas.Bool.{cases_lt}
 use Rattle.std.proofs.lemmas.Option.{none-some, slice_get_cases, slice_get_within}
+use Rattle.fm_base.proofs.ListFacts.{slice_get-append_right}
 use Rattle.fm_code.specs.declared.code_array.Code.{Code}
 use Rattle.fm_code.specs.declared.code_array.Item.{Item}
 use Rattle.fm_place.proofs.FullLemmas.{some-same}
@@ -14,13 +15,6 @@ use Rattle.fm_law_woven_flow.specs.Roles.{DupAfter, FreeBefore, GoesOn, IsEntry,
 use Rattle.fm_law_woven_flow.specs.inner.RolesOf.{after_roles, before_roles, item_roles, kept_new, new_roles, roles_from, start_roles}
 
 -- ---- elements
-
--- an element behind others
-pub get_behind : {X : Type 0} (front rest : List X) (k : ℕ) → slice_get (front ++ rest) (length front + k) ≡ slice_get rest k
-get_behind [] rest k = let same : 0 + k ≡ k = omega arith in ap (slice_get rest) same
-get_behind (x ∷ front) rest k =
-    let same : suc (length front) + k ≡ suc (length front + k) = omega arith in
-    ap (slice_get (x ∷ (front ++ rest))) same ∙ get_behind front rest k
 
 -- there is an element at each index inside
 pub element_at : {X : Type 0} (xs : List X) (k : ℕ) → k < length xs → (x : X) × (slice_get xs k ≡ Some x)
@@ -214,7 +208,7 @@ in_part plan whole anchors t j part k m same =
     let at = part.at in
     let place : k ≡ length part.front + m = omega arith in
     (λ i. slice_get (part.is i) (place i))
-    ∙ get_behind part.front (flat_map (before_roles j) (before_at plan j) ++ (Keep j ∷ (flat_map (after_roles j) (after_at plan j) ++ part.back))) m
+    ∙ slice_get-append_right part.front (flat_map (before_roles j) (before_at plan j) ++ (Keep j ∷ (flat_map (after_roles j) (after_at plan j) ++ part.back))) m
 
 -- ---- the four kinds of places
 
@@ -296,7 +290,7 @@ kept_role old plan j inside =
     let size = length-before j (before_at plan j) in
     let place : freed_items * length (before_at plan j) ≡ length before + 0 = omega (arith, size) in
     in_part plan (new_roles old plan) (anchors_of plan old.items) j j part (kept_new old plan j) (freed_items * length (before_at plan j)) refl
-    ∙ ap (λ n. slice_get (before ++ rest) n) place ∙ get_behind before rest 0
+    ∙ ap (λ n. slice_get (before ++ rest) n) place ∙ slice_get-append_right before rest 0
 
 -- what comes before an old item, from its anchor on
 pub role_before : (old : Code) (plan : Insertions) (j k : ℕ) (r : Role) → j < length old.items → slice_index (anchors_of plan old.items) j ≤ k
@@ -321,7 +315,7 @@ role_after old plan j k r inside low high found =
     let place : m ≡ length before + suc rest = omega (arith, size) in
     let there : slice_get after rest ≡ Some r =
     sym (in_part plan (new_roles old plan) (anchors_of plan old.items) j j part k m (omega arith)
-    ∙ ap (λ n. slice_get (before ++ (Keep j ∷ after)) n) place ∙ get_behind before (Keep j ∷ after) (suc rest)) ∙ found in
+    ∙ ap (λ n. slice_get (before ++ (Keep j ∷ after)) n) place ∙ slice_get-append_right before (Keep j ∷ after) (suc rest)) ∙ found in
     after-role j (after_at plan j) part.back rest r (omega (arith, next)) there
 
 -- what is at the start

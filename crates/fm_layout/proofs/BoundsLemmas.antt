@@ -1,8 +1,8 @@
 -- How many bytes the new items can take.
-use Rattle.std.proofs.Common.{◌≡◌, ℕ, zero, suc, ◌+◌, ◌*◌, ◌≤◌, ◌==◌, Bool, true, false, List, [], ◌∷◌, length, drop, refl, ap, subst, arith, if◌then◌else◌, Option, Some, None, option_and_then, length-append}
+use Rattle.std.proofs.Common.{◌≡◌, ℕ, zero, suc, ◌+◌, ◌*◌, ◌≤◌, ◌==◌, Bool, true, false, List, [], ◌∷◌, length, drop, refl, ap, arith, if◌then◌else◌, Option, Some, None, option_and_then, length-append}
 use Rattle.std.specs.Prelude.{slice_get, nat_lt, IsSomeAnd}
 use Rattle.std.specs.List.{AllByRecursion, flat_map, filter_map, cons_option, range_with_len}
-use Rattle.fm_base.proofs.ListFacts.{AllByRecursion-weaker}
+use Rattle.fm_base.proofs.ListFacts.{AllByRecursion-at, AllByRecursion-weaker}
 use Rattle.fm_code.proofs.CodeItems.{HasBytes}
 use Rattle.fm_code.proofs.InsnPrefixes.{insn_at_not_empty}
 use Rattle.fm_code.specs.ClassBytes.{item_bytes, offset_in}
@@ -58,19 +58,13 @@ weight_inserted (insn.Store reg.Ref local) inserted = let size = length-store lo
 weight_inserted (insn.Static index) inserted = let size = length-static index in omega arith
 weight_inserted i inserted = absurd inserted
 
--- what holds of each element holds of the one at an index
-pub at_index : {X : Type 0} (P : X → Type 0) (xs : List X) (k : ℕ) (x : X) → AllByRecursion P xs → slice_get xs k ≡ Some x → P x
-at_index P [] k x all e = cc
-at_index P (y ∷ xs) zero x all e = let same : y ≡ x = cc in subst P same all.0
-at_index P (y ∷ xs) (suc k) x all e = at_index P xs k x all.1 e
-
 weight_new : (old : List Item) (i : Insn) (kept : Option ℕ) → AllByRecursion HasBytes old → IsOrigin old i kept
     → weight (room_of (option_and_then (λ k. slice_get old k) kept) i) ≤ 7 + size_of (option_and_then (λ k. slice_get old k) kept)
 weight_new old i None filled inserted = weight_inserted i inserted
 weight_new old i (Some k) filled origin = go (slice_get old k) refl origin where
   go : (o : Option Item) → slice_get old k ≡ o → IsSomeAnd o (λ item. IsSameButTargets i item.insn) → weight (room_of o i) ≤ 7 + size_of o
   go None e origin = absurd origin
-  go (Some item) e origin = weight_kept item i (at_index HasBytes old k item filled e)
+  go (Some item) e origin = weight_kept item i (AllByRecursion-at HasBytes old k item filled e)
 
 -- ---- all items
 

@@ -3,7 +3,7 @@ use Rattle.std.proofs.Common.{◌≡◌, ℕ, ◌+◌, ◌<◌, Bool, true, fals
 use Rattle.std.specs.Prelude.{ℤ, nat_lt, slice_get, slice_index, IsSomeAnd}
 use Rattle.std.specs.List.{AllByRecursion, flat_map}
 use Rattle.std.proofs.lemmas.Bool.{ltb-true}
-use Rattle.fm_base.proofs.ListFacts.{AllByRecursion-append}
+use Rattle.fm_base.proofs.ListFacts.{AllByRecursion-append, AllByRecursion-at}
 use Rattle.fm_code.proofs.Bytes.{AreBytes-two, AreBytes-signed_four, AreBytes-append, AreBytes-take, AreBytes-drop}
 use Rattle.fm_code.specs.Fits.{AreBytes}
 use Rattle.fm_code.specs.InstructionTable.{padding_at}
@@ -23,7 +23,6 @@ use Rattle.fm_layout.specs.declared.rooms.Condition.{Condition}
 use Rattle.fm_layout.specs.declared.rooms.Condition.TheVariants as condition
 use Rattle.fm_layout.specs.declared.rooms.Room.{Room}
 use Rattle.fm_layout.specs.declared.rooms.Room.TheVariants as room
-use Rattle.fm_layout.proofs.BoundsLemmas.{at_index}
 
 -- an item's bytes are bytes
 abbrev pub HasBytesOnly : Item → Type 0
@@ -150,7 +149,7 @@ item_are_bytes old starts start i (Some k) bytes origin = go (slice_get old k) r
   go : (o : Option Item) → slice_get old k ≡ o → IsSomeAnd o (λ item. IsSameButTargets i item.insn) → AreBytes (moved_bytes starts start o i)
   go None found same = absurd same
   go (Some item) found same =
-      let known = at_index HasBytesOnly old k item bytes found in
+      let known = AllByRecursion-at HasBytesOnly old k item bytes found in
       moved_are_bytes starts start (Some item) i known known
 
 laid_items_bytes : (old : List Item) (starts firsts : List ℕ) (start first : ℕ) (follows : Bool) (new : NewItem) (r : Room) → AllByRecursion HasBytesOnly old → HasOrigin old new

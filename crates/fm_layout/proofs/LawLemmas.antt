@@ -1,7 +1,6 @@
 -- Laid-out code is code.
 use Rattle.std.proofs.Common.{ℕ, ◌≤◌, List, [], ◌∷◌, ◌++◌, length, sym, subst}
-use Rattle.std.specs.List.{AllByRecursion, flat_map}
-use Rattle.fm_code.specs.ClassBytes.{item_bytes}
+use Rattle.fm_code.proofs.CodePrefixes.{AreBytes-items}
 use Rattle.fm_code.specs.Fits.{AreBytes}
 use Rattle.fm_code.specs.declared.code_array.TheConstants.{MAX_CODE_BYTES}
 use Rattle.fm_code.specs.declared.code_array.Item.{Item}
@@ -14,16 +13,8 @@ use Rattle.fm_layout.proofs.RoomsLemmas.{starts_within}
 use Rattle.fm_layout.proofs.SpelledLemmas.{OldFacts, laid_spelled}
 use Rattle.fm_layout.proofs.WideningLemmas.{rounds_wider, widened_settled}
 
-AreBytes-left : (xs ys : List ℕ) → AreBytes (xs ++ ys) → AreBytes xs × AreBytes ys
-AreBytes-left [] ys bytes = (tt, bytes)
-AreBytes-left (x ∷ xs) ys bytes = let (first, second) = AreBytes-left xs ys bytes.1 in ((bytes.0, first), second)
-
-items_bytes : (items : List Item) → AreBytes (flat_map item_bytes items) → AllByRecursion (λ (item : Item). AreBytes item.bytes) items
-items_bytes [] bytes = tt
-items_bytes (item ∷ items) bytes = let (first, second) = AreBytes-left item.bytes (flat_map item_bytes items) bytes in (first, items_bytes items second)
-
 old_facts : (old : List Item) → AreOldItems old → OldFacts old
-old_facts old are = record { spelled = are.spelled.spelled; bytes = items_bytes old (subst (λ (code : List ℕ). AreBytes code) are.spelled.bytes_are are.bytes) }
+old_facts old are = record { spelled = are.spelled.spelled; bytes = AreBytes-items old (subst (λ (code : List ℕ). AreBytes code) are.spelled.bytes_are are.bytes) }
 
 pub laid_is_code : (old : List Item) (items : List NewItem) → AreOldItems old → AreNewItems old items → laid_length old items ≤ MAX_CODE_BYTES → IsCode (laid_of old items)
 unfolding laid_of laid_length

@@ -1,17 +1,14 @@
 -- Loops over a list whose rest decides what is still to be made.
-use Rattle.std.proofs.Common.{◌≡◌, ℕ, suc, ◌+◌, ◌<◌, ◌≤◌, List, [], ◌∷◌, ◌++◌, length, get_or, drop, drop-cons, add-one, refl, sym, ap, ◌∙◌, append_assoc}
+use Rattle.std.proofs.Common.{◌≡◌, ℕ, suc, ◌+◌, ◌<◌, ◌≤◌, List, [], ◌∷◌, ◌++◌, length, get_or, drop, refl, sym, ap, ◌∙◌, append_assoc}
 use Rattle.std.proofs.Math.ListN.{drop_of_length-le}
 use Rattle.std.proofs.lemmas.List.{append-nil}
-
--- the element at an index, and the rest after it
-pub next_of : {X : Type 0} (xs : List X) (i : ℕ) (x : X) → i < length xs → x ≡ get_or xs i x → drop i xs ≡ x ∷ drop (i + 1) xs
-next_of xs i x within is = drop-cons xs i x within ∙ ap (λ y. y ∷ drop (suc i) xs) (sym is) ∙ rw add-one refl
+use Rattle.fm_base.proofs.ListFacts.{drop_here}
 
 -- one element more
 pub advanced : {X Y : Type 0} (f : List X → List Y) (piece front : List Y) (xs : List X) (i : ℕ) (x : X) (total : List Y) → i < length xs → x ≡ get_or xs i x
     → f (x ∷ drop (i + 1) xs) ≡ piece ++ f (drop (i + 1) xs) → front ++ f (drop i xs) ≡ total → (front ++ piece) ++ f (drop (i + 1) xs) ≡ total
 advanced f piece front xs i x total within is first so_far =
-    append_assoc front piece (f (drop (i + 1) xs)) ∙ ap (λ l. front ++ l) (sym first) ∙ ap (λ l. front ++ f l) (sym (next_of xs i x within is)) ∙ so_far
+    append_assoc front piece (f (drop (i + 1) xs)) ∙ ap (λ l. front ++ l) (sym first) ∙ ap (λ l. front ++ f l) (sym (drop_here xs i x within is)) ∙ so_far
 
 -- no element is left
 pub finished : {X Y : Type 0} (f : List X → List Y) (front : List Y) (xs : List X) (i : ℕ) (total last : List Y) → length xs ≤ i → f [] ≡ last

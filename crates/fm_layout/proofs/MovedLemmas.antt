@@ -2,6 +2,7 @@
 use Rattle.std.proofs.Common.{◌≡◌, ℕ, suc, ◌≤◌, ◌==◌, Bool, true, false, List, [], ◌∷◌, length, refl, sym, ap, subst, ◌∙◌, if◌then◌else◌, Option, Some, None, option_and_then}
 use Rattle.std.specs.Prelude.{slice_get, slice_index, IsSomeAnd}
 use Rattle.std.specs.List.{AllByRecursion}
+use Rattle.fm_base.proofs.ListFacts.{AllByRecursion-at}
 use Rattle.fm_code.proofs.Bytes.{length-signed_four}
 use Rattle.fm_code.specs.Fits.{AreBytes}
 use Rattle.fm_code.specs.InstructionTable.{insn_at}
@@ -20,7 +21,6 @@ use Rattle.fm_layout.specs.declared.rooms.Branch.{Branch}
 use Rattle.fm_layout.specs.declared.rooms.Condition.TheVariants as condition
 use Rattle.fm_layout.specs.declared.rooms.Room.{Room}
 use Rattle.fm_layout.specs.declared.rooms.Room.TheVariants as room
-use Rattle.fm_layout.proofs.BoundsLemmas.{at_index}
 use Rattle.fm_layout.proofs.ReadsLemmas.{goto_w_read, kept_read, plain_read}
 use Rattle.fm_layout.proofs.SwitchLemmas.{table_fits, table_size, table_read, lookup_fits, lookup_size, lookup_read}
 
@@ -86,7 +86,7 @@ moved_facts old (Some k) i starts start r spelled bytes origin e moved near with
   go : (o : Option Item) → slice_get old k ≡ o → IsSomeAnd o (λ item. IsSameButTargets i item.insn) → room_of o i ≡ r → MovedFacts starts start o i r
   go None found same room_is = absurd same
   go (Some item) found same room_is =
-      moved_old old item i starts start r (at_index (ItemIsSpelled old) old k item spelled found) (at_index (λ (x : Item). AreBytes x.bytes) old k item bytes found) same room_is moved near within
+      moved_old old item i starts start r (AllByRecursion-at (ItemIsSpelled old) old k item spelled found) (AllByRecursion-at (λ (x : Item). AreBytes x.bytes) old k item bytes found) same room_is moved near within
 
 -- ---- branches
 

@@ -3,13 +3,12 @@ use Rattle.std.proofs.Common.{◌≡◌, ℕ, suc, ◌-◌, ◌<◌, ◌≤◌, 
 use Rattle.std.specs.Prelude.{ℤ, nat_lt, int_le, ◌+ℤ◌, ◌-ℤ◌, ◌≤ℤ◌, FitsSigned}
 use Rattle.std.specs.Int.{w32}
 use Rattle.std.specs.Int.Signed.{le_z_yes}
-use Rattle.std.proofs.lemmas.Bool.{lt-ltb, le-ltb}
+use Rattle.std.proofs.lemmas.Bool.{lt-ltb, le-ltb, and_parts}
 use Rattle.std.proofs.lemmas.Float.{T_from_true}
 use Rattle.std.proofs.lemmas.Int.{ints}
 use Rattle.fm_code.specs.Numbers.{two, four, number_of_two, number_of_four, signed_two, signed_four, signed_four_of}
 use Rattle.fm_layout.specs.Rooms.{is_in_reach}
 use Rattle.fm_layout.specs.Spelling.{distance, signed_short}
-use Rattle.fm_layout.proofs.RoomsLemmas.{and_both}
 
 -- ---- two bytes
 
@@ -58,7 +57,7 @@ short_reads (negsuc m) low high =
 -- a distance that is in reach
 pub in_reach : (from to : ℕ) → is_in_reach from to ≡ true → IsReadAsTwo (signed_short (distance from to)) (distance from to)
 in_reach from to near =
-    let both = and_both (int_le (negsuc 32767) (distance from to)) (int_le (distance from to) (pos 32767)) near in
+    let both = and_parts (int_le (negsuc 32767) (distance from to)) (int_le (distance from to) (pos 32767)) near in
     short_reads (distance from to) (le_z_yes (T_from_true (int_le (negsuc 32767) (distance from to)) both.0)) (le_z_yes (T_from_true (int_le (distance from to) (pos 32767)) both.1))
 
 -- ---- four bytes

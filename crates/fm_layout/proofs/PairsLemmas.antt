@@ -4,9 +4,9 @@ use Rattle.std.specs.Prelude.{ℤ}
 use Rattle.std.proofs.Math.ListN.{drop_of_length-le}
 use Rattle.std.proofs.lemmas.Bool.{cases_lt}
 use Rattle.std.proofs.lemmas.List.{append-nil, get_or_default}
+use Rattle.fm_base.proofs.ListFacts.{drop_here}
 use Rattle.fm_code.specs.Numbers.{signed_four}
 use Rattle.fm_layout.specs.Spelling.{jump_bytes, pair_bytes}
-use Rattle.fm_layout.proofs.LoopLemmas.{next_of}
 
 pub pairs_more : (starts : List ℕ) (start : ℕ) (keys : List ℤ) (targets : List ℕ) (i : ℕ) (front middle back total : List ℕ) → i < length keys → i < length targets
     → middle ≡ front ++ signed_four (get_or keys i (pos 0)) → back ≡ middle ++ jump_bytes starts start (get_or targets i 0)
@@ -14,8 +14,8 @@ pub pairs_more : (starts : List ℕ) (start : ℕ) (keys : List ℤ) (targets : 
 pairs_more starts start keys targets i front middle back total in_keys in_targets key jump so_far =
     let k = get_or keys i (pos 0) in
     let t = get_or targets i 0 in
-    let keys_next = next_of keys i k in_keys (get_or_default keys i (pos 0) k in_keys) in
-    let targets_next = next_of targets i t in_targets (get_or_default targets i 0 t in_targets) in
+    let keys_next = drop_here keys i k in_keys (get_or_default keys i (pos 0) k in_keys) in
+    let targets_next = drop_here targets i t in_targets (get_or_default targets i 0 t in_targets) in
     let rest = pair_bytes starts start (drop (i + 1) keys) (drop (i + 1) targets) in
     let whole : pair_bytes starts start (drop i keys) (drop i targets) ≡ signed_four k ++ (jump_bytes starts start t ++ rest) =
     (λ j. pair_bytes starts start (keys_next j) (targets_next j)) in

@@ -3,6 +3,7 @@ use Rattle.std.proofs.Common.{◌≡◌, ℕ, zero, suc, ◌+◌, ◌<◌, ◌�
 use Rattle.std.specs.Prelude.{◌+ℤ◌, nat_lt, slice_get, IsSomeAnd}
 use Rattle.std.specs.List.{AllByRecursion}
 use Rattle.std.proofs.lemmas.Bool.{ltb-true}
+use Rattle.fm_base.proofs.ListFacts.{AllByRecursion-at}
 use Rattle.fm_code.specs.ClassBytes.{offset_in}
 use Rattle.fm_code.specs.Fits.{FitsTwo}
 use Rattle.fm_code.specs.InstructionTable.{insn_at, jump, jump_to, long_jump}
@@ -20,7 +21,6 @@ use Rattle.fm_layout.specs.Rooms.{is_in_reach}
 use Rattle.fm_layout.specs.Spelling.{distance, inserted_bytes, local_bytes, plain_bytes, signed_short}
 use Rattle.fm_layout.specs.declared.rooms.Condition.{Condition}
 use Rattle.fm_layout.specs.declared.rooms.Condition.TheVariants as condition
-use Rattle.fm_layout.proofs.BoundsLemmas.{at_index}
 use Rattle.fm_layout.proofs.NumbersLemmas.{in_reach, four_reads, distance_fits, distance_back, halves}
 use Rattle.fm_layout.proofs.StillLemmas.{names_target, read_anywhere}
 
@@ -76,7 +76,7 @@ untargeted f (insn.Table low others targets) plain = cc
 untargeted f (insn.Lookup others keys targets) plain = cc
 untargeted f i plain = refl
 
-names_target-with : (f : ℕ → ℕ) (i : Insn) → names_target (with_targets f i) ≡ names_target i
+pub names_target-with : (f : ℕ → ℕ) (i : Insn) → names_target (with_targets f i) ≡ names_target i
 names_target-with f (insn.IfInt t n) = refl
 names_target-with f (insn.IfPair t n) = refl
 names_target-with f (insn.IfSame t n) = refl
@@ -158,4 +158,4 @@ plain_read old i None start f spelled inserted plain = inserted_read i start f i
 plain_read old i (Some k) start f spelled origin plain = go (slice_get old k) refl origin where
   go : (o : Option Item) → slice_get old k ≡ o → IsSomeAnd o (λ item. IsSameButTargets i item.insn) → insn_at start (plain_bytes o i) ≡ Some (with_targets f i)
   go None e same = absurd same
-  go (Some item) e same = kept_read old item i start f (at_index (ItemIsSpelled old) old k item spelled e) same plain
+  go (Some item) e same = kept_read old item i start f (AllByRecursion-at (ItemIsSpelled old) old k item spelled e) same plain

@@ -2,6 +2,8 @@
 use Rattle.std.proofs.Common.{◌≡◌, ℕ, zero, suc, ◌+◌, ◌-◌, ◌<◌, ◌≤◌, Bool, true, false, ◌&&◌, List, [], ◌∷◌, length, get_or, drop, refl, sym, ap, ◌∙◌, arith, if◌then◌else◌, Option, Some, None}
 use Rattle.std.proofs.lemmas.List.{get_or_default}
 use Rattle.std.proofs.Math.ListN.{drop_of_length-le}
+use Rattle.std.proofs.lemmas.Bool.{and_parts}
+use Rattle.fm_base.proofs.ListFacts.{drop_here}
 use Rattle.fm_code.specs.declared.code_array.TheConstants.{MAX_CODE_BYTES}
 use Rattle.fm_layout.specs.Laid.{item_count, branch_count}
 use Rattle.fm_layout.specs.Rooms.{is_in_reach, size_at, wide_size, end_from, starts_from, widened_at, widened_from, round_after, rounds_after}
@@ -10,7 +12,6 @@ use Rattle.fm_layout.specs.inner.Weights.{weight, weight_of, AreOffsetsWithin}
 use Rattle.fm_layout.specs.declared.rooms.Condition.{Condition}
 use Rattle.fm_layout.specs.declared.rooms.Room.{Room}
 use Rattle.fm_layout.specs.declared.rooms.Room.TheVariants as room
-use Rattle.fm_layout.proofs.LoopLemmas.{next_of}
 
 -- ---- where rooms end
 
@@ -22,7 +23,7 @@ end_grows start (r ∷ rooms) = let later = end_grows (start + size_at start r) 
 -- the rest of the rooms ends where all do
 pub end_next : (rooms : List Room) (i start : ℕ) (r : Room) (total : ℕ) → i < length rooms → r ≡ get_or rooms i r → end_from start (drop i rooms) ≡ total
     → end_from (start + size_at start r) (drop (i + 1) rooms) ≡ total
-end_next rooms i start r total within is so_far = sym (ap (λ rs. end_from start rs) (next_of rooms i r within is)) ∙ so_far
+end_next rooms i start r total within is so_far = sym (ap (λ rs. end_from start rs) (drop_here rooms i r within is)) ∙ so_far
 
 -- and the next room before that
 pub next_fits : (rooms : List Room) (i start : ℕ) (r : Room) (total : ℕ) → i < length rooms → r ≡ get_or rooms i r → end_from start (drop i rooms) ≡ total
@@ -60,14 +61,10 @@ settled_room starts start (room.Switch n) settled = refl
 settled_room starts start (room.Narrow b) settled = rw settled refl
 settled_room starts start (room.Wide b) settled = refl
 
-pub and_both : (a b : Bool) → (a && b) ≡ true → (a ≡ true) × (b ≡ true)
-and_both true b both = (refl, both)
-and_both false b both = absurd (cc)
-
 pub settled_rooms : (starts : List ℕ) (start : ℕ) (rooms : List Room) → is_settled starts start rooms ≡ true → widened_from starts start rooms ≡ rooms
 settled_rooms starts start [] settled = refl
 settled_rooms starts start (r ∷ rooms) settled =
-    let both = and_both (is_settled_at starts start r) (is_settled starts (start + size_at start r) rooms) settled in
+    let both = and_parts (is_settled_at starts start r) (is_settled starts (start + size_at start r) rooms) settled in
     (λ k. settled_room starts start r both.0 k ∷ settled_rooms starts (start + size_at start r) rooms both.1 k)
 
 -- once a round widens nothing, no round does

@@ -191,7 +191,7 @@ IsStill-rows =
     IsStill-control_and_objects
 
 -- what holds of each element's image holds of each element of the mapped list
-All-mapped : {X Y : Type 0} (P : Y → Type 0) (f : X → Y) (xs : List X) → AllByRecursion (λ x. P (f x)) xs → AllByRecursion P (map f xs)
+pub All-mapped : {X Y : Type 0} (P : Y → Type 0) (f : X → Y) (xs : List X) → AllByRecursion (λ x. P (f x)) xs → AllByRecursion P (map f xs)
 All-mapped P f [] all = tt
 All-mapped P f (x ∷ xs) all = (all.0, All-mapped P f xs all.1)
 

@@ -9,6 +9,7 @@ use Rattle.fm_code.specs.declared.opcodes.TheConstants as opcodes
 use Rattle.fm_code.specs.declared.instructions.Insn.{Insn}
 use Rattle.fm_code.specs.declared.instructions.Insn.TheVariants as insn
 use Rattle.fm_code.specs.declared.operations.Test.TheVariants as test
+use Rattle.fm_layout.proofs.StillLemmas.{All-mapped}
 
 abbrev pub is_switch : Insn → Bool
 is_switch (insn.Table low others targets) = true
@@ -200,10 +201,6 @@ IsKnown-rows =
     (AllByRecursion-append RowIsKnown (constants_and_loads ++ stores_and_stack) arithmetic
     (AllByRecursion-append RowIsKnown constants_and_loads stores_and_stack IsKnown-constants_and_loads IsKnown-stores_and_stack) IsKnown-arithmetic)
     IsKnown-control_and_objects
-
-All-mapped : {X Y : Type 0} (P : Y → Type 0) (f : X → Y) (xs : List X) → AllByRecursion (λ x. P (f x)) xs → AllByRecursion P (map f xs)
-All-mapped P f [] all = tt
-All-mapped P f (x ∷ xs) all = (all.0, All-mapped P f xs all.1)
 
 -- the reading of an opcode that gives a switch is that of a tableswitch or of a lookupswitch
 pub switch_known : (opcode : ℕ) → IsKnown (reading_of opcode)

@@ -1,9 +1,10 @@
 -- Moved tables are valid where the old ones are.
-use Rattle.std.proofs.Common.{◌≡◌, ℕ, zero, suc, ◌+◌, ◌<◌, ◌≤◌, ◌⊎◌, inl, inr, Bool, true, false, List, [], ◌∷◌, length, map, get_or, refl, sym, ap, arith, Option, Some, None, length-append}
+use Rattle.std.proofs.Common.{◌≡◌, ℕ, zero, suc, ◌+◌, ◌<◌, ◌≤◌, ◌⊎◌, inl, inr, Bool, true, false, List, [], ◌∷◌, length, get_or, refl, sym, ap, arith, Option, Some, None, length-append}
 use Rattle.std.specs.Prelude.{slice_index, nat_lt}
 use Rattle.std.specs.List.{AllByRecursion, filter_map}
 use Rattle.std.specs.List.Sorted.{IsStrictlyIncreasing}
 use Rattle.std.proofs.lemmas.Bool.{cases_lt}
+use Rattle.fm_base.proofs.ListFacts.{AllByRecursion-mapped}
 use Rattle.fm_code.specs.CodeRules.{CodeAttrIsValid, HandlerIsValid, VarIsValid}
 use Rattle.fm_code.specs.declared.code_array.Code.{Code}
 use Rattle.fm_code.specs.declared.code_array.CodeAttr.{CodeAttr}
@@ -137,17 +138,13 @@ var_moved entries count total firsts anchors up v valid = record {
       let same = ap (λ n. moved_number firsts anchors n) equal in
       omega arith
 
-all_mapped : {X Y : Type 0} (P : X → Type 0) (Q : Y → Type 0) (f : X → Y) → ((x : X) → P x → Q (f x)) → (xs : List X) → AllByRecursion P xs → AllByRecursion Q (map f xs)
-all_mapped P Q f each [] all = tt
-all_mapped P Q f each (x ∷ xs) all = (each x all.0, all_mapped P Q f each xs all.1)
-
 attributes_moved : (entries : List Entry) (count total : ℕ) (firsts anchors : List ℕ) → MovesUp (moved_number firsts anchors) count total → (attributes : List CodeAttr)
     → AllByRecursion (CodeAttrIsValid entries count) attributes → AllByRecursion (CodeAttrIsValid entries total) (filter_map (moved_attribute firsts anchors) attributes)
 attributes_moved entries count total firsts anchors up [] all = tt
 attributes_moved entries count total firsts anchors up (attribute.Lines name lines ∷ attributes) all = (
   (
     all.0.0,
-    all_mapped (λ (l : Line). l.item < count) (λ (l : Line). l.item < total) (moved_line firsts anchors)
+    AllByRecursion-mapped (λ (l : Line). l.item < count) (λ (l : Line). l.item < total) (moved_line firsts anchors)
         (λ l below. below_total (moved_number firsts anchors) count total up l.item below) lines all.0.1,
   ),
   attributes_moved entries count total firsts anchors up attributes all.1,
@@ -155,7 +152,7 @@ attributes_moved entries count total firsts anchors up (attribute.Lines name lin
 attributes_moved entries count total firsts anchors up (attribute.Vars name false vars ∷ attributes) all = (
   (
     all.0.0,
-    all_mapped (VarIsValid entries count) (VarIsValid entries total) (moved_var firsts anchors)
+    AllByRecursion-mapped (VarIsValid entries count) (VarIsValid entries total) (moved_var firsts anchors)
         (λ v valid. var_moved entries count total firsts anchors up v valid) vars all.0.1,
   ),
   attributes_moved entries count total firsts anchors up attributes all.1,
@@ -163,7 +160,7 @@ attributes_moved entries count total firsts anchors up (attribute.Vars name fals
 attributes_moved entries count total firsts anchors up (attribute.Vars name true vars ∷ attributes) all = (
   (
     all.0.0,
-    all_mapped (VarIsValid entries count) (VarIsValid entries total) (moved_var firsts anchors)
+    AllByRecursion-mapped (VarIsValid entries count) (VarIsValid entries total) (moved_var firsts anchors)
         (λ v valid. var_moved entries count total firsts anchors up v valid) vars all.0.1,
   ),
   attributes_moved entries count total firsts anchors up attributes all.1,
@@ -198,7 +195,7 @@ tables_valid entries code items anchors are valid =
     let total = length (laid_of code.items items).items in
     let up = moves_up code items anchors are in
     record {
-      handlers = all_mapped (HandlerIsValid entries (length code.items)) (HandlerIsValid entries total) (moved_handler firsts anchors)
+      handlers = AllByRecursion-mapped (HandlerIsValid entries (length code.items)) (HandlerIsValid entries total) (moved_handler firsts anchors)
           (λ h here. handler_moved entries (length code.items) total firsts anchors up h here) code.handlers valid.handlers;
       attributes = attributes_moved entries (length code.items) total firsts anchors up code.attributes valid.attributes;
     }

@@ -2,16 +2,17 @@
 use Rattle.std.proofs.Common.{◌≡◌, refl, sym, ◌∙◌, ap, subst, ℕ, zero, suc, ◌+◌, ◌-◌, ◌<◌, ◌≤◌, ◌&&◌, ◌||◌, not, Bool, true, false, cond, List, [], ◌∷◌, ◌++◌, length, map, nat_eq, get_or, slice_get, Option, Some, None, option_and_then, option_map, is_some, arith}
 use Rattle.std.specs.List.{list_all, position_from}
 use Rattle.std.specs.Str.{bytes_eq}
-use Rattle.std.proofs.lemmas.Bool.{eq-eqb, eqb-true, false≢true}
+use Rattle.std.proofs.lemmas.Bool.{and_parts, eq-eqb, eqb-true, false≢true, or_right}
 use Rattle.std.proofs.lemmas.Iterator.Adapters.{position_from-zero}
 use Rattle.std.proofs.lemmas.List.{get_or-map, length-map}
 use Rattle.std.proofs.lemmas.Option.{none-some, same_Some, slice_get-get_or}
 use Rattle.std.proofs.lemmas.List.Quantifiers.{position-Some}
+use Rattle.fm_base.proofs.TestFacts.{and_false, and_true, same-nat_eq}
 use Rattle.fm_code.specs.AccessFlags.{is_static}
 use Rattle.fm_code.specs.declared.class_file.ClassDef.{ClassDef}
 use Rattle.fm_link_names.specs.declared.given.GivenFile.{GivenFile}
 use Rattle.fm_link_names.specs.inner.Numbering.{texts_in}
-use Rattle.fm_link_supers.proofs.Downwards.{or_true, same_number, walk_within}
+use Rattle.fm_link_supers.proofs.Downwards.{walk_within}
 use Rattle.fm_link_names.proofs.PlaceLemmas.{position_from-map}
 use Rattle.fm_link_members.proofs.FirstOnes.{first_from-is, first_is_one, position-is}
 use Rattle.fm_link_members.proofs.NearestLemmas.{first_found-cons, widened}
@@ -128,8 +129,8 @@ own_main_is classes l is class within =
 found_agree : (f g : ℕ → Option ℕ) (xs : List ℕ) → ((x : ℕ) → is_among x xs ≡ true → f x ≡ g x) → first_found f xs ≡ first_found g xs
 found_agree f g [] same = refl
 found_agree f g (x ∷ xs) same =
-    first_found-cons f x xs ∙ ap (λ o. or_else o (first_found f xs)) (same x (ap (λ b. b || is_among x xs) (same_number x)))
-    ∙ ap (or_else (g x)) (found_agree f g xs (λ y among. same y (or_true (nat_eq y x) (is_among y xs) among)))
+    first_found-cons f x xs ∙ ap (λ o. or_else o (first_found f xs)) (same x (ap (λ b. b || is_among x xs) (same-nat_eq x)))
+    ∙ ap (or_else (g x)) (found_agree f g xs (λ y among. same y (or_right (nat_eq y x) (is_among y xs) among)))
     ∙ sym (first_found-cons g x xs)
 
 chain_within : (classes : List DeclaredClass) (class : ℕ) → class < length classes → (x : ℕ) → is_among x (chain_of classes class) ≡ true
@@ -150,30 +151,18 @@ main_method_is classes l is class within =
 abbrev is_given : List ℕ → DeclaredClass → Bool
 is_given name c = bytes_eq c.name name && is_some c.file
 
-and_none : (a : Bool) → (a && false) ≡ false
-and_none true = refl
-and_none false = refl
-
-and_some : (a : Bool) → (a && true) ≡ a
-and_some true = refl
-and_some false = refl
-
 not_given : (name : List ℕ) (i : ℕ) (c : DeclaredClass) (xs : List DeclaredClass) → position_from (is_given name) (i + 1) xs ≡ None → (b : Bool)
     → is_some c.file ≡ b → (not b) ≡ true → position_from (is_given name) i (c ∷ xs) ≡ None
 not_given name i c xs rest true e h = absurd (false≢true h)
 not_given name i c xs rest false e h =
     ap (λ b. cond (bytes_eq c.name name && b) (Some i) (position_from (is_given name) (i + 1) xs)) e
-    ∙ ap (λ b. cond b (Some i) (position_from (is_given name) (i + 1) xs)) (and_none (bytes_eq c.name name)) ∙ rest
-
-first_all : (a b : Bool) → (a && b) ≡ true → (a ≡ true) × (b ≡ true)
-first_all true b e = (refl, e)
-first_all false b e = absurd (false≢true e)
+    ∙ ap (λ b. cond b (Some i) (position_from (is_given name) (i + 1) xs)) (and_false (bytes_eq c.name name)) ∙ rest
 
 none_given : (name : List ℕ) (i : ℕ) (xs : List DeclaredClass) → list_all (λ (c : DeclaredClass). not (is_some c.file)) xs ≡ true
     → position_from (is_given name) i xs ≡ None
 none_given name i [] e = refl
 none_given name i (c ∷ xs) e =
-    let both = first_all (not (is_some c.file)) (list_all (λ (d : DeclaredClass). not (is_some d.file)) xs) e in
+    let both = and_parts (not (is_some c.file)) (list_all (λ (d : DeclaredClass). not (is_some d.file)) xs) e in
     not_given name i c xs (none_given name (i + 1) xs both.1) (is_some c.file) refl both.0
 
 built_in_have_none : list_all (λ (c : DeclaredClass). not (is_some c.file)) built_in ≡ true
@@ -184,7 +173,7 @@ declared_given : (name : List ℕ) (i n : ℕ) (given : List ClassDef)
     → position_from (is_given name) i (declared_from n given) ≡ position_from (λ c. bytes_eq (own_name c) name) i given
 declared_given name i n [] = refl
 declared_given name i n (c ∷ given) =
-    ap (λ b. cond b (Some i) (position_from (is_given name) (i + 1) (declared_from (n + 1) given))) (and_some (bytes_eq (own_name c) name))
+    ap (λ b. cond b (Some i) (position_from (is_given name) (i + 1) (declared_from (n + 1) given))) (and_true (bytes_eq (own_name c) name))
     ∙ ap (λ o. cond (bytes_eq (own_name c) name) (Some i) o) (declared_given name (i + 1) (n + 1) given)
 
 pub number_is : (name : List ℕ) (files : List GivenFile) → number_among name files ≡ given_number (classes_of (given_in files)) name

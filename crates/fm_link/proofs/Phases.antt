@@ -50,10 +50,6 @@ pub at_later : {X : Type 0} (given : List ClassDef) (main : List ℕ) (r : Resul
 at_later given main r none is =
     subst (λ rs. Refuses rs r) (sym (refusals-joined given main)) (refuses_after (name_refusals given) (later_refusals given main) r none is)
 
--- nothing is refused of two kinds
-pub none_of_both : (mine others : List Refusal) → mine ≡ [] → others ≡ [] → mine ++ others ≡ []
-none_of_both mine others none empty = ap (λ rs. rs ++ others) none ∙ empty
-
 -- ---- those of members
 
 pub at_methods : (given : List ClassDef) (main : List ℕ) (o : Option Refusal) → refused_fields given ≡ [] → IsFirst (refused_methods given) o

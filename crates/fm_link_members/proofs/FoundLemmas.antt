@@ -14,6 +14,7 @@ use Rattle.fm_world.specs.declared.declarations.DeclaredClass.{DeclaredClass}
 use Rattle.fm_world.specs.inner.Layers.{value_at, HasRoom}
 use Rattle.fm_world.specs.inner.Tables.{IsLinear, chain_from, numbers_below}
 use Rattle.fm_link_supers.proofs.Downwards.{among_head, among_later}
+use Rattle.fm_link_supers.proofs.InterfaceLemmas.{superinterfaces_past}
 use Rattle.fm_link_supers.proofs.ParentTables.{list_in-row}
 use Rattle.fm_link_supers.proofs.SuperclassLemmas.{not_above}
 use Rattle.fm_link_members.proofs.FirstOnes.{IsFirst, first_from-is}
@@ -160,14 +161,6 @@ own_in-is classes m signatures n linear sections are signature class room = by_c
 
 -- ---- lists of classes
 
--- a number past all classes has no superinterfaces
-superinterfaces-past : (classes : List DeclaredClass) (class : ℕ) → length classes ≤ class → superinterfaces_of classes class ≡ []
-unfolding superinterfaces_of
-superinterfaces-past classes class past =
-    ap (λ (c : DeclaredClass). distinct nat_eq
-    (flat_map (λ i. i ∷ interfaces_within (length classes) classes i) (filter_map (class_number classes) c.interfaces)))
-    (get_or_past classes class no_class past)
-
 pub interfaces_listed : (classes : List DeclaredClass) (table : List (Vec ℕ))
     → lists table ≡ map (superinterfaces_of classes) (numbers_below (length classes)) → (class : ℕ)
     → list_in table class ≡ superinterfaces_of classes class
@@ -177,7 +170,7 @@ interfaces_listed classes table e class = by_class (cases_lt class (length class
 
   by_class : (class < length classes) ⊎ (length classes ≤ class) → list_in table class ≡ superinterfaces_of classes class
   by_class (inl within) = list_in-row (superinterfaces_of classes) (length classes) class table e within
-  by_class (inr past) = get_or_past (lists table) class [] (omega (arith, past, as_long)) ∙ sym (superinterfaces-past classes class past)
+  by_class (inr past) = get_or_past (lists table) class [] (omega (arith, past, as_long)) ∙ sym (superinterfaces_past classes class past)
 
 -- where no interface has one, a search that goes to interfaces too finds the same
 pub first_found-without : (f : ℕ → Option ℕ) (interfaces : ℕ → List ℕ) (xs : List ℕ)

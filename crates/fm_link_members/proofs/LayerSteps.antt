@@ -1,6 +1,7 @@
 -- Tables of nearest members, one member after the other.
 use Rattle.std.proofs.Common.{◌≡◌, refl, sym, ◌∙◌, ap, subst, ℕ, suc, ◌+◌, ◌-◌, ◌^◌, ◌<◌, ◌≤◌, ◌&&◌, Bool, true, false, cond, List, length, get_or, nat_eq, Option, Some, None, arith}
 use Rattle.std.proofs.lemmas.Bool.{eq-eqb, eqb-true, false≢true}
+use Rattle.fm_base.proofs.TestFacts.{and_false}
 use Rattle.fm_world.proofs.LayerLemmas.{entry_of-grows, Grows-none, Grows-then, IsNode-grows}
 use Rattle.fm_world.specs.declared.layers.Layers.{Layers}
 use Rattle.fm_world.specs.inner.Layers.{value_at, value_of_entry, HasRoom, IsTable, KeepsTables, PutsValue}
@@ -35,10 +36,6 @@ room_before old new key keeps room = let P : ℕ → Type 0 = λ l. key < 8 ^ l 
 
 -- ---- one member
 
-false_and : (b : Bool) → (b && false) ≡ false
-false_and true = refl
-false_and false = refl
-
 -- a member whose flags don't pass
 pub PutsMember-none : (x : Layers) (rows : List MemberRow) (signatures : List ℕ) (passes : ℕ → Bool) (table member : ℕ) → IsTable x table
     → (member < length rows → passes (get_or rows member no_row).flags ≡ false) → PutsMember x x rows signatures passes table member table
@@ -47,7 +44,7 @@ PutsMember-none x rows signatures passes table member is fails = record {
   puts = λ signature room within.
       sym (ap (λ b. or_else (cond (nat_eq (get_or signatures member 0) signature && b) (Some member) None) (value_at x table signature))
       (fails within)
-      ∙ ap (λ b. or_else (cond b (Some member) None) (value_at x table signature)) (false_and (nat_eq (get_or signatures member 0) signature)));
+      ∙ ap (λ b. or_else (cond b (Some member) None) (value_at x table signature)) (and_false (nat_eq (get_or signatures member 0) signature)));
 }
 
 pub PutsMember-one : (old new : Layers) (rows : List MemberRow) (signatures : List ℕ) (passes : ℕ → Bool) (table member fresh : ℕ)

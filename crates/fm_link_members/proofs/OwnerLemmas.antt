@@ -1,6 +1,6 @@
 -- The classes of the members of each signature: how the lists are made, and what is less than all that is at them.
 use Rattle.std.proofs.Common.{◌≡◌, refl, sym, ◌∙◌, ap, subst, ℕ, ◌+◌, ◌<◌, ◌≤◌, ◌||◌, Bool, true, false, List, [], ◌∷◌, ◌++◌, length, take, get_or, set, nat_eq, arith, ◌⊎◌, inl, inr, get_or-set_same, get_or-set_other}
-use Rattle.std.proofs.lemmas.Bool.{cases_eq, eqb-true, false≢true}
+use Rattle.std.proofs.lemmas.Bool.{cases_eq, eqb-true, false≢true, or_cases as either}
 use Rattle.std.proofs.lemmas.List.{take_more}
 use Rattle.std.proofs.lemmas.List.Folds.{list_any-append}
 use Rattle.std.specs.Global.{Vec}
@@ -63,10 +63,6 @@ none_among class (x ∷ xs) e = false≢true e
 
 pub low-start : (places xs : List ℕ) (low : ℕ) → IsLow places (take 0 xs) low
 low-start places xs low class e = absurd (none_among class xs e)
-
-either : (a b : Bool) → (a || b) ≡ true → (a ≡ true) ⊎ (b ≡ true)
-either true b e = inl refl
-either false b e = inr e
 
 pub low-more : (places xs : List ℕ) (low lower i : ℕ) → i < length xs → lower ≤ low → lower ≤ get_or places (get_or xs i 0) 0
     → IsLow places (take i xs) low → IsLow places (take (i + 1) xs) lower

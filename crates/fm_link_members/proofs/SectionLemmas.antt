@@ -6,6 +6,7 @@ use Rattle.std.specs.Str.{bytes_eq}
 use Rattle.std.proofs.lemmas.Bool.{eq-eqb, eqb-true}
 use Rattle.std.proofs.lemmas.Iterator.Adapters.{position_from-zero}
 use Rattle.std.proofs.lemmas.List.Sums.{sum_by-cons}
+use Rattle.fm_base.proofs.ListFacts.{map-map}
 use Rattle.fm_world.specs.Chains.{class_at}
 use Rattle.fm_world.specs.Declarations.{no_class}
 use Rattle.fm_world.specs.Lookups.{any_flags}
@@ -122,10 +123,6 @@ fields_in c = c.fields
 
 abbrev pub methods_in : DeclaredClass → List DeclaredMethod
 methods_in c = c.methods
-
-map-map : {A B C : Type 0} (f : A → B) (g : B → C) (xs : List A) → map g (map f xs) ≡ map (λ x. g (f x)) xs
-map-map f g [] = refl
-map-map f g (x ∷ xs) = ap (λ ys. g (f x) ∷ ys) (map-map f g xs)
 
 pub fields-alike : (class : ℕ) (classes : List DeclaredClass)
     → map field_alike (fields_from class classes) ≡ all_from fields_in field_of_class class classes

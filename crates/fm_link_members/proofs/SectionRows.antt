@@ -117,7 +117,7 @@ slice_row f count i xs e within =
     slice_get-get_or xs i 0 (omega (arith, within, ap length e, length-map-range_with_len f 0 count))
     ∙ ap (λ n. Some n) (ap (λ ys. get_or ys i 0) e ∙ get_or-map-range_with_len f 0 count i i 0 within (zero-add i))
 
-section_between : (first : List ℕ) (class start end : ℕ) → slice_get first class ≡ Some start → slice_get first (class + 1) ≡ Some end
+pub section_between : (first : List ℕ) (class start end : ℕ) → slice_get first class ≡ Some start → slice_get first (class + 1) ≡ Some end
     → section_of first class ≡ (start, end)
 section_between first class start end s e = rw (s, e) refl
 

@@ -3,12 +3,13 @@ use Rattle.std.proofs.Common.{◌≡◌, refl, sym, ◌∙◌, ap, subst, ℕ, �
 use Rattle.std.proofs.Math.ListN.{get_or-map}
 use Rattle.std.specs.List.{position_from}
 use Rattle.std.specs.Str.{bytes_eq}
-use Rattle.std.proofs.lemmas.Bool.{eq-eqb, eqb-true}
+use Rattle.std.proofs.lemmas.Bool.{and_from, eq-eqb, eqb-true}
 use Rattle.std.proofs.lemmas.Iterator.Adapters.{position_from-zero}
 use Rattle.std.proofs.lemmas.List.{length-map}
 use Rattle.std.proofs.lemmas.List.Quantifiers.{position-Some}
 use Rattle.std.proofs.lemmas.Option.{get_or_from_slice_get, slice_get-get_or, slice_get-map}
 use Rattle.std.proofs.lemmas.Slice.Eq.{bytes_eq-Decides}
+use Rattle.fm_base.proofs.TestFacts.{and_false, and_left, and_right, same_test}
 use Rattle.fm_link_names.specs.inner.Numbering.{text_of}
 use Rattle.fm_link_members.specs.declared.members.MemberRow.{MemberRow}
 use Rattle.fm_link_members.specs.declared.members.Signatures.{Signatures}
@@ -19,30 +20,9 @@ use Rattle.fm_link_members.proofs.SectionLemmas.{is_named}
 
 -- ---- tests
 
-pub same_test : (a b : Bool) → (a ≡ true → b ≡ true) → (b ≡ true → a ≡ true) → a ≡ b
-same_test true true f g = refl
-same_test true false f g = sym (f refl)
-same_test false true f g = g refl
-same_test false false f g = refl
-
-pub and_left : (a b : Bool) → (a && b) ≡ true → a ≡ true
-and_left true b h = refl
-and_left false b h = h
-
-pub and_right : (a b : Bool) → (a && b) ≡ true → b ≡ true
-and_right true b h = h
-and_right false b h = cc
-
-pub and_both : (a b : Bool) → a ≡ true → b ≡ true → (a && b) ≡ true
-and_both a b h g = ap (λ t. t && b) h ∙ g
-
 and_assoc : (a b c : Bool) → ((a && b) && c) ≡ (a && (b && c))
 and_assoc true b c = refl
 and_assoc false b c = refl
-
-and_false : (a : Bool) → (a && false) ≡ false
-and_false true = refl
-and_false false = refl
 
 -- ---- texts
 
@@ -115,7 +95,7 @@ signature-key rows s are k within name descriptor signature found =
           let m = eqb-true first.name row.name (and_left (nat_eq first.name row.name) (nat_eq first.descriptor row.descriptor) (alike e)) in
           let b = eqb-true first.descriptor row.descriptor
           (and_right (nat_eq first.name row.name) (nat_eq first.descriptor row.descriptor) (alike e)) in
-          and_both (nat_eq row.name name) (nat_eq row.descriptor descriptor) (eq-eqb row.name name (sym m ∙ n))
+          and_from (nat_eq row.name name) (nat_eq row.descriptor descriptor) (eq-eqb row.name name (sym m ∙ n))
           (eq-eqb row.descriptor descriptor (sym b ∙ d))
 
       back : has_key name descriptor row ≡ true → nat_eq own signature ≡ true

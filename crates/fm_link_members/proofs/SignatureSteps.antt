@@ -8,7 +8,8 @@ use Rattle.std.specs.declared.cmp.Ordering.TheVariants.{Equal, Greater, Less}
 use Rattle.std.proofs.lemmas.Bool.{eq-eqb, eqb-true, ltb-true}
 use Rattle.std.proofs.lemmas.Iterator.Adapters.{position_from-zero}
 use Rattle.std.proofs.lemmas.List.{map-append, take-append-drop, take_more}
-use Rattle.fm_link_members.proofs.SignatureLemmas.{and_left, and_right}
+use Rattle.fm_base.proofs.TestFacts.{and_left, and_right}
+use Rattle.fm_link_supers.proofs.BuiltInParents.{found_first}
 use Rattle.fm_link_members.specs.declared.members.MemberRow.{MemberRow}
 use Rattle.fm_link_members.specs.inner.MemberTables.{has_key, number_of_key, signature_of}
 use Rattle.fm_link_members.specs.inner.NearestSteps.{or_else}
@@ -47,16 +48,6 @@ position_from-push p i j (y ∷ xs) x e = by_test (p y) (position_from-push p (i
       → cond b (Some i) (position_from p (i + 1) (xs ++ x ∷ [])) ≡ or_else (cond b (Some i) (position_from p (i + 1) xs)) (cond (p x) (Some j) None)
   by_test true more = refl
   by_test false more = more
-
-position_from-found : {A : Type 0} (p : A → Bool) (i s : ℕ) (xs ys : List A) → position_from p i xs ≡ Some s
-    → position_from p i (xs ++ ys) ≡ Some s
-position_from-found p i s [] ys e = cc
-position_from-found p i s (x ∷ xs) ys e = by_test (p x) e (λ h. position_from-found p (i + 1) s xs ys h) where
-  by_test : (b : Bool) → cond b (Some i) (position_from p (i + 1) xs) ≡ Some s
-      → (position_from p (i + 1) xs ≡ Some s → position_from p (i + 1) (xs ++ ys) ≡ Some s)
-      → cond b (Some i) (position_from p (i + 1) (xs ++ ys)) ≡ Some s
-  by_test true h more = h
-  by_test false h more = more h
 
 -- ---- one member
 
@@ -103,7 +94,7 @@ pub signature_one : (rows : List MemberRow) (i : ℕ) (row : MemberRow) (old new
 signature_one rows i row old new signature all adds =
     sym (position_from-zero (has_key row.name row.descriptor) rows
     ∙ ap (position_from (has_key row.name row.descriptor) 0) (sym (take-append-drop (i + 1) rows))
-    ∙ position_from-found (has_key row.name row.descriptor) 0 signature (take (i + 1) rows) (drop (i + 1) rows)
+    ∙ found_first (has_key row.name row.descriptor) 0 signature (take (i + 1) rows) (drop (i + 1) rows)
     (sym (all row.name row.descriptor) ∙ adds row.name row.descriptor
     ∙ ap (λ b. cond b (Some signature) (number_of_key old row.name row.descriptor)) itself)) where
       itself : (nat_eq row.name row.name && nat_eq row.descriptor row.descriptor) ≡ true

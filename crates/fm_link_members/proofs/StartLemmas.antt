@@ -4,13 +4,13 @@ use Rattle.std.proofs.lemmas.Bool.{cases_eq, eqb-true}
 use Rattle.std.specs.BTreeMap.{is_at}
 use Rattle.std.specs.Map.{lookup}
 use Rattle.std.specs.Ordering.{nat_cmp, ordering_then}
+use Rattle.fm_base.proofs.TestFacts.{and_left, and_right}
 use Rattle.fm_world.specs.Chains.{first_found, interfaces_of, superinterfaces_of}
 use Rattle.fm_world.specs.Lookups.{any_flags, is_interface_at}
 use Rattle.fm_world.specs.declared.declarations.DeclaredClass.{DeclaredClass}
 use Rattle.fm_link_supers.proofs.ParentTables.{list_in-row}
 use Rattle.fm_link_members.proofs.FoundLemmas.{first_found-same, row_of_own}
 use Rattle.fm_link_members.proofs.NearestLemmas.{first_found-cons}
-use Rattle.fm_link_members.proofs.SignatureLemmas.{and_left, and_right}
 use Rattle.fm_link_supers.specs.declared.hierarchy.Hierarchy.{Hierarchy}
 use Rattle.fm_link_members.specs.declared.members.MemberRow.{MemberRow}
 use Rattle.fm_link_members.specs.declared.members.Nearest.{Nearest}

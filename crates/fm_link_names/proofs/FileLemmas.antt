@@ -1,5 +1,6 @@
 -- Pools and files, numbered one after the other.
 use Rattle.std.proofs.Common.{◌≡◌, refl, sym, ◌∙◌, subst, ℕ, ◌+◌, ◌<◌, ◌≤◌, ◌⊎◌, inl, inr, List, [], ◌∷◌, ◌++◌, length, slice_get, Option, Some, None, Vec, Global, arith}
+use Rattle.std.proofs.lemmas.Bool.{cases_lt}
 use Rattle.std.specs.Borrow.{Bor}
 use Rattle.std.specs.List.{slice_index_or}
 use Rattle.std.proofs.lemmas.List.{get_or_append_left, get_or_push, get_or_past, length_push}
@@ -8,7 +9,7 @@ use Rattle.fm_code.specs.ConstantPool.{entry_at, utf8_at}
 use Rattle.fm_code.specs.declared.class_file.ClassDef.{ClassDef}
 use Rattle.fm_code.specs.declared.constant_pool.Entry.{Entry}
 use Rattle.fm_code.specs.declared.constant_pool.Entry.TheVariants as entry
-use Rattle.fm_link_names.proofs.PlaceLemmas.{below_or_not, slice_get_push_cases}
+use Rattle.fm_link_names.proofs.PlaceLemmas.{slice_get_push_cases}
 use Rattle.fm_link_names.proofs.TextLemmas.{number_kept}
 use Rattle.fm_link_names.specs.declared.given.GivenFile.{GivenFile}
 use Rattle.fm_link_names.specs.declared.texts.Texts.{Texts}
@@ -40,7 +41,7 @@ entry_numbered old now new entries numbers e number so_far are extends is = reco
   are = are;
   extends = extends_through (texts_in old) (texts_in now) (texts_in new) so_far.extends extends;
   count = let a = length_push numbers number in let b = length_push entries e in omega (arith, a, b, so_far.count);
-  each = λ index. by_place index (below_or_not index (length entries));
+  each = λ index. by_place index (cases_lt index (length entries));
 } where
   IsAt : ℕ → Entry → Option ℕ → Type 0
   IsAt index f n =
@@ -64,7 +65,7 @@ entry_numbered old now new entries numbers e number so_far are extends is = reco
         get_or_append_left numbers (number ∷ []) None index within,
         number_kept (texts_in now) (texts_in new) extends (utf8_at entries index) (slice_index_or numbers index None) (so_far.each index),
       )
-  by_place index (inr above) = past index above (below_or_not index (length entries + 1)) where
+  by_place index (inr above) = past index above (cases_lt index (length entries + 1)) where
     past : (k : ℕ) → length entries ≤ k → (k < length entries + 1) ⊎ (length entries + 1 ≤ k)
         → IsNumberOf (texts_in new) (utf8_at (entries ++ e ∷ []) k) (slice_index_or (numbers ++ number ∷ []) k None)
     past k from_here (inl here) =

@@ -1,5 +1,4 @@
 pub mod DeclareLemmas
-pub mod Drops
 pub mod FileLemmas
 pub mod KindLemmas
 pub mod MarkLemmas

@@ -1,5 +1,6 @@
 -- The marks that are set are those of the indices that are used.
 use Rattle.std.proofs.Common.{◌≡◌, refl, sym, ◌∙◌, ap, ℕ, ◌+◌, ◌<◌, ◌⊎◌, inl, inr, Bool, true, false, ◌||◌, List, [], ◌∷◌, ◌++◌, length, map, replicate, drop, get_or, set, nat_eq, Some, None, arith, length-set, get_or-set_same, get_or-set_other, zero-add}
+use Rattle.std.proofs.Math.Bool.{or-false}
 use Rattle.std.specs.List.{flat_map, filter_map, list_any, range_with_len}
 use Rattle.std.proofs.lemmas.Bool.{cases_eq}
 use Rattle.std.proofs.lemmas.List.{ext_get_or, get_or-replicate, length-replicate}
@@ -14,7 +15,8 @@ use Rattle.fm_code.specs.declared.code_array.Code.{Code}
 use Rattle.fm_code.specs.declared.code_array.Item.{Item}
 use Rattle.fm_code.specs.Operands.{pool_index}
 use Rattle.fm_world.specs.Uses.{caught_by, class_items, is_used, items_of, pool_indices, used_indices, values_of}
-use Rattle.fm_link_names.proofs.Drops.{drop_here}
+use Rattle.fm_base.proofs.ListFacts.{drop_here}
+use Rattle.fm_base.proofs.TestFacts.{same-nat_eq}
 use Rattle.fm_base.specs.Rows.{marked}
 use Rattle.fm_link_names.specs.inner.Marks.{operands_in, values_among}
 
@@ -28,18 +30,11 @@ pub marked-append : (marks : List Bool) (xs ys : List ℕ) → marked marks (xs 
 marked-append marks [] ys = refl
 marked-append marks (x ∷ xs) ys = marked-append (set marks x true) xs ys
 
-or_true : (b c : Bool) → c ≡ true → (b || c) ≡ true
-or_true true c e = refl
-or_true false c e = e
-
 or_swapped : (a b c : Bool) → (b || (a || c)) ≡ ((a || b) || c)
 or_swapped true true c = refl
 or_swapped true false c = refl
 or_swapped false true c = refl
 or_swapped false false c = refl
-
-pub same_number : (k : ℕ) → nat_eq k k ≡ true
-same_number k = search (arith)
 
 pub other_number : (k i : ℕ) → (k ≡ i → ⊥) → nat_eq k i ≡ false
 other_number k i d = search (arith, d)
@@ -50,7 +45,7 @@ set_mark marks i k within = by_case (cases_eq k i) where
   by_case : (k ≡ i) ⊎ (k ≡ i → ⊥) → get_or (set marks i true) k false ≡ (nat_eq k i || get_or marks k false)
   by_case (inl e) =
       ap (λ j. get_or (set marks j true) k false) (sym e) ∙ get_or-set_same marks k true false within
-      ∙ sym (ap (λ b. b || get_or marks k false) (ap (nat_eq k) (sym e) ∙ same_number k))
+      ∙ sym (ap (λ b. b || get_or marks k false) (ap (nat_eq k) (sym e) ∙ same-nat_eq k))
   by_case (inr d) = get_or-set_other marks i k true false d ∙ sym (ap (λ b. b || get_or marks k false) (other_number k i d))
 
 pub get_or-marked : (marks : List Bool) (indices : List ℕ) (k : ℕ) → k < length marks
@@ -61,10 +56,6 @@ get_or-marked marks (i ∷ indices) k within =
     get_or-marked (set marks i true) indices k longer
     ∙ ap (λ b. list_any (nat_eq k) indices || b) (set_mark marks i k within)
     ∙ or_swapped (nat_eq k i) (list_any (nat_eq k) indices) (get_or marks k false)
-
-or_false : (b : Bool) → (b || false) ≡ b
-or_false true = refl
-or_false false = refl
 
 -- marks that are all unset, with those of some indices set
 pub marked-none : (n : ℕ) (indices : List ℕ) → marked (replicate n false) indices ≡ map (λ k. list_any (nat_eq k) indices) (range_with_len 0 n)
@@ -86,7 +77,7 @@ marked-none n indices =
           let within : i < length unset = let l = length-replicate n false in omega (arith, below, l) in
           get_or-marked unset indices i within
           ∙ ap (λ b. list_any (nat_eq i) indices || b) (get_or-replicate n i false false below)
-          ∙ or_false (list_any (nat_eq i) indices)
+          ∙ or-false (list_any (nat_eq i) indices)
           ∙ sym (get_or-map-range_with_len (λ k. list_any (nat_eq k) indices) 0 n i i false below (zero-add i))
 
 -- ---- attributes and code

@@ -60,7 +60,7 @@ IsMemberOf texts None (Some m) = ⊥
 IsMemberOf texts (Some member) None = ⊥
 IsMemberOf texts (Some member) (Some m) = (member ≡ member_named_by texts m) × AreNumbers texts m
 
-pair_of : (texts : List (List ℕ)) (name descriptor : Option (List ℕ)) (n d : Option ℕ) → IsNumberOf texts name n → IsNumberOf texts descriptor d
+pub pair_of : (texts : List (List ℕ)) (name descriptor : Option (List ℕ)) (n d : Option ℕ) → IsNumberOf texts name n → IsNumberOf texts descriptor d
     → IsPairOf texts (option_and_then (λ s. option_and_then (λ t. Some (s, t)) descriptor) name)
     (option_and_then (λ a. option_and_then (λ b. Some (a, b)) d) n)
 pair_of texts None descriptor None d is_name is_descriptor = tt
@@ -110,7 +110,7 @@ member_at texts names numbers each (entry.InterfaceMethod class member) = each c
 member_at texts names numbers each e = tt
 
 -- the member at an index by its entry
-named_member_by : (entries : List Entry) (index : ℕ) (e : Entry) → entry_at entries index ≡ e
+pub named_member_by : (entries : List Entry) (index : ℕ) (e : Entry) → entry_at entries index ≡ e
     → named_member entries index ≡ member_of_entry (member_named entries) e
 named_member_by entries index (entry.Field class member) at = rw at (rw at refl)
 named_member_by entries index (entry.Method class member) at = rw at (rw at refl)

@@ -6,7 +6,7 @@ use Rattle.std.specs.Str.{bytes_eq}
 use Rattle.std.proofs.lemmas.Iterator.Adapters.{position_from-zero}
 use Rattle.std.proofs.lemmas.Map.Text.{hash_map_updates_str}
 use Rattle.indexmap.specs.IndexMap.{IndexMap, Updates}
-use Rattle.fm_link_names.proofs.Drops.{drop_here}
+use Rattle.fm_base.proofs.ListFacts.{drop_here}
 use Rattle.fm_link_names.specs.inner.ClassNumbering.{number_in}
 use Rattle.fm_link_names.specs.declared.name_key.NameKey.{NameKey}
 use Rattle.fm_link_names.specs.inner.Numbering.{lent}

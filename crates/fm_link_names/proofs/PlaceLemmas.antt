@@ -1,35 +1,18 @@
 -- Places of a list that gets one element more, and where a test first passes.
-use Rattle.std.proofs.Common.{◌≡◌, refl, sym, ◌∙◌, ap, ℕ, ◌+◌, ◌<◌, ◌≤◌, ◌⊎◌, inl, inr, Bool, true, false, cond, leb, List, [], ◌∷◌, ◌++◌, length, map, slice_get, Option, Some, None, arith, length-append}
+use Rattle.std.proofs.Common.{◌≡◌, refl, sym, ◌∙◌, ap, ℕ, ◌+◌, ◌<◌, ◌≤◌, ◌⊎◌, inl, inr, Bool, true, false, cond, List, [], ◌∷◌, ◌++◌, length, map, slice_get, Option, Some, None, arith}
+use Rattle.std.proofs.lemmas.Bool.{cases_lt}
 use Rattle.std.specs.List.{position, position_from}
-use Rattle.std.proofs.lemmas.Bool.Decides.{leb_tells}
 use Rattle.std.proofs.lemmas.Iterator.Adapters.{position_from-zero}
-use Rattle.std.proofs.lemmas.List.{get_or_append_left, get_or_push, length_push}
+use Rattle.std.proofs.lemmas.List.{get_or_append_left, length_push}
 use Rattle.std.proofs.lemmas.Option.{same_Some, slice_get-get_or, slice_get_within, get_or_from_slice_get}
-
--- a place is below the other, or not
-pub below_or_not : (a b : ℕ) → (a < b) ⊎ (b ≤ a)
-below_or_not a b = by_test (leb_tells b a) where
-  by_test : ((leb b a ≡ true) × (b ≤ a)) ⊎ ((leb b a ≡ false) × (a < b)) → (a < b) ⊎ (b ≤ a)
-  by_test (inl t) = inr t.1
-  by_test (inr t) = inl t.1
+use Rattle.fm_base.proofs.ListFacts.{slice_get_push}
 
 -- ---- what is at a place
-
-pub slice_get-append_left : {X : Type 0} (xs ys : List X) (k : ℕ) (x : X) → slice_get xs k ≡ Some x → slice_get (xs ++ ys) k ≡ Some x
-slice_get-append_left xs ys k x at =
-    let within = slice_get_within xs k x at in
-    let longer : k < length (xs ++ ys) = let sum = length-append xs ys in omega (arith, within, sum) in
-    slice_get-get_or (xs ++ ys) k x longer ∙ ap (λ y. Some y) (get_or_append_left xs ys x k within ∙ get_or_from_slice_get xs k x x at)
-
-pub slice_get_push : {X : Type 0} (xs : List X) (y : X) → slice_get (xs ++ y ∷ []) (length xs) ≡ Some y
-slice_get_push xs y =
-    let within : length xs < length (xs ++ y ∷ []) = let one = length_push xs y in omega (arith, one) in
-    slice_get-get_or (xs ++ y ∷ []) (length xs) y within ∙ ap (λ z. Some z) (get_or_push xs y y (length xs) refl)
 
 -- an earlier element, or the new one
 pub slice_get_push_cases : {X : Type 0} (xs : List X) (y x : X) (k : ℕ) → slice_get (xs ++ y ∷ []) k ≡ Some x
     → (slice_get xs k ≡ Some x) ⊎ ((k ≡ length xs) × (y ≡ x))
-slice_get_push_cases {X} xs y x k at = by_place (below_or_not k (length xs)) where
+slice_get_push_cases {X} xs y x k at = by_place (cases_lt k (length xs)) where
   within : k < length xs + 1
   within = let one = length_push xs y in let below = slice_get_within (xs ++ y ∷ []) k x at in omega (arith, one, below)
 

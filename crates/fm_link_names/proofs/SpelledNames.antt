@@ -4,7 +4,7 @@ use Rattle.std.specs.Prelude.{unwrap_or, ◌&&◌, nat_lt}
 use Rattle.std.specs.List.{list_all, AllByRecursion}
 use Rattle.std.specs.Option.{option_and_then, option_map}
 use Rattle.std.proofs.lemmas.Bool.{and_parts, ltb-true}
-use Rattle.fm_base.proofs.ListFacts.{AllByRecursion-append, AllByRecursion-get_or}
+use Rattle.fm_base.proofs.ListFacts.{AllByRecursion-append, AllByRecursion-get_or, AllByRecursion-mapped}
 use Rattle.fm_base.proofs.OptionFacts.{IsSomeAnd-at_some}
 use Rattle.fm_code.specs.AccessFlags.{is_interface}
 use Rattle.fm_code.specs.ConstantPool.{entry_at, utf8_at, class_name_at, named_and_typed_at, member_named, field_ref_at, method_ref_at, interface_method_ref_at, EntryIsValid, MemberName}
@@ -101,16 +101,11 @@ few_declared_method : (in_interface : Bool) (entries : List Entry) (m : Member) 
 few_declared_method in_interface entries m valid =
     few_text (utf8_at entries m.descriptor) (IsMethodDescriptor (receiver_words m.flags)) (few_method (receiver_words m.flags)) valid.descriptor
 
-few_map : {X Y : Type 0} (P : X → Type 0) (Q : Y → Type 0) (f : X → Y) → ((x : X) → P x → Q (f x)) → (xs : List X) → AllByRecursion P xs
-    → AllByRecursion Q (map f xs)
-few_map P Q f each [] are = tt
-few_map P Q f each (x ∷ xs) are = (each x are.0, few_map P Q f each xs are.1)
-
 few_declared : (number : ℕ) (c : ClassDef) → HasSpelling c → DeclaresFewDimensions (declared_of number c)
 few_declared number c (bytes, spells) = record {
-  fields = few_map (FieldIsValid (is_interface c.flags) c.pool.entries) (λ (f : DeclaredField). HaveFewDimensions (types_in f.descriptor))
+  fields = AllByRecursion-mapped (FieldIsValid (is_interface c.flags) c.pool.entries) (λ (f : DeclaredField). HaveFewDimensions (types_in f.descriptor))
       (declared_field c.pool.entries) (few_declared_field (is_interface c.flags) c.pool.entries) c.fields spells.fields;
-  methods = few_map (MethodIsValid (is_interface c.flags) c.pool.entries) (λ (m : DeclaredMethod). HaveFewDimensions (types_in m.descriptor))
+  methods = AllByRecursion-mapped (MethodIsValid (is_interface c.flags) c.pool.entries) (λ (m : DeclaredMethod). HaveFewDimensions (types_in m.descriptor))
       (declared_method c.pool.entries) (few_declared_method (is_interface c.flags) c.pool.entries) c.methods spells.methods;
 }
 
@@ -172,7 +167,7 @@ few_fields_from : (class : ℕ) (classes : List DeclaredClass) → AllByRecursio
 few_fields_from class [] few = tt
 few_fields_from class (c ∷ classes) few =
     AllByRecursion-append FewField (map (λ f. record { class = class; field = f }) c.fields) (fields_from (class + 1) classes)
-    (few_map (λ (f : DeclaredField). HaveFewDimensions (types_in f.descriptor)) FewField (λ f. record { class = class; field = f })
+    (AllByRecursion-mapped (λ (f : DeclaredField). HaveFewDimensions (types_in f.descriptor)) FewField (λ f. record { class = class; field = f })
     (λ f is. is) c.fields few.0.fields)
     (few_fields_from (class + 1) classes few.1)
 
@@ -181,7 +176,7 @@ few_methods_from : (class : ℕ) (classes : List DeclaredClass) → AllByRecursi
 few_methods_from class [] few = tt
 few_methods_from class (c ∷ classes) few =
     AllByRecursion-append FewMethod (map (λ m. record { class = class; method = m }) c.methods) (methods_from (class + 1) classes)
-    (few_map (λ (m : DeclaredMethod). HaveFewDimensions (types_in m.descriptor)) FewMethod (λ m. record { class = class; method = m })
+    (AllByRecursion-mapped (λ (m : DeclaredMethod). HaveFewDimensions (types_in m.descriptor)) FewMethod (λ m. record { class = class; method = m })
     (λ m is. is) c.methods few.0.methods)
     (few_methods_from (class + 1) classes few.1)
 

@@ -56,7 +56,7 @@ types_in-field t rest is =
 types_in-alone : (t : FieldType) → IsFieldType t → types_in (field_descriptor t) ≡ t ∷ []
 types_in-alone t is = ap types_in (sym (append-nil (field_descriptor t))) ∙ types_in-field t [] is
 
-types_in-fields : (types : List FieldType) (rest : List ℕ) → AllByRecursion IsFieldType types
+pub types_in-fields : (types : List FieldType) (rest : List ℕ) → AllByRecursion IsFieldType types
     → types_in (flat_map field_descriptor types ++ rest) ≡ types ++ types_in rest
 types_in-fields [] rest are = refl
 types_in-fields (t ∷ types) rest are =

@@ -9,7 +9,7 @@ use Rattle.std.proofs.lemmas.List.{map_push}
 use Rattle.std.proofs.lemmas.Option.{none-some, same_Some, slice_get-map}
 use Rattle.std.proofs.lemmas.Slice.Eq.{bytes_eq-Decides}
 use Rattle.indexmap.specs.IndexSet.{insert_key}
-use Rattle.fm_link_names.proofs.PlaceLemmas.{slice_get-append_left}
+use Rattle.fm_base.proofs.ListFacts.{slice_get-append_left}
 use Rattle.fm_link_names.specs.inner.Numbering.{lent, Extends, IsNumberOf}
 
 -- ---- texts that differ

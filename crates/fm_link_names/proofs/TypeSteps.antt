@@ -1,9 +1,9 @@
 -- Descriptors byte by byte.
 use Rattle.std.proofs.Common.{◌≡◌, sym, ◌∙◌, ap, ℕ, ◌+◌, ◌<◌, true, false, cond, List, [], ◌∷◌, ◌++◌, length, take, drop, get_or, nat_eq, Some, append_assoc}
 use Rattle.std.proofs.lemmas.List.{take_more}
+use Rattle.fm_base.proofs.ListFacts.{drop_here}
 use Rattle.fm_base.specs.declared.characters.TheConstants.{SEMICOLON}
 use Rattle.fm_code.specs.Names.{object}
-use Rattle.fm_link_names.proofs.Drops.{drop_here}
 use Rattle.fm_world.specs.Descriptors.{typed, types_from, types_in}
 
 -- ---- names of classes

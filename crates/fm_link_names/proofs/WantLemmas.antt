@@ -1,15 +1,17 @@
 -- What is wanted of each member, noted one instruction after the other.
 use Rattle.std.proofs.Common.{◌≡◌, refl, sym, ◌∙◌, ap, ℕ, ◌+◌, ◌<◌, ◌⊎◌, inl, inr, Bool, true, false, cond, not, ◌||◌, List, [], ◌∷◌, ◌++◌, length, replicate, drop, get_or, set, nat_eq, Option, Some, None, arith, length-set, get_or-set_same, get_or-set_other, zero-add}
+use Rattle.std.proofs.Math.Bool.{or-false, or-true}
 use Rattle.std.specs.List.{flat_map, filter_map, cons_option, list_any}
 use Rattle.std.proofs.lemmas.Bool.{cases_eq}
 use Rattle.std.proofs.lemmas.List.{ext_get_or, get_or-replicate, length-replicate}
 use Rattle.std.proofs.lemmas.List.FromFn.{get_or-map-range_with_len, length-map-range_with_len}
+use Rattle.fm_base.proofs.ListFacts.{drop_here}
+use Rattle.fm_base.proofs.TestFacts.{same-nat_eq}
 use Rattle.fm_code.specs.declared.class_file.ClassDef.{ClassDef}
 use Rattle.fm_code.specs.declared.class_file.Member.{Member}
 use Rattle.fm_code.specs.declared.code_array.Item.{Item}
 use Rattle.fm_code.specs.declared.instructions.Insn.{Insn}
-use Rattle.fm_link_names.proofs.Drops.{drop_here}
-use Rattle.fm_link_names.proofs.MarkLemmas.{other_number, same_number}
+use Rattle.fm_link_names.proofs.MarkLemmas.{other_number}
 use Rattle.fm_link_names.specs.declared.wanted.Wanted.{Wanted}
 use Rattle.fm_link_names.specs.inner.Wanting.{differs_from, is_something, noted, noted_among, noted_if, wanted_by, wanted_of, with_flag}
 use Rattle.fm_world.specs.Causes.{differs, wanted_at}
@@ -33,15 +35,11 @@ or_assoc : (a b c : Bool) → ((a || b) || c) ≡ (a || (b || c))
 or_assoc true b c = refl
 or_assoc false b c = refl
 
-or_false : (b : Bool) → (b || false) ≡ b
-or_false true = refl
-or_false false = refl
-
 with_flags-is : (w : Wanted) (flags : List Bool)
     → with_flags w flags ≡ record { in_class = w.in_class || list_any (λ b. b) flags; in_object = w.in_object || list_any not flags }
 with_flags-is w [] =
-    sym (ap (λ (b : Bool). record { in_class = b; in_object = w.in_object || false }) (or_false w.in_class)
-    ∙ ap (λ (b : Bool). record { in_class = w.in_class; in_object = b }) (or_false w.in_object))
+    sym (ap (λ (b : Bool). record { in_class = b; in_object = w.in_object || false }) (or-false w.in_class)
+    ∙ ap (λ (b : Bool). record { in_class = w.in_class; in_object = b }) (or-false w.in_object))
 with_flags-is w (flag ∷ flags) =
     with_flags-is (with_flag w flag) flags
     ∙ ap (λ (b : Bool). record { in_class = b; in_object = (w.in_object || not flag) || list_any not flags })
@@ -56,7 +54,7 @@ with_flags-cons w (Some flag) flags = refl
 
 -- ---- what is noted at an index
 
-abbrev names_it : ℕ → Option ℕ → Bool
+abbrev pub names_it : ℕ → Option ℕ → Bool
 names_it k None = false
 names_it k (Some operand) = nat_eq operand k
 
@@ -83,7 +81,7 @@ get_or-noted : (w : List Wanted) (k : ℕ) → k < length w → (i : ℕ) (flag 
 get_or-noted w k within i flag (inl same) =
     ap (λ j. get_or (set w j (with_flag (get_or w j nothing) flag)) k nothing) same
     ∙ get_or-set_same w k (with_flag (get_or w k nothing) flag) nothing within
-    ∙ sym (ap (λ b. with_option (get_or w k nothing) (cond b (Some flag) None)) (ap (λ j. nat_eq j k) same ∙ same_number k))
+    ∙ sym (ap (λ b. with_option (get_or w k nothing) (cond b (Some flag) None)) (ap (λ j. nat_eq j k) same ∙ same-nat_eq k))
 get_or-noted w k within i flag (inr other) =
     get_or-set_other w i k (with_flag (get_or w i nothing) flag) nothing (λ e. other (sym e))
     ∙ sym (ap (λ b. with_option (get_or w k nothing) (cond b (Some flag) None)) (other_number i k other))
@@ -152,14 +150,10 @@ abbrev pub is_empty : List Bool → Bool
 is_empty [] = true
 is_empty (flag ∷ flags) = false
 
-or_true : (b : Bool) → (b || true) ≡ true
-or_true true = refl
-or_true false = refl
-
 any_of : (flags : List Bool) → (list_any (λ b. b) flags || list_any not flags) ≡ not (is_empty flags)
 any_of [] = refl
 any_of (true ∷ flags) = refl
-any_of (false ∷ flags) = or_true (list_any (λ b. b) flags)
+any_of (false ∷ flags) = or-true (list_any (λ b. b) flags)
 
 -- something is wanted where there is a flag
 pub something_wanted : (flags : List Bool) → is_something (wanted_of flags) ≡ not (is_empty flags)

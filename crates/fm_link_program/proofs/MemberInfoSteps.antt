@@ -28,6 +28,7 @@ use Rattle.fm_link_program.proofs.Described.{fields_described, length-rows, meth
 use Rattle.fm_link_program.specs.declared.member_infos.MemberInfos.{MemberInfos}
 use Rattle.fm_link_program.specs.inner.MemberLists.{descriptors_in}
 use Rattle.fm_link_program.specs.inner.MemberInfos.{AreMemberInfos}
+use Rattle.fm_world.proofs.Example.{methods_are as methods-counted}
 use Rattle.fm_world.specs.BuiltIns.{built_in}
 use Rattle.fm_world.specs.Members.{fields_of, methods_of, slot_of, statics_of}
 use Rattle.fm_world.specs.Programs.{Outline, class_uses, classes_of, codes_of, uses_of}
@@ -40,11 +41,6 @@ use Rattle.fm_world.specs.inner.Tables.{numbers_below}
 codes-files : (files : List GivenFile) → flat_map codes_in files ≡ flat_map (λ (c : ClassDef). map code_of c.methods) (given_in files)
 codes-files [] = refl
 codes-files (f ∷ files) = ap (λ cs. codes_in f ++ cs) (codes-files files)
-
--- the built-in classes have a given number of methods
-methods-counted : length (methods_of built_in) ≡ 86
-unfolding methods_of built_in
-methods-counted = refl
 
 -- the codes of built-in methods, and those of files
 pub codes-given : (files : List GivenFile) → replicate 86 None ++ flat_map codes_in files ≡ codes_of (given_in files)

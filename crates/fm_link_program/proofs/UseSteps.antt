@@ -1,7 +1,7 @@
 -- What indices are resolved to, by the tables.
 use Rattle.std.proofs.Common.{◌≡◌, refl, sym, ◌∙◌, ap, subst, ℕ, zero, suc, ◌+◌, ◌<◌, ◌≤◌, List, [], ◌∷◌, ◌++◌, length, map, take, get_or, Bool, false, Option, None, append_assoc, arith}
 use Rattle.std.specs.Prelude.{option_and_then}
-use Rattle.std.proofs.lemmas.List.{take_all, take_more}
+use Rattle.std.proofs.lemmas.List.{map_push, take_all, take_more}
 use Rattle.std.specs.List.{range_with_len, slice_index_or, AllByRecursion}
 use Rattle.fm_code.specs.ConstantPool.{entry_at}
 use Rattle.fm_code.specs.Spells.{HasSpelling}
@@ -10,7 +10,7 @@ use Rattle.fm_code.specs.declared.constant_pool.Entry.{Entry}
 use Rattle.fm_code.specs.declared.constant_pool.Entry.TheVariants as entry
 use Rattle.fm_link_names.specs.declared.given.GivenFile.{GivenFile}
 use Rattle.fm_link_names.specs.inner.Numbering.{texts_in}
-use Rattle.fm_link_records.proofs.ClassSteps.{length-table, table_default}
+use Rattle.fm_link_records.proofs.ClassSteps.{table_default}
 use Rattle.fm_link_records.proofs.NamedLaws.{type_at-is}
 use Rattle.fm_link_records.proofs.RowSteps.{row_more}
 use Rattle.fm_link_records.proofs.TextLaws.{text_number-is}
@@ -20,6 +20,7 @@ use Rattle.fm_link_records.specs.inner.Uses.{use_by}
 use Rattle.fm_link_refusals.specs.inner.GivenClasses.{class_in, given_in, IsNumbered}
 use Rattle.fm_link_program.specs.declared.uses.Resolving.{Resolving}
 use Rattle.fm_link_program.specs.inner.Resolved.{classes_by, member_found, outline_by, use_if, IsResolving}
+use Rattle.fm_world.proofs.TableLemmas.{length-row}
 use Rattle.fm_world.specs.Numbers.{type_number}
 use Rattle.fm_world.specs.Programs.{Outline, class_uses, resolved_at, type_number_at}
 use Rattle.fm_world.specs.Uses.{is_used, named_member, pool_indices}
@@ -66,7 +67,7 @@ spelled_here (f ∷ files) (suc i) file all within is = spelled_here files i fil
 used_at : (c : ClassDef) (used : List Bool) (place : ℕ) (mark : Bool) → used ≡ map (is_used c) (pool_indices c) → place < length used
     → mark ≡ get_or used place false → mark ≡ is_used c place
 used_at c used place mark are within read =
-    let long = length-table (is_used c) (length c.pool.entries) used are in
+    let long = length-row (is_used c) (length c.pool.entries) used are in
     read ∙ table_default (is_used c) (length c.pool.entries) place used false are (omega (arith, within, long))
 
 pub place_step : (o : Outline) (c : ClassDef) (used : List Bool) (place : ℕ) (mark : Bool) (old new : List Use) (one : Use)
@@ -81,13 +82,9 @@ pub place_end : (o : Outline) (c : ClassDef) (used : List Bool) (place : ℕ) (u
     → place ≡ length used → uses ≡ map (λ k. use_if o c (is_used c k) k) (range_with_len 0 place) → uses ≡ class_uses o c
 place_end o c used place uses are end is =
     is ∙ ap (λ n. map (λ k. use_if o c (is_used c k) k) (range_with_len 0 n))
-    (end ∙ length-table (is_used c) (length c.pool.entries) used are)
+    (end ∙ length-row (is_used c) (length c.pool.entries) used are)
 
 -- ---- all files
-
-map-one : {A B : Type 0} (f : A → B) (xs : List A) (x : A) → map f (xs ++ x ∷ []) ≡ map f xs ++ f x ∷ []
-map-one f [] x = refl
-map-one f (y ∷ ys) x = ap (λ zs. f y ∷ zs) (map-one f ys x)
 
 pub files_step : (o : Outline) (head : List (List Use)) (files : List GivenFile) (i : ℕ) (file : GivenFile) (old new : List (List Use))
     (one : List Use)
@@ -99,8 +96,8 @@ files_step o head files i file old new one within here before is pushed =
     take_more files i file within ∙ ap (λ f. take i files ++ f ∷ []) (sym here) in
     pushed ∙ ap (λ us. us ++ one ∷ []) before ∙ append_assoc head (map (class_uses o) done) (one ∷ [])
     ∙ ap (λ us. head ++ us) (ap (λ u. map (class_uses o) done ++ u ∷ []) is
-    ∙ sym (ap (λ fs. map (class_uses o) (given_in fs)) more ∙ ap (map (class_uses o)) (map-one class_in (take i files) file)
-    ∙ map-one (class_uses o) done (class_in file)))
+    ∙ sym (ap (λ fs. map (class_uses o) (given_in fs)) more ∙ ap (map (class_uses o)) (map_push class_in (take i files) file)
+    ∙ map_push (class_uses o) done (class_in file)))
 
 pub files_end : (o : Outline) (head : List (List Use)) (files : List GivenFile) (i : ℕ) (uses : List (List Use)) → length files ≤ i
     → uses ≡ head ++ map (class_uses o) (given_in (take i files)) → uses ≡ head ++ map (class_uses o) (given_in files)

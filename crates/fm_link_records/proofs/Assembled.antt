@@ -15,13 +15,13 @@ use Rattle.fm_world.specs.declared.uses.Use.{Use}
 use Rattle.fm_world.specs.declared.uses.Use.TheVariants as resolved
 use Rattle.fm_world.specs.inner.Tables.{code_in, numbers_below}
 use Rattle.fm_link_names.specs.declared.descriptors.Kinds.{Kinds}
+use Rattle.fm_link_supers.proofs.ParentTables.{map_twice}
 use Rattle.fm_link_records.specs.inner.Assembled.{AreCodes, AreFieldKinds, AreFirsts, AreMethodKinds}
 use Rattle.fm_link_records.specs.inner.Classes.{bare_outline}
 use Rattle.fm_link_records.specs.inner.Fields.{field_numbered, fields_told}
 use Rattle.fm_link_records.specs.inner.Methods.{method_numbered, method_told, methods_told}
 use Rattle.fm_link_records.proofs.ClassSteps.{table_default}
 use Rattle.fm_link_records.proofs.RowSteps.{map_from-numbers}
-use Rattle.fm_link_records.proofs.SizeSteps.{map-map}
 
 -- two functions that agree below a number
 pub map-below : {A : Type 0} (f g : ℕ → A) (a n : ℕ) → ((k : ℕ) → k < a + n → f k ≡ g k) → map f (range_with_len a n) ≡ map g (range_with_len a n)
@@ -61,7 +61,7 @@ pub codes-told : (classes : List DeclaredClass) (kinds : List (Option Kinds)) (c
 codes-told classes kinds codes are =
     let count = length (methods_of classes) in
     ap (map (λ (m : MethodInfo). code_in m.body)) (methods_by_number classes kinds codes)
-    ∙ map-map (λ (m : MethodInfo). code_in m.body) (λ k. method_numbered kinds codes k (method_at classes k)) (numbers_below count)
+    ∙ map_twice (λ (m : MethodInfo). code_in m.body) (λ k. method_numbered kinds codes k (method_at classes k)) (numbers_below count)
     ∙ map-numbers_below (λ k. code_in (body_of (method_at classes k).method (get_or codes k None))) (λ k. get_or codes k None) count
     (λ k h. code_in-body (method_at classes k).method (get_or codes k None) (λ row is. are.built_in k row h is))
     ∙ by_number codes count are.count where
@@ -126,4 +126,4 @@ fields-outline o kinds slots firsts are is held =
 
 pub displays-all : (classes : List DeclaredClass) (displays chains : List (List ℕ)) → chains ≡ map (chain_of classes) (numbers_below (length classes))
     → displays ≡ map reverse chains → displays ≡ map (λ class. reverse (chain_of classes class)) (numbers_below (length classes))
-displays-all classes displays chains are is = is ∙ ap (map reverse) are ∙ map-map reverse (chain_of classes) (numbers_below (length classes))
+displays-all classes displays chains are is = is ∙ ap (map reverse) are ∙ map_twice reverse (chain_of classes) (numbers_below (length classes))

@@ -6,7 +6,9 @@ use Rattle.std.specs.Option.{option_map}
 use Rattle.std.proofs.Math.ListN.{get_or-map}
 use Rattle.std.proofs.lemmas.Iterator.Adapters.{position_from-zero}
 use Rattle.std.proofs.lemmas.List.{drop_all, get_or_default, length-map}
-use Rattle.std.proofs.lemmas.List.FromFn.{get_or-map-range_with_len, length-map-range_with_len}
+use Rattle.std.proofs.lemmas.List.FromFn.{get_or-map-range_with_len}
+use Rattle.fm_base.proofs.ListFacts.{drop_here}
+use Rattle.fm_world.proofs.TableLemmas.{length-row}
 use Rattle.fm_world.specs.Chains.{class_at, listed_interfaces, parent_of}
 use Rattle.fm_world.specs.Members.{first_method, size_of}
 use Rattle.fm_world.specs.Programs.{class_info, method_id}
@@ -17,10 +19,6 @@ use Rattle.fm_world.specs.declared.records.ClassInfo.{ClassInfo}
 use Rattle.fm_world.specs.inner.Tables.{numbers_below}
 use Rattle.fm_link_records.specs.inner.Classes.{bare_outline, class_told, is_start, start_from}
 use Rattle.fm_link_records.specs.inner.Sizes.{lists}
-use Rattle.fm_link_names.proofs.Drops.{drop_here}
-
-pub length-table : {X : Type 0} (f : ℕ → X) (n : ℕ) (table : List X) → table ≡ map f (numbers_below n) → length table ≡ n
-length-table f n table is = ap length is ∙ length-map-range_with_len f 0 n
 
 pub info_is : (classes : List DeclaredClass) (place : ℕ) (c : DeclaredClass) (parent : Option ℕ) (listed : List ℕ) (first size : ℕ) (info : ClassInfo)
     → place < length classes → c ≡ get_or classes place c → parent ≡ parent_of classes place → listed ≡ listed_interfaces classes place
@@ -35,7 +33,7 @@ info_is classes place c parent listed first size info within here parent_is list
     ∙ ap (class_told (class_at classes place) (parent_of classes place) (listed_interfaces classes place) (first_method classes place)) size_is
 
 pub length-lists : (f : ℕ → List ℕ) (n : ℕ) (vectors : List (Vec ℕ)) → lists vectors ≡ map f (numbers_below n) → length vectors ≡ n
-length-lists f n vectors is = sym (length-map vectors (λ (v : Vec ℕ). v.items)) ∙ length-table f n (lists vectors) is
+length-lists f n vectors is = sym (length-map vectors (λ (v : Vec ℕ). v.items)) ∙ length-row f n (lists vectors) is
 
 pub list_at : (f : ℕ → List ℕ) (n i : ℕ) (vectors : List (Vec ℕ)) (v : Vec ℕ) → lists vectors ≡ map f (numbers_below n) → i < n → v
     ≡ get_or vectors i v → v.items ≡ f i

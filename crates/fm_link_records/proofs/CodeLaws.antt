@@ -1,16 +1,16 @@
 -- The codes of files' methods are where their methods are.
-use Rattle.std.proofs.Common.{◌≡◌, refl, sym, ◌∙◌, ap, subst, ℕ, zero, suc, ◌+◌, ◌<◌, List, [], ◌∷◌, ◌++◌, length, map, replicate, get_or, Option, Some, None, arith, append_assoc}
+use Rattle.std.proofs.Common.{◌≡◌, refl, sym, ◌∙◌, ap, subst, ℕ, zero, suc, ◌+◌, ◌<◌, List, [], ◌∷◌, ◌++◌, length, map, replicate, get_or, Option, Some, None, arith}
 use Rattle.std.specs.List.{flat_map}
 use Rattle.std.proofs.lemmas.List.{length-append, length-map}
 use Rattle.fm_code.specs.Members.{code_of}
 use Rattle.fm_code.specs.declared.class_file.ClassDef.{ClassDef}
 use Rattle.fm_code.specs.declared.class_file.Member.{Member}
 use Rattle.fm_code.specs.declared.code_array.Code.{Code}
+use Rattle.fm_world.proofs.TableLemmas.{methods_from-append}
 use Rattle.fm_world.specs.BuiltIns.{built_in}
 use Rattle.fm_world.specs.Declarations.{declared_from, declared_method, no_method}
 use Rattle.fm_world.specs.Members.{OwnedMethod, methods_from, methods_of}
 use Rattle.fm_world.specs.Programs.{classes_of, codes_of}
-use Rattle.fm_world.specs.declared.declarations.DeclaredClass.{DeclaredClass}
 use Rattle.fm_link_records.specs.inner.Assembled.{AreCodes}
 
 -- as many codes as methods, and none of a built-in method
@@ -47,15 +47,6 @@ Parallel-files class file (c ∷ given) =
     Parallel-append (map (λ m. record { class = class; method = m }) (map (declared_method c.pool.entries) c.methods))
     (methods_from (class + 1) (declared_from (file + 1) given)) (map code_of c.methods) (flat_map (λ d. map code_of d.methods) given)
     (Parallel-members class c c.methods) (Parallel-files (class + 1) (file + 1) given)
-
-methods_from-append : (class : ℕ) (cs ds : List DeclaredClass) → methods_from class (cs ++ ds)
-    ≡ methods_from class cs ++ methods_from (class + length cs) ds
-methods_from-append class [] ds = let e : class ≡ class + 0 = omega arith in ap (λ k. methods_from k ds) e
-methods_from-append class (c ∷ cs) ds =
-    let e : class + 1 + length cs ≡ class + length (c ∷ cs) = omega arith in
-    let own : List OwnedMethod = map (λ m. record { class = class; method = m }) c.methods in
-    ap (λ ms. own ++ ms) (methods_from-append (class + 1) cs ds ∙ ap (λ k. methods_from (class + 1) cs ++ methods_from k ds) e)
-    ∙ sym (append_assoc own (methods_from (class + 1) cs) (methods_from (class + length (c ∷ cs)) ds))
 
 Parallel-all : (given : List ClassDef) → Parallel (methods_of (classes_of given)) (codes_of given)
 unfolding methods_of classes_of codes_of

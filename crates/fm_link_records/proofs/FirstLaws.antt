@@ -1,11 +1,10 @@
 -- What fields hold first is what their values are resolved to.
-use Rattle.std.proofs.Common.{◌≡◌, refl, sym, ◌∙◌, ap, subst, ℕ, zero, suc, ◌+◌, ◌<◌, ◌≤◌, ◌||◌, ◌⊎◌, inl, inr, Bool, true, false, cond, List, [], ◌∷◌, ◌++◌, length, map, replicate, get_or, nat_eq, Option, Some, None, slice_get, zero-add, arith, append_assoc}
+use Rattle.std.proofs.Common.{◌≡◌, refl, sym, ◌∙◌, ap, subst, ℕ, zero, suc, ◌+◌, ◌<◌, ◌≤◌, ◌||◌, ◌⊎◌, inl, inr, Bool, true, false, cond, List, [], ◌∷◌, ◌++◌, length, map, replicate, get_or, nat_eq, Option, Some, None, slice_get, zero-add, arith}
 use Rattle.std.specs.List.{AllByRecursion, filter_map, flat_map, list_any}
 use Rattle.std.specs.Option.{option_and_then}
 use Rattle.std.proofs.Math.ListN.{get_or-eq_default}
-use Rattle.std.proofs.lemmas.Bool.{cases_lt, eq-eqb, or_left, or_right}
+use Rattle.std.proofs.lemmas.Bool.{cases_lt, or_right}
 use Rattle.std.proofs.lemmas.List.{get_or-map}
-use Rattle.std.proofs.lemmas.List.Folds.{list_any-append}
 use Rattle.std.proofs.lemmas.List.FromFn.{get_or-map-range_with_len}
 use Rattle.std.proofs.lemmas.Option.{get_or_from_slice_get, slice_get_within}
 use Rattle.fm_code.specs.AccessFlags.{is_interface, is_static}
@@ -20,6 +19,7 @@ use Rattle.fm_code.specs.declared.constant_pool.Entry.{Entry}
 use Rattle.fm_code.specs.declared.constant_pool.Entry.TheVariants as entry
 use Rattle.fm_link_names.specs.declared.given.GivenFile.{GivenFile}
 use Rattle.fm_link_names.specs.inner.Files.{AreFiles, IsFile}
+use Rattle.fm_world.proofs.TableLemmas.{fields_from-append}
 use Rattle.fm_world.specs.BuiltIns.{built_in}
 use Rattle.fm_world.specs.Chains.{is_among}
 use Rattle.fm_world.specs.Declarations.{constant_at, declared_field, declared_from, first_constant, no_field, text_at}
@@ -33,18 +33,13 @@ use Rattle.fm_world.specs.declared.declarations.Constant.TheVariants as constant
 use Rattle.fm_world.specs.declared.declarations.DeclaredClass.{DeclaredClass}
 use Rattle.fm_world.specs.declared.uses.Use.{Use}
 use Rattle.fm_world.specs.declared.uses.Use.TheVariants as resolved
+use Rattle.fm_link_supers.proofs.Downwards.{among_head as among-itself, among_left, among_right}
 use Rattle.fm_link_records.specs.inner.Assembled.{AreFirsts}
 use Rattle.fm_link_records.specs.inner.Firsts.{first_by, first_use, firsts_told}
 use Rattle.fm_link_records.proofs.TextLaws.{units_by}
 use Rattle.fm_link_records.proofs.UseLaws.{resolved_by}
 
 -- ---- the values of fields are used
-
-among-append : (n : ℕ) (xs ys : List ℕ) → is_among n xs ≡ true → is_among n (xs ++ ys) ≡ true
-among-append n xs ys h = list_any-append (nat_eq n) xs ys ∙ or_left (is_among n xs) (is_among n ys) h
-
-append-among : (n : ℕ) (xs ys : List ℕ) → is_among n ys ≡ true → is_among n (xs ++ ys) ≡ true
-append-among n xs ys h = list_any-append (nat_eq n) xs ys ∙ or_right (is_among n xs) (is_among n ys) h
 
 values_used : (c : ClassDef) (n : ℕ) → is_among n (flat_map values_of c.fields) ≡ true → is_used c n ≡ true
 unfolding used_indices
@@ -54,7 +49,7 @@ values_used c n h =
     let caught = flat_map caught_by c.methods in
     let rest = c.interfaces ++ values ++ operands ++ caught in
     or_right (nat_eq n c.this_class) (nat_eq n c.super_class || is_among n rest) (or_right (nat_eq n c.super_class) (is_among n rest)
-    (among-append n (c.interfaces ++ values ++ operands) caught (among-append n (c.interfaces ++ values) operands (append-among n c.interfaces values
+    (among_left n (c.interfaces ++ values ++ operands) caught (among_left n (c.interfaces ++ values) operands (among_right n c.interfaces values
     h))))
 
 -- each value of each of these fields is used
@@ -62,8 +57,8 @@ each_used : (c : ClassDef) (fields : List Member) → ((n : ℕ) → is_among n 
     → AllByRecursion (λ m. (n : ℕ) → is_among n (values_of m) ≡ true → is_used c n ≡ true) fields
 each_used c [] used = tt
 each_used c (m ∷ fields) used = (
-  λ n h. used n (among-append n (values_of m) (flat_map values_of fields) h),
-  each_used c fields (λ n h. used n (append-among n (values_of m) (flat_map values_of fields) h)),
+  λ n h. used n (among_left n (values_of m) (flat_map values_of fields) h),
+  each_used c fields (λ n h. used n (among_right n (values_of m) (flat_map values_of fields) h)),
 )
 
 -- ---- one field
@@ -103,9 +98,6 @@ value_at o c value used ok = by (cases_lt value (length c.pool.entries)) where
       ∙ value_is o c.pool.entries value (entry_at c.pool.entries value) refl ok
   by (inr past) = let P : Entry → Type 0 = λ e. IsValue e in
       absurd (subst P (get_or-eq_default c.pool.entries entry.Second past) ok refl)
-
-among-itself : (n : ℕ) (ns : List ℕ) → is_among n (n ∷ ns) ≡ true
-among-itself n ns = or_left (nat_eq n n) (is_among n ns) (eq-eqb n n refl)
 
 first_by-is : (o : Outline) (c : ClassDef) (m : Member) (attributes : List MemberAttr) → AllByRecursion (FieldAttrIsValid c.pool.entries) attributes
     → ((n : ℕ) → is_among n (values_of (record m { attributes = attributes })) ≡ true → is_used c n ≡ true)
@@ -187,15 +179,6 @@ Hold-at o (f ∷ fs) (u ∷ us) h (suc k) within = Hold-at o fs us h.1 k (omega 
 Hold-built_in : (o : Outline) → Hold o (fields_of built_in) (replicate 2 resolved.Unused)
 unfolding Hold fields_of built_in
 Hold-built_in o = (refl, (refl, tt))
-
-fields_from-append : (class : ℕ) (cs ds : List DeclaredClass) → fields_from class (cs ++ ds)
-    ≡ fields_from class cs ++ fields_from (class + length cs) ds
-fields_from-append class [] ds = let e : class ≡ class + 0 = omega arith in ap (λ k. fields_from k ds) e
-fields_from-append class (c ∷ cs) ds =
-    let e : class + 1 + length cs ≡ class + length (c ∷ cs) = omega arith in
-    let own : List OwnedField = map (λ f. record { class = class; field = f }) c.fields in
-    ap (λ fs. own ++ fs) (fields_from-append (class + 1) cs ds ∙ ap (λ k. fields_from (class + 1) cs ++ fields_from k ds) e)
-    ∙ sym (append_assoc own (fields_from (class + 1) cs) (fields_from (class + length (c ∷ cs)) ds))
 
 pub AreFirsts-all : (o : Outline) (texts : List (List ℕ)) (uses : List (List Use)) (given : List ClassDef) (files : List GivenFile)
     → o.classes ≡ classes_of given → AllByRecursion HasSpelling given → AreFiles texts given files → uses ≡ map (class_uses o) given

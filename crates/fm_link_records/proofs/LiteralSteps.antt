@@ -7,13 +7,13 @@ use Rattle.std.proofs.lemmas.Bool.{cases_eq, cases_Bool, false≢true, eq-eqb, n
 use Rattle.std.proofs.Math.ListN.{get_or-map}
 use Rattle.std.proofs.lemmas.List.{drop_all, get_or_default, get_or-replicate, length-replicate}
 use Rattle.std.proofs.lemmas.Slice.Eq.{bytes_eq-Decides}
+use Rattle.fm_base.proofs.ListFacts.{drop_here, is_some-position}
 use Rattle.fm_base.specs.Texts.{unit_bytes, units, IsModifiedUtf8}
 use Rattle.fm_world.specs.Chains.{distinct}
 use Rattle.fm_world.specs.Numbers.{text_number}
 use Rattle.fm_link_records.specs.inner.InTurn.{with_all, with_one, Tells}
 use Rattle.fm_link_records.specs.inner.TextNumbers.{lent, literals_by, units_at, with_text, AreApart, AreNumbered, IsModified}
-use Rattle.fm_link_names.proofs.Drops.{drop_here}
-use Rattle.fm_link_records.proofs.OneByOne.{distinct-all, is_some-position, numbered_step, same_sym}
+use Rattle.fm_link_records.proofs.OneByOne.{distinct-all, numbered_step, same_sym}
 
 -- ---- texts are distinguished by their units
 

@@ -4,7 +4,9 @@ use Rattle.std.specs.List.{AllByRecursion, cons_option, filter_map, flat_map, sl
 use Rattle.std.specs.Option.{option_and_then, option_map}
 use Rattle.std.proofs.lemmas.Grind.{flat_map-append}
 use Rattle.std.proofs.lemmas.List.{append-nil, get_or-map, get_or_default, take_more}
+use Rattle.std.proofs.lemmas.List.Elements.{filter_map-append}
 use Rattle.std.proofs.lemmas.Option.{get_or_from_slice_get, slice_get_within}
+use Rattle.fm_base.proofs.ListFacts.{filter_map_agree}
 use Rattle.fm_base.specs.declared.kinds.TypeRef.{TypeRef}
 use Rattle.fm_base.specs.Texts.{units}
 use Rattle.fm_code.specs.ConstantPool.{entry_at, utf8_at}
@@ -27,11 +29,6 @@ use Rattle.fm_world.specs.declared.declarations.DeclaredClass.{DeclaredClass}
 use Rattle.fm_link_records.specs.inner.Named.{made_at, type_at, types_made, types_named}
 
 -- ---- lists
-
-pub filter_map-same : {A B : Type 0} (f g : A → Option B) → ((x : A) → f x ≡ g x) → (xs : List A) → filter_map f xs ≡ filter_map g xs
-filter_map-same f g same [] = refl
-filter_map-same f g same (x ∷ xs) =
-    ap (λ o. cons_option o (filter_map f xs)) (same x) ∙ ap (cons_option (g x)) (filter_map-same f g same xs)
 
 -- lists of files, and those of their classes
 pub flat_map-files : {A : Type 0} (texts : List (List ℕ)) (f : GivenFile → List A) (g : ClassDef → List A)
@@ -90,7 +87,7 @@ pub types-used : (texts : List (List ℕ)) (classes : List DeclaredClass) (types
 types-used texts classes types given files are spelled is =
     flat_map-all texts (types_named types) (λ c. filter_map (named_type classes c.pool.entries) (uses_in_order c))
     (λ k c file has file_is. ap (λ (d : ClassDef). filter_map (type_at types file) (uses_in_order d)) file_is.class_is
-    ∙ filter_map-same (type_at types file) (named_type classes c.pool.entries) (type_at-is texts classes types k c file are has file_is)
+    ∙ filter_map_agree (type_at types file) (named_type classes c.pool.entries) (type_at-is texts classes types k c file are has file_is)
     (uses_in_order c))
     given files spelled is
 
@@ -112,11 +109,6 @@ cons_option-list : {A : Type 0} (o : Option A) (xs : List A) → option_to_list 
 cons_option-list None xs = refl
 cons_option-list (Some x) xs = refl
 
-filter_map-append : {A B : Type 0} (f : A → Option B) (xs ys : List A) → filter_map f (xs ++ ys) ≡ filter_map f xs ++ filter_map f ys
-filter_map-append f [] ys = refl
-filter_map-append f (x ∷ xs) ys =
-    ap (cons_option (f x)) (filter_map-append f xs ys) ∙ cons_option-append (f x) (filter_map f xs) (filter_map f ys)
-
 filter_map-map : {A B : Type 0} (f : A → Option B) (xs : List A) → filter_map (λ o. o) (map f xs) ≡ filter_map f xs
 filter_map-map f [] = refl
 filter_map-map f (x ∷ xs) = ap (cons_option (f x)) (filter_map-map f xs)
@@ -137,7 +129,7 @@ types-made texts classes types given files are spelled is =
     ap (λ ts. option_to_list (argument_array classes) ++ ts)
     (flat_map-all texts (types_made types) (λ c. filter_map (λ item. made_array classes c.pool.entries item.insn) (class_items c))
     (λ k c file has file_is. ap (λ (d : ClassDef). filter_map (λ (item : Item). made_at types file item.insn) (class_items d)) file_is.class_is
-    ∙ filter_map-same (λ (item : Item). made_at types file item.insn) (λ (item : Item). made_array classes c.pool.entries item.insn)
+    ∙ filter_map_agree (λ (item : Item). made_at types file item.insn) (λ (item : Item). made_array classes c.pool.entries item.insn)
     (λ item. made_is texts classes types k c file are has file_is item.insn) (class_items c))
     given files spelled is
     ∙ sym (filter_map-flat (λ (c : ClassDef) (item : Item). made_array classes c.pool.entries item.insn) class_items given))

@@ -1,5 +1,5 @@
 -- Elements that come one after the other, each once, are the distinct ones; and their places.
-use Rattle.std.proofs.Common.{◌≡◌, refl, sym, ◌∙◌, ap, subst, ℕ, ◌+◌, ◌||◌, ◌&&◌, not, Bool, true, false, cond, List, [], ◌∷◌, ◌++◌, length, filter, inl, inr, Option, Some, None, is_some, is_none, arith, append_assoc}
+use Rattle.std.proofs.Common.{◌≡◌, refl, sym, ◌∙◌, ap, subst, ℕ, ◌+◌, ◌||◌, ◌&&◌, not, Bool, true, false, cond, List, [], ◌∷◌, ◌++◌, length, filter, inl, inr, Option, Some, None, is_none, arith, append_assoc}
 use Rattle.std.specs.List.{list_any, position_from, position}
 use Rattle.std.proofs.lemmas.Bool.{cases_Bool, false_from_ne_true, false≢true, cond-true, cond-false}
 use Rattle.std.proofs.lemmas.Iterator.Adapters.{position_from-zero}
@@ -70,17 +70,6 @@ with_all-append same xs [] zs = refl
 with_all-append same xs (y ∷ ys) zs = with_all-append same (with_one same xs y) ys zs
 
 -- ---- places
-
-pub is_some-position_from : {A : Type 0} (p : A → Bool) (i : ℕ) (xs : List A) → is_some (position_from p i xs) ≡ list_any p xs
-is_some-position_from p i [] = refl
-is_some-position_from p i (x ∷ xs) = by (is_some-position_from p (i + 1) xs) (p x) where
-  by : is_some (position_from p (i + 1) xs) ≡ list_any p xs → (b : Bool) → is_some (cond b (Some i) (position_from p (i + 1) xs))
-      ≡ (b || list_any p xs)
-  by later true = refl
-  by later false = later
-
-pub is_some-position : {A : Type 0} (p : A → Bool) (xs : List A) → is_some (position p xs) ≡ list_any p xs
-is_some-position p xs = ap is_some (position_from-zero p xs) ∙ is_some-position_from p 0 xs
 
 pub position_from-none : {A : Type 0} (p : A → Bool) (i : ℕ) (xs : List A) → list_any p xs ≡ false → position_from p i xs ≡ None
 position_from-none p i [] h = refl

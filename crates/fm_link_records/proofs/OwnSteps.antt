@@ -4,7 +4,7 @@ use Rattle.std.specs.HashMap.{HashMap, get}
 use Rattle.std.proofs.lemmas.Bool.{cases_lt}
 use Rattle.std.proofs.lemmas.List.{length_push}
 use Rattle.std.proofs.lemmas.Option.{slice_get_within}
-use Rattle.fm_link_names.proofs.PlaceLemmas.{slice_get-append_left, slice_get_push}
+use Rattle.fm_base.proofs.ListFacts.{slice_get-append_left, slice_get_push}
 use Rattle.fm_world.specs.Members.{is_instance}
 use Rattle.fm_link_records.specs.inner.Own.{own_from, AreOwnTables, IsOwnTable}
 

@@ -13,7 +13,7 @@ head_left (x ∷ xs) ys r h = h
 head_right : (xs ys : List Refusal) (r : Refusal) → xs ≡ [] → slice_get ys 0 ≡ Some r → slice_get (xs ++ ys) 0 ≡ Some r
 head_right xs ys r none h = ap (λ zs. slice_get (zs ++ ys) 0) none ∙ h
 
-both_none : (xs ys : List Refusal) → xs ≡ [] → ys ≡ [] → xs ++ ys ≡ []
+pub both_none : (xs ys : List Refusal) → xs ≡ [] → ys ≡ [] → xs ++ ys ≡ []
 both_none xs ys none empty = ap (λ zs. zs ++ ys) none ∙ empty
 
 -- ---- the kinds so far

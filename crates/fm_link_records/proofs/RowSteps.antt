@@ -3,7 +3,6 @@ use Rattle.std.proofs.Common.{◌≡◌, refl, sym, ◌∙◌, ap, ℕ, zero, su
 use Rattle.std.specs.List.{range_with_len}
 use Rattle.std.proofs.lemmas.List.{append-nil, drop_all, get_or_default, length-append}
 use Rattle.fm_link_records.specs.inner.Rows.{map_from}
-use Rattle.fm_link_names.proofs.Drops.{drop_here}
 
 pub map_from-append : {A B : Type 0} (f : ℕ → A → B) (n : ℕ) (xs ys : List A) → map_from f n (xs ++ ys)
     ≡ map_from f n xs ++ map_from f (n + length xs) ys

@@ -3,11 +3,13 @@ use Rattle.std.proofs.Common.{◌≡◌, refl, sym, ◌∙◌, ap, ℕ, ◌+◌,
 use Rattle.std.specs.List.{fold}
 use Rattle.std.proofs.Math.ListN.{get_or-map}
 use Rattle.std.proofs.lemmas.List.{get_or_default}
+use Rattle.fm_base.proofs.ListFacts.{map_same}
 use Rattle.fm_world.specs.Chains.{chain_of, class_at, superclasses_of}
 use Rattle.fm_world.specs.Declarations.{no_class}
 use Rattle.fm_world.specs.Members.{hidden_fields, own_size, size_among, size_of}
 use Rattle.fm_world.specs.declared.declarations.DeclaredClass.{DeclaredClass}
 use Rattle.fm_world.specs.inner.Tables.{numbers_below}
+use Rattle.fm_link_supers.proofs.ParentTables.{map_twice}
 use Rattle.fm_link_records.specs.inner.Sizes.{base_of, size_along}
 
 fold-same : {A : Type 0} (f g : A → ℕ) → ((x : A) → f x ≡ g x) → (n : ℕ) (xs : List A) → fold (λ a x. a + f x) n xs ≡ fold (λ a x. a + g x) n xs
@@ -20,22 +22,14 @@ size_along-among classes own chain is =
     fold-same (λ class. get_or own class 0) (λ class. own_size (class_at classes class))
     (λ class. ap (λ sizes. get_or sizes class 0) is ∙ get_or-map own_size classes class no_class) 0 chain
 
-map-same : {A B : Type 0} (f g : A → B) → ((x : A) → f x ≡ g x) → (xs : List A) → map f xs ≡ map g xs
-map-same f g same [] = refl
-map-same f g same (x ∷ xs) = ap (λ z. z ∷ map f xs) (same x) ∙ ap (λ zs. g x ∷ zs) (map-same f g same xs)
-
-pub map-map : {A B C : Type 0} (g : B → C) (f : A → B) (xs : List A) → map g (map f xs) ≡ map (λ x. g (f x)) xs
-map-map g f [] = refl
-map-map g f (x ∷ xs) = ap (λ zs. g (f x) ∷ zs) (map-map g f xs)
-
 -- the sizes of all classes, by their chains
 pub sizes-all : (classes : List DeclaredClass) (own sizes : List ℕ) (chains : List (List ℕ)) → own ≡ map own_size classes
     → chains ≡ map (chain_of classes) (numbers_below (length classes)) → sizes ≡ map (size_along own) chains
     → sizes ≡ map (size_of classes) (numbers_below (length classes))
 unfolding size_of
 sizes-all classes own sizes chains own_is chains_are is =
-    is ∙ ap (map (size_along own)) chains_are ∙ map-map (size_along own) (chain_of classes) (numbers_below (length classes))
-    ∙ map-same (λ class. size_along own (chain_of classes class)) (λ class. size_among classes (chain_of classes class))
+    is ∙ ap (map (size_along own)) chains_are ∙ map_twice (size_along own) (chain_of classes) (numbers_below (length classes))
+    ∙ map_same (λ class. size_along own (chain_of classes class)) (λ class. size_among classes (chain_of classes class))
     (λ class. size_along-among classes own (chain_of classes class) own_is) (numbers_below (length classes))
 
 -- the base of a class's own fields

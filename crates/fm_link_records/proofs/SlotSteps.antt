@@ -1,11 +1,11 @@
 -- The places of fields, one after the other.
 use Rattle.std.proofs.Common.{◌≡◌, refl, sym, ◌∙◌, ap, ℕ, ◌+◌, ◌<◌, Bool, true, false, cond, List, [], ◌∷◌, ◌++◌, length, drop, get_or, slice_index, arith, append_assoc}
 use Rattle.std.proofs.lemmas.List.{append-nil}
+use Rattle.fm_base.proofs.ListFacts.{drop_here}
 use Rattle.fm_code.specs.AccessFlags.{is_static}
 use Rattle.fm_world.specs.declared.declarations.DeclaredClass.{DeclaredClass}
 use Rattle.fm_world.specs.declared.declarations.DeclaredField.{DeclaredField}
 use Rattle.fm_link_records.specs.inner.Fields.{slots_among, slots_told, static_fields}
-use Rattle.fm_link_names.proofs.Drops.{drop_here}
 
 -- the places of one class's fields more
 pub class_slots : (bases : List ℕ) (class : ℕ) (classes : List DeclaredClass) (c : DeclaredClass) (old new all : List ℕ) (before after base : ℕ)

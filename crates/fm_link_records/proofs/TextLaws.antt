@@ -5,7 +5,7 @@ use Rattle.std.specs.List.{AllByRecursion, cons_option, filter_map, flat_map}
 use Rattle.std.specs.Option.{option_and_then, option_map}
 use Rattle.std.proofs.lemmas.Bool.{false≢true}
 use Rattle.std.proofs.lemmas.Option.{get_or_from_slice_get, slice_get_within}
-use Rattle.fm_base.proofs.ListFacts.{AllByRecursion-append, AllByRecursion-get_or}
+use Rattle.fm_base.proofs.ListFacts.{AllByRecursion-append, AllByRecursion-get_or, filter_map_agree}
 use Rattle.fm_base.specs.Texts.{units, IsModifiedUtf8}
 use Rattle.fm_code.specs.ConstantPool.{entry_at, utf8_at, EntryIsValid}
 use Rattle.fm_code.specs.Spells.{HasSpelling}
@@ -20,7 +20,7 @@ use Rattle.fm_world.specs.Numbers.{text_number, text_units}
 use Rattle.fm_world.specs.Uses.{uses_in_order}
 use Rattle.fm_link_records.specs.inner.Named.{text_at, text_of_entry, texts_named}
 use Rattle.fm_link_records.specs.inner.TextNumbers.{units_at, AreNumbered, IsModified}
-use Rattle.fm_link_records.proofs.NamedLaws.{filter_map-same, flat_map-all}
+use Rattle.fm_link_records.proofs.NamedLaws.{flat_map-all}
 
 -- ---- one entry
 
@@ -80,7 +80,7 @@ texts-used texts given files spelled are =
     ∙ flat_map-all texts (λ file. map (units_at texts) (texts_named file)) (λ c. filter_map (text_units c.pool.entries) (uses_in_order c))
     (λ k c file has is. map-filter_map (units_at texts) (text_at file) (uses_in_order file.class.now)
     ∙ ap (λ (d : ClassDef). filter_map (λ index. option_map (units_at texts) (text_at file index)) (uses_in_order d)) is.class_is
-    ∙ filter_map-same (λ index. option_map (units_at texts) (text_at file index)) (text_units c.pool.entries) (text_at-is texts k c file has is)
+    ∙ filter_map_agree (λ index. option_map (units_at texts) (text_at file index)) (text_units c.pool.entries) (text_at-is texts k c file has is)
     (uses_in_order c))
     given files spelled are
 

@@ -5,44 +5,26 @@ use Rattle.std.proofs.lemmas.Grind.{flat_map-append}
 use Rattle.std.proofs.lemmas.List.{get_or_default}
 use Rattle.std.specs.HashMap.{HashMap, get, get_by}
 use Rattle.std.proofs.Math.Path.{fun_ext}
-use Rattle.std.proofs.lemmas.Bool.{eq-eqb, eqb-true, false≢true, and_parts, and_from}
+use Rattle.std.proofs.lemmas.Bool.{eq-eqb, eqb-true, and_parts, and_from}
+use Rattle.fm_base.proofs.ListFacts.{drop_here}
 use Rattle.fm_base.specs.contracts.kinds.TypeRefPartialEq.TheImpl.{ghosts}
 use Rattle.fm_base.specs.declared.kinds.Base.{Base}
 use Rattle.fm_base.specs.declared.kinds.Base.TheVariants as base
 use Rattle.fm_base.specs.declared.kinds.TypeRef.{TypeRef}
 use Rattle.fm_base.specs.declared.ids.ClassId.{ClassId}
+use Rattle.fm_world.proofs.TableLemmas.{same_base-eq, same_base-refl}
 use Rattle.fm_world.specs.Chains.{distinct, same_base, same_type}
 use Rattle.fm_world.specs.Numbers.{arrays_in, type_of_class}
 use Rattle.fm_link_records.specs.inner.InTurn.{Tells}
 use Rattle.fm_link_records.specs.inner.TypeNumbers.{types_by, with_types}
-use Rattle.fm_link_names.proofs.Drops.{drop_here}
 use Rattle.fm_link_records.proofs.OneByOne.{distinct-all, with_all-append}
-
-same_base-exact : (b c : Base) → same_base b c ≡ true → b ≡ c
-same_base-exact base.Boolean base.Boolean h = refl
-same_base-exact base.Byte base.Byte h = refl
-same_base-exact base.Char base.Char h = refl
-same_base-exact base.Short base.Short h = refl
-same_base-exact base.Int base.Int h = refl
-same_base-exact base.Long base.Long h = refl
-same_base-exact (base.OfClass c) (base.OfClass d) h = ap base.OfClass (ap (λ n. record { 0 = n }) (eqb-true c.0 d.0 h))
-same_base-exact b c h = absurd (false≢true h)
-
-same_base-itself : (b : Base) → same_base b b ≡ true
-same_base-itself base.Boolean = refl
-same_base-itself base.Byte = refl
-same_base-itself base.Char = refl
-same_base-itself base.Short = refl
-same_base-itself base.Int = refl
-same_base-itself base.Long = refl
-same_base-itself (base.OfClass c) = eq-eqb c.0 c.0 refl
 
 pub same_type-tells : Tells TypeRef same_type
 same_type-tells = record {
   exact = λ a b h.
       let both = and_parts (a.dims == b.dims) (same_base a.base b.base) h in
-      ap (λ n. record a { dims = n }) (eqb-true a.dims b.dims both.0) ∙ ap (λ x. record b { base = x }) (same_base-exact a.base b.base both.1);
-  itself = λ a. and_from (a.dims == a.dims) (same_base a.base a.base) (eq-eqb a.dims a.dims refl) (same_base-itself a.base);
+      ap (λ n. record a { dims = n }) (eqb-true a.dims b.dims both.0) ∙ ap (λ x. record b { base = x }) (same_base-eq a.base b.base both.1);
+  itself = λ a. and_from (a.dims == a.dims) (same_base a.base a.base) (eq-eqb a.dims a.dims refl) (same_base-refl a.base);
 }
 
 -- the arrays of one type more

@@ -1,6 +1,7 @@
 -- How many abstract methods are still to be implemented: the counts of one method more, and of all methods of a signature.
 use Rattle.std.proofs.Common.{◌≡◌, refl, sym, ◌∙◌, ap, subst, ℕ, zero, suc, ◌+◌, ◌-◌, ◌<◌, ◌≤◌, ◌&&◌, ◌||◌, not, Bool, true, false, cond, List, length, get_or, set, nat_eq, nat_lt, arith, ◌⊎◌, inl, inr, get_or-set_same, get_or-set_other, length-set}
 use Rattle.std.proofs.lemmas.Bool.{cases_eq, cases_lt, eqb-true, false≢true, le-ltb, lt-ltb}
+use Rattle.fm_base.proofs.TestFacts.{and_false}
 use Rattle.fm_code.specs.AccessFlags.{is_private}
 use Rattle.fm_link_members.specs.declared.lookups.Methods.{Methods}
 use Rattle.fm_link_members.specs.inner.MemberRows.{no_row, section_of, AreSections}
@@ -10,10 +11,6 @@ use Rattle.fm_world.specs.declared.declarations.DeclaredClass.{DeclaredClass}
 use Rattle.fm_link_refusals.specs.inner.LeftOver.{changed, counted, counted_of, is_owed, HasCounts}
 
 -- ---- truth values
-
-pub and_false : (b : Bool) → (b && false) ≡ false
-and_false true = refl
-and_false false = refl
 
 -- what is owed of an abstract method that isn't private, and of another one
 pub owed_met : (a r x : Bool) → (a && not r) ≡ true → (a && (r || x)) ≡ x

@@ -7,13 +7,13 @@ use Rattle.std.specs.List.{list_any}
 use Rattle.std.specs.Map.{lookup}
 use Rattle.std.specs.Ordering.{nat_cmp}
 use Rattle.std.specs.Str.{bytes_eq}
+use Rattle.fm_base.proofs.ListFacts.{drop_here}
 use Rattle.fm_base.proofs.TestFacts.{same_or_other, bytes_eq-other}
 use Rattle.fm_code.specs.declared.class_file.ClassDef.{ClassDef}
 use Rattle.fm_world.specs.BuiltIns.{built_in}
 use Rattle.fm_world.specs.Descriptors.{class_number}
 use Rattle.fm_world.specs.Causes.{BuiltIn, Refusal, Duplicate, built_in_named, duplicates, own_name, refused, refused_if}
 use Rattle.fm_world.specs.Linking.{refused_duplicates}
-use Rattle.fm_link_names.proofs.Drops.{drop_here}
 use Rattle.fm_link_refusals.specs.Refused.{refusal_as}
 use Rattle.fm_link_refusals.specs.declared.error.LinkBad.{LinkBad}
 

@@ -1,9 +1,10 @@
 -- What a file's entries name, by the numbers of its texts.
-use Rattle.std.proofs.Common.{◌≡◌, refl, sym, ap, ℕ, List, [], Option, Some, None, option_map, option_and_then, slice_get}
+use Rattle.std.proofs.Common.{◌≡◌, refl, sym, ap, ℕ, List, [], Option, Some, None, option_map, option_and_then}
 use Rattle.std.proofs.lemmas.Option.{get_or_from_slice_get}
 use Rattle.fm_code.specs.ConstantPool.{entry_at, utf8_at, class_name_at, member_named, named_and_typed_at, MemberName}
 use Rattle.fm_code.specs.declared.constant_pool.Entry.{Entry}
 use Rattle.fm_code.specs.declared.constant_pool.Entry.TheVariants as entry
+use Rattle.fm_link_names.proofs.NameLemmas.{IsPairOf, pair_of}
 use Rattle.fm_link_names.specs.declared.given.GivenFile.{GivenFile}
 use Rattle.fm_link_names.specs.declared.given.MemberTexts.{MemberTexts}
 use Rattle.fm_link_names.specs.inner.Files.{class_text_in, member_in, member_named_in, named_and_typed_in, named_class_in, text_in}
@@ -31,24 +32,8 @@ NamesMember texts None (Some t) = ⊥
 NamesMember texts (Some m) None = ⊥
 NamesMember texts (Some m) (Some t) = IsMemberOf texts m t
 
-abbrev ArePairOf : List (List ℕ) → Option (List ℕ × List ℕ) → Option (ℕ × ℕ) → Type 0
-ArePairOf texts None None = Unit {0}
-ArePairOf texts None (Some q) = ⊥
-ArePairOf texts (Some p) None = ⊥
-ArePairOf texts (Some p) (Some q) = (slice_get texts q.0 ≡ Some p.0) × (slice_get texts q.1 ≡ Some p.1)
-
-pair_joined : (texts : List (List ℕ)) (n d : Option (List ℕ)) (i j : Option ℕ) → IsNumberOf texts n i → IsNumberOf texts d j
-    → ArePairOf texts (option_and_then (λ x. option_and_then (λ y. Some (x, y)) d) n) (option_and_then (λ x. option_and_then (λ y. Some (x, y)) j) i)
-pair_joined texts None d None j first second = tt
-pair_joined texts None d (Some i) j first second = absurd first
-pair_joined texts (Some n) d None j first second = absurd first
-pair_joined texts (Some n) None (Some i) None first second = tt
-pair_joined texts (Some n) None (Some i) (Some j) first second = absurd second
-pair_joined texts (Some n) (Some d) (Some i) None first second = absurd second
-pair_joined texts (Some n) (Some d) (Some i) (Some j) first second = (first, second)
-
 member_joined : (texts : List (List ℕ)) (c : Option (List ℕ)) (k : Option ℕ) (p : Option (List ℕ × List ℕ)) (q : Option (ℕ × ℕ))
-    → IsNumberOf texts c k → ArePairOf texts p q
+    → IsNumberOf texts c k → IsPairOf texts p q
     → NamesMember texts
     (option_and_then (λ c. option_and_then (λ pair. let m : MemberName = record { class = c; name = pair.0; descriptor = pair.1 } in Some m) p) c)
     (option_and_then (λ k. option_and_then (λ pair. let t : MemberTexts = record { class = k; name = pair.0; descriptor = pair.1 } in Some t) q) k)
@@ -71,12 +56,12 @@ class_numbered texts file is i = go (entry_at (class_in file).pool.entries i) re
   go e here = rw here tt
 
 pair_numbered : (texts : List (List ℕ)) (file : GivenFile) → IsNumbered texts file → (i : ℕ)
-    → ArePairOf texts (named_and_typed_at (class_in file).pool.entries i) (named_and_typed_in file i)
+    → IsPairOf texts (named_and_typed_at (class_in file).pool.entries i) (named_and_typed_in file i)
 pair_numbered texts file is i = go (entry_at (class_in file).pool.entries i) refl where
   go : (e : Entry) → entry_at (class_in file).pool.entries i ≡ e
-      → ArePairOf texts (named_and_typed_at (class_in file).pool.entries i) (named_and_typed_in file i)
+      → IsPairOf texts (named_and_typed_at (class_in file).pool.entries i) (named_and_typed_in file i)
   go (entry.NameAndType name descriptor) here =
-      rw here (pair_joined texts (utf8_at (class_in file).pool.entries name) (utf8_at (class_in file).pool.entries descriptor) (text_in file name)
+      rw here (pair_of texts (utf8_at (class_in file).pool.entries name) (utf8_at (class_in file).pool.entries descriptor) (text_in file name)
       (text_in file descriptor)
       (is.texts_are name) (is.texts_are descriptor))
   go e here = rw here tt

@@ -2,12 +2,12 @@
 use Rattle.std.proofs.Common.{◌≡◌, Result, refl, sym, ◌∙◌, ap, subst, ℕ, ◌+◌, ◌<◌, ◌≤◌, List, [], ◌∷◌, ◌++◌, length, drop, get_or, Option, Some, None, slice_get}
 use Rattle.std.specs.List.{flat_map}
 use Rattle.std.proofs.Math.ListN.{drop_of_length-le}
-use Rattle.fm_link_names.proofs.Drops.{drop_here}
 use Rattle.fm_world.specs.Causes.{Refusal}
 use Rattle.fm_link_names.specs.declared.given.GivenFile.{GivenFile}
 use Rattle.fm_link_names.specs.inner.Files.{IsFile}
 use Rattle.std.proofs.lemmas.Option.{slice_get_read}
 use Rattle.std.specs.Prelude.{Ok, Err, OnOk}
+use Rattle.fm_base.proofs.ListFacts.{drop_here}
 use Rattle.fm_link_refusals.specs.Refused.{IsFirst, Refuses}
 use Rattle.fm_link_refusals.specs.declared.error.LinkFail.{LinkFail}
 use Rattle.fm_link_refusals.specs.inner.GivenClasses.{class_in, AreNumbered, IsNumbered}

@@ -1,8 +1,9 @@
 -- Abstract methods that are left over, one after the other.
-use Rattle.std.proofs.Common.{◌≡◌, refl, sym, ◌∙◌, ap, subst, ℕ, suc, ◌+◌, ◌-◌, ◌<◌, ◌≤◌, ◌||◌, Bool, true, false, cond, List, [], ◌∷◌, ◌++◌, length, drop, map, get_or, Option, Some, None, append_assoc, length-append, arith}
+use Rattle.std.proofs.Common.{◌≡◌, refl, sym, ◌∙◌, ap, subst, ℕ, suc, ◌+◌, ◌-◌, ◌<◌, ◌≤◌, ◌||◌, Bool, true, false, cond, List, [], ◌∷◌, ◌++◌, length, drop, map, get_or, Option, append_assoc, length-append, arith}
 use Rattle.std.specs.List.{filter, flat_map, range_with_len}
 use Rattle.std.proofs.lemmas.Grind.{flat_map-append}
 use Rattle.std.proofs.lemmas.List.{get_or_default, length-map}
+use Rattle.fm_base.proofs.ListFacts.{drop_here}
 use Rattle.fm_base.specs.declared.characters.TheConstants.{DOT}
 use Rattle.fm_world.specs.BuiltIns.{built_in}
 use Rattle.fm_world.specs.Declarations.{declared_from}
@@ -10,12 +11,11 @@ use Rattle.fm_world.specs.Programs.{classes_of}
 use Rattle.fm_code.specs.AccessFlags.{is_abstract, is_interface}
 use Rattle.fm_code.specs.declared.class_file.ClassDef.{ClassDef}
 use Rattle.std.proofs.Math.ListN.{drop_of_length-le}
-use Rattle.fm_link_names.proofs.Drops.{drop_here}
 use Rattle.fm_link_names.specs.declared.given.GivenFile.{GivenFile}
 use Rattle.fm_world.specs.Causes.{NotImplemented, abstract_methods, declared_name, each_from, is_left_over, left_over, method_text, refused, Refusal}
 use Rattle.fm_world.specs.Chains.{chain_of, interfaces_of}
-use Rattle.fm_world.specs.Lookups.{is_abstract_method}
 use Rattle.fm_world.specs.declared.declarations.DeclaredClass.{DeclaredClass}
+use Rattle.fm_link_supers.proofs.ParentRefusals.{length-declared}
 use Rattle.fm_link_refusals.proofs.FirstRefusals.{first-append}
 use Rattle.fm_link_refusals.specs.Refused.{IsFirst}
 use Rattle.fm_link_refusals.specs.inner.Abstracts.{left_over_by, left_over_of}
@@ -122,24 +122,14 @@ get_or_self xs i d within = get_or_default xs i d (get_or xs i d) within
 
 -- ---- the number of a file's class
 
-length_declared : (number : ℕ) (given : List ClassDef) → length (declared_from number given) ≡ length given
-length_declared number [] = refl
-length_declared number (c ∷ given) = ap (λ n. suc n) (length_declared (number + 1) given)
-
 pub class_within : (files : List GivenFile) (i class : ℕ) → class ≡ length built_in + i → i < length files
     → class < length (classes_of (given_in files))
 unfolding classes_of
 class_within files i class number within =
     let all = length-append built_in (declared_from 0 (given_in files)) in
-    let declared = length_declared 0 (given_in files) in
+    let declared = length-declared 0 (given_in files) in
     let long = length-map files class_in in
     omega (arith, all, declared, long, number, within)
-
--- ---- what is selected
-
-abbrev pub abstract_or_none : List DeclaredClass → Option ℕ → Bool
-abstract_or_none classes None = true
-abstract_or_none classes (Some found) = is_abstract_method classes found
 
 -- ---- names of declared methods
 

@@ -1,9 +1,10 @@
 -- How many abstract methods are left over in a class: the counts by what is selected, of one method more and of one class.
 use Rattle.std.proofs.Common.{◌≡◌, refl, sym, ◌∙◌, ap, ℕ, zero, suc, ◌+◌, ◌-◌, ◌<◌, ◌≤◌, ◌&&◌, ◌||◌, not, Bool, true, false, cond, List, [], ◌∷◌, ◌++◌, length, get_or, nat_eq, nat_lt, option_and_then, Option, Some, None, slice_get, arith, ◌⊎◌, inl, inr}
 use Rattle.std.specs.List.{flat_map, range_with_len}
-use Rattle.std.proofs.lemmas.Bool.{cases_eq, eq-eqb, eqb-true, false≢true, le-ltb, lt-ltb}
+use Rattle.std.proofs.lemmas.Bool.{cases_eq, eq-eqb, eqb-true, false≢true, le-ltb, lt-ltb, or_right}
 use Rattle.std.proofs.lemmas.List.{length-map}
 use Rattle.std.proofs.lemmas.Option.{slice_get-get_or}
+use Rattle.fm_base.proofs.TestFacts.{and_false}
 use Rattle.fm_code.specs.AccessFlags.{is_private}
 use Rattle.fm_code.specs.declared.class_file.ClassDef.{ClassDef}
 use Rattle.fm_link_members.proofs.FoundLemmas.{found_at, row_of_own}
@@ -24,13 +25,13 @@ use Rattle.fm_world.specs.Lookups.{is_abstract_method, is_selectable}
 use Rattle.fm_world.specs.Members.{methods_of}
 use Rattle.fm_world.specs.declared.declarations.DeclaredClass.{DeclaredClass}
 use Rattle.fm_world.specs.inner.Tables.{chain_from, IsLinear}
-use Rattle.fm_link_supers.proofs.Downwards.{among_head, among_left, among_right, or_true}
-use Rattle.fm_link_refusals.proofs.LeftOver.{abstract_or_none, left_over_parts}
+use Rattle.fm_link_supers.proofs.Downwards.{among_head, among_left, among_right}
+use Rattle.fm_link_refusals.proofs.LeftOver.{left_over_parts}
 use Rattle.fm_link_refusals.proofs.Sections.{section_all, section_within}
 use Rattle.fm_link_refusals.specs.inner.Abstracts.{left_over_at, left_over_by, left_over_of}
 use Rattle.fm_link_refusals.specs.inner.LeftOver.{can_be_met, counted_of, is_between, is_open, is_owed, is_part_open, is_part_owed, is_taken, selected_at, with_signature, HasCounts}
 use Rattle.fm_code.specs.AccessFlags.{is_abstract, is_interface}
-use Rattle.fm_link_refusals.proofs.AbstractCounts.{and_false, counted-none, counts_same, end_of, lt_step, owed_met, owed_unmet, start_of}
+use Rattle.fm_link_refusals.proofs.AbstractCounts.{counted-none, counts_same, end_of, lt_step, owed_met, owed_unmet, start_of}
 
 -- ---- what is selected
 
@@ -299,10 +300,6 @@ part-end texts classes m parent class end row are linear within is past counts =
 
 -- ---- nothing is left over
 
-open_is : (classes : List DeclaredClass) (o : Option ℕ) → abstract_or_none classes o ≡ is_open classes o
-open_is classes None = refl
-open_is classes (Some k) = refl
-
 not_owed : (a r x : Bool) → (a && (r || x)) ≡ false → a ≡ true → (r ≡ false) × (x ≡ false)
 not_owed true true x e a = absurd (false≢true (sym e))
 not_owed true false x e a = (refl, e)
@@ -320,13 +317,13 @@ not_left texts classes m class k are within inside below abstract none =
     let found : selected_in m class k ≡ selected_at m (Some class) s =
     ap (λ b. cond b (Some k) (option_and_then (nearest_in m.selectable class) (slice_get m.signatures.of_members.items k))) parts.0
     ∙ ap (option_and_then (nearest_in m.selectable class)) signed in
-    ap (abstract_or_none classes) (sym (selected-is texts classes m class k are within inside) ∙ found)
-    ∙ open_is classes (selected_at m (Some class) s) ∙ parts.1
+    ap (is_open classes) (sym (selected-is texts classes m class k are within inside) ∙ found)
+    ∙ parts.1
 
 flat_none : {Z : Type 0} (f : ℕ → List Z) (xs : List ℕ) → ((x : ℕ) → is_among x xs ≡ true → f x ≡ []) → flat_map f xs ≡ []
 flat_none f [] none = refl
 flat_none f (x ∷ xs) none =
-    ap (λ ys. ys ++ flat_map f xs) (none x (among_head x xs)) ∙ flat_none f xs (λ y among. none y (or_true (nat_eq y x) (is_among y xs) among))
+    ap (λ ys. ys ++ flat_map f xs) (none x (among_head x xs)) ∙ flat_none f xs (λ y among. none y (or_right (nat_eq y x) (is_among y xs) among))
 
 range_none : {Z : Type 0} (f : ℕ → List Z) (count start : ℕ) → ((k : ℕ) → start ≤ k → k < start + count → f k ≡ [])
     → flat_map f (range_with_len start count) ≡ []

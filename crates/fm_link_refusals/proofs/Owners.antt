@@ -4,13 +4,14 @@ use Rattle.std.proofs.lemmas.Bool.{and_parts, cases_eq, eq-eqb, eqb-true, le-ltb
 use Rattle.std.proofs.lemmas.List.Sums.{count_by_more_no, count_by_more_yes, sum_by_push}
 use Rattle.std.specs.Global.{Vec}
 use Rattle.std.specs.List.{count_by}
+use Rattle.fm_base.proofs.TestFacts.{and_false}
 use Rattle.fm_link_supers.specs.inner.ListTables.{list_in, lists}
 use Rattle.fm_link_members.specs.declared.lookups.Methods.{Methods}
 use Rattle.fm_link_members.specs.inner.MemberRows.{AreSections}
 use Rattle.fm_link_members.specs.inner.Owners.{pushed}
 use Rattle.fm_world.specs.declared.declarations.DeclaredClass.{DeclaredClass}
 use Rattle.fm_link_refusals.specs.inner.LeftOver.{can_be_met, changed, counted, counted_of, is_one, with_signature, AreOwners, HasCounts}
-use Rattle.fm_link_refusals.proofs.AbstractCounts.{and_false, class_of, counted-more, counted-same, counted-zero, end_of, lt_step, start_of}
+use Rattle.fm_link_refusals.proofs.AbstractCounts.{class_of, counted-more, counted-same, counted-zero, end_of, lt_step, start_of}
 use Rattle.fm_link_refusals.proofs.CountLoops.{none_at}
 
 -- ---- the lists are made

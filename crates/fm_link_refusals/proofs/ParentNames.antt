@@ -8,10 +8,12 @@ use Rattle.fm_code.specs.declared.class_file.ClassDef.{ClassDef}
 use Rattle.fm_link_names.specs.declared.given.GivenFile.{GivenFile}
 use Rattle.fm_link_names.specs.inner.Files.{class_text_in}
 use Rattle.fm_link_names.specs.inner.Numbering.{IsNumberOf}
+use Rattle.fm_link_supers.proofs.ParentRefusals.{is_wrong}
 use Rattle.fm_link_supers.specs.inner.NamedParents.{class_at_text, class_listed_in}
 use Rattle.fm_code.specs.declared.code_array.Item.{Item}
 use Rattle.fm_world.specs.inner.Tables.{numbers_below}
 use Rattle.std.proofs.lemmas.List.FromFn.{get_or-map-range_with_len}
+use Rattle.fm_base.proofs.TestFacts.{or_left_fails, or_right_fails}
 use Rattle.fm_world.specs.Lookups.{is_interface_at}
 use Rattle.fm_world.specs.Causes.{goes_deep, is_array_name, is_bad_interface, is_there_and, bad_interface, bad_parent_at, bad_parents, bad_superclass}
 use Rattle.fm_world.specs.Chains.{is_among}
@@ -67,19 +69,16 @@ last_fault a b c d e f g h i = rw (f, g, h, i) refl
 
 -- ---- the two faults of an interface
 
-abbrev is_bad_class : List DeclaredClass → ℕ → Bool
-is_bad_class classes class = not (is_interface_at classes class) || goes_deep (length classes) classes class
-
 pub interface_judged : (classes : List DeclaredClass) (name : List ℕ) (class : ℕ) → is_array_name name ≡ false → class_number classes name
     ≡ Some class
     → is_bad_interface classes name ≡ (not (is_interface_at classes class) || goes_deep (length classes) classes class)
 interface_judged classes name class is_none number =
-    ap (λ b. b || is_there_and (is_bad_class classes) (class_number classes name)) is_none ∙ ap (is_there_and (is_bad_class classes)) number
+    ap (λ b. b || is_there_and (is_wrong classes) (class_number classes name)) is_none ∙ ap (is_there_and (is_wrong classes)) number
 
 pub interface_unnamed : (classes : List DeclaredClass) (name : List ℕ) → is_array_name name ≡ false → class_number classes name ≡ None
     → is_bad_interface classes name ≡ false
 interface_unnamed classes name is_none number =
-    ap (λ b. b || is_there_and (is_bad_class classes) (class_number classes name)) is_none ∙ ap (is_there_and (is_bad_class classes)) number
+    ap (λ b. b || is_there_and (is_wrong classes) (class_number classes name)) is_none ∙ ap (is_there_and (is_wrong classes)) number
 
 -- the mark of a class in the table of cycles
 pub cycle_at : (classes : List DeclaredClass) (marks : List Bool) → marks ≡ map (goes_deep (length classes) classes) (numbers_below (length classes))
@@ -91,23 +90,15 @@ cycle_at classes marks are class within =
 
 -- ---- indices that aren't used name no superclass and no interface
 
-or_left : (a b : Bool) → (a || b) ≡ false → a ≡ false
-or_left true b e = cc
-or_left false b e = refl
-
-or_right : (a b : Bool) → (a || b) ≡ false → b ≡ false
-or_right true b e = cc
-or_right false b e = e
-
 among_append : (x : ℕ) (xs ys : List ℕ) → is_among x (xs ++ ys) ≡ false → is_among x xs ≡ false
 among_append x [] ys e = refl
 among_append x (y ∷ xs) ys e =
-    ap (λ b. b || is_among x xs) (or_left (nat_eq x y) (is_among x (xs ++ ys)) e)
-    ∙ among_append x xs ys (or_right (nat_eq x y) (is_among x (xs ++ ys)) e)
+    ap (λ b. b || is_among x xs) (or_left_fails (nat_eq x y) (is_among x (xs ++ ys)) e)
+    ∙ among_append x xs ys (or_right_fails (nat_eq x y) (is_among x (xs ++ ys)) e)
 
 among_append_right : (x : ℕ) (xs ys : List ℕ) → is_among x (xs ++ ys) ≡ false → is_among x ys ≡ false
 among_append_right x [] ys e = e
-among_append_right x (y ∷ xs) ys e = among_append_right x xs ys (or_right (nat_eq x y) (is_among x (xs ++ ys)) e)
+among_append_right x (y ∷ xs) ys e = among_append_right x xs ys (or_right_fails (nat_eq x y) (is_among x (xs ++ ys)) e)
 
 -- the index is neither the superclass's nor an interface's, and no instruction names it
 pub record IsUnused (c : ClassDef) (index : ℕ) : Type 0 where
@@ -122,10 +113,10 @@ unused c index e =
     let operands = filter_map (λ (item : Item). pool_index item.insn) (class_items c) in
     let caught = flat_map caught_by c.methods in
     let rest = is_among index (((c.interfaces ++ values) ++ operands) ++ caught) in
-    let after = or_right (nat_eq index c.this_class) (nat_eq index c.super_class || rest) e in
-    let three = among_append index ((c.interfaces ++ values) ++ operands) caught (or_right (nat_eq index c.super_class) rest after) in
+    let after = or_right_fails (nat_eq index c.this_class) (nat_eq index c.super_class || rest) e in
+    let three = among_append index ((c.interfaces ++ values) ++ operands) caught (or_right_fails (nat_eq index c.super_class) rest after) in
     record {
-      superclass = or_left (nat_eq index c.super_class) rest after;
+      superclass = or_left_fails (nat_eq index c.super_class) rest after;
       interfaces = among_append index c.interfaces values (among_append index (c.interfaces ++ values) operands three);
       operands = among_append_right index (c.interfaces ++ values) operands three;
     }

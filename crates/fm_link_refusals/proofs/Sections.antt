@@ -1,12 +1,11 @@
 -- The methods of a class among those of all classes.
 use Rattle.std.proofs.Common.{◌≡◌, refl, sym, ◌∙◌, ap, subst, ℕ, zero, suc, ◌+◌, ◌-◌, ◌<◌, ◌≤◌, List, [], ◌∷◌, ◌++◌, length, length-append, take, get_or, Option, Some, None, arith, slice_get, cond, Bool, true, false, nat_eq, ◌⊎◌, inl, inr, zero-add}
 use Rattle.std.specs.List.{flat_map, range_with_len}
-use Rattle.std.proofs.lemmas.Bool.{cases_lt, eqb-true, false≢true}
+use Rattle.std.proofs.lemmas.Bool.{cases_lt, eqb-true, false≢true, or_cases}
 use Rattle.std.proofs.lemmas.List.{get_or-append-add, get_or-map, get_or_append_left, get_or_past, length-map}
 use Rattle.std.proofs.lemmas.List.FromFn.{get_or-map-range_with_len, length-map-range_with_len}
 use Rattle.std.proofs.lemmas.List.Sums.{sum_by-cons, sum_by_more}
-use Rattle.fm_link_supers.proofs.Downwards.{either}
-use Rattle.fm_link_members.proofs.SectionRows.{AreSections-methods}
+use Rattle.fm_link_members.proofs.SectionRows.{AreSections-methods, section_between}
 use Rattle.std.proofs.lemmas.Option.{slice_get-get_or, slice_get_past}
 use Rattle.fm_code.specs.AccessFlags.{is_abstract}
 use Rattle.fm_link_members.specs.declared.members.Members.{Members}
@@ -21,7 +20,7 @@ use Rattle.fm_world.specs.declared.declarations.DeclaredMethod.{DeclaredMethod}
 
 -- ---- the methods of one class
 
-abbrev no_owned : OwnedMethod
+abbrev pub no_owned : OwnedMethod
 no_owned = record { class = 0; method = no_method }
 
 methods_at : (number : ℕ) (classes : List DeclaredClass) (class j : ℕ) → class < length classes → j < length (class_at classes class).methods
@@ -83,7 +82,7 @@ among_section start number (m ∷ methods) e = by_part (is_abstract m.flags) e (
       → (is_among number (abstract_from (start + 1) methods) ≡ true → (start + 1 ≤ number) × (number < start + 1 + length methods))
       → (start ≤ number) × (number < start + suc (length methods))
   by_part false h rest = by_rest (rest h)
-  by_part true h rest = by_number (either (nat_eq number start) (is_among number (abstract_from (start + 1) methods)) h) where
+  by_part true h rest = by_number (or_cases (nat_eq number start) (is_among number (abstract_from (start + 1) methods)) h) where
     by_number : (nat_eq number start ≡ true) ⊎ (is_among number (abstract_from (start + 1) methods) ≡ true)
         → (start ≤ number) × (number < start + suc (length methods))
     by_number (inl same) = let is = eqb-true number start same in (omega (arith, is), omega (arith, is))
@@ -142,10 +141,6 @@ abstract_section classes g class start end is =
 
 -- ---- where the table of first numbers says that they are
 
-section_some : (first : List ℕ) (class a b : ℕ) → slice_get first class ≡ Some a → slice_get first (class + 1) ≡ Some b → section_of first class
-    ≡ (a, b)
-section_some first class a b start end = rw (start, end) refl
-
 pub section_none : (first : List ℕ) (class : ℕ) → slice_get first (class + 1) ≡ None → section_of first class ≡ (0, 0)
 section_none first class end = go (slice_get first class) refl where
   go : (o : Option ℕ) → slice_get first class ≡ o → section_of first class ≡ (0, 0)
@@ -179,7 +174,7 @@ section_all {Z} texts classes m are g class s is = by_place (cases_lt class (len
   by_place (inl within) =
       let start = first_method classes class in
       let more = one_class_more classes class within in
-      let here = is ∙ section_some m.first.items class start (first_method classes (class + 1))
+      let here = is ∙ section_between m.first.items class start (first_method classes (class + 1))
       (first_at texts classes m are class (omega (arith, within)))
       (first_at texts classes m are (class + 1) (omega (arith, within))) in
       abstract_section classes g class start (first_method classes (class + 1))

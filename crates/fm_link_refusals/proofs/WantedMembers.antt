@@ -1,9 +1,11 @@
 -- What instructions want of a member, and what is found.
-use Rattle.std.proofs.Common.{◌≡◌, refl, sym, ◌∙◌, ap, subst, ℕ, ◌==◌, ◌||◌, not, Bool, true, false, cond, List, [], ◌∷◌, ◌++◌, map, nat_eq, get_or, Option, Some, None, option_map, append_assoc}
+use Rattle.std.proofs.Common.{◌≡◌, refl, sym, ◌∙◌, ap, subst, ℕ, ◌==◌, ◌||◌, Bool, true, false, cond, List, [], ◌∷◌, ◌++◌, map, nat_eq, get_or, Option, Some, None, option_map, append_assoc}
 use Rattle.std.specs.List.{cons_option, filter_map, flat_map, list_any}
 use Rattle.std.proofs.Math.ListN as list
-use Rattle.std.proofs.lemmas.Bool.{eqb-true, eq-eqb}
+use Rattle.std.proofs.lemmas.Bool.{not-false, not-true}
 use Rattle.std.proofs.lemmas.Option.{get_or_from_slice_get}
+use Rattle.fm_base.proofs.ListFacts.{map-map}
+use Rattle.fm_base.proofs.TestFacts.{nat_eq-comm, or_left_fails, or_right_fails}
 use Rattle.fm_base.specs.declared.characters.TheConstants.{DOT}
 use Rattle.fm_link_names.specs.declared.given.GivenFile.{GivenFile}
 use Rattle.fm_link_names.specs.declared.given.MemberTexts.{MemberTexts}
@@ -52,25 +54,9 @@ judged_by_flags flags_at (Some m) (w ∷ flags) e = refl
 
 -- ---- indices that no instruction names
 
-abbrev names : ℕ → Option ℕ → Bool
+abbrev pub names : ℕ → Option ℕ → Bool
 names index None = false
 names index (Some operand) = operand == index
-
-eq_swapped : (x y : ℕ) → nat_eq x y ≡ nat_eq y x
-eq_swapped x y = by_value (nat_eq x y) refl (nat_eq y x) refl where
-  by_value : (a : Bool) → nat_eq x y ≡ a → (b : Bool) → nat_eq y x ≡ b → nat_eq x y ≡ nat_eq y x
-  by_value true e true d = e ∙ sym d
-  by_value false e false d = e ∙ sym d
-  by_value true e false d = e ∙ sym (eq-eqb y x (sym (eqb-true x y e)))
-  by_value false e true d = eq-eqb x y (sym (eqb-true y x d)) ∙ sym d
-
-or_left : (a b : Bool) → (a || b) ≡ false → a ≡ false
-or_left true b e = cc
-or_left false b e = refl
-
-or_right : (a b : Bool) → (a || b) ≡ false → b ≡ false
-or_right true b e = cc
-or_right false b e = e
 
 wanted_none : (wanted : Insn → Option Bool) (index : ℕ) (items : List Item)
     → is_among index (filter_map (λ (item : Item). pool_index item.insn) items) ≡ false
@@ -88,8 +74,8 @@ wanted_none wanted index (item ∷ items) e = go (pool_index item.insn) e (wante
   go None e after = after e
   go (Some operand) e after =
       ap (λ b. cons_option (cond b (wanted item.insn) None) rest)
-      (eq_swapped operand index ∙ or_left (nat_eq index operand) (is_among index others) e)
-      ∙ after (or_right (nat_eq index operand) (is_among index others) e)
+      (nat_eq-comm operand index ∙ or_left_fails (nat_eq index operand) (is_among index others) e)
+      ∙ after (or_right_fails (nat_eq index operand) (is_among index others) e)
 
 pub unwanted : (wanted : Insn → Option Bool) (c : ClassDef) (index : ℕ) → is_used c index ≡ false → wanted_at wanted c index ≡ []
 unwanted wanted c index e = let u = unused c index e in wanted_none wanted index (class_items c) u.operands
@@ -157,16 +143,12 @@ methods_all classes c =
 
 -- ---- flags by number
 
-map_twice : {A B C : Type 0} (f : A → B) (g : B → C) (xs : List A) → map g (map f xs) ≡ map (λ x. g (f x)) xs
-map_twice f g [] = refl
-map_twice f g (x ∷ xs) = ap (λ ys. g (f x) ∷ ys) (map_twice f g xs)
-
 pub field_flags_are : (texts : List (List ℕ)) (classes : List DeclaredClass) (m : Members) → AreFieldRows texts classes m → (field : ℕ)
     → flags_of m.rows.items field ≡ field_flags classes field
 field_flags_are texts classes m are field =
     let flags = λ (o : Owned). o.flags in
     let same : map (λ (r : MemberRow). r.flags) m.rows.items ≡ map (λ (f : OwnedField). f.field.flags) (fields_of classes) =
-    sym (map_twice (row_alike texts) flags m.rows.items) ∙ ap (map flags) are.rows.same ∙ map_twice field_alike flags (fields_of classes) in
+    sym (map-map (row_alike texts) flags m.rows.items) ∙ ap (map flags) are.rows.same ∙ map-map field_alike flags (fields_of classes) in
     sym (list.get_or-map (λ (r : MemberRow). r.flags) m.rows.items field _) ∙ ap (λ fs. get_or fs field 0) same
     ∙ list.get_or-map (λ (f : OwnedField). f.field.flags) (fields_of classes) field _
 
@@ -175,31 +157,23 @@ pub method_flags_are : (texts : List (List ℕ)) (classes : List DeclaredClass) 
 method_flags_are texts classes m are method =
     let flags = λ (o : Owned). o.flags in
     let same : map (λ (r : MemberRow). r.flags) m.rows.items ≡ map (λ (f : OwnedMethod). f.method.flags) (methods_of classes) =
-    sym (map_twice (row_alike texts) flags m.rows.items) ∙ ap (map flags) are.rows.same ∙ map_twice method_alike flags (methods_of classes) in
+    sym (map-map (row_alike texts) flags m.rows.items) ∙ ap (map flags) are.rows.same ∙ map-map method_alike flags (methods_of classes) in
     sym (list.get_or-map (λ (r : MemberRow). r.flags) m.rows.items method _) ∙ ap (λ fs. get_or fs method 0) same
     ∙ list.get_or-map (λ (f : OwnedMethod). f.method.flags) (methods_of classes) method _
 
 -- ---- the class that methods are looked for in
 
-not_true : (b : Bool) → not b ≡ true → b ≡ false
-not_true true e = cc
-not_true false e = refl
-
-not_false : (b : Bool) → not b ≡ false → b ≡ true
-not_false true e = refl
-not_false false e = cc
-
 pub searched_in_object : (classes : List DeclaredClass) (name : List ℕ) → names_array name ≡ true → class_searched classes name
     ≡ object_number classes
 searched_in_object classes name e =
     let plain = (class_type name).dimensions == 0 in
-    ap (λ b. cond b (class_number classes name) (object_number classes)) (not_true plain e)
+    ap (λ b. cond b (class_number classes name) (object_number classes)) (not-true plain e)
 
 pub searched_by_name : (classes : List DeclaredClass) (name : List ℕ) → names_array name ≡ false → class_searched classes name
     ≡ class_number classes name
 searched_by_name classes name e =
     let plain = (class_type name).dimensions == 0 in
-    ap (λ b. cond b (class_number classes name) (object_number classes)) (not_false plain e)
+    ap (λ b. cond b (class_number classes name) (object_number classes)) (not-false plain e)
 
 -- ---- members at an index
 

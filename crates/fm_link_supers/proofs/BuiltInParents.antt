@@ -2,7 +2,7 @@
 use Rattle.std.proofs.Common.{◌≡◌, refl, sym, ◌∙◌, ap, ℕ, zero, suc, ◌+◌, ◌<◌, ◌≤◌, ◌&&◌, ◌||◌, not, Bool, true, false, cond, List, [], ◌∷◌, ◌++◌, length, map, nat_eq, get_or, replicate, Option, Some, None, is_none, option_and_then, arith, zero-add, length-append}
 use Rattle.std.specs.List.{cons_option, filter_map, list_any, position_from}
 use Rattle.std.specs.Str.{bytes_eq}
-use Rattle.std.proofs.lemmas.Bool.{false≢true}
+use Rattle.std.proofs.lemmas.Bool.{false≢true, or_parts}
 use Rattle.std.proofs.lemmas.Iterator.Adapters.{position_from-zero}
 use Rattle.std.proofs.lemmas.List.{get_or-replicate, get_or_append_left}
 use Rattle.std.proofs.lemmas.List.FromFn.{get_or-map-range_with_len}
@@ -26,7 +26,7 @@ found_head : (b : Bool) (i k : ℕ) (short long : Option ℕ) → (short ≡ Som
 found_head true i k short long rest e = e
 found_head false i k short long rest e = rest e
 
-found_first : {X : Type 0} (p : X → Bool) (i k : ℕ) (xs ys : List X) → position_from p i xs ≡ Some k → position_from p i (xs ++ ys) ≡ Some k
+pub found_first : {X : Type 0} (p : X → Bool) (i k : ℕ) (xs ys : List X) → position_from p i xs ≡ Some k → position_from p i (xs ++ ys) ≡ Some k
 found_first p i k [] ys e = absurd (none-some k e)
 found_first p i k (x ∷ xs) ys e =
     found_head (p x) i k (position_from p (i + 1) xs) (position_from p (i + 1) (xs ++ ys)) (found_first p (i + 1) k xs ys) e
@@ -58,10 +58,6 @@ fails_at : (f : ℕ → Bool) (n : ℕ) → map f (numbers_below n) ≡ replicat
 fails_at f n none k within =
     sym (get_or-map-range_with_len f 0 n k k true within (zero-add k)) ∙ ap (λ row. get_or row k true) none ∙ get_or-replicate n k false true within
 
-either_fails : (a b : Bool) → (a || b) ≡ false → (a ≡ false) × (b ≡ false)
-either_fails false b e = (refl, e)
-either_fails true b e = absurd (false≢true (sym e))
-
 class_same : (own more : List DeclaredClass) (k : ℕ) → k < length own → class_at (own ++ more) k ≡ class_at own k
 class_same own more k within = get_or_append_left own more no_class k within
 
@@ -69,7 +65,7 @@ parent_same : (own more : List DeclaredClass) (k : ℕ) → k < length own → l
 parent_same own more k within closed =
     ap (λ (c : DeclaredClass). option_and_then (class_number (own ++ more)) c.superclass) (class_same own more k within)
     ∙ by_name (class_at own k).superclass
-    (either_fails (lacks_superclass own (class_at own k).superclass) (list_any (λ name. is_none (class_number own name)) (class_at own k).interfaces) closed).0 where
+    (or_parts (lacks_superclass own (class_at own k).superclass) (list_any (λ name. is_none (class_number own name)) (class_at own k).interfaces) closed).0 where
       by_name : (o : Option (List ℕ)) → lacks_superclass own o ≡ false → option_and_then (class_number (own ++ more)) o ≡ option_and_then (class_number own) o
       by_name None e = refl
       by_name (Some name) e = number_same own more name e
@@ -78,7 +74,7 @@ listed_same : (own more : List DeclaredClass) (k : ℕ) → k < length own → l
 listed_same own more k within closed =
     ap (λ (c : DeclaredClass). filter_map (class_number (own ++ more)) c.interfaces) (class_same own more k within)
     ∙ by_names (class_at own k).interfaces
-    (either_fails (lacks_superclass own (class_at own k).superclass) (list_any (λ name. is_none (class_number own name)) (class_at own k).interfaces) closed).1 where
+    (or_parts (lacks_superclass own (class_at own k).superclass) (list_any (λ name. is_none (class_number own name)) (class_at own k).interfaces) closed).1 where
       by_names : (names : List (List ℕ)) → list_any (λ name. is_none (class_number own name)) names ≡ false
           → filter_map (class_number (own ++ more)) names ≡ filter_map (class_number own) names
       by_names [] e = refl

@@ -4,19 +4,12 @@ use Rattle.std.proofs.lemmas.Bool.{eqb-true, eq-eqb, false≢true}
 use Rattle.std.proofs.lemmas.List.{append-nil, get_or-set_other, get_or-set_same}
 use Rattle.std.proofs.lemmas.List.Folds.{list_any-append}
 use Rattle.std.proofs.lemmas.List.Elements.{filter-append}
+use Rattle.fm_base.proofs.TestFacts.{nat_eq-comm}
 use Rattle.fm_world.specs.Chains.{distinct, is_among}
-
-pub eq_swap : (x y : ℕ) → nat_eq x y ≡ nat_eq y x
-eq_swap x y = by_value (nat_eq x y) refl (nat_eq y x) refl where
-  by_value : (a : Bool) → nat_eq x y ≡ a → (b : Bool) → nat_eq y x ≡ b → nat_eq x y ≡ nat_eq y x
-  by_value true e true d = e ∙ sym d
-  by_value false e false d = e ∙ sym d
-  by_value true e false d = e ∙ sym (eq-eqb y x (sym (eqb-true x y e)))
-  by_value false e true d = eq-eqb x y (sym (eqb-true y x d)) ∙ sym d
 
 -- those that differ from a number, of one number
 alone : (y x : ℕ) (b : Bool) → nat_eq x y ≡ b → filter (λ z. not (nat_eq y z)) (x ∷ []) ≡ cond b [] (x ∷ [])
-alone y x b e = ap (λ t. cond (not t) (x ∷ []) []) (eq_swap y x ∙ e) ∙ by_value b where
+alone y x b e = ap (λ t. cond (not t) (x ∷ []) []) (nat_eq-comm y x ∙ e) ∙ by_value b where
   by_value : (t : Bool) → cond (not t) (x ∷ []) [] ≡ cond t [] (x ∷ [])
   by_value true = refl
   by_value false = refl

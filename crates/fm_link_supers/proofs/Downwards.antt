@@ -1,10 +1,11 @@
 -- The order in which each class comes after its superclass; and what is among superinterfaces.
 use Rattle.std.proofs.Common.{◌≡◌, refl, sym, ◌∙◌, ap, subst, ℕ, zero, suc, ◌+◌, ◌<◌, ◌≤◌, ◌⊎◌, inl, inr, ◌||◌, Bool, true, false, List, [], ◌∷◌, ◌++◌, length, map, reverse, nat_eq, take, slice_get, Option, Some, None, arith}
 use Rattle.std.specs.List.{flat_map, range_with_len}
-use Rattle.std.proofs.lemmas.Bool.{cases_lt, eqb-true, eq-eqb, false≢true}
+use Rattle.std.proofs.lemmas.Bool.{cases_lt, eqb-true, false≢true, or_cases, or_right}
 use Rattle.std.proofs.lemmas.List.{take-append-le, take_all}
 use Rattle.std.proofs.lemmas.List.Folds.{list_any-append}
 use Rattle.std.proofs.lemmas.Option.{none-some, same_Some, slice_get_within}
+use Rattle.fm_base.proofs.TestFacts.{same-nat_eq}
 use Rattle.fm_link_names.proofs.PlaceLemmas.{slice_get_push_cases}
 use Rattle.fm_link_supers.proofs.Distinct.{among_distinct, distinct_added, distinct_kept}
 use Rattle.fm_link_supers.specs.inner.Hierarchy.{IsDownwards}
@@ -14,28 +15,17 @@ use Rattle.fm_world.specs.Chains.{chain_of, distinct, is_among, parent_of, upwar
 use Rattle.fm_world.specs.declared.declarations.DeclaredClass.{DeclaredClass}
 use Rattle.fm_world.specs.inner.Tables.{numbers_below}
 
-pub same_number : (x : ℕ) → nat_eq x x ≡ true
-same_number x = eq-eqb x x refl
-
-pub or_true : (b c : Bool) → c ≡ true → (b || c) ≡ true
-or_true true c e = refl
-or_true false c e = e
-
-pub either : (a b : Bool) → (a || b) ≡ true → (a ≡ true) ⊎ (b ≡ true)
-either true b e = inl refl
-either false b e = inr e
-
 pub among_head : (x : ℕ) (xs : List ℕ) → is_among x (x ∷ xs) ≡ true
-among_head x xs = ap (λ b. b || is_among x xs) (same_number x)
+among_head x xs = ap (λ b. b || is_among x xs) (same-nat_eq x)
 
 pub among_later : (y x : ℕ) (xs : List ℕ) → is_among y xs ≡ true → is_among y (x ∷ xs) ≡ true
-among_later y x xs e = or_true (nat_eq y x) (is_among y xs) e
+among_later y x xs e = or_right (nat_eq y x) (is_among y xs) e
 
 pub among_left : (x : ℕ) (xs ys : List ℕ) → is_among x xs ≡ true → is_among x (xs ++ ys) ≡ true
 among_left x xs ys e = list_any-append (nat_eq x) xs ys ∙ ap (λ b. b || is_among x ys) e
 
 pub among_right : (x : ℕ) (xs ys : List ℕ) → is_among x ys ≡ true → is_among x (xs ++ ys) ≡ true
-among_right x xs ys e = list_any-append (nat_eq x) xs ys ∙ or_true (is_among x xs) (is_among x ys) e
+among_right x xs ys e = list_any-append (nat_eq x) xs ys ∙ or_right (is_among x xs) (is_among x ys) e
 
 -- ---- lists in which each class comes before its superclass
 
@@ -72,7 +62,7 @@ walk_within classes zero class within x e = absurd (false≢true e)
 walk_within classes (suc bound) None within x e = absurd (false≢true e)
 walk_within classes (suc bound) (Some class) within x e =
     by_case (walk_within classes bound (parent_of classes class) (λ k is. parent_of-within classes class k is) x)
-    (either (nat_eq x class) (is_among x (upwards bound classes (parent_of classes class))) e) where
+    (or_cases (nat_eq x class) (is_among x (upwards bound classes (parent_of classes class))) e) where
       by_case : (is_among x (upwards bound classes (parent_of classes class)) ≡ true → x < length classes)
           → (nat_eq x class ≡ true) ⊎ (is_among x (upwards bound classes (parent_of classes class)) ≡ true) → x < length classes
       by_case rest (inl same) = subst (λ k. k < length classes) (sym (eqb-true x class same)) (within class refl)
@@ -100,7 +90,7 @@ unfolding chain_of
 chains_within classes start zero few x e = absurd (false≢true e)
 chains_within classes start (suc count) few x e =
     by_case (chains_within classes (start + 1) count (omega (arith, few)) x)
-    (either (is_among x chain) (is_among x rest) (sym (list_any-append (nat_eq x) chain rest) ∙ e)) where
+    (or_cases (is_among x chain) (is_among x rest) (sym (list_any-append (nat_eq x) chain rest) ∙ e)) where
       chain : List ℕ
       chain = upwards (suc (length classes)) classes (Some start)
 

@@ -1,11 +1,10 @@
 -- The tables of superinterfaces where no chain leads into a cycle.
 use Rattle.std.proofs.Common.{◌≡◌, refl, sym, ◌∙◌, ap, ℕ, zero, suc, ◌<◌, ◌⊎◌, inl, inr, ◌||◌, Bool, true, false, List, [], ◌∷◌, length, map, nat_eq, get_or}
 use Rattle.std.specs.List.{flat_map}
-use Rattle.std.proofs.lemmas.Bool.{eqb-true, eq-eqb, false≢true}
+use Rattle.std.proofs.lemmas.Bool.{eqb-true, eq-eqb, false≢true, or_cases}
 use Rattle.std.proofs.lemmas.List.Folds.{list_any-append}
 use Rattle.std.proofs.lemmas.List.FromFn.{fill_by_all}
 use Rattle.fm_link_supers.proofs.Distinct.{among_distinct}
-use Rattle.fm_link_supers.proofs.Downwards.{either}
 use Rattle.fm_link_supers.proofs.RoundCounts.{ends_within}
 use Rattle.fm_link_supers.specs.inner.Hierarchy.{AreSound}
 use Rattle.fm_world.specs.Causes.{goes_deep}
@@ -33,7 +32,7 @@ in_flat_map : (f : ℕ → List ℕ) (P : ℕ → Type 0) (xs : List ℕ) → Al
 in_flat_map f P [] all x e = absurd (false≢true e)
 in_flat_map f P (y ∷ ys) all x e =
     by_case (in_flat_map f P ys (λ i h. all i (or_true (nat_eq i y) (is_among i ys) h)) x)
-    (either (is_among x (f y)) (is_among x (flat_map f ys)) (sym (list_any-append (nat_eq x) (f y) (flat_map f ys)) ∙ e)) where
+    (or_cases (is_among x (f y)) (is_among x (flat_map f ys)) (sym (list_any-append (nat_eq x) (f y) (flat_map f ys)) ∙ e)) where
       or_true : (b c : Bool) → c ≡ true → (b || c) ≡ true
       or_true true c h = refl
       or_true false c h = h
@@ -47,7 +46,7 @@ within_only : (classes : List DeclaredClass) → ((class : ℕ) → AreInterface
 within_only classes listed zero class number e = absurd (false≢true e)
 within_only classes listed (suc bound) class number e =
     in_flat_map (λ i. i ∷ interfaces_within bound classes i) (λ x. is_interface_at classes x ≡ true) (listed_interfaces classes class)
-    (λ i there x among. by_case i there x (within_only classes listed bound i x) (either (nat_eq x i) (is_among x (interfaces_within bound classes i)) among)) number
+    (λ i there x among. by_case i there x (within_only classes listed bound i x) (or_cases (nat_eq x i) (is_among x (interfaces_within bound classes i)) among)) number
     (sym (among_distinct number (flat_map (λ i. i ∷ interfaces_within bound classes i) (listed_interfaces classes class))) ∙ e) where
       by_case : (i : ℕ) → is_among i (listed_interfaces classes class) ≡ true → (x : ℕ)
           → (is_among x (interfaces_within bound classes i) ≡ true → is_interface_at classes x ≡ true)

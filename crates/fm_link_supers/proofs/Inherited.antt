@@ -1,17 +1,19 @@
 -- Superinterfaces with those of the superclass after them, from the uppermost class down.
 use Rattle.std.proofs.Common.{◌≡◌, refl, sym, ◌∙◌, ap, subst, ℕ, ◌<◌, ◌⊎◌, inl, inr, ◌||◌, Bool, true, false, List, [], ◌∷◌, ◌++◌, length, map, nat_eq, get_or, replicate, set, take, reverse, slice_get, Option, Some, None, arith, append_assoc, length-set, get_or-set_same, get_or-set_other}
 use Rattle.std.specs.List.{flat_map}
-use Rattle.std.proofs.lemmas.Bool.{cases_eq, eqb-true, false≢true}
+use Rattle.std.proofs.lemmas.Bool.{cases_eq, eqb-true, false≢true, or_right}
 use Rattle.std.proofs.lemmas.List.{append-nil, length-replicate, reverse-reverse}
 use Rattle.std.proofs.lemmas.List.Folds.{list_any-append}
 use Rattle.std.proofs.lemmas.List.FromFn.{fill_by_all}
+use Rattle.fm_base.proofs.ListFacts.{map_same}
 use Rattle.fm_link_supers.proofs.Distinct.{among_distinct, distinct_added, distinct_kept}
-use Rattle.fm_link_supers.proofs.Downwards.{among_head, among_right, or_true}
+use Rattle.fm_link_supers.proofs.Downwards.{among_head, among_right}
 use Rattle.fm_link_supers.specs.inner.Hierarchy.{IsDownwards}
-use Rattle.fm_link_supers.proofs.ParentTables.{map_same, row_within, table_length}
+use Rattle.fm_link_supers.proofs.ParentTables.{row_within}
 use Rattle.fm_link_supers.specs.inner.InterfaceRounds.{inherited_along, of_parent, with_classes, with_inherited}
 use Rattle.fm_link_supers.specs.inner.ParentTable.{parent_at}
 use Rattle.fm_world.proofs.Displays.{reverse-cons}
+use Rattle.fm_world.proofs.TableLemmas.{length-row}
 use Rattle.fm_world.specs.Chains.{chain_of, distinct, interfaces_of, is_among, parent_of, superinterfaces_of}
 use Rattle.fm_world.specs.declared.declarations.DeclaredClass.{DeclaredClass}
 use Rattle.fm_world.specs.inner.Tables.{chain_from, IsLinear, numbers_below}
@@ -33,7 +35,7 @@ joined_last : (xs ys : List ℕ) (y : ℕ) → distinct nat_eq (xs ++ distinct n
 joined_last xs ys y same true e =
     ap (λ ds. distinct nat_eq (xs ++ ds)) (distinct_kept ys y e) ∙ same
     ∙ sym (ap (distinct nat_eq) (sym (append_assoc xs ys (y ∷ [])))
-    ∙ distinct_kept (xs ++ ys) y (list_any-append (nat_eq y) xs ys ∙ or_true (is_among y xs) (is_among y ys) e))
+    ∙ distinct_kept (xs ++ ys) y (list_any-append (nat_eq y) xs ys ∙ or_right (is_among y xs) (is_among y ys) e))
 joined_last xs ys y same false e =
     ap (λ ds. distinct nat_eq (xs ++ ds)) (distinct_added ys y e)
     ∙ ap (distinct nat_eq) (sym (append_assoc xs (distinct nat_eq ys) (y ∷ [])))
@@ -164,5 +166,5 @@ pub with_classes-is : (classes : List DeclaredClass) (above : List (List ℕ)) �
     → (k : ℕ) → k < length classes → get_or (with_classes above) k [] ≡ k ∷ superinterfaces_of classes k
 with_classes-is classes above e k within =
     row_within (λ class. class ∷ get_or above class []) (length above) [] (with_classes above) refl k
-    (let l = table_length (superinterfaces_of classes) (length classes) above e in omega (arith, within, l))
+    (let l = length-row (superinterfaces_of classes) (length classes) above e in omega (arith, within, l))
     ∙ ap (λ xs. k ∷ xs) (row_within (superinterfaces_of classes) (length classes) [] above e k within)

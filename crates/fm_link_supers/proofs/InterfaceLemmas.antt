@@ -5,15 +5,17 @@ use Rattle.std.specs.Global.{Vec}
 use Rattle.std.proofs.lemmas.Bool.{cases_eq, cases_lt, false≢true}
 use Rattle.std.proofs.lemmas.List.{get_or-replicate, get_or_past, length-map, length-replicate}
 use Rattle.std.proofs.lemmas.List.FromFn.{fill_by_all}
+use Rattle.fm_base.proofs.ListFacts.{map_same}
 use Rattle.fm_world.proofs.Acyclic.{flat_map-same, superinterfaces_of-listed}
 use Rattle.fm_world.proofs.Displays.{class_number-within}
+use Rattle.fm_world.proofs.TableLemmas.{length-row}
 use Rattle.fm_world.specs.Causes.{goes_deep}
 use Rattle.fm_world.specs.Chains.{class_at, distinct, listed_interfaces, superinterfaces_of}
 use Rattle.fm_world.specs.Declarations.{no_class}
 use Rattle.fm_world.specs.Descriptors.{class_number}
 use Rattle.fm_world.specs.declared.declarations.DeclaredClass.{DeclaredClass}
 use Rattle.fm_world.specs.inner.Tables.{numbers_below}
-use Rattle.fm_link_supers.proofs.ParentTables.{map_same, map_twice, row_within, table_length}
+use Rattle.fm_link_supers.proofs.ParentTables.{map_twice, row_within}
 use Rattle.fm_link_supers.specs.inner.InterfaceRounds.{above_by, is_set, IsAboveTo, Lists, settled_one, settled_to}
 use Rattle.fm_link_supers.specs.inner.ListTables.{lists}
 
@@ -129,7 +131,7 @@ pub marks_stay : (classes : List DeclaredClass) (round later : ℕ) (before afte
 marks_stay classes round later before after h old new same =
     let n = length classes in
     let equal = sym new ∙ same ∙ old in
-    fill_by_all (goes_deep later classes) after n false (table_length (goes_deep (suc round) classes) n after new)
+    fill_by_all (goes_deep later classes) after n false (length-row (goes_deep (suc round) classes) n after new)
     (λ k within. row_within (goes_deep round classes) n false after (same ∙ old) k within ∙ sym (later_same classes round later h equal k within))
 
 pub above_stays : (classes : List DeclaredClass) (round later : ℕ) (before after : List Bool) (above : List (List ℕ)) → round ≤ later
@@ -290,4 +292,4 @@ deeper_stays classes round later before after above new h is next same = record 
 
 pub listed_count : (classes : List DeclaredClass) (listed : List (Vec ℕ)) → Lists classes listed → length listed ≡ length classes
 listed_count classes listed same =
-    sym (length-map listed (λ (v : Vec ℕ). v.items)) ∙ table_length (listed_interfaces classes) (length classes) (lists listed) same
+    sym (length-map listed (λ (v : Vec ℕ). v.items)) ∙ length-row (listed_interfaces classes) (length classes) (lists listed) same

@@ -3,6 +3,7 @@ use Rattle.std.proofs.Common.{◌≡◌, refl, sym, ◌∙◌, ap, ℕ, suc, ◌
 use Rattle.std.specs.List.{cons_option, filter_map}
 use Rattle.std.proofs.lemmas.List.{get_or-map, map-append}
 use Rattle.std.proofs.lemmas.Option.{get_or_from_slice_get, slice_get_within}
+use Rattle.fm_base.proofs.ListFacts.{filter_map_agree, map_same}
 use Rattle.fm_code.specs.ConstantPool.{class_name_at}
 use Rattle.fm_code.specs.declared.class_file.ClassDef.{ClassDef}
 use Rattle.fm_link_names.proofs.NameLemmas.{class_text_is}
@@ -11,7 +12,7 @@ use Rattle.fm_link_names.specs.declared.given.GivenFile.{GivenFile}
 use Rattle.fm_link_names.specs.inner.ClassNumbering.{number_in}
 use Rattle.fm_link_names.specs.inner.Files.{AreFiles, IsFile, class_text_in}
 use Rattle.fm_link_names.specs.inner.Numbering.{IsNumberOf}
-use Rattle.fm_link_supers.proofs.ParentTables.{map_classes, map_same}
+use Rattle.fm_link_supers.proofs.ParentTables.{map_classes}
 use Rattle.fm_link_supers.specs.inner.NamedParents.{at_text, class_at_text, class_listed_in, class_named_in, interfaces_by, listed_by, listed_in, NamesClasses, parents_by, superclass_by}
 use Rattle.fm_world.specs.BuiltIns.{built_in}
 use Rattle.fm_world.specs.Chains.{listed_interfaces, parent_of}
@@ -28,10 +29,6 @@ pub filter_map_same : {X Y Z : Type 0} (f : X → Option Z) (g : Y → Option Z)
 filter_map_same f g h same [] = refl
 filter_map_same f g h same (x ∷ xs) =
     ap (λ o. cons_option o (filter_map f xs)) (same x) ∙ ap (cons_option (g (h x))) (filter_map_same f g h same xs)
-
-filter_map_agree : {X Y : Type 0} (f g : X → Option Y) → ((x : X) → f x ≡ g x) → (xs : List X) → filter_map f xs ≡ filter_map g xs
-filter_map_agree f g same [] = refl
-filter_map_agree f g same (x ∷ xs) = ap (λ o. cons_option o (filter_map f xs)) (same x) ∙ ap (cons_option (g x)) (filter_map_agree f g same xs)
 
 and_then_same : {Y : Type 0} (f g : List ℕ → Option Y) → ((name : List ℕ) → f name ≡ g name) → (o : Option (List ℕ)) → option_and_then f o ≡ option_and_then g o
 and_then_same f g same None = refl

@@ -3,11 +3,11 @@ use Rattle.std.proofs.Common.{◌≡◌, refl, sym, ◌∙◌, ap, ℕ, zero, su
 use Rattle.std.specs.Global.{Vec}
 use Rattle.std.specs.List.{flat_map, list_any}
 use Rattle.std.proofs.Math.ListN.{get_or-map}
-use Rattle.std.proofs.lemmas.Bool.{eqb-true}
+use Rattle.std.proofs.lemmas.Bool.{eqb-true, or_right}
 use Rattle.std.proofs.lemmas.List.{append-nil, length-map}
 use Rattle.std.proofs.lemmas.List.FromFn.{length-map-range_with_len}
 use Rattle.fm_link_supers.proofs.Distinct.{among_distinct, distinct_added, distinct_kept}
-use Rattle.fm_link_supers.proofs.Downwards.{among_head, among_left, or_true}
+use Rattle.fm_link_supers.proofs.Downwards.{among_head, among_left}
 use Rattle.fm_link_supers.specs.inner.InterfaceRounds.{above_by, is_set, Lists, ListsOnce, settled_one, settled_to}
 use Rattle.fm_link_supers.specs.inner.ListTables.{lists}
 use Rattle.fm_world.specs.Chains.{distinct, is_among, listed_interfaces}
@@ -45,7 +45,7 @@ distinct_absorbed : (xs ys : List ℕ) → ((y : ℕ) → is_among y ys ≡ true
 distinct_absorbed xs [] within = ap (distinct nat_eq) (append-nil xs)
 distinct_absorbed xs (y ∷ ys) within =
     ap (distinct nat_eq) (sym (append_assoc xs (y ∷ []) ys))
-    ∙ distinct_absorbed (xs ++ y ∷ []) ys (λ z h. among_left z xs (y ∷ []) (within z (or_true (nat_eq z y) (is_among z ys) h)))
+    ∙ distinct_absorbed (xs ++ y ∷ []) ys (λ z h. among_left z xs (y ∷ []) (within z (or_right (nat_eq z y) (is_among z ys) h)))
     ∙ distinct_kept xs y (within y (among_head y ys))
 
 distinct_before : (xs ys zs : List ℕ) → distinct nat_eq xs ≡ distinct nat_eq ys → distinct nat_eq (xs ++ zs) ≡ distinct nat_eq (ys ++ zs)

@@ -2,11 +2,12 @@
 use Rattle.std.proofs.Common.{◌≡◌, refl, sym, ◌∙◌, ap, subst, ℕ, zero, suc, ◌+◌, ◌-◌, ◌<◌, ◌≤◌, ◌⊎◌, inl, inr, ◌==◌, ◌&&◌, ◌||◌, not, Bool, true, false, cond, List, [], ◌∷◌, ◌++◌, length, map, filter, nat_eq, get_or, slice_get, Option, Some, None, IsSome, option_and_then, unwrap_or, arith, zero-add, length-append}
 use Rattle.std.specs.List.{AllByRecursion, cons_option, filter_map, flat_map, list_any}
 use Rattle.std.specs.Str.{bytes_eq}
-use Rattle.std.proofs.lemmas.Bool.{cases_lt, eqb-true, false≢true}
+use Rattle.std.proofs.lemmas.Bool.{cases_lt, eqb-true, false≢true, not-false, or_cases, or_left, or_parts, or_right}
 use Rattle.std.proofs.lemmas.List.{get_or-append-add, get_or_past}
 use Rattle.std.proofs.lemmas.List.FromFn.{get_or-range_with_len, length-range_with_len}
 use Rattle.std.proofs.lemmas.Option.{none-some, same_Some}
 use Rattle.std.specs.Cmp.Lexicographic.{same_text}
+use Rattle.fm_base.proofs.TestFacts.{same-nat_eq}
 use Rattle.fm_code.specs.AccessFlags.{is_interface}
 use Rattle.fm_code.specs.ConstantPool.{AreSlots, class_name_at}
 use Rattle.fm_code.specs.Spells.{HasSpelling}
@@ -15,7 +16,7 @@ use Rattle.fm_code.specs.declared.code_array.Item.{Item}
 use Rattle.fm_code.specs.declared.constant_pool.Entry.{Entry}
 use Rattle.fm_code.specs.declared.constant_pool.Entry.TheVariants as entry
 use Rattle.fm_link_supers.proofs.BuiltInParents.{built_in_fit, is_other_than_object, IsFit, object_is_class, object_number_is, object_parent_is}
-use Rattle.fm_link_supers.proofs.Downwards.{among_head, among_left, either, or_true, same_number}
+use Rattle.fm_link_supers.proofs.Downwards.{among_head, among_left}
 use Rattle.fm_link_supers.proofs.InterfaceLemmas.{any_ends, listed_past}
 use Rattle.fm_link_supers.proofs.ParentTables.{parent_past}
 use Rattle.fm_link_supers.specs.inner.Hierarchy.{AreSound}
@@ -50,22 +51,22 @@ none_of f (y ∷ ys) (suc j) x none at = none_of f ys j x (nil_right (f y) (flat
 pub none_at : (f : ℕ → List Refusal) (xs : List ℕ) (i : ℕ) → flat_map f xs ≡ [] → is_among i xs ≡ true → f i ≡ []
 none_at f [] i none among = absurd (false≢true among)
 none_at f (y ∷ ys) i none among =
-    by_case (none_at f ys i (nil_right (f y) (flat_map f ys) none)) (either (nat_eq i y) (is_among i ys) among) where
+    by_case (none_at f ys i (nil_right (f y) (flat_map f ys) none)) (or_cases (nat_eq i y) (is_among i ys) among) where
       by_case : (is_among i ys ≡ true → f i ≡ []) → (nat_eq i y ≡ true) ⊎ (is_among i ys ≡ true) → f i ≡ []
       by_case later (inl same) = ap f (eqb-true i y same) ∙ nil_left (f y) (flat_map f ys) none
       by_case later (inr there) = later there
 
 -- ---- the indices that are judged
 
-among_filter : (p : ℕ → Bool) (x : ℕ) (xs : List ℕ) → is_among x xs ≡ true → p x ≡ true → is_among x (filter p xs) ≡ true
+pub among_filter : (p : ℕ → Bool) (x : ℕ) (xs : List ℕ) → is_among x xs ≡ true → p x ≡ true → is_among x (filter p xs) ≡ true
 among_filter p x [] among passes = absurd (false≢true among)
 among_filter p x (y ∷ ys) among passes =
-    by_case (λ h. among_filter p x ys h passes) (either (nat_eq x y) (is_among x ys) among) (p y) refl where
+    by_case (λ h. among_filter p x ys h passes) (or_cases (nat_eq x y) (is_among x ys) among) (p y) refl where
       by_case : (is_among x ys ≡ true → is_among x (filter p ys) ≡ true) → (nat_eq x y ≡ true) ⊎ (is_among x ys ≡ true) → (b : Bool) → p y ≡ b
           → is_among x (cond b (y ∷ filter p ys) (filter p ys)) ≡ true
       by_case later (inl same) true e = ap (λ b. b || is_among x (filter p ys)) same
       by_case later (inl same) false e = absurd (false≢true (sym e ∙ sym (ap p (eqb-true x y same)) ∙ passes))
-      by_case later (inr there) true e = or_true (nat_eq x y) (is_among x (filter p ys)) (later there)
+      by_case later (inr there) true e = or_right (nat_eq x y) (is_among x (filter p ys)) (later there)
       by_case later (inr there) false e = later there
 
 judged : (classes : List DeclaredClass) (c : ClassDef) (index : ℕ) → bad_parents classes c ≡ [] → index < length c.pool.entries → is_used c index ≡ true
@@ -76,20 +77,16 @@ judged classes c index none within used =
     let there = is_among_at (pool_indices c) index index inside (get_or-range_with_len 0 n index 0 within ∙ zero-add index) in
     none_at (bad_parent_at classes c) (uses_in_order c) index none (among_filter (is_used c) index (pool_indices c) there used)
 
-pub first_true : (a b : Bool) → a ≡ true → (a || b) ≡ true
-first_true true b e = refl
-first_true false b e = absurd (false≢true e)
-
 pub superclass_used : (c : ClassDef) → is_used c c.super_class ≡ true
 unfolding used_indices
-superclass_used c = or_true (nat_eq c.super_class c.this_class) _ (first_true (nat_eq c.super_class c.super_class) _ (same_number c.super_class))
+superclass_used c = or_right (nat_eq c.super_class c.this_class) _ (or_left (nat_eq c.super_class c.super_class) _ (same-nat_eq c.super_class))
 
 abbrev operands_in_class : ClassDef → List ℕ
 operands_in_class c = filter_map (λ (item : Item). pool_index item.insn) (class_items c)
 
 interface_used : (c : ClassDef) (index : ℕ) → is_among index c.interfaces ≡ true → is_used c index ≡ true
 unfolding used_indices
-interface_used c index among = or_true (nat_eq index c.this_class) _ (or_true (nat_eq index c.super_class) _
+interface_used c index among = or_right (nat_eq index c.this_class) _ (or_right (nat_eq index c.super_class) _
     (among_left index ((c.interfaces ++ flat_map values_of c.fields) ++ operands_in_class c) (flat_map caught_by c.methods)
     (among_left index (c.interfaces ++ flat_map values_of c.fields) (operands_in_class c) (among_left index c.interfaces (flat_map values_of c.fields) among))))
 
@@ -115,7 +112,7 @@ superclass_judged : (classes : List DeclaredClass) (c : ClassDef) → bad_parent
 superclass_judged classes c none within =
     let all = judged classes c c.super_class none within (superclass_used c) in
     not_refused (c.super_class == 0) (is_bad_superclass classes c (name_at c.pool.entries c.super_class)) _ _
-    (if_true (c.super_class == c.super_class) (bad_superclass classes c) (same_number c.super_class) (nil_left (cond (c.super_class == c.super_class) (bad_superclass classes c) []) _ all))
+    (if_true (c.super_class == c.super_class) (bad_superclass classes c) (same-nat_eq c.super_class) (nil_left (cond (c.super_class == c.super_class) (bad_superclass classes c) []) _ all))
 
 pub refused_not : (b : Bool) (r : Refusal) → refused_if b r ≡ [] → b ≡ false
 refused_not false r e = refl
@@ -129,10 +126,6 @@ interface_judged classes c index none within among =
     (if_true (is_among index c.interfaces) _ among (nil_right (cond (index == c.super_class) (bad_superclass classes c) []) _ all))
 
 -- ---- a file
-
-pub fails : (a b : Bool) → (a || b) ≡ false → (a ≡ false) × (b ≡ false)
-fails false b e = (refl, e)
-fails true b e = absurd (false≢true (sym e))
 
 pub some_entries : (entries : List Entry) → AreSlots true entries → 0 < length entries
 some_entries [] slots = absurd slots
@@ -170,13 +163,13 @@ object_alone classes name object true true is e = ap is_other_than_object (ap (c
 
 all_at : (P : ℕ → Type 0) (xs : List ℕ) (i : ℕ) → AllByRecursion P xs → is_among i xs ≡ true → P i
 all_at P [] i all among = absurd (false≢true among)
-all_at P (x ∷ xs) i all among = by_case (all_at P xs i all.1) (either (nat_eq i x) (is_among i xs) among) where
+all_at P (x ∷ xs) i all among = by_case (all_at P xs i all.1) (or_cases (nat_eq i x) (is_among i xs) among) where
   by_case : (is_among i xs ≡ true → P i) → (nat_eq i x ≡ true) ⊎ (is_among i xs ≡ true) → P i
   by_case later (inl same) = subst P (sym (eqb-true i x same)) all.0
   by_case later (inr there) = later there
 
 -- an interface that is refused: it is none, or leads into a cycle
-abbrev is_wrong : List DeclaredClass → ℕ → Bool
+abbrev pub is_wrong : List DeclaredClass → ℕ → Bool
 is_wrong classes i = not (is_interface_at classes i) || goes_deep (length classes) classes i
 
 none_wrong : (q : ℕ → Bool) (o : Option ℕ) (rest : List ℕ) → is_there_and q o ≡ false → list_any q rest ≡ false → list_any q (cons_option o rest) ≡ false
@@ -189,7 +182,7 @@ listed_good : (classes : List DeclaredClass) (entries : List Entry) (indices : L
 listed_good classes entries [] good = refl
 listed_good classes entries (x ∷ xs) good =
     none_wrong (is_wrong classes) (class_number classes (name_at entries x)) (filter_map (class_number classes) (map (name_at entries) xs))
-    (good x (among_head x xs)) (listed_good classes entries xs (λ index among. good index (or_true (nat_eq index x) (is_among index xs) among)))
+    (good x (among_head x xs)) (listed_good classes entries xs (λ index among. good index (or_right (nat_eq index x) (is_among index xs) among)))
 
 interfaces_good : (classes : List DeclaredClass) (c : ClassDef) → HasSpelling c → bad_parents classes c ≡ []
     → list_any (is_wrong classes) (filter_map (class_number classes) (map (name_at c.pool.entries) c.interfaces)) ≡ false
@@ -197,7 +190,7 @@ interfaces_good classes c spelled none =
     listed_good classes c.pool.entries c.interfaces
     (λ index among.
     let some = all_at (λ i. IsSome (class_name_at c.pool.entries i)) c.interfaces index spelled.1.interfaces among in
-    (fails _ (is_there_and (is_wrong classes) (class_number classes (name_at c.pool.entries index)))
+    (or_parts _ (is_there_and (is_wrong classes) (class_number classes (name_at c.pool.entries index)))
     (interface_judged classes c index none (name_within c.pool.entries index some) among)).1)
 
 file_fit : (classes : List DeclaredClass) (c : ClassDef) (k m : ℕ) → HasSpelling c → bad_parents classes c ≡ [] → object_number classes ≡ Some 0
@@ -210,22 +203,22 @@ file_fit classes c k m spelled none object is =
     let listed : listed_interfaces classes k ≡ filter_map (class_number classes) (map (name_at c.pool.entries) c.interfaces) =
     ap (λ (d : DeclaredClass). filter_map (class_number classes) d.interfaces) is in
     let wrong = ap (list_any (is_wrong classes)) listed ∙ interfaces_good classes c spelled none in
-    let not_sealed = (fails _ _ there.good).0 in
-    let above_class = (fails _ _ not_sealed).0 in
-    let ends = (fails _ _ above_class).0 in
+    let not_sealed = (or_parts _ _ there.good).0 in
+    let above_class = (or_parts _ _ not_sealed).0 in
+    let ends = (or_parts _ _ above_class).0 in
     record {
-      up = ap (goes_up n classes) parent ∙ (fails _ _ above_class).1;
+      up = ap (goes_up n classes) parent ∙ (or_parts _ _ above_class).1;
       deep =
-          any_ends (is_wrong classes) (goes_deep n classes) (λ i e. (fails (not (is_interface_at classes i)) (goes_deep n classes i) e).1)
+          any_ends (is_wrong classes) (goes_deep n classes) (λ i e. (or_parts (not (is_interface_at classes i)) (goes_deep n classes i) e).1)
           (listed_interfaces classes k) wrong;
       only =
-          any_ends (is_wrong classes) (λ i. not (is_interface_at classes i)) (λ i e. (fails (not (is_interface_at classes i)) (goes_deep n classes i) e).0)
+          any_ends (is_wrong classes) (λ i. not (is_interface_at classes i)) (λ i e. (or_parts (not (is_interface_at classes i)) (goes_deep n classes i) e).0)
           (listed_interfaces classes k) wrong;
-      parent = ap (is_there_and (is_interface_at classes)) parent ∙ (fails _ _ ends).1;
+      parent = ap (is_there_and (is_interface_at classes)) parent ∙ (or_parts _ _ ends).1;
       marker =
           ap (λ (d : DeclaredClass). is_interface d.flags && is_other_than_object (parent_of classes k)) is
           ∙ ap (λ o. is_interface c.flags && is_other_than_object o) parent
-          ∙ object_alone classes there.name object (is_interface c.flags) (bytes_eq there.name object_name) refl (fails _ _ not_sealed).1;
+          ∙ object_alone classes there.name object (is_interface c.flags) (bytes_eq there.name object_name) refl (or_parts _ _ not_sealed).1;
     }
 
 -- ---- all classes
@@ -288,14 +281,10 @@ all_fit given spelled none k = by_place (cases_lt k (length built_in)) where
 none_among : (p : ℕ → Bool) (x : ℕ) (xs : List ℕ) → list_any p xs ≡ false → is_among x xs ≡ true → p x ≡ false
 none_among p x [] none among = absurd (false≢true among)
 none_among p x (y ∷ ys) none among =
-    let both = fails (p y) (list_any p ys) none in by_case both.0 (none_among p x ys both.1) (either (nat_eq x y) (is_among x ys) among) where
+    let both = or_parts (p y) (list_any p ys) none in by_case both.0 (none_among p x ys both.1) (or_cases (nat_eq x y) (is_among x ys) among) where
       by_case : p y ≡ false → (is_among x ys ≡ true → p x ≡ false) → (nat_eq x y ≡ true) ⊎ (is_among x ys ≡ true) → p x ≡ false
       by_case here later (inl same) = ap p (eqb-true x y same) ∙ here
       by_case here later (inr there) = later there
-
-is_not : (b : Bool) → not b ≡ false → b ≡ true
-is_not true e = refl
-is_not false e = absurd (false≢true (sym e))
 
 -- no chain leads into a cycle, and only interfaces are listed
 pub are_sound : (given : List ClassDef) → AllByRecursion HasSpelling given → refused_parents given ≡ [] → AreSound (classes_of given)
@@ -306,7 +295,7 @@ are_sound given spelled none =
       acyclic = record { superclasses = λ class within. (fit class).up; interfaces = λ class within. (fit class).deep };
       only_interfaces =
           λ class number among.
-          is_not (is_interface_at classes number)
+          not-false (is_interface_at classes number)
           (none_among (λ i. not (is_interface_at classes i)) number (listed_interfaces classes class) (fit class).only among);
     }
 
@@ -332,7 +321,7 @@ tree_parents given spelled none class parent e =
 
 object_is : (o : Option ℕ) → is_other_than_object o ≡ false → o ≡ Some 0
 object_is None e = absurd (false≢true (sym e))
-object_is (Some k) e = ap Some (eqb-true k 0 (is_not (nat_eq k 0) e))
+object_is (Some k) e = ap Some (eqb-true k 0 (not-false (nat_eq k 0) e))
 
 -- the superclass of an interface is Object
 pub tree_interfaces : (given : List ClassDef) → AllByRecursion HasSpelling given → refused_parents given ≡ [] → (class : ℕ)

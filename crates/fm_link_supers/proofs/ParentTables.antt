@@ -4,6 +4,8 @@ use Rattle.std.specs.Global.{Vec}
 use Rattle.std.proofs.lemmas.Bool.{cases_lt}
 use Rattle.std.proofs.lemmas.List.{get_or_past, get_or-map, length-map}
 use Rattle.std.proofs.lemmas.List.FromFn.{fill_by_all, get_or-map-range_with_len, length-map-range_with_len}
+use Rattle.fm_base.proofs.ListFacts.{map_same}
+use Rattle.fm_world.proofs.TableLemmas.{length-row}
 use Rattle.fm_world.specs.Causes.{goes_up}
 use Rattle.fm_world.specs.Chains.{chain_of, class_at, parent_of, upwards}
 use Rattle.fm_world.specs.Declarations.{no_class}
@@ -14,10 +16,6 @@ use Rattle.fm_link_supers.specs.inner.ListTables.{list_in, lists}
 use Rattle.fm_link_supers.specs.inner.ParentTable.{chain_by, climbs, parent_at, upwards_by}
 
 -- ---- tables by the numbers of the classes
-
-pub map_same : {X Y : Type 0} (f g : X → Y) → ((x : X) → f x ≡ g x) → (xs : List X) → map f xs ≡ map g xs
-map_same f g same [] = refl
-map_same f g same (x ∷ xs) = ap (λ y. y ∷ map f xs) (same x) ∙ ap (λ ys. g x ∷ ys) (map_same f g same xs)
 
 pub map_twice : {X Y Z : Type 0} (f : Y → Z) (g : X → Y) (xs : List X) → map f (map g xs) ≡ map (λ x. f (g x)) xs
 map_twice f g [] = refl
@@ -64,28 +62,25 @@ upwards_is classes parents at (suc bound) None = refl
 upwards_is classes parents at (suc bound) (Some class) =
     ap (λ xs. class ∷ xs) (ap (upwards_by bound parents) (at class) ∙ upwards_is classes parents at bound (parent_of classes class))
 
-pub table_length : {X : Type 0} (f : ℕ → X) (n : ℕ) (rows : List X) → rows ≡ map f (numbers_below n) → length rows ≡ n
-table_length f n rows e = ap length e ∙ length-map-range_with_len f 0 n
-
 -- what is asked of the table with as many steps as there are classes
 pub climbs_is : (classes : List DeclaredClass) (parents : List (Option ℕ)) → parents ≡ map (parent_of classes) (numbers_below (length classes)) → (class : Option ℕ)
     → climbs (length parents) parents class ≡ goes_up (length classes) classes class
 climbs_is classes parents e class =
-    ap (λ n. climbs n parents class) (table_length (parent_of classes) (length classes) parents e)
+    ap (λ n. climbs n parents class) (length-row (parent_of classes) (length classes) parents e)
     ∙ climbs_by classes parents (parent_at_is classes parents e) (length classes) class
 
 pub chain_by_is : (classes : List DeclaredClass) (parents : List (Option ℕ)) → parents ≡ map (parent_of classes) (numbers_below (length classes)) → (class : ℕ)
     → chain_by parents class ≡ chain_of classes class
 unfolding chain_of
 chain_by_is classes parents e class =
-    ap (λ n. upwards_by (suc n) parents (Some class)) (table_length (parent_of classes) (length classes) parents e)
+    ap (λ n. upwards_by (suc n) parents (Some class)) (length-row (parent_of classes) (length classes) parents e)
     ∙ upwards_is classes parents (parent_at_is classes parents e) (suc (length classes)) (Some class)
 
 -- the table of chains that the code makes
 pub chains_are : (classes : List DeclaredClass) (parents : List (Option ℕ)) → parents ≡ map (parent_of classes) (numbers_below (length classes))
     → (chains : List (List ℕ)) → chains ≡ map (chain_by parents) (numbers_below (length parents)) → chains ≡ map (chain_of classes) (numbers_below (length classes))
 chains_are classes parents e chains made =
-    made ∙ ap (λ n. map (chain_by parents) (numbers_below n)) (table_length (parent_of classes) (length classes) parents e)
+    made ∙ ap (λ n. map (chain_by parents) (numbers_below n)) (length-row (parent_of classes) (length classes) parents e)
     ∙ map_same (chain_by parents) (chain_of classes) (chain_by_is classes parents e) (numbers_below (length classes))
 
 -- ---- lists of classes

@@ -2,14 +2,14 @@
 use Rattle.std.proofs.Common.{◌≡◌, refl, sym, ◌∙◌, ap, ℕ, suc, zero, ◌<◌, ◌≤◌, ◌||◌, Bool, true, false, List, [], ◌∷◌, length, get_or, map, nat_lt, replicate, set, arith, ◌⊎◌, inl, inr, get_or-set_other, get_or-set_same, length-set}
 use Rattle.std.specs.List.{list_any}
 use Rattle.std.proofs.Math.ListN.{get_or-map}
-use Rattle.std.proofs.lemmas.Bool.{cases_eq, cases_lt, le-ltb, lt-ltb}
+use Rattle.std.proofs.lemmas.Bool.{cases_eq, cases_lt, le-ltb, lt-ltb, or_right}
 use Rattle.std.proofs.lemmas.List.{get_or-replicate, get_or_past, length-replicate}
+use Rattle.fm_world.proofs.TableLemmas.{length-row}
 use Rattle.fm_world.specs.Causes.{goes_deep}
 use Rattle.fm_world.specs.declared.declarations.DeclaredClass.{DeclaredClass}
 use Rattle.fm_world.specs.inner.Tables.{numbers_below}
-use Rattle.fm_link_supers.proofs.Downwards.{or_true}
 use Rattle.fm_link_supers.proofs.InterfaceLemmas.{goes_deep_ends}
-use Rattle.fm_link_supers.proofs.ParentTables.{row_within, table_length}
+use Rattle.fm_link_supers.proofs.ParentTables.{row_within}
 use Rattle.fm_link_supers.specs.inner.InterfaceRounds.{is_set, HavePassed}
 
 -- none is passed at first
@@ -24,7 +24,7 @@ none_passed marks listed passed n is class i before within = absurd (omega (arit
 some_passes : (p : ℕ → Bool) (xs : List ℕ) (i : ℕ) → i < length xs → p (get_or xs i 0) ≡ true → list_any p xs ≡ true
 some_passes p [] i h e = absurd (omega (arith, h))
 some_passes p (x ∷ xs) zero h e = ap (λ b. b || list_any p xs) e
-some_passes p (x ∷ xs) (suc i) h e = or_true (p x) (list_any p xs) (some_passes p xs i (omega (arith, h)) e)
+some_passes p (x ∷ xs) (suc i) h e = or_right (p x) (list_any p xs) (some_passes p xs i (omega (arith, h)) e)
 
 none_passes : (p : ℕ → Bool) (xs : List ℕ) → ((i : ℕ) → i < length xs → p (get_or xs i 0) ≡ false) → list_any p xs ≡ false
 none_passes p [] none = refl
@@ -111,4 +111,4 @@ stays_passed classes round before after listed passed old new are class i low wi
           row_within (goes_deep (suc round) classes) (length classes) false after new x h
           ∙ goes_deep_ends classes round x (sym (row_within (goes_deep round classes) (length classes) false before old x h) ∙ are class i low within)
       by_place (inr h) =
-          get_or_past after x false (omega (arith, h, table_length (goes_deep (suc round) classes) (length classes) after new))
+          get_or_past after x false (omega (arith, h, length-row (goes_deep (suc round) classes) (length classes) after new))

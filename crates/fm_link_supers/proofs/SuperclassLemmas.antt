@@ -3,6 +3,7 @@ use Rattle.std.proofs.Common.{◌≡◌, refl, sym, ◌∙◌, ap, subst, ℕ, z
 use Rattle.std.proofs.lemmas.Bool.{eq-eqb, eqb-true, false≢true, le-ltb, lt-ltb}
 use Rattle.std.proofs.lemmas.List.{get_or_at, length-append}
 use Rattle.std.proofs.lemmas.Option.{get_or_from_slice_get, slice_get-get_or, slice_get_within}
+use Rattle.fm_base.proofs.TestFacts.{and_right}
 use Rattle.fm_world.proofs.Displays.{chain_ends, is_among_at, parent_of-within}
 use Rattle.fm_world.specs.Chains.{chain_of, is_among, parent_of, superclasses_of}
 use Rattle.fm_world.specs.declared.declarations.DeclaredClass.{DeclaredClass}
@@ -56,14 +57,10 @@ chain_within classes linear (suc bound) class x short within among =
 
 -- ---- a number that is somewhere is among the others
 
-second_holds : (a b : Bool) → (a && b) ≡ true → b ≡ true
-second_holds true b e = e
-second_holds false b e = absurd (false≢true e)
-
 stands_among : (chain : List ℕ) (far number : ℕ) → stands_above chain far number ≡ true → is_among number chain ≡ true
 stands_among chain far number e =
     by_option (slice_get chain (length chain - far)) refl
-    (second_holds (nat_lt far (length chain)) (is_this number (slice_get chain (length chain - far))) e) where
+    (and_right (nat_lt far (length chain)) (is_this number (slice_get chain (length chain - far))) e) where
       by_option : (o : Option ℕ) → slice_get chain (length chain - far) ≡ o → is_this number o ≡ true → is_among number chain ≡ true
       by_option None there h = absurd (false≢true h)
       by_option (Some n) there h =

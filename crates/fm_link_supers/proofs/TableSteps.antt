@@ -3,7 +3,7 @@ use Rattle.std.proofs.Common.{◌≡◌, refl, sym, ◌∙◌, ap, ℕ, ◌+◌,
 use Rattle.std.specs.Global.{Vec}
 use Rattle.std.specs.List.{filter_map, flat_map}
 use Rattle.std.proofs.lemmas.List.{append-nil, get_or_default, map-append, drop_all}
-use Rattle.fm_link_names.proofs.Drops.{drop_here}
+use Rattle.fm_base.proofs.ListFacts.{drop_here}
 use Rattle.fm_link_supers.specs.inner.ListTables.{lists}
 
 -- what a step adds, and then what is left, is what was left before it

@@ -22,9 +22,3 @@ take_next xs i x there = take_more xs i x (slice_get_within xs i x there) ∙ ap
 pub AllByRecursion-next : {X : Type 0} (P : X → Type 0) (xs : List X) (i : ℕ) (x : X) → slice_get xs i ≡ Some x → AllByRecursion P (take i xs) → P x → AllByRecursion P (take (i + 1) xs)
 AllByRecursion-next P xs i x there first next =
     subst (AllByRecursion P) (sym (take_next xs i x there)) (AllByRecursion-append P (take i xs) (x ∷ []) first (next, tt))
-
--- what holds of each element holds of the one at an index
-pub AllByRecursion-at : {X : Type 0} (P : X → Type 0) (xs : List X) (i : ℕ) (x : X) → AllByRecursion P xs → slice_get xs i ≡ Some x → P x
-AllByRecursion-at P [] i x all there = absurd (let past = slice_get_within [] i x there in omega arith)
-AllByRecursion-at P (y ∷ xs) zero x all there = let same : y ≡ x = cc in subst P same all.0
-AllByRecursion-at P (y ∷ xs) (suc i) x all there = AllByRecursion-at P xs i x all.1 there

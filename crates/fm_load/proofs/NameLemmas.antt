@@ -1,6 +1,7 @@
 -- The places of a class that is spelled have names.
 use Rattle.std.proofs.Common.{◌≡◌, ℕ, List, Option, Some, IsSome, IsSomeAnd}
 use Rattle.std.specs.List.{slice_get}
+use Rattle.fm_base.proofs.ListFacts.{AllByRecursion-at}
 use Rattle.fm_base.proofs.OptionFacts.{Some-from_some_and, IsSome-from_some, IsSomeAnd-from_some}
 use Rattle.fm_code.specs.AccessFlags.{is_interface}
 use Rattle.fm_code.specs.ConstantPool.{utf8_at}
@@ -14,7 +15,6 @@ use Rattle.fm_code.specs.declared.profile.Place.{Place}
 use Rattle.fm_code.specs.declared.profile.Place.TheVariants as place
 use Rattle.fm_code.specs.declared.profile.OverLimit.{OverLimit}
 use Rattle.fm_load.specs.ClassRefusal.{HasNameAt, PlaceHasName}
-use Rattle.fm_load.proofs.ListLemmas.{AllByRecursion-at}
 
 -- what is there and has a property is there
 there : {X : Type 0} (o : Option X) (P : X → Type 0) → IsSomeAnd o P → IsSome o

@@ -1,9 +1,9 @@
 -- Texts that are gone over unit by unit.
 use Rattle.std.proofs.Common.{◌≡◌, ℕ, suc, ◌<◌, ◌≤◌, ◌-◌, min, ◌==◌, ℤ, pos, ◌+ℤ◌, ◌-ℤ◌, ◌*ℤ◌, true, false, if◌then◌else◌, List, [], ◌∷◌, ◌++◌, length, take, drop, get_or, refl, ap, sym, ◌∙◌, arith, length-drop, ◌⊎◌, inl, inr}
 use Rattle.std.proofs.Math.Seq.{drop-cons, take-suc}
+use Rattle.std.proofs.lemmas.Bool.{cases_lt}
 use Rattle.std.proofs.lemmas.Int.{ints}
 use Rattle.fm_alu.specs.TwosComplement.{signed}
-use Rattle.fm_frames.proofs.FrameValues.{below_or_not}
 use Rattle.fm_frames.specs.NativeRows.{compared, hash_from}
 
 -- the hash of what is left, after one unit more
@@ -38,7 +38,7 @@ compared-end (u ∷ us) (v ∷ vs) (inr e) = absurd (omega (arith, e))
 pub compared-rest : (units others : List ℕ) (i : ℕ) → i ≤ length units → i ≤ length others → min (length units) (length others) ≤ i
     → compared (drop i units) (drop i others) ≡ (pos (length units) -ℤ pos (length others))
 compared-rest units others i within within' end =
-    compared-end (drop i units) (drop i others) (side (below_or_not (length units) (length others)))
+    compared-end (drop i units) (drop i others) (side (cases_lt (length units) (length others)))
     ∙ (λ j. pos (length-drop i units j) -ℤ pos (length-drop i others j))
     ∙ same (length units) (length others) within within' where
       side : (length units < length others) ⊎ (length others ≤ length units) → (length (drop i units) ≡ 0) ⊎ (length (drop i others) ≡ 0)

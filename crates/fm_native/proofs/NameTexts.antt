@@ -20,13 +20,8 @@ use Rattle.fm_native.specs.Serving.{HoldsNames}
 use Rattle.fm_cells.specs.Stores.{Store}
 use Rattle.fm_frames.specs.States.{State}
 use Rattle.fm_world.specs.Chains.{class_at}
-use Rattle.fm_world.specs.Programs.{class_info, Outline}
+use Rattle.fm_world.specs.Programs.{Outline}
 use Rattle.std.specs.Fmt.{digits}
-
--- the name of a class as the code has it
-pub name-of-info : (o : Outline) (class : ℕ) → (class_info o class).name ≡ (class_at o.classes class).name
-unfolding class_info
-name-of-info o class = refl
 
 -- the name of a class, and the same in a descriptor
 pub class-alone : (o : Outline) (t : TypeRef) (class : ClassId) (name : List ℕ) → t.base ≡ base.OfClass class → t.dims ≡ 0 → (class_at o.classes class.0).name ≡ name

@@ -1,44 +1,34 @@
 -- Busy by computation and by a witness.
-use Rattle.std.proofs.Common.{◌≡◌, ◌⊎◌, ℕ, ◌<◌, ◌||◌, Bool, true, false, length, reverse, Option, Some, None, IsSomeAnd, refl, inl, inr, ⊎_elim, eq-eqb, arith, Contains}
+use Rattle.std.proofs.Common.{◌≡◌, ◌⊎◌, ℕ, ◌<◌, ◌||◌, Bool, true, false, length, reverse, Option, Some, None, IsSomeAnd, refl, ⊎_elim, eq-eqb, arith, Contains}
 use Rattle.std.specs.Prelude.{is_some, nat_eq, option_and_then, slice_get}
 use Rattle.std.specs.List.{list_any, range_with_len}
-use Rattle.std.proofs.lemmas.Bool.{eqb-true, false≢true}
+use Rattle.std.proofs.lemmas.Bool.{and_from, eqb-true, false≢true, or_cases, or_left, or_right}
 use Rattle.std.proofs.lemmas.List.{length-reverse}
 use Rattle.std.proofs.lemmas.Option.{slice_get_within}
+use Rattle.fm_base.proofs.ContainsFacts.{any-found}
+use Rattle.fm_base.proofs.TestFacts.{and_left, and_right}
 use Rattle.fm_conn.proofs.ListLemmas.{Contains-range}
 use Rattle.fm_conn.specs.Nodes.{depth_at, IsNode, Local, Slot, TypedMethod, word_at}
 use Rattle.fm_types.specs.States.{is_reference, TypeState}
 use Rattle.fm_types.specs.Typed.{state_at}
 use Rattle.fm_types.specs.declared.slots.Slot as slots
-use Rattle.fm_place.proofs.PlaceLemmas.{any-found, any-from, both-first, both-from, both-second}
+use Rattle.fm_place.proofs.PlaceLemmas.{any-from}
 use Rattle.fm_place.specs.Laws.{BusyIsByWitness, WordsKeepBusy}
 use Rattle.fm_place.specs.Places.{InLocal, InWord, is_busy, is_local_in, is_reference_word, is_word_in, IsBusy}
 
-pub either : (a b : Bool) → (a || b) ≡ true → (a ≡ true) ⊎ (b ≡ true)
-either true b holds = inl refl
-either false b holds = inr holds
-
-pub from-first : (a b : Bool) → a ≡ true → (a || b) ≡ true
-from-first true b holds = refl
-from-first false b holds = absurd (false≢true holds)
-
-pub from-second : (a b : Bool) → b ≡ true → (a || b) ≡ true
-from-second true b holds = refl
-from-second false b holds = holds
-
-word-node : (w : Option slots.Slot) → is_reference_word w ≡ true → IsSomeAnd w (λ s. is_reference s ≡ true)
+pub word-node : (w : Option slots.Slot) → is_reference_word w ≡ true → IsSomeAnd w (λ s. is_reference s ≡ true)
 word-node None holds = absurd (false≢true holds)
 word-node (Some s) holds = holds
 
-node-word : (w : Option slots.Slot) → IsSomeAnd w (λ s. is_reference s ≡ true) → is_reference_word w ≡ true
+pub node-word : (w : Option slots.Slot) → IsSomeAnd w (λ s. is_reference s ≡ true) → is_reference_word w ≡ true
 node-word None node = absurd node
 node-word (Some s) node = node
 
-abbrev depth_of : Option TypeState → ℕ
+abbrev pub depth_of : Option TypeState → ℕ
 depth_of None = 0
 depth_of (Some s) = length s.stack
 
-slot-depth : (s : TypeState) (depth : ℕ) (w : Option slots.Slot) → slice_get (reverse s.stack) depth ≡ w → IsSomeAnd w (λ v. is_reference v ≡ true)
+pub slot-depth : (s : TypeState) (depth : ℕ) (w : Option slots.Slot) → slice_get (reverse s.stack) depth ≡ w → IsSomeAnd w (λ v. is_reference v ≡ true)
     → depth < length s.stack
 slot-depth s depth None same node = absurd node
 slot-depth s depth (Some v) same node =
@@ -46,12 +36,12 @@ slot-depth s depth (Some v) same node =
     let count = length-reverse s.stack in
     omega (arith, inside, count)
 
-state-depth : (o : Option TypeState) (depth : ℕ)
+pub state-depth : (o : Option TypeState) (depth : ℕ)
     → IsSomeAnd (option_and_then (λ (s : TypeState). slice_get (reverse s.stack) depth) o) (λ v. is_reference v ≡ true) → depth < depth_of o
 state-depth None depth node = absurd node
 state-depth (Some s) depth node = slot-depth s depth (slice_get (reverse s.stack) depth) refl node
 
-node-depth : (x : TypedMethod) (j depth : ℕ) → IsNode x (Slot j depth) → depth < depth_at x j
+pub node-depth : (x : TypedMethod) (j depth : ℕ) → IsNode x (Slot j depth) → depth < depth_at x j
 node-depth x j depth node = state-depth (state_at x.states j) depth node
 
 -- what has a word has a state
@@ -62,11 +52,11 @@ word-reached (Some s) depth node = refl
 
 pub words_keep_busy : WordsKeepBusy
 words_keep_busy facts x j depth node =
-    both-from (is_some (state_at x.states j)) (words || locals) (word-reached (state_at x.states j) depth node)
-    (from-first words locals
+    and_from (is_some (state_at x.states j)) (words || locals) (word-reached (state_at x.states j) depth node)
+    (or_left words locals
     (any-from (is_word_in facts x class j) (range_with_len 0 (depth_at x j)) depth
     (Contains-range 0 (depth_at x j) depth (omega arith) (omega (arith, node-depth x j depth node)))
-    (both-from (is_reference_word (word_at x j depth)) (nat_eq (facts.class x.number (Slot j depth)) class) (node-word (word_at x j depth) node)
+    (and_from (is_reference_word (word_at x j depth)) (nat_eq (facts.class x.number (Slot j depth)) class) (node-word (word_at x j depth) node)
     (eq-eqb class class refl)))) where
       class : ℕ
       class = facts.class x.number (Slot j depth)
@@ -89,36 +79,36 @@ busy_is_by_witness facts x class j within = (forth, back) where
       → (depth : ℕ) × Contains (range_with_len 0 (depth_at x j)) depth × (is_word_in facts x class j depth ≡ true) → IsBusy facts x class j
   in_word reached (depth, inside, passes) =
       InWord depth reached
-      (word-node (word_at x j depth) (both-first (is_reference_word (word_at x j depth)) (nat_eq (facts.class x.number (Slot j depth)) class) passes))
+      (word-node (word_at x j depth) (and_left (is_reference_word (word_at x j depth)) (nat_eq (facts.class x.number (Slot j depth)) class) passes))
       (eqb-true (facts.class x.number (Slot j depth)) class
-      (both-second (is_reference_word (word_at x j depth)) (nat_eq (facts.class x.number (Slot j depth)) class) passes))
+      (and_right (is_reference_word (word_at x j depth)) (nat_eq (facts.class x.number (Slot j depth)) class) passes))
 
   in_local : is_some (state_at x.states j) ≡ true
       → (k : ℕ) × Contains (range_with_len 0 x.code.max_locals) k × (is_local_in facts x class j k ≡ true) → IsBusy facts x class j
   in_local reached (k, inside, passes) =
-      InLocal k reached (both-first (facts.live x.number k j) (nat_eq (facts.class x.number (Local k)) class) passes)
+      InLocal k reached (and_left (facts.live x.number k j) (nat_eq (facts.class x.number (Local k)) class) passes)
       (eqb-true (facts.class x.number (Local k)) class
-      (both-second (facts.live x.number k j) (nat_eq (facts.class x.number (Local k)) class) passes))
+      (and_right (facts.live x.number k j) (nat_eq (facts.class x.number (Local k)) class) passes))
 
   forth : is_busy facts x class j ≡ true → IsBusy facts x class j
   forth holds =
-      let reached = both-first (is_some (state_at x.states j)) (words || locals) holds in
+      let reached = and_left (is_some (state_at x.states j)) (words || locals) holds in
       ⊎_elim (λ word. in_word reached (any-found (is_word_in facts x class j) (range_with_len 0 (depth_at x j)) word))
       (λ live. in_local reached (any-found (is_local_in facts x class j) (range_with_len 0 x.code.max_locals) live))
-      (either words locals (both-second (is_some (state_at x.states j)) (words || locals) holds))
+      (or_cases words locals (and_right (is_some (state_at x.states j)) (words || locals) holds))
 
   back : IsBusy facts x class j → is_busy facts x class j ≡ true
   back (InWord depth reached node same) =
-      both-from (is_some (state_at x.states j)) (words || locals) reached
-      (from-first words locals
+      and_from (is_some (state_at x.states j)) (words || locals) reached
+      (or_left words locals
       (any-from (is_word_in facts x class j) (range_with_len 0 (depth_at x j)) depth
       (Contains-range 0 (depth_at x j) depth (omega arith) (omega (arith, node-depth x j depth node)))
-      (both-from (is_reference_word (word_at x j depth)) (nat_eq (facts.class x.number (Slot j depth)) class) (node-word (word_at x j depth) node)
+      (and_from (is_reference_word (word_at x j depth)) (nat_eq (facts.class x.number (Slot j depth)) class) (node-word (word_at x j depth) node)
       (eq-eqb (facts.class x.number (Slot j depth)) class same))))
   back (InLocal k reached live same) =
-      both-from (is_some (state_at x.states j)) (words || locals) reached
-      (from-second words locals
+      and_from (is_some (state_at x.states j)) (words || locals) reached
+      (or_right words locals
       (any-from (is_local_in facts x class j) (range_with_len 0 x.code.max_locals) k
       (Contains-range 0 x.code.max_locals k (omega arith) (omega (arith, within k live)))
-      (both-from (facts.live x.number k j) (nat_eq (facts.class x.number (Local k)) class) live
+      (and_from (facts.live x.number k j) (nat_eq (facts.class x.number (Local k)) class) live
       (eq-eqb (facts.class x.number (Local k)) class same))))

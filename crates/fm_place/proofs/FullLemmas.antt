@@ -6,8 +6,9 @@ use Rattle.std.proofs.lemmas.Bool.Decides.{eqb_tells}
 use Rattle.std.proofs.lemmas.List.{length-map}
 use Rattle.std.proofs.lemmas.List.FromFn.{get_or-map-range_with_len, length-map-range_with_len}
 use Rattle.std.proofs.lemmas.Option.{none-some, option_and_then_some}
+use Rattle.fm_base.proofs.ContainsFacts.{Contains-cons_cases}
 use Rattle.fm_base.specs.declared.limits.TheConstants.{MAX_LOCAL_WORDS}
-use Rattle.fm_code.proofs.EdgesLemmas.{Contains-cons_cases, Contains-first, Contains-from_filter, Contains-from_map, Contains-later}
+use Rattle.fm_code.proofs.EdgesLemmas.{Contains-first, Contains-from_filter, Contains-from_map, Contains-later}
 use Rattle.fm_conn.specs.Facts.{Facts}
 use Rattle.fm_conn.specs.Nodes.{TypedMethod}
 use Rattle.fm_world.specs.Programs.{Program, program_of}

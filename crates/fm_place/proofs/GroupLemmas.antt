@@ -6,20 +6,13 @@ use Rattle.std.proofs.lemmas.List.{get_or-replicate, get_or-set_other, get_or-se
 use Rattle.std.proofs.lemmas.Option.{none-some, slice_get-get_or, slice_get_within}
 use Rattle.std.proofs.Math.Bool.{or-false, or-true}
 use Rattle.std.proofs.Math.ListN.{get_or-append}
+use Rattle.fm_base.proofs.ListFacts.{slice_get_push}
+use Rattle.fm_base.proofs.TestFacts.{apart-nat_eq, same_test}
 use Rattle.fm_base.specs.Rows.{has, IsUnion}
 use Rattle.fm_flow.proofs.RowFacts.{has-replicate}
 use Rattle.fm_flow.specs.inner.LiveWalks.{row_of}
 use Rattle.fm_place.proofs.FullLemmas.{some-same}
-use Rattle.fm_place.proofs.SiteLemmas.{same_test}
 use Rattle.fm_place.specs.inner.PlanRows.{AreBelow, AreMembers, classes_of, is_class, IsGroupsOf, IsRowOf, SetsBit}
-
--- ---- tests
-
-pub differs : (a b : ℕ) → a ≢ b → nat_eq a b ≡ false
-differs a b apart = by_test (nat_eq a b) refl where
-  by_test : (t : Bool) → nat_eq a b ≡ t → t ≡ false
-  by_test true is = absurd (apart (eqb-true a b is))
-  by_test false is = refl
 
 -- ---- elements
 
@@ -27,10 +20,6 @@ slice_get-longer : {X : Type 0} (xs : List X) (y : X) (k : ℕ) (x : X) → slic
 slice_get-longer [] y k x there = absurd (none-some x there)
 slice_get-longer (z ∷ xs) y zero x there = there
 slice_get-longer (z ∷ xs) y (suc k) x there = slice_get-longer xs y k x there
-
-slice_get-last : {X : Type 0} (xs : List X) (y : X) → slice_get (xs ++ y ∷ []) (length xs) ≡ Some y
-slice_get-last [] y = refl
-slice_get-last (x ∷ xs) y = slice_get-last xs y
 
 slice_get-cases : {X : Type 0} (xs : List X) (y : X) (k : ℕ) (x : X) → slice_get (xs ++ y ∷ []) k ≡ Some x
     → (slice_get xs k ≡ Some x) ⊎ ((k ≡ length xs) × (y ≡ x))
@@ -48,12 +37,12 @@ module _ (held of_holders : List ℕ) (numbers after : ℕ → Option ℕ) (clas
   here = updates class ∙ ap (λ b. cond b (Some group) (numbers class)) (eq-eqb class class refl)
 
   apart : (c : ℕ) → class ≢ c → after c ≡ numbers c
-  apart c other = updates c ∙ ap (λ b. cond b (Some group) (numbers c)) (differs class c other)
+  apart c other = updates c ∙ ap (λ b. cond b (Some group) (numbers c)) (apart-nat_eq class c other)
 
   -- the group is the place of a holder of the class
   placed : (o : Option ℕ) → numbers class ≡ o → slice_get (held ++ class ∷ []) group ≡ Some class
   placed None none =
-      subst (λ g. slice_get (held ++ class ∷ []) g ≡ Some class) (sym (is ∙ ap (λ o. unwrap_or o (length held)) none)) (slice_get-last held class)
+      subst (λ g. slice_get (held ++ class ∷ []) g ≡ Some class) (sym (is ∙ ap (λ o. unwrap_or o (length held)) none)) (slice_get_push held class)
   placed (Some g) some =
       subst (λ n. slice_get (held ++ class ∷ []) n ≡ Some class) (sym (is ∙ ap (λ o. unwrap_or o (length held)) some))
       (slice_get-longer held class g class (was.known class g some))
@@ -116,7 +105,7 @@ pub row_unmarked : (held : List (ℕ × ℕ)) (test : ℕ → Bool) (class : ℕ
     → IsRowOf held (λ pair. test pair.1 || is_class (Some class) pair.1) row
 row_unmarked held test class row none is =
     row_retested held (λ pair. test pair.1) (λ pair. test pair.1 || is_class (Some class) pair.1) row
-    (λ h pair there. sym (or-false (test pair.1)) ∙ ap (λ b. test pair.1 || b) (sym (differs class pair.1 (none h pair there)))) is
+    (λ h pair there. sym (or-false (test pair.1)) ∙ ap (λ b. test pair.1 || b) (sym (apart-nat_eq class pair.1 (none h pair there)))) is
 
 -- ---- elements of pairs
 
@@ -158,7 +147,7 @@ bits_more h i here now same_row =
     (λ k. (below k && here) || (same_row same k && eq-eqb i h (sym same) k)) ∙ same_bits here ∙ sym (λ k. next k && here))
     (λ (other : h ≢ i).
     let apart : i ≢ h = λ same. other (sym same) in
-    (λ k. (nat_lt h i && here) || (now && differs i h apart k)) ∙ other_bits (nat_lt h i) here now ∙ (λ k. below_same other k && here))
+    (λ k. (nat_lt h i && here) || (now && apart-nat_eq i h apart k)) ∙ other_bits (nat_lt h i) here now ∙ (λ k. below_same other k && here))
     (cases_eq h i) where
       below_same : h ≢ i → nat_lt h i ≡ nat_lt h (i + 1)
       below_same other =
@@ -191,7 +180,7 @@ sets_bit item bit rows inside within = record { same_count = length-set rows ite
       ∙ ap (λ b. has (row_of rows item) k || b) (sym (eq-eqb bit k (sym same))))
       (λ (other : k ≢ bit).
       get_or-set_other (row_of rows item) bit k true false other ∙ sym (or-false (has (row_of rows item) k))
-      ∙ ap (λ b. has (row_of rows item) k || b) (sym (differs bit k (λ same. other (sym same)))))
+      ∙ ap (λ b. has (row_of rows item) k || b) (sym (apart-nat_eq bit k (λ same. other (sym same)))))
       (cases_eq k bit)
 
   members : (j k : ℕ) → has (row_of (set rows item row) j) k ≡ (has (row_of rows j) k || (nat_eq item j && nat_eq bit k))
@@ -202,7 +191,7 @@ sets_bit item bit rows inside within = record { same_count = length-set rows ite
       ∙ (λ i. has (row_of rows (sym same i)) k || (sym (eq-eqb item j (sym same)) i && nat_eq bit k)))
       (λ (other : j ≢ item).
       ap (λ r. has r k) (get_or-set_other rows item j row [] other) ∙ sym (or-false (has (row_of rows j) k))
-      ∙ ap (λ b. has (row_of rows j) k || (b && nat_eq bit k)) (sym (differs item j (λ same. other (sym same)))))
+      ∙ ap (λ b. has (row_of rows j) k || (b && nat_eq bit k)) (sym (apart-nat_eq item j (λ same. other (sym same)))))
       (cases_eq j item)
 
 -- there is no such row
@@ -212,7 +201,7 @@ sets_none item bit rows past = record {
   same_width = λ j. refl;
   members = λ j k below.
       let apart : item ≢ j = λ same. omega (arith, same, below, past) in
-      sym (or-false (has (row_of rows j) k)) ∙ ap (λ b. has (row_of rows j) k || (b && nat_eq bit k)) (sym (differs item j apart));
+      sym (or-false (has (row_of rows j) k)) ∙ ap (λ b. has (row_of rows j) k || (b && nat_eq bit k)) (sym (apart-nat_eq item j apart));
 }
 
 -- ---- the holders of groups

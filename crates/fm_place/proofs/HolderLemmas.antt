@@ -5,11 +5,11 @@ use Rattle.std.specs.List.{filter_map, flat_map, range_with_len}
 use Rattle.std.proofs.lemmas.Bool.{cases_eq, ltb-false, ltb-true}
 use Rattle.std.proofs.lemmas.List.{length-map}
 use Rattle.std.proofs.lemmas.List.Elements.{filter_map-append}
+use Rattle.fm_base.proofs.TestFacts.{apart-nat_eq}
 use Rattle.fm_base.specs.declared.limits.TheConstants.{MAX_LOCAL_WORDS}
 use Rattle.fm_conn.specs.Facts.{Facts}
 use Rattle.fm_conn.specs.Nodes.{TypedMethod}
 use Rattle.fm_place.proofs.FullLemmas.{held-few}
-use Rattle.fm_place.proofs.GroupLemmas.{differs}
 use Rattle.fm_place.proofs.SiteLemmas.{captured_more}
 use Rattle.fm_place.specs.Insertions.{after_at, all_holders, all_insertions, Holder, numbers_of}
 use Rattle.fm_place.specs.PlansBy.{holder_of, holders_in, paired}
@@ -37,7 +37,7 @@ take_none (suc k) = refl
 
 -- ---- sites that are counted
 
-abbrev made : (ℕ → ℕ) → ℕ → Holder
+abbrev pub made : (ℕ → ℕ) → ℕ → Holder
 made class j = record { site = j; class = class j; looped = false }
 
 -- the number of the holder of an item before which there are `count` captured sites, if there is
@@ -104,7 +104,7 @@ module _ (test : ℕ → Bool) (count : ℕ → ℕ) (room : ℕ) (class : ℕ �
     by_test true (suc k) later =
         let left = numbers_of (is_of j) (m + 1) (map (made class) (take k rest)) in
         let apart : a ≢ j = omega arith in
-        ap (λ b. cond b (m ∷ left) left) (differs a j apart) ∙ later k (m + 1)
+        ap (λ b. cond b (m ∷ left) left) (apart-nat_eq a j apart) ∙ later k (m + 1)
     by_test false k later = later k m
 
   -- the holders of an item by their numbers
@@ -135,7 +135,7 @@ module _ (test : ℕ → Bool) (count : ℕ → ℕ) (room : ℕ) (class : ℕ �
         past other true is true some so_far =
             let left = numbers_of (is_of j) (count a + 1) (map (made class) (take (room - count (a + 1)) rest)) in
             ap (λ m. numbers_of (is_of j) (count a) (map (made class) (take m (a ∷ rest)))) (room_one a is some)
-            ∙ ap (λ b. cond b (count a ∷ left) left) (differs a j other)
+            ∙ ap (λ b. cond b (count a ∷ left) left) (apart-nat_eq a j other)
             ∙ ap (λ c. numbers_of (is_of j) c (map (made class) (take (room - count (a + 1)) rest))) (sym (counted a is))
             ∙ so_far
         past other true is false none so_far =

@@ -1,10 +1,11 @@
 -- The walk along the edges: what a holder may hold at an item, and that nothing is missed.
 use Rattle.std.proofs.Common.{◌≡◌, ◌≢◌, ◌⊎◌, ◌↔◌, ℕ, ◌+◌, ◌<◌, ◌≤◌, ◌&&◌, ◌||◌, Bool, true, false, List, [], ◌∷◌, ◌++◌, length, replicate, get_or, set, Contains, Some, refl, inl, inr, ⊎_elim, ap, sym, ◌∙◌, subst, eq-eqb, arith, le-ltb, lt-ltb, length-set}
 use Rattle.std.specs.Prelude.{nat_eq, nat_lt, slice_get}
-use Rattle.std.proofs.lemmas.Bool.{cases_eq, cases_lt, eqb-true, false≢true}
+use Rattle.std.proofs.lemmas.Bool.{and_from, cases_eq, cases_lt, eqb-true, false≢true}
 use Rattle.std.proofs.lemmas.List.{get_or-replicate, get_or-set_other, get_or-set_same, get_or_past, length-replicate}
 use Rattle.std.proofs.lemmas.List.Elements.{Contains-append_left, Contains-push, Contains-push_cases}
 use Rattle.std.proofs.lemmas.Option.{slice_get-get_or, slice_get_within}
+use Rattle.fm_base.proofs.TestFacts.{and_left, and_right, same_test}
 use Rattle.fm_base.specs.Rows.{has}
 use Rattle.fm_code.specs.Edges.{IsEdge}
 use Rattle.fm_code.specs.declared.code_array.Code.{Code}
@@ -17,8 +18,6 @@ use Rattle.fm_flow.specs.inner.LiveWalks.{HandsOver, row_of}
 use Rattle.fm_place.proofs.FullLemmas.{some-same}
 use Rattle.fm_place.proofs.GroupLemmas.{bits_more}
 use Rattle.fm_place.proofs.PathLemmas.{may_hold-from, may_hold-tells}
-use Rattle.fm_place.proofs.PlaceLemmas.{both-first, both-from, both-second}
-use Rattle.fm_place.proofs.SiteLemmas.{same_test}
 use Rattle.fm_place.specs.Places.{is_busy, IsBusyPath, MayHold}
 use Rattle.fm_place.specs.declared.busy_rows.Seen.{Seen}
 use Rattle.fm_place.specs.inner.PlanRows.{AreRowsOf, AreStarted, busy_at, facts_seen, Holding, IsBoth, IsHandedOn, IsHolding, may_hold_at, SetsBit, typed_seen}
@@ -88,7 +87,7 @@ module _ (s : Seen) (held : List (ℕ × ℕ)) (count : ℕ) (all : count ≡ le
         first = λ h pair there inside.
             let within = slice_get_within held h pair there in
             started.members (pair.0 + 1) h pair inside there
-            ∙ both-from (nat_lt h (length held)) (nat_eq (pair.0 + 1) (pair.0 + 1)) (lt-ltb h (length held) within) (eq-eqb (pair.0 + 1) (pair.0 + 1) refl);
+            ∙ and_from (nat_lt h (length held)) (nat_eq (pair.0 + 1) (pair.0 + 1)) (lt-ltb h (length held) within) (eq-eqb (pair.0 + 1) (pair.0 + 1) refl);
         sound = sound;
         waiting_known = λ j is. (listed j).1 (let inside = has_inside (replicate count true) j is in omega (arith, inside, marks));
         waiting_inside = λ j found. (listed j).0 found;
@@ -105,7 +104,7 @@ module _ (s : Seen) (held : List (ℕ × ℕ)) (count : ℕ) (all : count ≡ le
             record {
               pair = pair;
               is = there;
-              may = ([], eqb-true (pair.0 + 1) j (both-second (nat_lt h (length held)) (nat_eq (pair.0 + 1) j) set_now));
+              may = ([], eqb-true (pair.0 + 1) j (and_right (nat_lt h (length held)) (nat_eq (pair.0 + 1) j) set_now));
             }
 
   -- item j, which waits no longer, hands on what holders of busy classes may hold
@@ -135,9 +134,9 @@ module _ (s : Seen) (held : List (ℕ × ℕ)) (count : ℕ) (all : count ≡ le
     sound : (x h : ℕ) → Contains edges x → has row h ≡ true → IsHolding s held x h
     sound x h end is =
         let set_both : (has (row_of rows j) h && has (row_of busy j) h) ≡ true = sym (both.members h) ∙ is in
-        let was = so_far.sound j h (both-first (has (row_of rows j) h) (has (row_of busy j) h) set_both) in
+        let was = so_far.sound j h (and_left (has (row_of rows j) h) (has (row_of busy j) h) set_both) in
         let busy_now : is_busy (facts_seen s) (typed_seen s) was.pair.1 j ≡ true =
-        sym ((busy_are.each j inside).each h was.pair was.is) ∙ both-second (has (row_of rows j) h) (has (row_of busy j) h) set_both in
+        sym ((busy_are.each j inside).each h was.pair was.is) ∙ and_right (has (row_of rows j) h) (has (row_of busy j) h) set_both in
         record {
           pair = was.pair;
           is = was.is;
@@ -167,7 +166,7 @@ module _ (s : Seen) (held : List (ℕ × ℕ)) (count : ℕ) (all : count ≡ le
         let end = (listed.members next).1 (subst (λ n. IsEdge code n next) same edge) in
         hands.handed next h end
         (both.members h
-        ∙ both-from (has (row_of rows j) h) (has (row_of busy j) h) here (subst (λ n. has (row_of busy n) h ≡ true) same busy_now))))
+        ∙ and_from (has (row_of rows j) h) (has (row_of busy j) h) here (subst (λ n. has (row_of busy n) h ≡ true) same busy_now))))
         (λ (apart : x ≢ j).
         ⊎_elim (λ waiting_still. inl (hands.still_waits x (get_or-set_other waits j x false false apart ∙ waiting_still)))
         (λ on. inr (λ next h edge set_now busy_now. hands.grown next h (on next h edge (sym (ap (λ r. has r h) same_row) ∙ set_now) busy_now)))

@@ -2,21 +2,21 @@
 use Rattle.std.proofs.Common.{◌≡◌, ◌⊎◌, ℕ, zero, suc, ◌+◌, ◌<◌, ◌≤◌, ◌&&◌, not, Bool, true, false, List, [], ◌∷◌, length, map, replicate, Contains, refl, inl, inr, ⊎_elim, sym, ◌∙◌, subst, eq-eqb, arith}
 use Rattle.std.specs.Prelude.{nat_eq}
 use Rattle.std.specs.List.{list_any, range_with_len}
-use Rattle.std.proofs.lemmas.Bool.{cases_lt, eqb-true, false≢true}
+use Rattle.std.proofs.lemmas.Bool.{and_from, cases_lt, eqb-true, false≢true, not-true, not_from_false, or_cases, or_left, or_right}
 use Rattle.std.proofs.lemmas.List.{length-replicate}
 use Rattle.std.proofs.lemmas.List.FromFn.{get_or-map-range_with_len, length-map-range_with_len}
+use Rattle.fm_base.proofs.ContainsFacts.{any-found}
+use Rattle.fm_base.proofs.TestFacts.{and_left, and_right}
 use Rattle.fm_base.specs.Rows.{has}
 use Rattle.fm_code.proofs.EdgesLemmas.{edge-from_edges_listed, edges_listed-from_edge}
-use Rattle.fm_code.specs.Edges.{IsEdge}
-use Rattle.fm_code.specs.EdgesExample.{edges_listed}
+use Rattle.fm_code.specs.Edges.{IsEdge, edges_listed}
 use Rattle.fm_conn.proofs.ListLemmas.{Contains-from_range, Contains-range}
 use Rattle.fm_conn.specs.Facts.{Facts}
 use Rattle.fm_conn.specs.Nodes.{TypedMethod}
 use Rattle.fm_flow.proofs.ReachLemmas.{edge_from_item, edge_inside}
 use Rattle.fm_flow.proofs.RowFacts.{has-replicate, has_inside, unset-cons, unset-lt}
 use Rattle.fm_flow.specs.inner.Walks.{unset}
-use Rattle.fm_place.proofs.BusyLemmas.{either, from-first, from-second}
-use Rattle.fm_place.proofs.PlaceLemmas.{any-found, any-from, both-first, both-from, both-second, not-from, not-true}
+use Rattle.fm_place.proofs.PlaceLemmas.{any-from}
 use Rattle.fm_place.specs.Laws.{PlacesAreByPaths}
 use Rattle.fm_place.specs.Places.{is_busy, is_place, IsBusyPath, leads_busily, may_hold, MayHold}
 
@@ -40,16 +40,16 @@ module _ (facts : Facts) (x : TypedMethod) (class : ℕ) where
 
   here : (edges j : ℕ) → Leads edges j j
   here zero j = eq-eqb j j refl
-  here (suc edges) j = from-first (nat_eq j j) (goes_on edges j j) (eq-eqb j j refl)
+  here (suc edges) j = or_left (nat_eq j j) (goes_on edges j j) (eq-eqb j j refl)
 
   onward : (edges j next last : ℕ) → is_busy facts x class j ≡ true → IsEdge x.code j next → Leads edges next last → Leads (suc edges) j last
   onward edges j next last busy edge leads =
-      from-second (nat_eq j last) (goes_on edges j last)
-      (both-from (is_busy facts x class j) (list_any (λ n. leads_busily facts x class edges n last) (edges_listed x.code j)) busy
+      or_right (nat_eq j last) (goes_on edges j last)
+      (and_from (is_busy facts x class j) (list_any (λ n. leads_busily facts x class edges n last) (edges_listed x.code j)) busy
       (any-from (λ n. leads_busily facts x class edges n last) (edges_listed x.code j) next (edges_listed-from_edge x.code j next edge) leads))
 
   first-edge : (edges j last : ℕ) → Leads (suc edges) j last → (j ≡ last) ⊎ GoesOn edges j last
-  first-edge edges j last leads = ⊎_elim (λ same. inl (eqb-true j last same)) (λ on. inr (along on)) (either (nat_eq j last) (goes_on edges j last) leads) where
+  first-edge edges j last leads = ⊎_elim (λ same. inl (eqb-true j last same)) (λ on. inr (along on)) (or_cases (nat_eq j last) (goes_on edges j last) leads) where
     any : Bool
     any = list_any (λ n. leads_busily facts x class edges n last) (edges_listed x.code j)
 
@@ -59,8 +59,8 @@ module _ (facts : Facts) (x : TypedMethod) (class : ℕ) where
 
     along : goes_on edges j last ≡ true → GoesOn edges j last
     along on =
-        of_edge (both-first (is_busy facts x class j) any on)
-        (any-found (λ n. leads_busily facts x class edges n last) (edges_listed x.code j) (both-second (is_busy facts x class j) any on))
+        of_edge (and_left (is_busy facts x class j) any on)
+        (any-found (λ n. leads_busily facts x class edges n last) (edges_listed x.code j) (and_right (is_busy facts x class j) any on))
 
   -- it is a path
   path-from : (edges j last : ℕ) → Leads edges j last → (path : List ℕ) × IsBusyPath facts x class j path last
@@ -85,9 +85,9 @@ module _ (facts : Facts) (x : TypedMethod) (class : ℕ) where
 
   -- the bound may be one more
   leads-more : (edges j last : ℕ) → Leads edges j last → Leads (suc edges) j last
-  leads-more zero j last leads = from-first (nat_eq j last) (goes_on zero j last) leads
+  leads-more zero j last leads = or_left (nat_eq j last) (goes_on zero j last) leads
   leads-more (suc edges) j last leads =
-      ⊎_elim (λ (same : j ≡ last). from-first (nat_eq j last) (goes_on (suc edges) j last) (eq-eqb j last same))
+      ⊎_elim (λ (same : j ≡ last). or_left (nat_eq j last) (goes_on (suc edges) j last) (eq-eqb j last same))
       (λ (on : GoesOn edges j last). onward (suc edges) j on.0 last on.1.0 on.1.1.0 (leads-more edges on.0 last on.1.1.1))
       (first-edge edges j last leads)
 
@@ -134,8 +134,8 @@ module _ (facts : Facts) (x : TypedMethod) (class : ℕ) where
     by_test true is = is
     by_test false is =
         absurd (false≢true (sym none ∙ any-from (is_new a edges) (range_with_len 0 count) last (Contains-range 0 count last (omega arith) (omega (arith, inside)))
-        (both-from (leads_busily facts x class (suc edges) a last) (not (leads_busily facts x class edges a last)) on
-        (not-from (leads_busily facts x class edges a last) is))))
+        (and_from (leads_busily facts x class (suc edges) a last) (not (leads_busily facts x class edges a last)) on
+        (not_from_false (leads_busily facts x class edges a last) is))))
 
   fewer : (a edges : ℕ) → list_any (is_new a edges) (range_with_len 0 count) ≡ true → unset (reached a (suc edges)) + 1 ≤ unset (reached a edges)
   fewer a edges some = of_item (any-found (is_new a edges) (range_with_len 0 count) some) where
@@ -153,9 +153,9 @@ module _ (facts : Facts) (x : TypedMethod) (class : ℕ) where
         unset-lt (reached a edges) (reached a (suc edges)) j (reached-count a (suc edges) ∙ sym (reached-count a edges)) kept
         (reached-is a edges j inside
         ∙ not-true (leads_busily facts x class edges a j)
-        (both-second (leads_busily facts x class (suc edges) a j) (not (leads_busily facts x class edges a j)) new))
+        (and_right (leads_busily facts x class (suc edges) a j) (not (leads_busily facts x class edges a j)) new))
         (reached-is a (suc edges) j inside
-        ∙ both-first (leads_busily facts x class (suc edges) a j) (not (leads_busily facts x class edges a j)) new)
+        ∙ and_left (leads_busily facts x class (suc edges) a j) (not (leads_busily facts x class edges a j)) new)
 
   at-start : (a : ℕ) → Complete a 0 ⊎ (unset (reached a 0) + 0 + 1 ≤ count)
   at-start a = ⊎_elim (λ inside. inr (counted inside)) (λ past. inl (alone past)) (cases_lt a count) where
@@ -203,11 +203,11 @@ pub places_are_by_paths : PlacesAreByPaths
 places_are_by_paths facts x site class j = (forth, back) where
   forth : is_place facts x site class j ≡ true → (is_busy facts x class j ≡ false) × MayHold facts x site class j
   forth holds = (
-    not-true (is_busy facts x class j) (both-first (not (is_busy facts x class j)) (may_hold facts x site class j) holds),
-    may_hold-tells facts x class site j (both-second (not (is_busy facts x class j)) (may_hold facts x site class j) holds),
+    not-true (is_busy facts x class j) (and_left (not (is_busy facts x class j)) (may_hold facts x site class j) holds),
+    may_hold-tells facts x class site j (and_right (not (is_busy facts x class j)) (may_hold facts x site class j) holds),
   )
 
   back : (is_busy facts x class j ≡ false) × MayHold facts x site class j → is_place facts x site class j ≡ true
   back (quiet, may) =
-      both-from (not (is_busy facts x class j)) (may_hold facts x site class j) (not-from (is_busy facts x class j) quiet)
+      and_from (not (is_busy facts x class j)) (may_hold facts x site class j) (not_from_false (is_busy facts x class j) quiet)
       (may_hold-from facts x class site j may)

@@ -10,7 +10,8 @@ use Rattle.std.proofs.lemmas.List.Sums.{sum_by-cons}
 use Rattle.std.proofs.lemmas.Option.{slice_get_within}
 use Rattle.std.proofs.lemmas.Result.{IfOk-weaker}
 use Rattle.std.proofs.Math.Seq.{get_or-append_seam}
-use Rattle.fm_conn.proofs.ListLemmas.{Contains-none}
+use Rattle.fm_base.proofs.ContainsFacts.{Contains-none}
+use Rattle.fm_base.proofs.TestFacts.{apart-nat_eq}
 use Rattle.fm_conn.specs.Classes.{class_of}
 use Rattle.fm_conn.specs.Facts.{Facts}
 use Rattle.fm_conn.specs.Nodes.{Node, TypedMethod}
@@ -19,7 +20,7 @@ use Rattle.fm_conn.specs.declared.class_numbers.Classes.{Classes}
 use Rattle.fm_conn.specs.declared.ends.End2.{End2}
 use Rattle.fm_conn.specs.declared.summaries.Summaries.{Summaries}
 use Rattle.fm_place.proofs.FullLemmas.{before-is, full-safe}
-use Rattle.fm_place.proofs.GroupLemmas.{differs, slice_get-mapped}
+use Rattle.fm_place.proofs.GroupLemmas.{slice_get-mapped}
 use Rattle.fm_place.proofs.RowLemmas.{freed_same}
 use Rattle.fm_place.proofs.HolderLemmas.{flat_range_same, holders_are, numbers_by_range, pair_held, pairs_are, pairs_held}
 use Rattle.fm_place.specs.FactsBy.{facts_by}
@@ -149,7 +150,7 @@ holders_tell_full facts x plan is = of_sites (held_sites facts x) (is.holders �
       → full_of facts x sites ≡ cond (nat_eq plan.holders 0) None (Some (all_insertions facts x))
   of_sites [] none = ap (λ n. cond (nat_eq n 0) None (Some (all_insertions facts x))) (sym none)
   of_sites (site ∷ sites) some =
-      ap (λ b. cond b None (Some (all_insertions facts x))) (sym (differs plan.holders 0 (λ same. absurd (omega (arith, same, some)))))
+      ap (λ b. cond b None (Some (all_insertions facts x))) (sym (apart-nat_eq plan.holders 0 (λ same. absurd (omega (arith, same, some)))))
 
 -- ---- for the code
 

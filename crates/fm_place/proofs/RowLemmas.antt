@@ -7,9 +7,10 @@ use Rattle.std.proofs.lemmas.Bool.{cases_eq, cases_lt}
 use Rattle.std.proofs.lemmas.List.{get_or-set_other, get_or-set_same, get_or_append_left, get_or_past, get_or_push, length_push}
 use Rattle.std.proofs.lemmas.Option.{slice_get-get_or}
 use Rattle.std.proofs.Math.Bool.{or-false, or-true, or_assoc}
+use Rattle.fm_base.proofs.TestFacts.{apart-nat_eq}
 use Rattle.fm_base.specs.Rows.{has, IsUnion}
 use Rattle.fm_flow.specs.inner.LiveWalks.{HaveWidth}
-use Rattle.fm_place.proofs.GroupLemmas.{bits_more, differs, row_retested}
+use Rattle.fm_place.proofs.GroupLemmas.{bits_more, row_retested}
 use Rattle.fm_place.specs.Places.{is_local_in, is_word_in}
 use Rattle.fm_place.specs.inner.PlanRows.{AreRowsOf, busy_at, facts_seen, freed_at, freed_of, is_class, is_freed, is_in_locals, is_in_words, is_place_at, IsBoth, IsRowOf, may_hold_at, typed_seen}
 use Rattle.fm_place.specs.declared.busy_rows.Seen.{Seen}
@@ -174,7 +175,7 @@ one_set both bit true inside k =
     ∙ ap (λ b. has both k || b) (sym (eq-eqb bit k (sym same))))
     (λ (other : k ≢ bit).
     get_or-set_other both bit k true false other ∙ sym (or-false (has both k))
-    ∙ ap (λ b. has both k || b) (sym (differs bit k (λ same. other (sym same)))))
+    ∙ ap (λ b. has both k || b) (sym (apart-nat_eq bit k (λ same. other (sym same)))))
     (cases_eq k bit)
 
 pub both_more : (row other both after : List Bool) (bit : ℕ) (t : Bool) → bit < length row → AreBothBelow bit row other both

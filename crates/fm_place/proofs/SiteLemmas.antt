@@ -2,16 +2,19 @@
 use Rattle.std.proofs.Common.{◌≡◌, ℕ, zero, suc, ◌+◌, ◌-◌, ◌<◌, ◌≤◌, ◌++◌, ◌&&◌, ◌||◌, cond, Bool, true, false, List, [], ◌∷◌, length, map, replicate, get_or, Some, None, IsSome, IsSomeAnd, refl, ap, sym, ◌∙◌, subst, ⊎_elim, arith, Contains, eqb-true, append-nil, length-append}
 use Rattle.std.specs.Prelude.{filter, is_some, nat_eq, option_and_then, slice_get}
 use Rattle.std.specs.List.{list_any, range_with_len}
-use Rattle.std.proofs.lemmas.Bool.{false≢true}
+use Rattle.std.proofs.lemmas.Bool.{and_from, false≢true, or_cases, or_left, or_right}
 use Rattle.std.proofs.lemmas.List.FromFn.{length-range_with_len}
 use Rattle.std.proofs.lemmas.List.{length-replicate}
 use Rattle.std.proofs.lemmas.Option.{none-some}
+use Rattle.fm_base.proofs.ContainsFacts.{any-found}
+use Rattle.fm_base.proofs.TestFacts.{and_left, and_right, same_test}
 use Rattle.fm_base.specs.declared.ids.MethodId.{MethodId}
 use Rattle.fm_code.proofs.EdgesLemmas.{Contains-filter, Contains-from_filter}
 use Rattle.fm_code.specs.Edges.{insn_of}
 use Rattle.fm_code.specs.declared.instructions.Insn.{Insn}
 use Rattle.fm_conn.proofs.ListLemmas.{Contains-range}
 use Rattle.fm_conn.proofs.ListedEndLemmas.{links-is}
+use Rattle.fm_conn.proofs.ShapeLemmas.{top_at}
 use Rattle.fm_conn.specs.Facts.{Facts}
 use Rattle.fm_conn.specs.Nodes.{Local, TypedMethod}
 use Rattle.fm_conn.specs.Pairs.{call_of}
@@ -25,17 +28,11 @@ use Rattle.fm_types.specs.Typed.{entry_slots, entry_state, IsTypingOf, state_at}
 use Rattle.fm_types.specs.declared.slots.Slot as slots
 use Rattle.fm_types.specs.declared.slots.Slot.TheVariants as slot
 use Rattle.fm_world.specs.Programs.{Outline}
-use Rattle.fm_place.proofs.BusyLemmas.{either, from-first, from-second}
-use Rattle.fm_place.proofs.PlaceLemmas.{any-found, any-from, both-first, both-from, both-second}
+use Rattle.fm_place.proofs.PlaceLemmas.{any-from}
 use Rattle.fm_place.specs.FactsBy.{facts_by}
 use Rattle.fm_place.specs.Sites.{captured_before, constructs, Constructs, is_captured, is_captured_site, kind_of_site, makes_array, MakesArray, may_give_old, receives_new, ReceivesNew, reference_parameters, site_after, site_at, site_class, site_kind}
 use Rattle.fm_place.specs.declared.found_sites.Site.{Site}
 use Rattle.fm_place.specs.inner.SiteTests.{has_parameter_in, is_old_end, is_old_entry, is_parameter_in, lists_old}
-
-pub same_test : (a b : Bool) → (a ≡ true → b ≡ true) → (b ≡ true → a ≡ true) → a ≡ b
-same_test true b forth back = sym (forth refl)
-same_test false true forth back = back refl
-same_test false false forth back = refl
 
 -- ---- parameters
 
@@ -50,13 +47,8 @@ reference_given [] k is = absurd (false≢true is)
 reference_given (s ∷ given) zero is = omega arith
 reference_given (s ∷ given) (suc k) is = let rest = reference_given given k is in omega arith
 
-tops : (count k : ℕ) → get_or (replicate count slot.Top) k slot.Top ≡ slot.Top
-tops zero k = refl
-tops (suc count) zero = refl
-tops (suc count) (suc k) = tops count k
-
 with_tops : (given : List slots.Slot) (count k : ℕ) → get_or (given ++ replicate count slot.Top) k slot.Top ≡ get_or given k slot.Top
-with_tops [] count k = tops count k
+with_tops [] count k = top_at count k
 with_tops (s ∷ given) count zero = refl
 with_tops (s ∷ given) count (suc k) = with_tops given count k
 
@@ -104,8 +96,8 @@ parameters_same facts x class typed =
           any-from in_class (reference_parameters o x.number) k
           (listed_parameter o x.number k
           (ap is_reference (sym (with_tops given rest k))
-          ∙ both-first (is_reference (get_or (given ++ replicate rest slot.Top) k slot.Top)) (in_class k) passes))
-          (both-second (is_reference (get_or (given ++ replicate rest slot.Top) k slot.Top)) (in_class k) passes)
+          ∙ and_left (is_reference (get_or (given ++ replicate rest slot.Top) k slot.Top)) (in_class k) passes))
+          (and_right (is_reference (get_or (given ++ replicate rest slot.Top) k slot.Top)) (in_class k) passes)
 
       forth : list_any test (range_with_len 0 x.code.max_locals) ≡ true → list_any in_class (reference_parameters o x.number) ≡ true
       forth holds = of_local (any-found test (range_with_len 0 x.code.max_locals) holds)
@@ -115,7 +107,7 @@ parameters_same facts x class typed =
           let is = parameter_listed o x.number k found in
           let inside = reference_given given k is in
           any-from test (range_with_len 0 x.code.max_locals) k (Contains-range 0 x.code.max_locals k (omega arith) (omega (arith, inside, few)))
-          (both-from (is_reference (get_or (given ++ replicate rest slot.Top) k slot.Top)) (in_class k)
+          (and_from (is_reference (get_or (given ++ replicate rest slot.Top) k slot.Top)) (in_class k)
           (ap is_reference (with_tops given rest k) ∙ is) passes)
 
       back : list_any in_class (reference_parameters o x.number) ≡ true → list_any test (range_with_len 0 x.code.max_locals) ≡ true
@@ -141,8 +133,8 @@ listed_any test [] e n some passes = absurd (none-some n some)
 listed_any test (x ∷ entries) e n some passes =
     (elim (is_same_end x.0 e) as (λ b. is_same_end x.0 e ≡ b → cond b (Some x.1) (end_number entries e) ≡ Some n
     → (test x.0 || list_any (λ (entry : End2 × ℕ). test entry.0) entries) ≡ true) [
-      | true ↦ (λ is there. from-first (test x.0) _ (ap test (same_end x.0 e is) ∙ passes))
-      | false ↦ (λ is later. from-second (test x.0) _ (listed_any test entries e n later passes))
+      | true ↦ (λ is there. or_left (test x.0) _ (ap test (same_end x.0 e is) ∙ passes))
+      | false ↦ (λ is later. or_right (test x.0) _ (listed_any test entries e n later passes))
     ]) refl some
 
 pub old_same : (o : Outline) (s : Summaries) (classes : Classes) (method : ℕ) → AreSummariesOf o s
@@ -159,11 +151,11 @@ old_same o s classes method ends = same_test (lists_old s method) (may_give_old 
 
   of_end : (e : End2) → is_old_end s method e ≡ true → (global || parameters) ≡ true
   of_end end.Return old = absurd (false≢true old)
-  of_end end.Global old = from-first global parameters old
+  of_end end.Global old = or_left global parameters old
   of_end (end.Parameter k) old =
       let number = links-is (ends_at s method) end.Return (end.Parameter k) old in
       let is_end = ends.ends method (end.Parameter k) (subst IsSome (sym number.2) refl) in
-      from-second global parameters
+      or_right global parameters
       (any-from by_parameter (reference_parameters o method) k (listed_parameter o method k (given_reference (entry_slots o method) k is_end)) old)
 
   of_entry : (entry : End2 × ℕ) × Contains (ends_at s method) entry × (is_old_entry s method entry ≡ true) → (global || parameters) ≡ true
@@ -184,7 +176,7 @@ old_same o s classes method ends = same_test (lists_old s method) (may_give_old 
 
   back : (global || parameters) ≡ true → lists_old s method ≡ true
   back holds =
-      ⊎_elim of_global (λ some. of_parameter (any-found by_parameter (reference_parameters o method) some)) (either global parameters holds)
+      ⊎_elim of_global (λ some. of_parameter (any-found by_parameter (reference_parameters o method) some)) (or_cases global parameters holds)
 
 -- one of several methods
 pub any_old_same : (o : Outline) (s : Summaries) (classes : Classes) (methods : List MethodId) → AreSummariesOf o s

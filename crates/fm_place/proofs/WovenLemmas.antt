@@ -4,8 +4,9 @@ use Rattle.std.specs.Prelude.{IsSomeAnd, nat_eq, slice_get, slice_index}
 use Rattle.std.specs.List.{AllByRecursion, filter_map, flat_map, range_with_len}
 use Rattle.std.proofs.lemmas.List.{length-append}
 use Rattle.std.proofs.lemmas.List.Elements.{filter_map-append}
-use Rattle.std.proofs.lemmas.Option.{none-some, slice_get_within}
-use Rattle.fm_base.proofs.ListFacts.{AllByRecursion-append}
+use Rattle.std.proofs.lemmas.List.FromFn.{length-range_with_len}
+use Rattle.std.proofs.lemmas.Option.{slice_get_within}
+use Rattle.fm_base.proofs.ListFacts.{AllByRecursion-append, AllByRecursion-at}
 use Rattle.fm_base.specs.declared.limits.TheConstants.{MAX_LOCAL_WORDS}
 use Rattle.fm_code.proofs.EdgesLemmas.{Contains-first, Contains-later}
 use Rattle.fm_code.specs.Fits.{FitsTwo}
@@ -16,12 +17,12 @@ use Rattle.fm_code.specs.declared.instructions.Insn.{Insn}
 use Rattle.fm_code.specs.declared.instructions.Insn.TheVariants as insn
 use Rattle.fm_conn.proofs.ListLemmas.{Contains-from_range}
 use Rattle.fm_layout.proofs.LayoutLemmas.{one_each}
+use Rattle.fm_layout.proofs.TablesLemmas.{length-firsts_from}
 use Rattle.fm_layout.specs.Conditions.{HasOrigin, IsSameButTargets}
-use Rattle.fm_layout.specs.Laid.{firsts_from, item_count, laid_of}
+use Rattle.fm_layout.specs.Laid.{laid_of}
 use Rattle.fm_layout.specs.Rooms.{rooms_of, widened_rooms}
-use Rattle.fm_layout.specs.declared.rooms.Room.{Room}
 use Rattle.fm_layout.specs.declared.new_items.NewItem.{NewItem}
-use Rattle.fm_place.proofs.FullLemmas.{numbers-found, some-same}
+use Rattle.fm_place.proofs.FullLemmas.{numbers-found}
 use Rattle.fm_place.specs.Insertions.{after_at, before_at, Holder, Insertions}
 use Rattle.fm_place.specs.Laws.{AnchorsAreAnchors, WovenIsLaidOut}
 use Rattle.fm_place.specs.Woven.{anchors_from, anchors_of, count_at, freed, freed_items, kept, local_of, null_stored, null_stored_items, top_stored, top_stored_items, woven, woven_from, woven_item}
@@ -39,10 +40,6 @@ length-top code (h ∷ hs) = let rest = length-top code hs in omega (arith, rest
 length-null : (code : Code) (hs : List ℕ) → length (flat_map (λ h. null_stored (local_of code h)) hs) ≡ null_stored_items * length hs
 length-null code [] = refl
 length-null code (h ∷ hs) = let rest = length-null code hs in omega (arith, rest)
-
-length-range : (a n : ℕ) → length (range_with_len a n) ≡ n
-length-range a zero = refl
-length-range a (suc n) = ap suc (length-range (a + 1) n)
 
 length-item : (free : ℕ) (code : Code) (plan : Insertions) (anchors : List ℕ) (j : ℕ) (i : Insn)
     → length (woven_item free code plan anchors j i) ≡ count_at plan j
@@ -66,7 +63,7 @@ length-woven free code plan =
     length-append (flat_map (λ h. null_stored (local_of code h)) (range_with_len 0 (length plan.holders)))
     (woven_from free code plan (anchors_of plan code.items) 0 code.items)
     ∙ ap (λ n. n + length (woven_from free code plan (anchors_of plan code.items) 0 code.items))
-    (length-null code (range_with_len 0 (length plan.holders)) ∙ ap (λ n. null_stored_items * n) (length-range 0 (length plan.holders)))
+    (length-null code (range_with_len 0 (length plan.holders)) ∙ ap (λ n. null_stored_items * n) (length-range_with_len 0 (length plan.holders)))
 
 -- ---- anchors
 
@@ -103,10 +100,6 @@ anchors-rise plan n j [] k inside = absurd (omega arith)
 anchors-rise plan n j (item ∷ items) zero inside = let next = anchor-first plan (n + count_at plan j) (j + 1) items in omega (arith, next)
 anchors-rise plan n j (item ∷ items) (suc k) inside = anchors-rise plan (n + count_at plan j) (j + 1) items k (omega arith)
 
-length-firsts : (first : ℕ) (rooms : List Room) → length (firsts_from first rooms) ≡ suc (length rooms)
-length-firsts first [] = refl
-length-firsts first (r ∷ rooms) = ap suc (length-firsts (first + item_count r) rooms)
-
 pub anchors_are_anchors : AnchorsAreAnchors
 unfolding laid_of
 anchors_are_anchors free code plan = record {
@@ -118,7 +111,7 @@ anchors_are_anchors free code plan = record {
       let most = anchor-most free code plan (anchors_of plan code.items) (null_stored_items * length plan.holders) 0 code.items k
       (let count = length-anchors plan (null_stored_items * length plan.holders) 0 code.items in omega (arith, count)) in
       let rooms = one_each code.items (woven free code plan) in
-      let firsts = length-firsts 0 (widened_rooms (rooms_of code.items (woven free code plan))) in
+      let firsts = length-firsts_from 0 (widened_rooms (rooms_of code.items (woven free code plan))) in
       let all = length-woven free code plan in
       omega (arith, most, rooms, firsts, all);
 }
@@ -149,7 +142,7 @@ targets-of-with f (insn.Table low others targets) = refl
 targets-of-with f (insn.Lookup others keys targets) = refl
 targets-of-with f i = refl
 
-all-flat : (P : NewItem → Type 0) (f : ℕ → List NewItem) (hs : List ℕ) → ((h : ℕ) → Contains hs h → AllByRecursion P (f h))
+pub all-flat : (P : NewItem → Type 0) (f : ℕ → List NewItem) (hs : List ℕ) → ((h : ℕ) → Contains hs h → AllByRecursion P (f h))
     → AllByRecursion P (flat_map f hs)
 all-flat P f [] each = tt
 all-flat P f (h ∷ hs) each =
@@ -207,16 +200,11 @@ local-fits : (code : Code) (plan : Insertions) (h : ℕ) → code.max_locals + l
     → FitsTwo (local_of code h)
 local-fits code plan h room inside = omega (arith, room, inside)
 
-after-inside : (plan : Insertions) (j h : ℕ) → Contains (after_at plan j) h → h < length plan.holders
+pub after-inside : (plan : Insertions) (j h : ℕ) → Contains (after_at plan j) h → h < length plan.holders
 after-inside plan j h found =
     let was = numbers-found (λ (holder : Holder). nat_eq holder.site j) 0 plan.holders h found in
     let inside = slice_get_within plan.holders was.place was.holder was.there in
     omega (arith, inside, was.number)
-
-pub all-at : {X : Type 0} (P : X → Type 0) (xs : List X) (k : ℕ) (x : X) → AllByRecursion P xs → slice_get xs k ≡ Some x → P x
-all-at P [] k x each there = absurd (none-some x there)
-all-at P (y ∷ xs) zero x (first, rest) there = subst P (some-same there) first
-all-at P (y ∷ xs) (suc k) x (first, rest) there = all-at P xs k x rest there
 
 all-map : (P Q : ℕ → Type 0) (f : ℕ → ℕ) (xs : List ℕ) → ((x : ℕ) → Q x → P (f x)) → AllByRecursion Q xs → AllByRecursion P (map f xs)
 all-map P Q f [] each all = tt
@@ -240,7 +228,7 @@ woven_is_laid_out free code plan old suits few = record {
       (all-from_items Named free code plan anchors (λ j item. ItemIsSpelled code.items item)
       (λ j h found. (tt, (tt, (tt, (tt, tt)))))
       (λ j h found. (tt, (tt, tt)))
-      named 0 code.items (λ k item is. all-at (ItemIsSpelled code.items) code.items k item old.spelled.spelled is));
+      named 0 code.items (λ k item is. AllByRecursion-at (ItemIsSpelled code.items) code.items k item old.spelled.spelled is));
   in_order =
       filter_map-append (λ (new : NewItem). new.kept) (flat_map (λ h. null_stored (local_of code h)) (range_with_len 0 (length plan.holders)))
       (woven_from free code plan anchors 0 code.items)

@@ -1,8 +1,7 @@
 -- Where the objects of a class are still in use in a method, and where a holder may hold one that no longer is.
 use Rattle.std.specs.Prelude.{◌≡◌, ℕ, zero, suc, ◌+◌, ◌==◌, ◌&&◌, ◌||◌, not, Bool, true, false, List, [], ◌∷◌, length, Option, Some, None, is_some}
 use Rattle.std.specs.List.{list_any, range_with_len}
-use Rattle.fm_code.specs.Edges.{IsEdge}
-use Rattle.fm_code.specs.EdgesExample.{edges_listed}
+use Rattle.fm_code.specs.Edges.{IsEdge, edges_listed}
 use Rattle.fm_conn.specs.Facts.{Facts}
 use Rattle.fm_conn.specs.Nodes.{depth_at, IsNode, Local, Slot, TypedMethod, word_at}
 use Rattle.fm_types.specs.States.{is_reference}

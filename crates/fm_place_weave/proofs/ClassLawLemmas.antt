@@ -54,7 +54,7 @@ by_change plans first c true = record c {
   methods = rewritten_methods plans (free_index c) first c.methods;
 }
 
-rewritten-is : (plans : Plans) (first : ℕ) (c : ClassDef) → rewritten_class plans first c ≡ by_change plans first c (changes plans first c)
+pub rewritten-is : (plans : Plans) (first : ℕ) (c : ClassDef) → rewritten_class plans first c ≡ by_change plans first c (changes plans first c)
 rewritten-is plans first c = refl
 
 pub classes_are_rewritten : ClassesAreRewritten

@@ -1,8 +1,8 @@
 -- Where inserted items and old ones end.
 use Rattle.std.proofs.Common.{◌≡◌, ℕ, suc, ◌+◌, ◌-◌, ◌<◌, ◌≤◌, List, [], ◌∷◌, ◌++◌, length, get_or, drop, Some, sym, ap, ◌∙◌, arith}
 use Rattle.std.specs.List.{flat_map, range_with_len}
+use Rattle.fm_base.proofs.ListFacts.{drop_here}
 use Rattle.fm_code.specs.declared.code_array.Item.{Item}
-use Rattle.fm_layout.proofs.LoopLemmas.{next_of}
 use Rattle.fm_layout.proofs.RoomsLemmas.{end_grows}
 use Rattle.fm_layout.specs.Rooms.{room_of, rooms_of, size_at}
 use Rattle.fm_layout.specs.declared.new_items.NewItem.{NewItem}
@@ -41,14 +41,14 @@ nulls_none first h holders end total past so_far =
 pub freed_fits : (first : ℕ) (pairs : List (ℕ × ℕ)) (i end : ℕ) (p : ℕ × ℕ) (total : ℕ) → i < length pairs → p ≡ get_or pairs i p
     → inserted_end end (freed_by 0 first (drop i pairs)) ≡ total → inserted_end end (freed 0 (first + p.1)) ≤ total
 freed_fits first pairs i end p total within is so_far =
-    let step = sym (ap (λ ps. inserted_end end (freed_by 0 first ps)) (next_of pairs i p within is)) ∙ so_far in
+    let step = sym (ap (λ ps. inserted_end end (freed_by 0 first ps)) (drop_here pairs i p within is)) ∙ so_far in
     let grows = end_grows (inserted_end end (freed 0 (first + p.1))) (rooms_of [] (freed_by 0 first (drop (i + 1) pairs))) in
     omega (arith, step, grows)
 
 pub stored_fits : (first : ℕ) (pairs : List (ℕ × ℕ)) (i end : ℕ) (p : ℕ × ℕ) (total : ℕ) → i < length pairs → p ≡ get_or pairs i p
     → inserted_end end (stored_by first (drop i pairs)) ≡ total → inserted_end end (top_stored (first + p.1)) ≤ total
 stored_fits first pairs i end p total within is so_far =
-    let step = sym (ap (λ ps. inserted_end end (stored_by first ps)) (next_of pairs i p within is)) ∙ so_far in
+    let step = sym (ap (λ ps. inserted_end end (stored_by first ps)) (drop_here pairs i p within is)) ∙ so_far in
     let grows = end_grows (inserted_end end (top_stored (first + p.1))) (rooms_of [] (stored_by first (drop (i + 1) pairs))) in
     omega (arith, step, grows)
 
@@ -75,7 +75,7 @@ pub item_fits : (first : ℕ) (items : List Item) (i end j total : ℕ) (freeing
     → item ≡ get_or items i item → end_after first end j freeing taking (drop i items) ≡ total → before ≡ here j freeing → after ≡ here j taking
     → step_end first end before after item ≤ total
 item_fits first items i end j total freeing taking before after item within is so_far b a =
-    let step = sym (ap (λ rest. end_after first end j freeing taking rest) (next_of items i item within is)) ∙ so_far in
+    let step = sym (ap (λ rest. end_after first end j freeing taking rest) (drop_here items i item within is)) ∙ so_far in
     let rest = end_after_grows first (step_end first end (here j freeing) (here j taking) item) (j + 1) (later j freeing) (later j taking) (drop (i + 1) items) in
     let same : step_end first end before after item ≡ step_end first end (here j freeing) (here j taking) item
     = λ k. step_end first end (b k) (a k) item in

@@ -1,5 +1,6 @@
 -- How many new items a plan makes.
 use Rattle.std.proofs.Common.{◌≡◌, ℕ, zero, suc, ◌+◌, ◌*◌, ◌≤◌, List, [], ◌∷◌, length, take, refl, ap, arith, length-append}
+use Rattle.std.proofs.lemmas.List.FromFn.{length-range_with_len}
 use Rattle.std.specs.List.{flat_map, range_with_len}
 use Rattle.fm_code.specs.declared.code_array.Code.{Code}
 use Rattle.fm_code.specs.declared.code_array.Item.{Item}
@@ -20,10 +21,6 @@ length-stored first (p ∷ pairs) = let rest = length-stored first pairs in omeg
 length-nulls : (first : ℕ) (hs : List ℕ) → length (flat_map (λ h. null_stored (first + h)) hs) ≡ null_stored_items * length hs
 length-nulls first [] = refl
 length-nulls first (h ∷ hs) = let rest = length-nulls first hs in omega (arith, rest)
-
-length-range : (a n : ℕ) → length (range_with_len a n) ≡ n
-length-range a zero = refl
-length-range a (suc n) = ap suc (length-range (a + 1) n)
 
 length-part : (n : ℕ) (pairs : List (ℕ × ℕ)) → n ≤ length pairs → length (take n pairs) ≡ n
 length-part zero pairs within = refl
@@ -54,7 +51,7 @@ number-is free first anchors number j before after (item ∷ items) =
 pub number_by-is : (free : ℕ) (code : Code) (plan : Plan) → number_by code plan ≡ length (items_by free code plan)
 number_by-is free code plan =
     let nulls = length-nulls code.max_locals (range_with_len 0 plan.holders) in
-    let count = length-range 0 plan.holders in
+    let count = length-range_with_len 0 plan.holders in
     let items = number-is free code.max_locals (anchors_by code plan) (null_stored_items * plan.holders) 0 plan.before.items plan.after.items code.items in
     let both = length-append (nulls_by code.max_locals plan.holders)
     (woven_after free code.max_locals (anchors_by code plan) 0 plan.before.items plan.after.items code.items) in

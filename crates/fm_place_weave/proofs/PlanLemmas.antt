@@ -3,7 +3,6 @@ use Rattle.std.proofs.Common.{◌≡◌, ℕ, zero, suc, ◌+◌, ◌*◌, ◌<�
 use Rattle.std.specs.List.{flat_map, range_with_len}
 use Rattle.std.proofs.lemmas.Bool.{eq-eqb}
 use Rattle.std.proofs.lemmas.Bool.Decides.{eqb_tells}
-use Rattle.std.proofs.lemmas.Option.{slice_get_within}
 use Rattle.fm_base.proofs.ListFacts.{AllByRecursion-append}
 use Rattle.fm_base.specs.declared.limits.TheConstants.{MAX_LOCAL_WORDS}
 use Rattle.fm_code.proofs.EdgesLemmas.{Contains-first, Contains-later}
@@ -12,9 +11,8 @@ use Rattle.fm_code.specs.declared.code_array.Item.{Item}
 use Rattle.fm_layout.specs.Conditions.{AreNewItems}
 use Rattle.fm_layout.specs.Laid.{laid_of}
 use Rattle.fm_layout.specs.Tables.{AreAnchors}
-use Rattle.fm_place.proofs.FullLemmas.{numbers-found}
-use Rattle.fm_place.proofs.WovenLemmas.{anchors_are_anchors, woven_is_laid_out}
-use Rattle.fm_place.specs.Insertions.{after_at, before_at, Holder, Insertions}
+use Rattle.fm_place.proofs.WovenLemmas.{after-inside, anchors_are_anchors, woven_is_laid_out}
+use Rattle.fm_place.specs.Insertions.{after_at, before_at, Insertions}
 use Rattle.fm_place.specs.PlansBy.{paired}
 use Rattle.fm_place.specs.Woven.{anchors_from, anchors_of, count_at, freed, kept, local_of, null_stored_items, top_stored, woven, woven_code, woven_from}
 use Rattle.fm_place.specs.declared.plans.Plan.{Plan}
@@ -135,12 +133,6 @@ all-listed : (first H : ℕ) (f : ℕ → List ℕ) (j n : ℕ) → first + H �
 all-listed first H f j zero room each = tt
 all-listed first H f j (suc n) room each =
     AllByRecursion-append (IsLocal first) (paired f j) (listed f (j + 1) n) (all-paired first H j (f j) room (each j)) (all-listed first H f (j + 1) n room each)
-
-after-inside : (ins : Insertions) (j h : ℕ) → Contains (after_at ins j) h → h < length ins.holders
-after-inside ins j h found =
-    let was = numbers-found (λ (holder : Holder). holder.site == j) 0 ins.holders h found in
-    let inside = slice_get_within ins.holders was.place was.holder was.there in
-    omega (arith, inside, was.number)
 
 pub may-be-woven : PlansMayBeWoven
 may-be-woven free code ins plan is old rules stack suits few = record {

@@ -2,7 +2,7 @@
 use Rattle.std.proofs.Common.{◌≡◌, ℕ, ◌+◌, ◌<◌, ◌^◌, Bool, true, false, ◌&&◌, inl, inr, List, [], ◌∷◌, ◌++◌, length, length-append, append_assoc, codes, ltb, Option, Some, None, refl, sym, ap, subst, ◌∙◌, arith}
 use Rattle.std.specs.List.{AllByRecursion, list_all}
 use Rattle.std.specs.Str.{bytes_eq}
-use Rattle.std.proofs.lemmas.Bool.{false≢true, ltb-true}
+use Rattle.std.proofs.lemmas.Bool.{and_parts, false≢true, ltb-true}
 use Rattle.std.proofs.lemmas.List.{append-nil}
 use Rattle.std.proofs.lemmas.List.Quantifiers.{position-Some}
 use Rattle.std.proofs.lemmas.Slice.Eq.{bytes_eq-Decides}
@@ -44,13 +44,9 @@ text_is : (o : Option (List ℕ)) (text : List ℕ) → is_some_text o text ≡ 
 text_is (Some found) text t = ap (λ (x : List ℕ). Some x) ((bytes_eq-Decides found text).0 t)
 text_is None text t = absurd (false≢true t)
 
-both_hold : (a b : Bool) → (a && b) ≡ true → (a ≡ true) × (b ≡ true)
-both_hold true b t = (refl, t)
-both_hold false b t = absurd (false≢true t)
-
 pair_is_some : (o : Option (List ℕ × List ℕ)) (name descriptor : List ℕ) → is_some_pair o name descriptor ≡ true → o ≡ Some (name, descriptor)
 pair_is_some (Some pair) name descriptor t =
-    let both = both_hold (bytes_eq pair.0 name) (bytes_eq pair.1 descriptor) t in
+    let both = and_parts (bytes_eq pair.0 name) (bytes_eq pair.1 descriptor) t in
     let first : pair.0 ≡ name = (bytes_eq-Decides pair.0 name).0 both.0 in
     let second : pair.1 ≡ descriptor = (bytes_eq-Decides pair.1 descriptor).0 both.1 in
     λ i. Some (first i, second i)
@@ -61,9 +57,9 @@ tested : (all : List Entry) (content : Content) (e : Entry) → has_content all 
 tested all (of_utf8 text) (entry.Utf8 name) t = (bytes_eq-Decides name text).0 t
 tested all (of_class text) (entry.Class name) t = text_is (utf8_at all name) text t
 tested all (of_name_and_type n d) (entry.NameAndType name descriptor) t =
-    let both = both_hold (is_some_text (utf8_at all name) n) (is_some_text (utf8_at all descriptor) d) t in (text_is (utf8_at all name) n both.0, text_is (utf8_at all descriptor) d both.1)
+    let both = and_parts (is_some_text (utf8_at all name) n) (is_some_text (utf8_at all descriptor) d) t in (text_is (utf8_at all name) n both.0, text_is (utf8_at all descriptor) d both.1)
 tested all (of_method m) (entry.Method class member) t =
-    let both = both_hold (is_some_text (class_name_at all class) m.class) (is_some_pair (named_and_typed_at all member) m.name m.descriptor) t in
+    let both = and_parts (is_some_text (class_name_at all class) m.class) (is_some_pair (named_and_typed_at all member) m.name m.descriptor) t in
     (text_is (class_name_at all class) m.class both.0, pair_is_some (named_and_typed_at all member) m.name m.descriptor both.1)
 tested all content e t = absurd (false≢true t)
 
@@ -205,8 +201,8 @@ is_plain b = ltb 0 b && ltb b 128
 all_plain : (bytes : List ℕ) → list_all is_plain bytes ≡ true → AllByRecursion (λ b. (0 < b) × (b < 128)) bytes
 all_plain [] t = tt
 all_plain (b ∷ bytes) t =
-    let both = both_hold (is_plain b) (list_all is_plain bytes) t in
-    let bounds = both_hold (ltb 0 b) (ltb b 128) both.0 in
+    let both = and_parts (is_plain b) (list_all is_plain bytes) t in
+    let bounds = and_parts (ltb 0 b) (ltb b 128) both.0 in
     ((ltb-true 0 b bounds.0, ltb-true b 128 bounds.1), all_plain bytes both.1)
 
 -- a short text in ASCII may be added

@@ -93,10 +93,10 @@ pair_kept entries more i pair h =
 
 -- ---- the rules of entries
 
-there_kept : {X : Type 0} (o p : Option X) → ((x : X) → o ≡ Some x → p ≡ Some x) → IsSome o → IsSome p
+pub there_kept : {X : Type 0} (o p : Option X) → ((x : X) → o ≡ Some x → p ≡ Some x) → IsSome o → IsSome p
 there_kept o p kept there = let v = Some-from_is_some o there in IsSome-from_some p v.0 (kept v.0 v.1)
 
-and_kept : {X : Type 0} (o p : Option X) (P : X → Type 0) → ((x : X) → o ≡ Some x → p ≡ Some x) → IsSomeAnd o P → IsSomeAnd p P
+pub and_kept : {X : Type 0} (o p : Option X) (P : X → Type 0) → ((x : X) → o ≡ Some x → p ≡ Some x) → IsSomeAnd o P → IsSomeAnd p P
 and_kept o p P kept there = let v = Some-from_some_and o P there in IsSomeAnd-from_some p P v.0 (kept v.0 v.1) v.2
 
 member_kept : (IsPair : List ℕ × List ℕ → Type 0) (entries more : List Entry) (class member : ℕ) → NamesMember IsPair entries class member → NamesMember IsPair (entries ++ more) class member

@@ -79,10 +79,7 @@ impl KnownPool {
     pub fn has_this_text(&self, index: u16, text: &[u8]) -> bool
         ensures { IsTrue result ↔ (utf8_at self.now.entries index ≡ Some text.now) }
     {
-        match self.pool.utf8(index) {
-            Some(name) => name.as_slice() == text,
-            None => false,
-        }
+        self.pool.has_text(index, text)
     }
 
     /// Whether a class with a name is at an index.

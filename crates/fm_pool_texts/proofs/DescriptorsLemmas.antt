@@ -1,5 +1,6 @@
 -- Names, and descriptors of fields.
 use Rattle.std.proofs.Common.{◌≡◌, ◌↔◌, ℕ, zero, suc, ◌+◌, ◌≤◌, ◌<◌, Bool, true, false, not, eqb, replicate, List, [], ◌∷◌, ◌++◌, length, take, drop, length-append, length-drop, append_assoc, get_or, ◌-◌, IsTrue, refl, sym, ap, subst, ◌∙◌, arith, inl, inr}
+use Rattle.std.proofs.Math.Numerals.{one-add}
 use Rattle.std.specs.List.{prefix_len, list_all}
 use Rattle.std.proofs.lemmas.Bool.{and_parts, cases_Bool, both_ways, eqb-true}
 use Rattle.std.proofs.lemmas.List.{take_at, drop_at, length-replicate, take-append-drop, append-nil, take_all, nil_from_length, get_or-drop}
@@ -17,9 +18,6 @@ cons_is b [] some e = absurd (omega arith)
 cons_is b (x ∷ xs) some e =
     let all : take (suc (length xs) - 1) xs ≡ xs = take_all (suc (length xs) - 1) xs (omega arith) in
     ap (λ (y : ℕ). y ∷ xs) e ∙ ap (λ (ys : List ℕ). b ∷ ys) (sym all)
-
-suc-is : (n : ℕ) → 1 + n ≡ suc n
-suc-is n = omega arith
 
 -- ---- names
 
@@ -39,7 +37,7 @@ prefix_len-name begun [] rest ok = refl
 prefix_len-name begun (c ∷ cs) rest ok =
     elim (cases_Bool (eqb c 59)) [
       | inl semicolon ↦ absurd (both_ways (are_parts begun (c ∷ cs)) (ap (λ (b : ℕ). are_parts begun (b ∷ cs)) (eqb-true c 59 semicolon)) ok)
-      | inr other ↦ rw other (suc-is (prefix_len is_before (cs ++ 59 ∷ rest)) ∙ ap suc (elim (cases_Bool (eqb c 47)) [
+      | inr other ↦ rw other (one-add (prefix_len is_before (cs ++ 59 ∷ rest)) ∙ ap suc (elim (cases_Bool (eqb c 47)) [
         | inl slash ↦ prefix_len-name false cs rest (and_parts begun (are_parts false cs) (rw slash at ok)).1
         | inr character ↦ prefix_len-name true cs rest (and_parts _ (are_parts true cs) (rw character at ok)).1
       ]))
@@ -143,14 +141,14 @@ prefix_len-base (object name) rest ok = refl
 
 prefix_len-brackets : (n : ℕ) (rest : List ℕ) → prefix_len is_bracket rest ≡ 0 → prefix_len is_bracket (replicate n 91 ++ rest) ≡ n
 prefix_len-brackets zero rest none = none
-prefix_len-brackets (suc n) rest none = suc-is (prefix_len is_bracket (replicate n 91 ++ rest)) ∙ ap suc (prefix_len-brackets n rest none)
+prefix_len-brackets (suc n) rest none = one-add (prefix_len is_bracket (replicate n 91 ++ rest)) ∙ ap suc (prefix_len-brackets n rest none)
 
 -- what is at the front of a list again and again
 replicate-prefix_len : (b : ℕ) (xs : List ℕ) → xs ≡ replicate (prefix_len (λ c. eqb c b) xs) b ++ drop (prefix_len (λ c. eqb c b) xs) xs
 replicate-prefix_len b [] = refl
 replicate-prefix_len b (c ∷ cs) =
     elim (cases_Bool (eqb c b)) [
-      | inl e ↦ rw (e, suc-is (prefix_len (λ c. eqb c b) cs)) (ap (λ (x : ℕ). x ∷ cs) (eqb-true c b e) ∙ ap (λ (ys : List ℕ). b ∷ ys) (replicate-prefix_len b cs))
+      | inl e ↦ rw (e, one-add (prefix_len (λ c. eqb c b) cs)) (ap (λ (x : ℕ). x ∷ cs) (eqb-true c b e) ∙ ap (λ (ys : List ℕ). b ∷ ys) (replicate-prefix_len b cs))
       | inr e ↦ rw e refl
     ]
 

@@ -1,6 +1,6 @@
 -- Keys that go into a set one after the other, as a loop does.
 use Rattle.std.proofs.Common.{◌≡◌, ◌↔◌, ℕ, suc, Bool, true, false, cond, inl, inr, List, [], ◌∷◌, ◌+◌, ◌<◌, length, get_or, drop, drop-cons, add-one, refl, sym, ap, ◌∙◌}
-use Rattle.std.specs.Prelude.{slice_index, not}
+use Rattle.std.specs.Prelude.{slice_index}
 use Rattle.std.specs.List.{AllByRecursion}
 use Rattle.std.proofs.lemmas.Bool.{false≢true, cases_Bool}
 use Rattle.std.specs.Ordering.{nat_cmp, is_eq}
@@ -72,10 +72,6 @@ Adds-from_insert key s n h =
       others = λ q apart. h.0 q ∙ rw (apart_test key q apart) refl;
       grows = λ q fresh. false_before (is_eq (pair_order key q)) (contains pair_order s q) (contains pair_order n q) (h.0 q) fresh;
     }
-
-pub fresh_from : (b x : Bool) → b ≡ not x → b ≡ true → x ≡ false
-fresh_from b true e t = absurd (false≢true (sym e ∙ t))
-fresh_from b false e t = refl
 
 -- ---- keys and texts
 

@@ -20,6 +20,7 @@ use Rattle.fm_code.specs.declared.code_array.CodeAttr.TheVariants as code_attrib
 use Rattle.fm_code.specs.declared.code_array.Line.{Line}
 use Rattle.fm_code.specs.declared.code_array.Var.{Var}
 use Rattle.fm_code.specs.declared.constant_pool.Entry.{Entry}
+use Rattle.fm_code.proofs.CodePrefixes.{LineFits}
 use Rattle.fm_code.proofs.Pieces.{all_of, bind_some, some_is, Takes, IsPiece, counted_piece, raw_again, raw_piece}
 use Rattle.fm_code.proofs.TableLengths.{lines_fit, vars_fit}
 use Rattle.fm_read.specs.declared.code_attributes.AttributeKind.{AttributeKind}
@@ -91,9 +92,6 @@ CountedFits-first P Q xs fits = record { count = fits.count; each = AllByRecursi
 
 CountedFits-second : {X : Type 0} (P Q : X → Type 0) (xs : List X) → CountedFits (λ x. P x × Q x) xs → AllByRecursion Q xs
 CountedFits-second P Q xs fits = AllByRecursion-weaker (λ x. P x × Q x) Q (λ x both. both.1) xs fits.each
-
-abbrev LineFits : Line → Type 0
-LineFits l = FitsTwo l.line
 
 abbrev LineIsValid : Code → Line → Type 0
 LineIsValid code l = l.item < length code.items

@@ -1,6 +1,6 @@
 -- The code that is read from the bytes of a Code attribute is the one that they spell.
 use Rattle.std.proofs.Common.{◌≡◌, ℕ, ◌<◌, ◌≤◌, true, false, cond, eqb, leb, List, [], ◌∷◌, ◌++◌, length, Option, Some, None, refl, sym, ap, subst, ◌∙◌, append_assoc, arith, inl, inr}
-use Rattle.std.specs.List.{AllByRecursion, flat_map}
+use Rattle.std.specs.List.{flat_map}
 use Rattle.std.proofs.lemmas.Bool.{cases_Bool, eqb-true, eqb-false, ne_eqb, leb-true, le-leb}
 use Rattle.std.proofs.lemmas.List.{append-nil}
 use Rattle.fm_base.proofs.ListFacts.{AllByRecursion-both, AllByRecursion-weaker}
@@ -21,6 +21,7 @@ use Rattle.fm_code.specs.declared.constant_pool.Entry.{Entry}
 use Rattle.fm_code.specs.declared.error.PieceFail.{PieceFail}
 use Rattle.fm_code.specs.declared.error.PieceFail.TheVariants as fail
 use Rattle.fm_code.proofs.CodeItems.{AreLaid, AreLaid-code, one_code}
+use Rattle.fm_code.proofs.CodePrefixes.{AreBytes-items}
 use Rattle.fm_code.proofs.Pieces.{all_of, then_all, bind_some, some_is, Takes, Takes-then, IsPiece, two_piece, four_piece, bytes_takes, bytes_again, counted_piece}
 use Rattle.fm_read.specs.inner.Items.{AreItemsOf, ItemIsValid}
 use Rattle.fm_read.specs.inner.Places.{offsets_of}
@@ -142,15 +143,6 @@ tables_in code = record { handlers = code.handlers; attributes = code.attributes
 code_bytes-parts : (code : Code) → code.length ≡ length (flat_map item_bytes code.items) → code_bytes code ≡ head_bytes (head_of code) ++ tables_bytes code (tables_in code)
 unfolding code_bytes
 code_bytes-parts code measured = rw measured (simp (append_assoc, append-nil))
-
--- an append's parts are bytes
-AreBytes-parts : (xs ys : List ℕ) → AreBytes (xs ++ ys) → AreBytes xs × AreBytes ys
-AreBytes-parts [] ys fits = (tt, fits)
-AreBytes-parts (x ∷ xs) ys (here, fits) = let rest = AreBytes-parts xs ys fits in ((here, rest.0), rest.1)
-
-AreBytes-items : (items : List Item) → AreBytes (flat_map item_bytes items) → AllByRecursion (λ (item : Item). AreBytes item.bytes) items
-AreBytes-items [] fits = tt
-AreBytes-items (item ∷ items) fits = let parts = AreBytes-parts item.bytes (flat_map item_bytes items) fits in (parts.0, AreBytes-items items parts.1)
 
 -- the items of a code that is spelled are the ones to be found
 pub items_of-code : (entries : List Entry) (bytes : List ℕ) (code : Code) → IsCodeOf entries bytes code → AreItemsOf entries code.max_locals (flat_map item_bytes code.items) code.items

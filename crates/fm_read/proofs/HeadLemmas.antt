@@ -1,5 +1,5 @@
 -- The head of a class file: what is read is what the bytes begin with, and a head is read.
-use Rattle.std.proofs.Common.{◌≡◌, ℕ, eqb, List, ◌++◌, length, take, drop, Some, None, refl, sym, ap, subst, ◌∙◌, append_assoc, arith}
+use Rattle.std.proofs.Common.{◌≡◌, ◌≢◌, ℕ, eqb, List, ◌++◌, length, take, drop, Option, Some, None, refl, sym, ap, subst, ◌∙◌, append_assoc, arith}
 use Rattle.std.proofs.lemmas.Bool.{eqb-true}
 use Rattle.std.proofs.lemmas.List.{take_at, take-append-drop, length-append}
 use Rattle.fm_base.proofs.OptionFacts.{cond-some_then}
@@ -9,8 +9,11 @@ use Rattle.fm_code.specs.Numbers.{two, four}
 use Rattle.fm_code.specs.Profile.{HasVersion, HasOtherVersion, IsAcceptedVersion}
 use Rattle.fm_code.proofs.Bytes.{length-two, magic_bytes}
 use Rattle.fm_code.proofs.Pieces.{after_piece, some_is, Takes-then, two_piece, four_piece}
+use Rattle.fm_code.specs.inner.Reading.{Fails}
 use Rattle.fm_read.specs.inner.Head.{head_bytes, HasHead, head_at, VersionFits}
 use Rattle.fm_code.specs.declared.class_file.TheConstants.{MAGIC}
+use Rattle.fm_code.specs.declared.error.PieceFail.{PieceFail}
+use Rattle.fm_code.specs.declared.error.PieceFail.TheVariants as fail
 use Rattle.fm_read.specs.declared.head.Version.{Version}
 
 -- what is read is what the bytes begin with
@@ -62,6 +65,11 @@ has_version bytes v rest head = record {
 -- where nothing is read, the bytes begin with no version
 pub none_told : (bytes : List ℕ) (major minor : ℕ) → head_at bytes ≡ None → HasVersion bytes major minor → ⊥
 none_told bytes major minor e has = let read = is_told bytes major minor has in cc
+
+-- a reading that fails for another reason than memory gives nothing
+pub nothing_read : {Y : Type 0} (f : PieceFail) (reading : Option Y) → Fails f reading → f ≢ fail.NoMemory → reading ≡ None
+nothing_read fail.Malformed reading nothing other = nothing
+nothing_read fail.NoMemory reading nothing other = absurd (other refl)
 
 -- the bytes begin with one version alone
 pub same_version : (bytes : List ℕ) (v : Version) (rest : List ℕ) (major minor : ℕ) → head_at bytes ≡ Some (v, rest) → HasVersion bytes major minor → v ≡ record { major = major; minor = minor }

@@ -1,12 +1,12 @@
 // The head of a class file: the magic number and the version (JVMS 4.1).
 
-ghost use Rattle.std.specs.Prelude.{◌≡◌, ◌↔◌, ℕ, Err, IfOk, IsTrue};
-ghost use Rattle.std.specs.Option.{option_map};
+ghost use Rattle.std.specs.Prelude.{◌≡◌, ◌≢◌, ◌↔◌, ℕ, Err, IfOk, IsTrue};
 ghost use Rattle.fm_code.specs.Profile.{HasOtherVersion, HasVersion, IsAcceptedVersion};
+ghost use Rattle.fm_code.specs.inner.Reading.{Gives};
 ghost use Rattle.fm_read.specs.inner.Head.{HasHead, head_at};
 
 use crate::error::ReadFail;
-use fm_code::{MAGIC, NEWEST_MAJOR, OLDEST_MAJOR, OLDEST_MINOR};
+use fm_code::{MAGIC, NEWEST_MAJOR, OLDEST_MAJOR, OLDEST_MINOR, PieceFail, take_u16, take_u32};
 
 /// The version of a class file.
 #[derive(Clone, Copy, Debug, PartialEq, Eq)]
@@ -41,28 +41,25 @@ pub(crate) fn take_head(bytes: &[u8]) -> Result<(Version, &[u8]), ReadFail>
     ensures malformed { result ≡ Err ReadFail.Malformed
         → (major minor : ℕ) → ¬ HasVersion bytes.now major minor }
 {
-    let Some((version, rest)) = take_version(bytes) else {
-        return Err(ReadFail::Malformed);
-    };
+    let (version, rest) = take_version(bytes)?;
     if !version.is_accepted() {
         return Err(ReadFail::Version(version.major, version.minor));
     }
     Ok((version, rest))
 }
 
-/// The version after the magic number, and the bytes after it.
+/// The version after the magic number, and the bytes after it. `Malformed` comes exactly where the
+/// bytes don't begin with the magic number and four more bytes.
 #[tactic(auto, unfolding(crate::specs::inner::Head::head_at))]
-fn take_version(bytes: &[u8]) -> Option<(Version, &[u8])>
-    ensures { option_map (λ x. (x.0, x.1.now)) result ≡ head_at bytes.now }
+fn take_version(bytes: &[u8]) -> Result<(Version, &[u8]), PieceFail>
+    ensures taken { Gives (λ x. (x.0, x.1.now)) result (head_at bytes.now) }
+    ensures malformed_alone { result ≢ Err PieceFail.NoMemory }
 {
-    match bytes {
-        [a, b, c, d, e, f, g, h, rest @ ..] if u32::from_be_bytes([*a, *b, *c, *d]) == MAGIC => {
-            let version = Version {
-                major: u16::from_be_bytes([*g, *h]),
-                minor: u16::from_be_bytes([*e, *f]),
-            };
-            Some((version, rest))
-        }
-        _ => None,
+    let (magic, rest) = take_u32(bytes)?;
+    let (minor, rest) = take_u16(rest)?;
+    let (major, rest) = take_u16(rest)?;
+    if magic != MAGIC {
+        return Err(PieceFail::Malformed);
     }
+    Ok((Version { major, minor }, rest))
 }

@@ -87,7 +87,5 @@ fn is_constructor(known: &KnownPool, method: &Member) -> bool
 fn suits_interface(known: &KnownPool, in_interface: bool, method: &Member) -> bool
     ensures { IsTrue result ↔ SuitsInterface in_interface known.now.entries method.now }
 {
-    !in_interface
-        || has_flag(method.flags, ACC_ABSTRACT)
-        || known.has_this_text(method.name, CLINIT)
+    !in_interface || !has_flag(method.flags, ACC_NATIVE) || known.has_this_text(method.name, CLINIT)
 }

@@ -1,5 +1,6 @@
 -- Where descriptors have floats and doubles: by their last character, and by the letters outside of names.
 use Rattle.std.proofs.Common.{◌≡◌, ◌↔◌, ℕ, zero, suc, ◌-◌, ◌<◌, Bool, true, false, ◌||◌, eqb, IsTrue, replicate, List, [], ◌∷◌, ◌++◌, length, length-append, get_or, append_assoc, inl, inr, Option, Some, None, IfSome, refl, sym, ap, ◌∙◌, arith}
+use Rattle.std.proofs.Math.Bool.{or-false}
 use Rattle.std.specs.List.{flat_map, list_any, AllByRecursion}
 use Rattle.std.proofs.Math.Seq.{get_or-append_seam}
 use Rattle.std.proofs.lemmas.Bool.{and_parts, cases_Bool, both_ways, eqb-true, false≢true}
@@ -95,10 +96,6 @@ or_apart : (a b c : Bool) → (a || (b || c)) ≡ ((a || b) || c)
 or_apart true b c = refl
 or_apart false b c = refl
 
-or_false : (a : Bool) → (a || false) ≡ a
-or_false true = refl
-or_false false = refl
-
 parameters_count : (ts : List FieldType) (rest : List ℕ) → AllByRecursion IsFieldType ts → has_floating false (flat_map field_descriptor ts ++ rest) ≡ (list_any is_floating ts || has_floating false rest)
 parameters_count [] rest ok = refl
 parameters_count (t ∷ ts) rest ok =
@@ -109,7 +106,7 @@ parameters_count (t ∷ ts) rest ok =
 
 result_counts : (result : Option FieldType) → IfSome result IsFieldType → has_floating false (result_descriptor result) ≡ is_floating_result result
 result_counts None ok = refl
-result_counts (Some t) ok = ap (has_floating false) (sym (append-nil (field_descriptor t))) ∙ (field_counts t [] ok.base ∙ or_false (is_floating t))
+result_counts (Some t) ok = ap (has_floating false) (sym (append-nil (field_descriptor t))) ∙ (field_counts t [] ok.base ∙ or-false (is_floating t))
 
 method_counts : (m : MethodType) → IsMethodType m → has_floating false (method_descriptor m) ≡ (list_any is_floating m.parameters || is_floating_result m.result)
 method_counts m ok =

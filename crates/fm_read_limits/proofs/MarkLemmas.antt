@@ -1,15 +1,14 @@
 -- Marks of the texts of a pool, one index after the other, and what the mark of a descriptor means.
-use Rattle.std.proofs.Common.{◌≡◌, ◌≢◌, ◌↔◌, ℕ, zero, suc, ◌+◌, ◌<◌, Bool, true, false, not, ◌&&◌, IsTrue, IsSomeAnd, inl, inr, replicate, set, List, [], ◌∷◌, length, take, get_or, get_or-set_same, get_or-set_other, add-one, Option, Some, None, refl, sym, ap, subst, ◌∙◌, arith}
+use Rattle.std.proofs.Common.{◌≡◌, ◌≢◌, ◌↔◌, ℕ, zero, suc, ◌+◌, ◌<◌, Bool, true, false, not, IsTrue, IsSomeAnd, inl, inr, replicate, set, List, [], ◌∷◌, length, take, get_or, get_or-set_same, get_or-set_other, add-one, Option, Some, None, refl, sym, ap, subst, ◌∙◌, arith}
 use Rattle.std.proofs.lemmas.Bool.{cases_eq, false≢true}
 use Rattle.std.proofs.lemmas.List.{get_or_read, get_or-take}
-use Rattle.fm_code.specs.AccessFlags.{is_native}
 use Rattle.fm_code.specs.ConstantPool.{entry_at, utf8_at}
-use Rattle.fm_code.specs.Profile.{IsFloatingMethod, HeadIsSupported}
+use Rattle.fm_code.specs.Profile.{IsFloatingMethod}
 use Rattle.fm_code.specs.declared.class_file.Member.{Member}
 use Rattle.fm_code.specs.declared.constant_pool.Entry.{Entry}
 use Rattle.fm_code.specs.declared.constant_pool.Entry.TheVariants as entry
 use Rattle.fm_read_limits.specs.inner.Declared.{IsMethodText, DeclaresMethod}
-use Rattle.fm_read_limits.specs.inner.FloatingTypes.{AreMarks, has_floating, has_unmarked_head, mark_of}
+use Rattle.fm_read_limits.specs.inner.FloatingTypes.{AreMarks, has_floating, mark_of}
 use Rattle.fm_read_limits.proofs.FloatingLemmas.{floating_method}
 
 -- no index is marked at first
@@ -57,11 +56,7 @@ not_marked_is : (entries : List Entry) (marks : List Bool) (i : ℕ) → AreMark
     → IsTrue (not (get_or marks i false)) ↔ IsSomeAnd (utf8_at entries i) (λ d. IsFloatingMethod d → ⊥)
 not_marked_is entries marks i marked is = marked_text (utf8_at entries i) (get_or marks i false) (λ text found. marked i ∙ mark_tells (entry_at entries i) text found) is
 
--- and so a method's head is decided
-head_is : (entries : List Entry) (m : Member) (native mark : Bool) → is_native m.flags ≡ native → IsTrue (not mark) ↔ IsSomeAnd (utf8_at entries m.descriptor) (λ d. IsFloatingMethod d → ⊥)
-    → IsTrue (not native && not mark) ↔ HeadIsSupported entries m
-head_is entries m true mark is unmarked = (λ t. absurd (false≢true t), λ head. absurd (false≢true (sym head.not_native ∙ is)))
-head_is entries m false mark is unmarked = (λ t. record { descriptor = unmarked.0 t; not_native = is }, λ head. unmarked.1 head.descriptor)
-
-pub unmarked_head : (entries : List Entry) (marks : List Bool) (m : Member) → AreMarks entries marks → DeclaresMethod entries m → IsTrue (has_unmarked_head marks m) ↔ HeadIsSupported entries m
-unmarked_head entries marks m marked declared = head_is entries m (is_native m.flags) (get_or marks m.descriptor false) refl (not_marked_is entries marks m.descriptor marked declared)
+-- the descriptor of a method, by its mark
+pub unmarked_descriptor : (entries : List Entry) (marks : List Bool) (m : Member) → AreMarks entries marks → DeclaresMethod entries m
+    → IsTrue (not (get_or marks m.descriptor false)) ↔ IsSomeAnd (utf8_at entries m.descriptor) (λ d. IsFloatingMethod d → ⊥)
+unmarked_descriptor entries marks m marked declared = not_marked_is entries marks m.descriptor marked declared

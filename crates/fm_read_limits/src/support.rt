@@ -2,12 +2,13 @@
 
 ghost use Rattle.std.specs.Prelude.{◌≡◌, ◌↔◌, ◌<◌, ◌^◌, IfErr, IfSome, IsNone, IsOk, IsSomeAnd, IsTrue, length, slice_get, take};
 ghost use Rattle.std.specs.List.{AllByRecursion};
+ghost use Rattle.fm_code.specs.AccessFlags.{is_interface};
 ghost use Rattle.fm_code.specs.ConstantPool.{class_name_at};
-ghost use Rattle.fm_code.specs.Profile.{EntryIsSupported, FailsAt, FieldIsSupported, IsAcceptedVersion, IsFirstUnsupported, IsFirstUnsupportedItem, IsSupported, IsSupportedName, IsWithinLimits, ItemIsSupported, MethodIsSupported, Profile};
+ghost use Rattle.fm_code.specs.Profile.{EntryIsSupported, FailsAt, FieldIsSupported, HeadIsSupported, IsAcceptedVersion, IsFirstUnsupported, IsFirstUnsupportedItem, IsSupported, IsSupportedName, IsWithinLimits, ItemIsSupported, MethodIsSupported, Profile, IsSupportedInInterface};
 ghost use Rattle.fm_code.specs.Spells.{HasSpelling};
 ghost use Rattle.fm_code.specs.declared.class_file.ClassDef.{ClassDef as ClassRecord};
 ghost use Rattle.fm_read_limits.specs.inner.Declared.{DeclaresField, DeclaresMethod, PoolIsValid};
-ghost use Rattle.fm_read_limits.specs.inner.FloatingTypes.{AreMarks, has_unmarked_head};
+ghost use Rattle.fm_read_limits.specs.inner.FloatingTypes.{AreMarks};
 
 mod class_names;
 mod floating_types;
@@ -15,8 +16,14 @@ mod items;
 
 use class_names::is_supported_name;
 use floating_types::{FloatingTexts, is_floating_field};
-use fm_code::{ACC_NATIVE, ClassDef, Code, Entry, Member, Place, Pool, Unsupported, has_flag};
+use fm_code::{
+    ACC_ABSTRACT, ACC_INTERFACE, ACC_NATIVE, ClassDef, Code, Entry, Member, Place, Pool,
+    Unsupported, has_flag,
+};
 use items::is_supported_item;
+
+/// The name of the method that starts its interface.
+const CLINIT: &[u8] = b"<clinit>";
 
 /// Asks whether all that a class has is supported. An error is the first place that isn't: the
 /// class's own name, then its fields, then its methods, of a method its descriptor and its flags, at
@@ -40,7 +47,9 @@ pub fn supported(class: &ClassDef) -> Result<(), Unsupported>
         });
     }
     let floating = FloatingTexts::of(class.pool.entries.as_slice());
-    if let Some((number, offset)) = first_method(&class.pool, &floating, class.methods.as_slice()) {
+    let in_interface = has_flag(class.flags, ACC_INTERFACE);
+    let methods = class.methods.as_slice();
+    if let Some((number, offset)) = first_method(&class.pool, &floating, in_interface, methods) {
         return Err(Unsupported {
             place: Place::OfMethod(number),
             offset,
@@ -104,21 +113,28 @@ fn is_supported_field(pool: &Pool, field: &Member) -> bool
     }
 }
 
-/// The number of the first method that isn't supported, and the offset of what isn't.
-fn first_method(pool: &Pool, floating: &FloatingTexts, methods: &[Member]) -> Option<(u16, u32)>
+/// The number of the first method of a class, or of an interface, that isn't supported, and the
+/// offset of what isn't.
+fn first_method(
+    pool: &Pool,
+    floating: &FloatingTexts,
+    in_interface: bool,
+    methods: &[Member],
+) -> Option<(u16, u32)>
     requires pool { PoolIsValid pool.now.entries }
     requires marked { AreMarks pool.now.entries floating.now.marks }
     requires few { length methods.now < 2 ^ 16 }
     requires declared { AllByRecursion (DeclaresMethod pool.now.entries) methods.now }
-    ensures none { IsNone result → AllByRecursion (MethodIsSupported pool.now.entries) methods.now }
-    ensures before { IfSome result
-        (λ first. AllByRecursion (MethodIsSupported pool.now.entries) (take first.0 methods.now)) }
-    ensures there { IfSome result
-        (λ first. IsSomeAnd (slice_get methods.now first.0) (FailsAt pool.now.entries first.1)) }
+    ensures none { IsNone result
+        → AllByRecursion (MethodIsSupported in_interface pool.now.entries) methods.now }
+    ensures before { IfSome result (λ first.
+        AllByRecursion (MethodIsSupported in_interface pool.now.entries) (take first.0 methods.now)) }
+    ensures there { IfSome result (λ first.
+        IsSomeAnd (slice_get methods.now first.0) (FailsAt in_interface pool.now.entries first.1)) }
 {
     let mut number = 0;
     for method in methods {
-        if let Some(offset) = first_of_method(pool, floating, method) {
+        if let Some(offset) = first_of_method(pool, floating, in_interface, method) {
             return Some((number, offset));
         }
         number += 1;
@@ -127,14 +143,20 @@ fn first_method(pool: &Pool, floating: &FloatingTexts, methods: &[Member]) -> Op
 }
 
 /// The offset of what of a method isn't supported first, which is 0 for its head.
-fn first_of_method(pool: &Pool, floating: &FloatingTexts, method: &Member) -> Option<u32>
+fn first_of_method(
+    pool: &Pool,
+    floating: &FloatingTexts,
+    in_interface: bool,
+    method: &Member,
+) -> Option<u32>
     requires pool { PoolIsValid pool.now.entries }
     requires marked { AreMarks pool.now.entries floating.now.marks }
     requires declared { DeclaresMethod pool.now.entries method.now }
-    ensures none { IsNone result → MethodIsSupported pool.now.entries method.now }
-    ensures some { IfSome result (λ offset. FailsAt pool.now.entries offset method.now) }
+    ensures none { IsNone result → MethodIsSupported in_interface pool.now.entries method.now }
+    ensures some { IfSome result
+        (λ offset. FailsAt in_interface pool.now.entries offset method.now) }
 {
-    if !has_supported_head(floating, method) {
+    if !has_supported_head(pool, floating, in_interface, method) {
         return Some(0);
     }
     match method.code() {
@@ -144,10 +166,26 @@ fn first_of_method(pool: &Pool, floating: &FloatingTexts, method: &Member) -> Op
 }
 
 /// Whether a method is supported beside its code.
-fn has_supported_head(floating: &FloatingTexts, method: &Member) -> bool
-    ensures { result ≡ has_unmarked_head floating.now.marks method.now }
+fn has_supported_head(
+    pool: &Pool,
+    floating: &FloatingTexts,
+    in_interface: bool,
+    method: &Member,
+) -> bool
+    requires marked { AreMarks pool.now.entries floating.now.marks }
+    requires declared { DeclaresMethod pool.now.entries method.now }
+    ensures { IsTrue result ↔ HeadIsSupported in_interface pool.now.entries method.now }
 {
-    !has_flag(method.flags, ACC_NATIVE) && !floating.at(method.descriptor)
+    !has_flag(method.flags, ACC_NATIVE)
+        && !floating.at(method.descriptor)
+        && is_supported_in_interface(pool, in_interface, method)
+}
+
+/// Whether a method is abstract or the start of its interface, if it is in one.
+fn is_supported_in_interface(pool: &Pool, in_interface: bool, method: &Member) -> bool
+    ensures { IsTrue result ↔ IsSupportedInInterface in_interface pool.now.entries method.now }
+{
+    !in_interface || has_flag(method.flags, ACC_ABSTRACT) || pool.has_text(method.name, CLINIT)
 }
 
 /// The offset of the first item of a method's code that isn't supported.

@@ -7,10 +7,10 @@ use Rattle.std.proofs.lemmas.List.{get_or_past, length-drop, length-map}
 use Rattle.std.proofs.lemmas.List.FromFn.{length-map-range_with_len}
 use Rattle.std.proofs.lemmas.Option.{slice_get_within}
 use Rattle.fm_rewrite.specs.Plans.{FullPlansMayBeWoven}
+use Rattle.fm_base.proofs.ContainsFacts.{Contains-none}
 use Rattle.fm_base.specs.declared.limits.TheConstants.{MAX_LOCAL_WORDS}
 use Rattle.fm_code.specs.Edges.{MeetsCodeRules}
 use Rattle.fm_code.specs.declared.code_array.Item.{Item}
-use Rattle.fm_conn.proofs.ListLemmas.{Contains-none}
 use Rattle.fm_conn.specs.Facts.{Facts}
 use Rattle.fm_conn.specs.Nodes.{TypedMethod}
 use Rattle.fm_flow.proofs.CodeFacts.{items_counted}

@@ -2,8 +2,8 @@
 use Rattle.std.proofs.Common.{◌≡◌, refl, sym, ◌∙◌, ap, subst, ℕ, ◌+◌, ◌<◌, ◌≤◌, List, [], ◌∷◌, ◌++◌, length, drop, get_or, Option, None, arith, append_assoc}
 use Rattle.std.specs.Option.{option_map, option_or}
 use Rattle.std.proofs.lemmas.List.{length-drop}
+use Rattle.fm_base.proofs.ListFacts.{drop_here}
 use Rattle.fm_code.specs.declared.class_file.ClassDef.{ClassDef}
-use Rattle.fm_layout.proofs.LoopLemmas.{next_of}
 use Rattle.fm_rewrite.specs.inner.ByPlans.{classes_by, first_full_by, first_long_by, full_by, long_by, method_count, others, own, pool_by, pools_by, rewritten_by}
 use Rattle.fm_place_weave.specs.declared.classes.FreePool.{FreePool}
 use Rattle.fm_place_weave.specs.declared.planned.Planned.{Planned}
@@ -12,7 +12,7 @@ use Rattle.fm_place_weave.specs.declared.planned.Planned.{Planned}
 
 module _ (classes : List ClassDef) (place : ℕ) (class : ClassDef) (within : place < length classes) (is : class ≡ get_or classes place class) where
   next : drop place classes ≡ class ∷ drop (place + 1) classes
-  next = next_of classes place class within is
+  next = drop_here classes place class within is
 
   -- what holds of all that are left
   pub left : (P : List ClassDef → Type 0) → P (drop place classes) → P (class ∷ drop (place + 1) classes)

@@ -5,7 +5,7 @@ use Rattle.fm_code.specs.declared.instructions.Insn.{Insn}
 use Rattle.fm_exec.specs.Steps.{seen, Steps}
 use Rattle.fm_frames.proofs.Throwing.{told-ok}
 use Rattle.fm_frames.specs.Acts.{Choose}
-use Rattle.fm_frames.specs.Effects.{Effect, stuck}
+use Rattle.fm_frames.specs.Effects.{Effect}
 use Rattle.fm_frames.specs.Rows.{effect_of}
 use Rattle.fm_frames.specs.Sights.{sights}
 use Rattle.fm_frames.specs.Starts.{with_start}
@@ -20,11 +20,7 @@ use Rattle.fm_run.specs.inner.Nexts.{DoesNext, StandsAt, StandsIn}
 use Rattle.fm_types.specs.Typed.{use_by}
 use Rattle.fm_world.specs.Programs.{Program}
 use Rattle.fm_world.specs.declared.uses.Use.{Use}
-
--- the effect of the topmost frame's instruction
-abbrev effect_in : Program → State → List Frame → Effect
-effect_in p x [] = stuck
-effect_in p x (f ∷ callers) = effect_by p x f (next_insn p f)
+use Rattle.fm_exec_nests.proofs.CostSteps.{frames_effect}
 
 -- that of a row
 abbrev row_effect : Program → State → (method : ℕ) → Insn → List Frame → Effect
@@ -36,9 +32,9 @@ abbrev pub own_effect : Program → State → (method : ℕ) → Insn → Effect
 own_effect p x method i = effect_of p.outline method (use_by p method i) i (slice_get x.input 0) (seen p x)
 
 in-frames : (p : Program) (x : State) (i : Insn) (frames : List Frame) (f : Frame) (callers : List Frame) → frames ≡ f ∷ callers
-    → next_insn p f ≡ Some i → effect_in p x frames ≡ row_effect p x f.method i frames
+    → next_insn p f ≡ Some i → frames_effect p x frames ≡ row_effect p x f.method i frames
 in-frames p x i frames f callers is insn_is =
-    let P : List Frame → Type 0 = λ frames. effect_in p x frames ≡ row_effect p x f.method i frames in
+    let P : List Frame → Type 0 = λ frames. frames_effect p x frames ≡ row_effect p x f.method i frames in
     subst P (sym is) (ap (effect_by p x f) insn_is)
 
 pub next-is : (p : Program) (x : State) (i : Insn) (at : StandsAt p x i)

@@ -27,6 +27,7 @@ use Rattle.fm_frames.specs.Steps.{caught, Caught, caught_in, InFrames, Leaves, c
 use Rattle.fm_frames.specs.declared.ends.Ended.{Ended}
 use Rattle.fm_frames.specs.declared.ends.Ended.TheVariants as end
 use Rattle.fm_frames.specs.declared.values.Value.{Value}
+use Rattle.fm_exec_calls.proofs.UseSteps.{base_class}
 use Rattle.fm_run_job.specs.Reports.{IsEndIn}
 use Rattle.fm_law_sound.proofs.RunsSound.{runs_sound}
 use Rattle.fm_law_can_step.specs.Ready.{CanRun}
@@ -47,11 +48,6 @@ at_index P (x ∷ xs) d each first (suc n) = at_index P xs d (λ k. each (suc k)
 abbrev CaughtAt : Program → Caught → Type 0
 CaughtAt p (InFrames frames) = Unit {0}
 CaughtAt p (Leaves e) = IsEndIn p e
-
--- the class of a base
-abbrev class_of_base : Base → Option ℕ
-class_of_base (base.OfClass class) = Some class.0
-class_of_base b = None
 
 module _ (p : Program) (runnable : IsRunnable p) where
   -- the built-in classes are there
@@ -75,7 +71,7 @@ module _ (p : Program) (runnable : IsRunnable p) where
 
   class_of_type_there : (t : TypeRef) → IsTypeIn p.outline.classes t → class_at_type t < length p.outline.classes
   class_of_type_there t there = by_dims (t.dims == 0) t.base there where
-    by_dims : (flat : Bool) (b : Base) → IsTypeIn p.outline.classes (record t { base = b }) → unwrap_or (if flat then class_of_base b else None) 0 < length p.outline.classes
+    by_dims : (flat : Bool) (b : Base) → IsTypeIn p.outline.classes (record t { base = b }) → unwrap_or (if flat then base_class b else None) 0 < length p.outline.classes
     by_dims true (base.OfClass class) inside = inside
     by_dims true b inside = class_there 0 (omega arith)
     by_dims false b inside = class_there 0 (omega arith)

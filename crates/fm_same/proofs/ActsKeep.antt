@@ -103,7 +103,7 @@ WentTo o store colour home (LostAt v) = Unit {0}
 
 -- ---- values
 
-plain_has : (store : Store) (colour : Colour) (r : Region) (v : Value) → IsPlain v → HasColour store colour r v
+pub plain_has : (store : Store) (colour : Colour) (r : Region) (v : Value) → IsPlain v → HasColour store colour r v
 plain_has store colour r value.Top h = tt
 plain_has store colour r (value.Int n) h = tt
 plain_has store colour r (value.Long n) h = tt
@@ -251,7 +251,7 @@ make_orderly store request cell grows (element ∷ elements) orderly may =
     (IsOrderly-with_object middle cell (new_object store.births request) (made_as store request (element ∷ elements))
     (IsOrderly-made_by store request cell grows orderly may) held refl)
 
-made_fixed : (store : Store) (request : Request) (content : List ℕ) → (made_as store request content).fixed ≡ request.fixed
+pub made_fixed : (store : Store) (request : Request) (content : List ℕ) → (made_as store request content).fixed ≡ request.fixed
 made_fixed store request [] = refl
 made_fixed store request (element ∷ elements) = refl
 
@@ -259,7 +259,7 @@ made_birth : (store : Store) (request : Request) (content : List ℕ) → (made_
 made_birth store request [] = refl
 made_birth store request (element ∷ elements) = refl
 
-made_class : (store : Store) (request : Request) (content : List ℕ) → (made_as store request content).class ≡ request.class
+pub made_class : (store : Store) (request : Request) (content : List ℕ) → (made_as store request content).class ≡ request.class
 made_class store request [] = refl
 made_class store request (element ∷ elements) = refl
 

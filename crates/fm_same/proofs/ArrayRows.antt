@@ -5,7 +5,7 @@ use Rattle.std.proofs.lemmas.Bool.{and_parts, false≢true}
 use Rattle.std.proofs.lemmas.List.{length-reverse}
 use Rattle.std.proofs.lemmas.List.FromFn.{length-range_with_len}
 use Rattle.std.proofs.lemmas.Option.{same_Some}
-use Rattle.fm_base.proofs.OptionFacts.{Some-from_some_and}
+use Rattle.fm_base.proofs.OptionFacts.{cond-some_then, option_and_then-some, Some-from_some_and}
 use Rattle.fm_base.specs.declared.kinds.Base.{Base}
 use Rattle.fm_base.specs.declared.kinds.Base.TheVariants as base
 use Rattle.fm_base.specs.declared.kinds.Kind.{Kind}
@@ -36,16 +36,17 @@ use Rattle.fm_world.specs.Uses.{array_of}
 use Rattle.fm_world.specs.declared.uses.Use.{Use}
 use Rattle.fm_world.specs.declared.uses.Use.TheVariants as resolved
 use Rattle.fm_code.specs.StackWords.{element_words}
-use Rattle.fm_frames.specs.ArrayRows.{array_actions, array_load_effect, array_made, array_store_effect, arrays_made, arrays_of, element_kind, element_type, int_at, ints_at, length_effect, multi_array_effect, new_array_effect, new_references_effect, on_element, put_element, thrown_negative}
+use Rattle.fm_frames.specs.ArrayRows.{array_actions, array_load_effect, array_made, array_store_effect, arrays_made, arrays_of, element_kind, element_type, ints_at, length_effect, multi_array_effect, new_array_effect, new_references_effect, on_element, put_element, thrown_negative}
 use Rattle.fm_frames.specs.Effects.{Action, Make, Put, Effect, OfMade, faulty, making, stuck, words}
 use Rattle.fm_frames.specs.Operands.{thrown, thrown_null}
 use Rattle.fm_frames.specs.Sights.{Looks, Sight}
 use Rattle.fm_frames.specs.States.{Frame}
 use Rattle.fm_same.specs.Evenness.{ActsEvenly, given, Point, PutsEvenly}
 use Rattle.fm_law_sound.proofs.Cases.{by_held, by_if, by_int, by_on_type, by_passing}
+use Rattle.fm_law_sound.proofs.InsnActs.{ints_many, magnitudes, magnitudes_many}
 use Rattle.fm_same.proofs.ItemFacts.{AtInsn, goes_obey, point, row, used, x}
 use Rattle.fm_same.proofs.MoveRows.{gives_one}
-use Rattle.fm_same.proofs.ObjectRows.{bound_some, home_of, leads_operand, loaded_obeys, making_obeys, only_next, put_obeys, reference_on_top, some_if}
+use Rattle.fm_same.proofs.ObjectRows.{home_of, leads_operand, loaded_obeys, making_obeys, only_next, put_obeys, reference_on_top}
 use Rattle.fm_same.proofs.PlainRows.{faulty_obeys, null_obeys, Owes, stuck_obeys, thrown_obeys, words_obey}
 
 -- ---- elements
@@ -98,7 +99,7 @@ store_top : (o : Outline) (s after : TypeState) → array_store_row o elem.Ref s
     → (top : slots.Slot) × (slice_get s.stack 0 ≡ Some top) × (is_reference top ≡ true)
 unfolding array_store_row
 store_top o s after h =
-    let rest = bound_some _ (taken o (slot.Ref (type_of_class (object_of o.classes)) ∷ slot.Int ∷ []) s.stack) after h in
+    let rest = option_and_then-some _ (taken o (slot.Ref (type_of_class (object_of o.classes)) ∷ slot.Int ∷ []) s.stack) after h in
     reference_on_top o (slot.Ref (type_of_class (object_of o.classes)) ∷ slot.Int ∷ []) (slot.Int ∷ []) s.stack rest.0 (type_of_class (object_of o.classes)) refl rest.1
 
 module _ (p : Program) (facts : Facts) (exact : AreFacts p facts) (f : Frame) where
@@ -202,7 +203,7 @@ all_flat P f [] h = tt
 all_flat P f (x ∷ xs) h = all_append P (f x) (flat_map f xs) (h x) (all_flat P f xs h)
 
 -- arrays with more than one dimension have references for elements
-cond_no : (c : Bool) (a b : Kind) → c ≡ false → cond c a b ≡ b
+pub cond_no : (c : Bool) (a b : Kind) → c ≡ false → cond c a b ≡ b
 cond_no true a b e = absurd (false≢true (sym e))
 cond_no false a b e = refl
 
@@ -232,15 +233,6 @@ arrays_even o x home (count ∷ next ∷ counts) t first le =
           (put_made x home first (first + 1 + place * size) (element_kind t) deep.0 deep.1, tt)),
     )
 
--- the counts by their sizes, with a name
-abbrev sizes_of : List ℤ → List ℕ
-sizes_of [] = []
-sizes_of (n ∷ others) = unsigned_abs n ∷ sizes_of others
-
-sizes_length : (counts : List ℤ) → length (sizes_of counts) ≡ length counts
-sizes_length [] = refl
-sizes_length (n ∷ others) = ap suc (sizes_length others)
-
 abbrev both_ints : Option ℤ → Option (List ℤ) → Option (List ℤ)
 both_ints (Some n) (Some others) = Some (n ∷ others)
 both_ints n others = None
@@ -251,19 +243,13 @@ both_some (Some n) (Some others) counts h = (n, others, refl, same_Some (n ∷ o
 both_some (Some n) None counts h = absurd (cc)
 both_some None others counts h = absurd (cc)
 
-ints_length : (s : List Sight) (operands : List ℕ) (counts : List ℤ) → ints_at s operands ≡ Some counts → length counts ≡ length operands
-ints_length s [] counts h = ap length (sym (same_Some {A = List ℤ} [] counts h))
-ints_length s (operand ∷ operands) counts h =
-    let parts = both_some (int_at s operand) (ints_at s operands) counts h in
-    ap length (sym parts.3) ∙ ap suc (ints_length s operands parts.1 parts.2)
-
 multi_dims : (o : Outline) (n : TypeId) (t : TypeRef) (dimensions : ℕ) (s after : TypeState) → slice_get o.types n.0 ≡ Some t
     → multi_array_row o (resolved.OfType n) dimensions s ≡ Some after → dimensions ≤ t.dims
 unfolding multi_array_row
 multi_dims o n t dimensions s after there h =
-    let named = bound_some _ (slice_get o.types n.0) after h in
+    let named = option_and_then-some _ (slice_get o.types n.0) after h in
     let same : named.0 ≡ t = same_Some named.0 t (sym named.1 ∙ there) in
-    let passes = some_if (nat_lt 0 dimensions && nat_le dimensions named.0.dims) _ after named.2 in
+    let passes = cond-some_then (nat_lt 0 dimensions && nat_le dimensions named.0.dims) _ after named.2 in
     let within : dimensions ≤ named.0.dims = leb-true dimensions named.0.dims (and_parts (nat_lt 0 dimensions) (nat_le dimensions named.0.dims) passes.0).1 in
     subst (λ (u : TypeRef). dimensions ≤ u.dims) same within
 
@@ -275,12 +261,12 @@ module _ (p : Program) (facts : Facts) (exact : AreFacts p facts) (f : Frame) wh
   arrays_of_obeys index dimensions h t le None size = stuck_obeys p facts exact f (insn.MultiArray index dimensions) h
   arrays_of_obeys index dimensions h t le (Some counts) size =
       let i : Insn = insn.MultiArray index dimensions in
-      let e : Effect = record (words dimensions (OfMade 0 ∷ [])) { actions = array_actions t (sizes_of counts) 0 } in
-      let fits_in : length (sizes_of counts) ≡ dimensions = sizes_length counts ∙ size counts refl in
+      let e : Effect = record (words dimensions (OfMade 0 ∷ [])) { actions = array_actions t (magnitudes counts) 0 } in
+      let fits_in : length (magnitudes counts) ≡ dimensions = magnitudes_many counts ∙ size counts refl in
       by_if (Owes p facts exact f i h) (list_any (λ n. int_lt n (pos 0)) counts) (thrown_negative p.outline) e
       (λ negative. thrown_obeys p facts exact f i h (λ k. refl) (codes "java/lang/NegativeArraySizeException"))
       (λ sizes. goes_obey p facts exact f i h e (home_of p facts exact f i h e)
-      (arrays_even p.outline (point p facts exact f i h) (home_of p facts exact f i h e) (sizes_of counts) t 0 (omega (arith, fits_in))) refl tt
+      (arrays_even p.outline (point p facts exact f i h) (home_of p facts exact f i h e) (magnitudes counts) t 0 (omega (arith, fits_in))) refl tt
       (gives_one p facts exact f i h e (home_of p facts exact f i h e) (OfMade 0) refl
       (λ next edge there. ap (λ n. facts.class f.method (given (point p facts exact f i h) e n 0))
       (sym (only_next h.code f.item next i h.insn_is refl edge))))
@@ -300,4 +286,4 @@ module _ (p : Program) (facts : Facts) (exact : AreFacts p facts) (f : Frame) wh
       let le : dimensions ≤ t.dims =
       multi_dims p.outline n t dimensions h.state after.0 there (ap (λ v. multi_array_row p.outline v dimensions h.state) (sym is) ∙ after.1) in
       arrays_of_obeys index dimensions h t le (ints_at s (reverse (range_with_len 0 dimensions)))
-      (λ found at. ints_length s (reverse (range_with_len 0 dimensions)) found at ∙ length-reverse (range_with_len 0 dimensions) ∙ length-range_with_len 0 dimensions))
+      (λ found at. ints_many s (reverse (range_with_len 0 dimensions)) found at ∙ length-reverse (range_with_len 0 dimensions) ∙ length-range_with_len 0 dimensions))

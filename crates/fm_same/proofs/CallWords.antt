@@ -1,15 +1,13 @@
 -- The words of a call: those that an instruction takes are references where the parameters of the method called are.
-use Rattle.std.proofs.Common.{◌≡◌, ℕ, zero, suc, ◌+◌, ◌↔◌, not, cond, Bool, true, false, List, [], ◌∷◌, ◌++◌, length, reverse, Option, Some, None, option_and_then, IsSomeAnd, refl, sym, ◌∙◌, ap, subst, slice_get, sum_by, arith, append_assoc, append-nil}
+use Rattle.std.proofs.Common.{◌≡◌, ℕ, zero, suc, ◌+◌, ◌↔◌, not, cond, Bool, true, false, List, [], ◌∷◌, ◌++◌, length, reverse, Option, Some, None, option_and_then, IsSomeAnd, refl, sym, ◌∙◌, ap, subst, slice_get, arith, append_assoc, append-nil}
 use Rattle.std.specs.Prelude.{option_map}
 use Rattle.std.specs.List.{AllZip, flat_map}
 use Rattle.std.proofs.lemmas.Bool.{false≢true}
 use Rattle.std.proofs.lemmas.List.{length-append, length-reverse, reverse-append}
-use Rattle.std.proofs.lemmas.List.Sums.{sum_by-cons}
+use Rattle.std.proofs.lemmas.List.Elements.{length_all_zip}
 use Rattle.std.proofs.lemmas.Option.{none-some, option_and_then_some, same_Some}
 use Rattle.fm_base.specs.declared.ids.MethodId.{MethodId}
 use Rattle.fm_base.specs.declared.ids.TypeId.{TypeId}
-use Rattle.fm_base.specs.declared.kinds.Kind.{Kind}
-use Rattle.fm_base.specs.declared.kinds.Kind.TheVariants as kind
 use Rattle.fm_base.specs.declared.kinds.TypeRef.{TypeRef}
 use Rattle.fm_code.specs.AccessFlags.{is_static}
 use Rattle.fm_code.specs.declared.instructions.Insn.{Insn}
@@ -24,16 +22,17 @@ use Rattle.fm_types.specs.Typed.{entry_slots, receiver_slots}
 use Rattle.fm_types.specs.declared.slots.Slot as slots
 use Rattle.fm_types.specs.declared.slots.Slot.TheVariants as slot
 use Rattle.fm_types.specs.Fits.{fits}
+use Rattle.fm_types.proofs.CallOrder.{called-whole}
 use Rattle.fm_types.proofs.ObjectOrder.{argument_words-whole}
-use Rattle.fm_types.proofs.StateOrder.{Fitting, long_below, other_below, shape_of, whole-append, whole-long, whole-other}
-use Rattle.fm_types.proofs.Zips.{zip-append, zip-length}
+use Rattle.fm_types.proofs.StateOrder.{Fitting, long_below, other_below, shape_of, whole-long, whole-other}
+use Rattle.fm_types.proofs.Zips.{zip-append}
 use Rattle.fm_world.specs.Causes.{static_method_wanted}
-use Rattle.fm_base.specs.Kinds.{kind_words}
 use Rattle.fm_world.specs.Members.{method_at}
 use Rattle.fm_world.specs.Numbers.{type_of_class}
 use Rattle.fm_world.specs.Programs.{Outline}
 use Rattle.fm_world.specs.declared.uses.Use.TheVariants as resolved
 use Rattle.fm_frames.specs.CallRows.{words_of_arguments}
+use Rattle.fm_law_sound.proofs.ReturnsStand.{arguments_count}
 
 -- ---- shapes
 
@@ -160,13 +159,10 @@ with_receiver : (o : Outline) (method : ℕ) (t : TypeRef) → AllZip IsAlike (a
 with_receiver o method t =
     zip-append IsAlike (argument_words o method) (argument_words o method) (slot.Ref t ∷ []) (slot.Null ∷ []) (alike_same (argument_words o method)) (refl, tt)
 
-whole_receiver : (o : Outline) (method : ℕ) (t : TypeRef) → is_whole (argument_words o method ++ slot.Ref t ∷ []) ≡ true
-whole_receiver o method t = whole-append (argument_words o method) (slot.Ref t ∷ []) (argument_words-whole o method) refl
-
 worked_instance : (o : Outline) (method : ℕ) (t : TypeRef) (given : Slots) (s after : TypeState)
     → worked o (argument_words o method ++ slot.Ref t ∷ []) given s ≡ Some after → is_whole s.stack ≡ true → TakesCall o method true s.stack
 worked_instance o method t given s after h whole =
-    let off = worked_takes o (argument_words o method ++ slot.Ref t ∷ []) given s after h whole (whole_receiver o method t) in
+    let off = worked_takes o (argument_words o method ++ slot.Ref t ∷ []) given s after h whole (called-whole o method t) in
     record {
       words = off.1;
       rest = off.0;
@@ -270,24 +266,6 @@ module _ (o : Outline) (method item : ℕ) (news : ℕ → Option TypeRef) (m : 
 
 -- ---- how many, and which are references
 
-kind_length : (k : Kind) → length (local_slots k) ≡ kind_words k
-kind_length kind.Boolean = refl
-kind_length kind.Byte = refl
-kind_length kind.Char = refl
-kind_length kind.Short = refl
-kind_length kind.Int = refl
-kind_length kind.Long = refl
-kind_length (kind.Ref t) = refl
-
-kinds_length : (kinds : List Kind) → length (flat_map local_slots kinds) ≡ sum_by kind_words kinds
-kinds_length [] = refl
-kinds_length (k ∷ kinds) =
-    length-append (local_slots k) (flat_map local_slots kinds) ∙ ap (λ n. n + length (flat_map local_slots kinds)) (kind_length k)
-    ∙ ap (λ n. kind_words k + n) (kinds_length kinds) ∙ sym (sum_by-cons kind_words k kinds)
-
-pub arguments_length : (o : Outline) (method : ℕ) → length (argument_words o method) ≡ words_of_arguments o method
-arguments_length o method = length-reverse (flat_map local_slots (parameters_of o method)) ∙ kinds_length (parameters_of o method)
-
 abbrev pub receiver_count : Bool → ℕ
 receiver_count true = 1
 receiver_count false = 0
@@ -299,8 +277,8 @@ shape_length false = refl
 pub call_length : (o : Outline) (method : ℕ) (instance : Bool) (stack : Slots) (c : TakesCall o method instance stack)
     → length c.words ≡ words_of_arguments o method + receiver_count instance
 call_length o method instance stack c =
-    zip-length IsAlike c.words (argument_words o method ++ receiver_shape instance) c.level
-    ∙ length-append (argument_words o method) (receiver_shape instance) ∙ ap (λ n. n + length (receiver_shape instance)) (arguments_length o method)
+    length_all_zip IsAlike c.words (argument_words o method ++ receiver_shape instance) c.level
+    ∙ length-append (argument_words o method) (receiver_shape instance) ∙ ap (λ n. n + length (receiver_shape instance)) (arguments_count o method)
     ∙ ap (λ n. words_of_arguments o method + n) (shape_length instance)
 
 receiver_alike : (static constructor : Bool) (t : TypeRef)

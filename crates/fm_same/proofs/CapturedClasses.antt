@@ -1,20 +1,20 @@
 -- What the tests for captured classes and for busy ones say of the nodes of a class.
-use Rattle.std.proofs.Common.{◌≡◌, ◌≢◌, ℕ, zero, suc, ◌<◌, ◌==◌, ◌&&◌, ◌||◌, not, Bool, true, false, List, [], ◌∷◌, length, reverse, Option, Some, None, IsSomeAnd, refl, sym, ◌∙◌, slice_get, slice_index_or, arith, eq-eqb, Contains}
-use Rattle.std.specs.Prelude.{is_some, nat_eq, option_and_then}
+use Rattle.std.proofs.Common.{◌≡◌, ◌≢◌, ℕ, zero, suc, ◌<◌, ◌==◌, ◌&&◌, ◌||◌, not, Bool, true, false, List, [], ◌∷◌, length, IsSomeAnd, refl, sym, ◌∙◌, slice_get, slice_index_or, arith, eq-eqb, Contains}
+use Rattle.std.specs.Prelude.{is_some, nat_eq}
 use Rattle.std.specs.List.{list_any, range_with_len}
-use Rattle.std.proofs.lemmas.Bool.{false≢true}
-use Rattle.std.proofs.lemmas.List.{length-reverse}
-use Rattle.std.proofs.lemmas.Option.{slice_get_within}
+use Rattle.std.proofs.lemmas.Bool.{and_from, false≢true, or_left, or_right}
+use Rattle.fm_base.proofs.TestFacts.{and_left, and_right}
 use Rattle.fm_code.proofs.EdgesLemmas.{Contains-filter}
 use Rattle.fm_conn.proofs.ListLemmas.{Contains-range}
 use Rattle.fm_conn.specs.Facts.{Facts}
 use Rattle.fm_conn.specs.Nodes.{depth_at, Global, IsNode, Local, Return, Slot, TypedMethod, word_at}
 use Rattle.fm_conn.specs.Pairs.{IsEnd}
 use Rattle.fm_conn.specs.declared.ends.End2.TheVariants as end
-use Rattle.fm_place.proofs.PlaceLemmas.{any-from, both-first, both-from, both-second}
+use Rattle.fm_place.proofs.BusyLemmas.{node-depth, node-word}
+use Rattle.fm_place.proofs.PlaceLemmas.{any-from}
 use Rattle.fm_place.specs.Places.{is_busy, is_local_in, is_reference_word, is_word_in}
 use Rattle.fm_place.specs.Sites.{is_captured, reference_parameters}
-use Rattle.fm_types.specs.States.{is_reference, TypeState}
+use Rattle.fm_types.specs.States.{is_reference}
 use Rattle.fm_types.specs.Typed.{entry_slots, state_at}
 use Rattle.fm_types.specs.declared.slots.Slot as slots
 use Rattle.fm_types.specs.declared.slots.Slot.TheVariants as slot
@@ -26,14 +26,6 @@ use Rattle.fm_same.proofs.RegionLemmas.{Sort, sort_of, WithGlobal, WithNeither, 
 fails : (b : Bool) → not b ≡ true → b ≡ true → ⊥
 fails true no_more holds = false≢true no_more
 fails false no_more holds = false≢true holds
-
-from_first : (a b : Bool) → a ≡ true → (a || b) ≡ true
-from_first true b holds = refl
-from_first false b holds = absurd (false≢true holds)
-
-from_second : (a b : Bool) → b ≡ true → (a || b) ≡ true
-from_second true b holds = refl
-from_second false b holds = holds
 
 -- ---- captured
 
@@ -63,12 +55,12 @@ captured_holds facts x class captured =
     let outside : Bool = facts.class x.number Global == class in
     let result : Bool = facts.class x.number Return == class in
     let given : Bool = list_any (λ k. facts.class x.number (Local k) == class) (reference_parameters x.program.outline x.number) in
-    let both : (not outside && not result) ≡ true = both-first (not outside && not result) (not given) captured in
+    let both : (not outside && not result) ≡ true = and_left (not outside && not result) (not given) captured in
     record {
-      not_global = λ same. fails outside (both-first (not outside) (not result) both) (eq-eqb (facts.class x.number Global) class same);
-      not_result = λ same. fails result (both-second (not outside) (not result) both) (eq-eqb (facts.class x.number Return) class same);
+      not_global = λ same. fails outside (and_left (not outside) (not result) both) (eq-eqb (facts.class x.number Global) class same);
+      not_result = λ same. fails result (and_right (not outside) (not result) both) (eq-eqb (facts.class x.number Return) class same);
       no_parameter = λ k ended same.
-          fails given (both-second (not outside && not result) (not given) captured)
+          fails given (and_right (not outside && not result) (not given) captured)
           (any-from (λ i. facts.class x.number (Local i) == class) (reference_parameters x.program.outline x.number) k
           (parameter_listed x.program.outline x.number k ended) (eq-eqb (facts.class x.number (Local k)) class same));
     }
@@ -87,30 +79,6 @@ captured_is_own facts x callers class captured = by_sort (sort_of x.program.outl
 
 -- ---- busy
 
-abbrev depth_in : Option TypeState → ℕ
-depth_in None = 0
-depth_in (Some s) = length s.stack
-
-word_is : (w : Option slots.Slot) → IsSomeAnd w (λ s. is_reference s ≡ true) → is_reference_word w ≡ true
-word_is None node = absurd node
-word_is (Some s) node = node
-
-slot_within : (s : TypeState) (depth : ℕ) (w : Option slots.Slot) → slice_get (reverse s.stack) depth ≡ w → IsSomeAnd w (λ v. is_reference v ≡ true)
-    → depth < length s.stack
-slot_within s depth None same node = absurd node
-slot_within s depth (Some v) same node =
-    let inside = slice_get_within (reverse s.stack) depth v same in
-    let count = length-reverse s.stack in
-    omega (arith, inside, count)
-
-state_within : (o : Option TypeState) (depth : ℕ)
-    → IsSomeAnd (option_and_then (λ (s : TypeState). slice_get (reverse s.stack) depth) o) (λ v. is_reference v ≡ true) → depth < depth_in o
-state_within None depth node = absurd node
-state_within (Some s) depth node = slot_within s depth (slice_get (reverse s.stack) depth) refl node
-
-word_within : (x : TypedMethod) (j depth : ℕ) → IsNode x (Slot j depth) → depth < depth_at x j
-word_within x j depth node = state_within (state_at x.states j) depth node
-
 module _ (facts : Facts) (x : TypedMethod) (class j : ℕ) (reached : is_some (state_at x.states j) ≡ true) (quiet : is_busy facts x class j ≡ false) where
   abbrev words : Bool
   words = list_any (is_word_in facts x class j) (range_with_len 0 (depth_at x j))
@@ -123,11 +91,11 @@ module _ (facts : Facts) (x : TypedMethod) (class j : ℕ) (reached : is_some (s
   quiet_word depth node same =
       false≢true
       (sym quiet
-      ∙ both-from (is_some (state_at x.states j)) (words || locals) reached
-      (from_first words locals
+      ∙ and_from (is_some (state_at x.states j)) (words || locals) reached
+      (or_left words locals
       (any-from (is_word_in facts x class j) (range_with_len 0 (depth_at x j)) depth
-      (Contains-range 0 (depth_at x j) depth (omega arith) (omega (arith, word_within x j depth node)))
-      (both-from (is_reference_word (word_at x j depth)) (nat_eq (facts.class x.number (Slot j depth)) class) (word_is (word_at x j depth) node)
+      (Contains-range 0 (depth_at x j) depth (omega arith) (omega (arith, node-depth x j depth node)))
+      (and_from (is_reference_word (word_at x j depth)) (nat_eq (facts.class x.number (Slot j depth)) class) (node-word (word_at x j depth) node)
       (eq-eqb (facts.class x.number (Slot j depth)) class same)))))
 
   -- and no live local is
@@ -135,8 +103,8 @@ module _ (facts : Facts) (x : TypedMethod) (class j : ℕ) (reached : is_some (s
   quiet_local k inside live same =
       false≢true
       (sym quiet
-      ∙ both-from (is_some (state_at x.states j)) (words || locals) reached
-      (from_second words locals
+      ∙ and_from (is_some (state_at x.states j)) (words || locals) reached
+      (or_right words locals
       (any-from (is_local_in facts x class j) (range_with_len 0 x.code.max_locals) k
       (Contains-range 0 x.code.max_locals k (omega arith) (omega (arith, inside)))
-      (both-from (facts.live x.number k j) (nat_eq (facts.class x.number (Local k)) class) live (eq-eqb (facts.class x.number (Local k)) class same)))))
+      (and_from (facts.live x.number k j) (nat_eq (facts.class x.number (Local k)) class) live (eq-eqb (facts.class x.number (Local k)) class same)))))

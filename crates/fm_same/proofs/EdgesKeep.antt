@@ -1,7 +1,7 @@
 -- What is live at the end of an edge was live before it; and which edges a call, a jump and what is caught take.
-use Rattle.std.proofs.Common.{◌≡◌, ℕ, zero, suc, ◌+◌, ◌<◌, ◌≤◌, ◌⊎◌, ◌&&◌, Bool, true, false, cond, List, [], ◌∷◌, length, Option, Some, None, option_map, option_and_then, Any, refl, sym, ◌∙◌, ap, subst, inl, inr, slice_get, slice_index_or, nat_le, nat_lt, arith, ltb-true, leb-true, ⊎_elim}
-use Rattle.std.proofs.lemmas.Bool.{and_parts}
+use Rattle.std.proofs.Common.{◌≡◌, ℕ, zero, suc, ◌+◌, ◌<◌, ◌≤◌, ◌⊎◌, ◌&&◌, Bool, true, false, cond, List, [], ◌∷◌, length, Option, Some, option_map, option_and_then, Any, refl, sym, ◌∙◌, ap, subst, inl, inr, slice_get, slice_index_or, arith, ⊎_elim}
 use Rattle.std.proofs.lemmas.Option.{none-some, same_Some}
+use Rattle.fm_base.proofs.ListFacts.{some_within}
 use Rattle.fm_base.proofs.OptionFacts.{IsSomeAnd-from_some}
 use Rattle.fm_base.specs.declared.kinds.TypeRef.{TypeRef}
 use Rattle.fm_code.specs.Edges.{Catches, falls_through, insn_of, IsEdge, IsHandlerEdge, IsNormalEdge, LeadsTo}
@@ -22,6 +22,7 @@ use Rattle.fm_world.specs.Programs.{code_at, Program}
 use Rattle.fm_world.specs.declared.calls.Call.{Call}
 use Rattle.fm_frames.specs.States.{Frame}
 use Rattle.fm_frames.specs.Steps.{catches, handler_among, handler_of}
+use Rattle.fm_law_sound.proofs.FramesStand.{catches_range}
 
 -- ---- liveness
 
@@ -41,24 +42,16 @@ live_loaded p facts exact method code is j k at = ((exact.methods method code is
 
 -- ---- items
 
-state_within : {X : Type 0} (states : List (Option X)) (j : ℕ) (s : X) → slice_index_or states j None ≡ Some s → j < length states
-state_within [] j s h = absurd (cc)
-state_within (found ∷ states) zero s h = omega arith
-state_within (found ∷ states) (suc j) s h = let lt : j < length states = state_within states j s h in omega arith
-
 -- what has a state is an item
 pub item_with_state : (p : Program) (facts : Facts) → AreFacts p facts → (method : ℕ) (code : Code) → code_at p method ≡ Some code
     → (j : ℕ) (s : TypeState) → state_at (facts.typing method) j ≡ Some s → j < length code.items
 item_with_state p facts exact method code is j s at =
-    subst (λ count. j < count) (exact.methods method code is).typing.one_each (state_within (facts.typing method) j s at)
+    subst (λ count. j < count) (exact.methods method code is).typing.one_each (some_within (facts.typing method) j s at)
 
 item_there : (items : List Item) (j : ℕ) (i : Insn) → option_map (λ (item : Item). item.insn) (slice_get items j) ≡ Some i → j < length items
 item_there [] j i h = absurd (cc)
 item_there (item ∷ items) zero i h = omega arith
 item_there (item ∷ items) (suc j) i h = let lt : j < length items = item_there items j i h in omega arith
-
-pub item_with_insn : (code : Code) (j : ℕ) (i : Insn) → insn_of code j ≡ Some i → j < length code.items
-item_with_insn code j i at = item_there code.items j i at
 
 -- ---- edges
 
@@ -103,12 +96,6 @@ call_keeps x other call h k = absurd (none-some call h)
 either_found : (b : Bool) (one : ℕ) (rest : Option ℕ) (h : ℕ) → cond b (Some one) rest ≡ Some h → ((b ≡ true) × (one ≡ h)) ⊎ (rest ≡ Some h)
 either_found true one rest h e = inl (refl, same_Some one h e)
 either_found false one rest h e = inr e
-
-catches_range : (p : Program) (f : Frame) (t : TypeRef) (entry : Handler) → catches p f t entry ≡ true → (entry.start ≤ f.item) × (f.item < entry.end)
-catches_range p f t entry h =
-    let outer = and_parts (nat_le entry.start f.item && nat_lt f.item entry.end) _ h in
-    let inner = and_parts (nat_le entry.start f.item) (nat_lt f.item entry.end) outer.0 in
-    (leb-true entry.start f.item inner.0, ltb-true f.item entry.end inner.1)
 
 handler_found : (p : Program) (f : Frame) (t : TypeRef) (handlers : List Handler) (h : ℕ) → handler_among p f t handlers ≡ Some h
     → Any (Catches f.item h) handlers

@@ -4,7 +4,7 @@ use Rattle.std.proofs.lemmas.Bool.{cases_eq, false≢true}
 use Rattle.std.specs.Ordering.{int_eq}
 use Rattle.std.specs.List.{prefix_len}
 use Rattle.std.proofs.lemmas.Int.{ints}
-use Rattle.fm_base.proofs.OptionFacts.{IsSomeAnd-from_some, Some-from_some_and}
+use Rattle.fm_base.proofs.OptionFacts.{cond-some_then, IsSomeAnd-from_some, Some-from_some_and}
 use Rattle.fm_base.specs.declared.kinds.Kind.{Kind}
 use Rattle.fm_base.specs.declared.kinds.Kind.TheVariants as kind
 use Rattle.fm_code.specs.Edges.{IsNormalEdge}
@@ -40,9 +40,9 @@ use Rattle.fm_law_sound.proofs.Cases.{by_held, by_if, by_int, by_object, by_on_t
 use Rattle.fm_same.proofs.EdgesKeep.{live_before}
 use Rattle.fm_same.proofs.ItemFacts.{AtInsn, given_word, joined_class, point, row, stays_class, taken_word, x}
 use Rattle.fm_same.proofs.MoveRows.{not_taken}
-use Rattle.fm_same.proofs.ObjectRows.{mapped_some, some_if, taken_top}
+use Rattle.fm_same.proofs.ObjectRows.{mapped_some, taken_top}
 use Rattle.fm_same.proofs.PlainRows.{faulty_obeys, null_obeys, Owes, plain_obeys, stuck_obeys, thrown_obeys, words_obey}
-use Rattle.fm_law_sound.proofs.JumpRows.{or_parts, table_within, key_within, table_if, within_if, return_by, return_is, between, few_keys}
+use Rattle.fm_law_sound.proofs.JumpRows.{table_within, key_within, table_if, within_if, return_by, return_is, between, few_keys}
 
 module _ (p : Program) (facts : Facts) (exact : AreFacts p facts) (f : Frame) where
   -- ---- casts
@@ -143,7 +143,7 @@ returned_case : (o : Outline) (method : ℕ) (r : Reg) (s after : TypeState) (re
     → return_by o s r result ≡ Some after → IsReturned o method r s
 returned_case o method r s after None is h = absurd (cc)
 returned_case o method r s after (Some k) is h =
-    let parts = some_if (same_reg r (returned_by k)) (worked o (stack_slots (k ∷ [])) [] s) after h in
+    let parts = cond-some_then (same_reg r (returned_by k)) (worked o (stack_slots (k ∷ [])) [] s) after h in
     let rest = mapped_some _ (taken o (stack_slots (k ∷ [])) s.stack) after parts.1 in
     record { kind = k; result = is; same = parts.0; rest = rest.0; stack = rest.1 }
 
@@ -173,7 +173,7 @@ unfolding fits
 long_top o [] rest h whole = absurd (cc)
 long_top o (s ∷ []) rest h whole = absurd (cc)
 long_top o (s ∷ t ∷ stack) rest h whole =
-    let is : t ≡ slot.Long = long_below o t (some_if (fits o t slot.Long) (Some stack) rest h).0 in
+    let is : t ≡ slot.Long = long_below o t (cond-some_then (fits o t slot.Long) (Some stack) rest h).0 in
     let top : s ≡ slot.Top = (whole-long s stack (sym (ap (λ q. is_whole (s ∷ q ∷ stack)) is) ∙ whole)).0 in
     (ap Some top, ap Some is)
 

@@ -4,11 +4,11 @@ use Rattle.std.proofs.Common.{◌≡◌, ℕ, zero, suc, ◌<◌, ◌⊎◌, ◌
 use Rattle.std.specs.Prelude.{option_map, option_to_list, unwrap_or, nat_eq}
 use Rattle.std.specs.List.{cons_option, filter_map, range_with_len}
 use Rattle.std.specs.Str.{bytes_eq}
-use Rattle.std.proofs.lemmas.Bool.{and_from, false≢true}
+use Rattle.std.proofs.lemmas.Bool.{and_from, false≢true, or_left}
 use Rattle.std.proofs.lemmas.List.Elements.{Contains-append_left, Contains-append_right}
 use Rattle.std.proofs.lemmas.List.Quantifiers.{position-Some}
 use Rattle.std.proofs.lemmas.Option.{none-some, same_Some, slice_get-get_or}
-use Rattle.fm_base.proofs.ContainsFacts.{Contains-cons_cases}
+use Rattle.fm_base.proofs.ContainsFacts.{Contains-cons_cases, Contains-none}
 use Rattle.fm_base.specs.declared.ids.ClassId.{ClassId}
 use Rattle.fm_base.specs.declared.ids.MethodId.{MethodId}
 use Rattle.fm_base.specs.declared.ids.TypeId.{TypeId}
@@ -24,7 +24,7 @@ use Rattle.fm_code.specs.declared.instructions.Insn.TheVariants as insn
 use Rattle.fm_conn.specs.Facts.{Facts}
 use Rattle.fm_conn.specs.Nodes.{TypedMethod}
 use Rattle.fm_conn.specs.Pairs.{call_of, call_with, use_at}
-use Rattle.fm_conn.proofs.ListLemmas.{Contains-none, Contains-range}
+use Rattle.fm_conn.proofs.ListLemmas.{Contains-range}
 use Rattle.fm_place.proofs.PlaceLemmas.{any-from}
 use Rattle.fm_types.specs.Named.{class_of_method}
 use Rattle.fm_types.specs.Typed.{use_by}
@@ -56,7 +56,7 @@ use Rattle.fm_same.specs.Standing.{method_of}
 use Rattle.fm_same.specs.Targets.{CoversIn}
 use Rattle.fm_same.proofs.CallFacts.{type_there, use_there}
 use Rattle.fm_law_sound.proofs.FoundMethods.{select_inside}
-use Rattle.fm_law_sound.proofs.MadeObjects.{HasObjectsBy}
+use Rattle.fm_law_sound.proofs.MadeObjects.{class_of_base, HasObjectsBy}
 
 -- ---- where a receiver that passes is counted
 
@@ -68,13 +68,9 @@ pub data Takes (classes : List DeclaredClass) (t named : TypeRef) : Type 0 where
   InClass : (class : ℕ) → class_of_type t ≡ Some class → is_sub classes (type_of_class class) named ≡ true → Takes classes t named
   InArrays : class_of_type t ≡ None → takes_arrays classes named ≡ true → Takes classes t named
 
-abbrev base_class : Base → Option ℕ
-base_class (base.OfClass class) = Some class.0
-base_class b = None
-
 -- an array is no class
 deep_type : (dims : ℕ) (b : Base) → class_of_type (typed (suc dims) b) ≡ None
-deep_type dims b = ap (λ c. cond c (base_class b) None) (ne_eqb (suc dims) 0 (λ same. omega (arith, same)))
+deep_type dims b = ap (λ c. cond c (class_of_base b) None) (ne_eqb (suc dims) 0 (λ same. omega (arith, same)))
 
 abbrev takes_by : List DeclaredClass → Option ℕ → Bool
 takes_by classes None = true
@@ -119,15 +115,11 @@ sub_takes classes zero b n named h =
     (λ class none is. ⊎_elim (λ level. absurd (false≢true (subst (λ c. is_sub_base classes b c ≡ true) is level.1)))
     (λ above. above_named classes named class is above.1) (sub_parts classes (typed zero b) (typed n named) h)))
 
-either_first : (x y : Bool) → x ≡ true → (x || y) ≡ true
-either_first true y e = refl
-either_first false y e = absurd (false≢true e)
-
 -- a class below another one
 class_below : (classes : List DeclaredClass) (class : ℕ) (other : ClassId) → is_among other.0 (chain_of classes class) ≡ true
     → is_sub classes (type_of_class class) (typed zero (base.OfClass other)) ≡ true
 unfolding is_sub
-class_below classes class other h = either_first (is_among other.0 (chain_of classes class)) (is_among other.0 (interfaces_of classes class)) h
+class_below classes class other h = or_left (is_among other.0 (chain_of classes class)) (is_among other.0 (interfaces_of classes class)) h
 
 -- what is named is Object, where it isn't an interface
 object_named : (classes : List DeclaredClass) (class : ClassId) → is_interface_at classes class.0 ≡ false → is_object_base classes (base.OfClass class) ≡ true
@@ -158,7 +150,7 @@ module _ (p : Program) (ready : IsResolved p) where
   object_above : (class : ℕ) → class ≡ object_of classes → is_above_arrays classes class ≡ true
   object_above class is =
       let there = position-Some (λ (c : DeclaredClass). bytes_eq c.name object_name) classes (object_of classes) no_class ready.tree.object in
-      ap (is_above_arrays classes) is ∙ either_first (bytes_eq (class_at classes (object_of classes)).name object_name) _ there.1
+      ap (is_above_arrays classes) is ∙ or_left (bytes_eq (class_at classes (object_of classes)).name object_name) _ there.1
 
   -- a class that is named isn't an interface
   abbrev IsPlain : ℕ → Base → Type 0

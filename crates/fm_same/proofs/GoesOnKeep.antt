@@ -4,6 +4,7 @@ use Rattle.std.proofs.lemmas.List.{length-map}
 use Rattle.std.specs.List.{AllByRecursion}
 use Rattle.std.proofs.lemmas.Bool.Decides.{nat_tests}
 use Rattle.std.proofs.lemmas.Option.{same_Some, slice_get_within}
+use Rattle.fm_base.proofs.ListFacts.{AllByRecursion-at}
 use Rattle.fm_cells.specs.Soundness.{IsOrderly}
 use Rattle.fm_cells.specs.Stores.{Store}
 use Rattle.fm_code.specs.declared.code_array.Code.{Code}
@@ -48,11 +49,6 @@ drop_found zero xs m v h = let same : m ≡ 0 + m = omega arith in subst (λ i. 
 drop_found (suc t) [] m v h = absurd (cc)
 drop_found (suc t) (x ∷ xs) m v h =
     let same : suc (t + m) ≡ suc t + m = omega arith in subst (λ i. slice_get (x ∷ xs) i ≡ Some v) same (drop_found t xs m v h)
-
-pub all_at : {X : Type 0} (P : X → Type 0) (xs : List X) (n : ℕ) (x : X) → AllByRecursion P xs → slice_get xs n ≡ Some x → P x
-all_at P [] n x h at = absurd (cc)
-all_at P (y ∷ ys) zero x h at = subst P (same_Some y x at) h.0
-all_at P (y ∷ ys) (suc n) x h at = all_at P ys n x h.1 at
 
 -- a local is what is written into it, or as it was
 written_found : (P : ℕ → Source → Type 0) (from : Sources) (writes : List (ℕ × Source)) (locals : List Value) (k : ℕ) (v : Value)
@@ -174,7 +170,7 @@ module _ (p : Program) (facts : Facts) (f : Frame) (callers : List Frame) (at : 
       has_if_reference y.store colour (region_in (facts.class f.method (given point e next n))) v
       (λ leads. subst (λ w. HasColour y.store colour (region_in (facts.class f.method (given point e next n))) w) same
       (source_gives p facts f callers at store colour coloured home y made gone (facts.class f.method (given point e next n)) s
-      (owes.gives n s is (node leads)) (all_at (ReadAgrees p.outline store f.stack) e.gives n s reads is)))
+      (owes.gives n s is (node leads)) (AllByRecursion-at (ReadAgrees p.outline store f.stack) e.gives n s reads is)))
 
   stays_goes : (n m : ℕ) (v : Value) → n ≡ length e.gives + m → slice_get f.stack (e.takes + m) ≡ Some v
       → (IsReference v → IsNode point.method (given point e next n))

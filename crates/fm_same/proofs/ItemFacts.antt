@@ -1,8 +1,9 @@
 -- What is known at an item where a frame goes on: its pairs join classes, and its row says which words are references.
-use Rattle.std.proofs.Common.{◌≡◌, ℕ, zero, suc, ◌+◌, ◌-◌, ◌<◌, ◌≤◌, ◌⊎◌, ◌&&◌, ◌||◌, not, true, false, List, [], ◌∷◌, length, reverse, Option, Some, None, option_and_then, IsSomeAnd, Contains, refl, sym, ◌∙◌, ap, subst, inl, inr, slice_get, slice_index_or, arith}
+use Rattle.std.proofs.Common.{◌≡◌, ℕ, zero, suc, ◌+◌, ◌-◌, ◌<◌, ◌≤◌, ◌⊎◌, ◌&&◌, ◌||◌, not, true, false, List, [], ◌∷◌, length, reverse, Option, Some, option_and_then, IsSomeAnd, Contains, refl, sym, ◌∙◌, ap, subst, inl, inr, slice_get, slice_index_or, arith}
 use Rattle.std.specs.List.{AllByRecursion, AllZip}
-use Rattle.std.proofs.lemmas.Bool.{and_parts, false≢true}
+use Rattle.std.proofs.lemmas.Bool.{and_parts}
 use Rattle.std.proofs.lemmas.List.{get_or-reverse, length-reverse}
+use Rattle.std.proofs.lemmas.List.Elements.{length_all_zip}
 use Rattle.std.proofs.lemmas.Option.{same_Some, slice_get-get_or, slice_get_within}
 use Rattle.fm_base.proofs.OptionFacts.{Some-from_some_and}
 use Rattle.fm_code.specs.Edges.{insn_of, IsNormalEdge}
@@ -20,15 +21,17 @@ use Rattle.fm_types.specs.Rows.{row_after}
 use Rattle.fm_types.specs.Typed.{FitsAt, made_at, MeetsItem, state_at, use_by}
 use Rattle.fm_types.specs.declared.slots.Slot as slots
 use Rattle.fm_types.specs.declared.slots.Slot.TheVariants as slot
+use Rattle.fm_types.proofs.NumberOrder.{reference_below}
 use Rattle.fm_types.proofs.StateOrder.{all_fit-parts, Fitting}
-use Rattle.fm_types.proofs.Zips.{zip-length}
 use Rattle.fm_world.specs.Programs.{code_at, Outline, Program}
 use Rattle.fm_world.specs.declared.uses.Use.{Use}
+use Rattle.fm_place.proofs.BusyLemmas.{depth_of}
 use Rattle.fm_frames.specs.Effects.{Effect, Source}
 use Rattle.fm_frames.specs.States.{Frame}
 use Rattle.fm_same.specs.Advances.{point_of}
 use Rattle.fm_same.specs.Evenness.{ActsEvenly, ComesFrom, EndsEvenly, given, is_written, LeadsRight, Obeys, Point, WritesFrom}
 use Rattle.fm_same.specs.Standing.{Goes, method_of}
+use Rattle.fm_same.proofs.CallFacts.{word_in_state}
 use Rattle.fm_same.proofs.CallRegions.{state_found}
 use Rattle.fm_same.proofs.EdgesKeep.{live_before}
 use Rattle.fm_same.proofs.LinkedClasses.{same_class_if_paired}
@@ -45,18 +48,6 @@ slot_from_below stack n within =
     slice_get-get_or (reverse stack) (length stack - 1 - n) slot.Top in_reverse
     ∙ ap Some (get_or-reverse stack (length stack - 1 - n) slot.Top below ∙ ap (λ i. slice_index_or stack i slot.Top) back)
     ∙ sym (slice_get-get_or stack n slot.Top within)
-
-reference_below : (o : Outline) (a b : slots.Slot) → fits o a b ≡ true → is_reference b ≡ true → is_reference a ≡ true
-unfolding fits
-reference_below o a slot.Top h is = absurd (false≢true is)
-reference_below o a slot.Int h is = absurd (false≢true is)
-reference_below o a slot.Long h is = absurd (false≢true is)
-reference_below o slot.Null slot.Null h is = refl
-reference_below o slot.Null (slot.Ref t) h is = refl
-reference_below o (slot.Ref s) (slot.Ref t) h is = refl
-reference_below o (slot.Uninit i) (slot.Uninit j) h is = refl
-reference_below o slot.UninitThis slot.UninitThis h is = refl
-reference_below o a b h is = absurd (false≢true h)
 
 zip_at : (o : Outline) (xs ys : List slots.Slot) (n : ℕ) (y : slots.Slot) → AllZip (Fitting o) xs ys → slice_get ys n ≡ Some y
     → (x : slots.Slot) × (slice_get xs n ≡ Some x) × (fits o x y ≡ true)
@@ -83,13 +74,9 @@ pub record AtInsn (p : Program) (facts : Facts) (f : Frame) (i : Insn) : Type 0 
   pub state_is : state_at (facts.typing f.method) f.item ≡ Some state
   pub depth : length f.stack ≡ length state.stack
 
-abbrev depth_in : Option TypeState → ℕ
-depth_in None = 0
-depth_in (Some s) = length s.stack
-
 pub depth_is : (p : Program) (facts : Facts) (f : Frame) (code : Code) (j : ℕ) (s : TypeState) → state_at (facts.typing f.method) j ≡ Some s
     → depth_at (method_of p facts f code) j ≡ length s.stack
-depth_is p facts f code j s is = ap depth_in is
+depth_is p facts f code j s is = ap depth_of is
 
 pub at_insn : (p : Program) (facts : Facts) (f : Frame) (h : Goes p facts f) → AtInsn p facts f h.at.insn
 at_insn p facts f h = record {
@@ -100,9 +87,6 @@ at_insn p facts f h = record {
   state_is = h.at.state_is;
   depth = h.depth ∙ depth_is p facts f h.at.code f.item h.at.state h.at.state_is;
 }
-
-abbrev word_in : ℕ → Option TypeState → Option slots.Slot
-word_in depth found = option_and_then (λ (s : TypeState). slice_get (reverse s.stack) depth) found
 
 module _ (p : Program) (facts : Facts) (exact : AreFacts p facts) (f : Frame) (i : Insn) (h : AtInsn p facts f i) where
   abbrev pub x : TypedMethod
@@ -160,8 +144,8 @@ module _ (p : Program) (facts : Facts) (exact : AreFacts p facts) (f : Frame) (i
   node_of_slot n s at is =
       let within : n < length h.state.stack = slice_get_within h.state.stack n s at in
       let there : slice_get (reverse h.state.stack) (length h.state.stack - 1 - n) ≡ Some s = slot_from_below h.state.stack n within ∙ at in
-      let found : word_in (length f.stack - 1 - n) (state_at (facts.typing f.method) f.item) ≡ Some s =
-      ap (word_in (length f.stack - 1 - n)) h.state_is ∙ ap (λ d. slice_get (reverse h.state.stack) (d - 1 - n)) h.depth ∙ there in
+      let found : word_in_state (length f.stack - 1 - n) (state_at (facts.typing f.method) f.item) ≡ Some s =
+      ap (word_in_state (length f.stack - 1 - n)) h.state_is ∙ ap (λ d. slice_get (reverse h.state.stack) (d - 1 - n)) h.depth ∙ there in
       subst (λ (o : Option slots.Slot). IsSomeAnd o (λ s. is_reference s ≡ true)) (sym found) is
 
   pub slot_of_node : (n : ℕ) (s : slots.Slot) → slice_get h.state.stack n ≡ Some s → IsNode x (Slot f.item (length f.stack - 1 - n))
@@ -169,8 +153,8 @@ module _ (p : Program) (facts : Facts) (exact : AreFacts p facts) (f : Frame) (i
   slot_of_node n s at node =
       let within : n < length h.state.stack = slice_get_within h.state.stack n s at in
       let there : slice_get (reverse h.state.stack) (length h.state.stack - 1 - n) ≡ Some s = slot_from_below h.state.stack n within ∙ at in
-      let found : word_in (length f.stack - 1 - n) (state_at (facts.typing f.method) f.item) ≡ Some s =
-      ap (word_in (length f.stack - 1 - n)) h.state_is ∙ ap (λ d. slice_get (reverse h.state.stack) (d - 1 - n)) h.depth ∙ there in
+      let found : word_in_state (length f.stack - 1 - n) (state_at (facts.typing f.method) f.item) ≡ Some s =
+      ap (word_in_state (length f.stack - 1 - n)) h.state_is ∙ ap (λ d. slice_get (reverse h.state.stack) (d - 1 - n)) h.depth ∙ there in
       subst (λ (o : Option slots.Slot). IsSomeAnd o (λ s. is_reference s ≡ true)) found node
 
   -- ---- the row
@@ -194,11 +178,11 @@ module _ (p : Program) (facts : Facts) (exact : AreFacts p facts) (f : Frame) (i
       let found : (t : TypeState) × (state_at (facts.typing f.method) next ≡ Some t) × (state_fits p.outline after t ≡ true) =
       Some-from_some_and (state_at (facts.typing f.method) next) (λ t. state_fits p.outline after t ≡ true) fits_at in
       let zip : AllZip (Fitting p.outline) after.stack found.0.stack = stack_fits p.outline after found.0 found.2 in
-      let same : length after.stack ≡ length found.0.stack = zip-length (Fitting p.outline) after.stack found.0.stack zip in
+      let same : length after.stack ≡ length found.0.stack = length_all_zip (Fitting p.outline) after.stack found.0.stack zip in
       let within : q < length after.stack = slice_get_within after.stack q s at in
       let in_next : q < length found.0.stack = omega arith in
-      let word : word_in (length after.stack - 1 - q) (state_at (facts.typing f.method) next) ≡ slice_get found.0.stack q =
-      ap (word_in (length after.stack - 1 - q)) found.1 ∙ ap (λ d. slice_get (reverse found.0.stack) (d - 1 - q)) same
+      let word : word_in_state (length after.stack - 1 - q) (state_at (facts.typing f.method) next) ≡ slice_get found.0.stack q =
+      ap (word_in_state (length after.stack - 1 - q)) found.1 ∙ ap (λ d. slice_get (reverse found.0.stack) (d - 1 - q)) same
       ∙ slot_from_below found.0.stack q in_next in
       let there : (t : slots.Slot) × (slice_get found.0.stack q ≡ Some t) × (is_reference t ≡ true) =
       Some-from_some_and (slice_get found.0.stack q) (λ t. is_reference t ≡ true)

@@ -1,9 +1,9 @@
 -- What built-in methods take and give: the words and the ends that their rows work on, by computation over all of them.
-use Rattle.std.proofs.Common.{◌≡◌, ℕ, zero, suc, ◌+◌, ◌<◌, ◌⊎◌, ◌==◌, ◌&&◌, ◌||◌, not, cond, Bool, true, false, List, [], ◌∷◌, ◌++◌, length, map, Option, Some, None, codes, option_and_then, IsSomeAnd, refl, sym, ◌∙◌, ap, subst, slice_get, slice_index_or, sum_by, eqb-true, inl, inr, ⊎_elim}
+use Rattle.std.proofs.Common.{◌≡◌, ℕ, zero, suc, ◌+◌, ◌<◌, ◌⊎◌, ◌==◌, ◌&&◌, ◌||◌, not, cond, Bool, true, false, List, [], ◌∷◌, ◌++◌, length, map, Option, Some, None, codes, option_and_then, IsSomeAnd, refl, sym, ◌∙◌, ap, subst, slice_get, slice_index_or, sum_by, eqb-true, ⊎_elim}
 use Rattle.std.specs.Prelude.{option_map, unwrap_or}
 use Rattle.std.specs.List.{flat_map}
 use Rattle.std.specs.Str.{bytes_eq}
-use Rattle.std.proofs.lemmas.Bool.{and_parts, false≢true}
+use Rattle.std.proofs.lemmas.Bool.{and_parts, false≢true, not-true, or_cases}
 use Rattle.std.proofs.lemmas.List.Sums.{sum_by-cons}
 use Rattle.std.proofs.lemmas.Slice.Eq.{bytes_eq-Decides}
 use Rattle.std.proofs.lemmas.Option.{option_and_then_some}
@@ -35,7 +35,7 @@ use Rattle.fm_frames.proofs.Programs.{string_number}
 use Rattle.fm_frames.specs.CallRows.{native_of, words_of_arguments}
 use Rattle.fm_frames.specs.Natives.{Append, FreeMeFree, FreeMeFreeChain, FreeMeLink, GetMessage, Native, native_of_row, StringToString, ThrowableInitOf}
 use Rattle.fm_same.specs.Covering.{is_free_me, native_words, NativeEnds}
-use Rattle.fm_law_sound.proofs.BuiltInMethods.{method_same, untrue}
+use Rattle.fm_law_sound.proofs.BuiltInMethods.{method_same}
 
 -- ---- words of descriptors: a class takes one word, whether it is there or not
 
@@ -108,8 +108,6 @@ fits_at [] n h = refl
 fits_at (m ∷ methods) zero h = (and_parts (fits m.method) (all_fit methods) h).0
 fits_at (m ∷ methods) (suc n) h = fits_at methods n (and_parts (fits m.method) (all_fit methods) h).1
 
--- ---- built-in methods have the numbers that they have in each program
-
 -- ---- ends
 
 reference_kind : (dims : ℕ) (o : Option ℕ) (class : ℕ) → o ≡ Some class
@@ -120,10 +118,6 @@ reference_kind dims o class is =
           → pairs.is_reference_kind (cond b (kind.Ref (record { dims = 0; base = of_class class })) (kind.Ref (record { dims = dims; base = of_class class }))) ≡ true
       by_dims true = refl
       by_dims false = refl
-
-or_cases : (a b : Bool) → (a || b) ≡ true → (a ≡ true) ⊎ (b ≡ true)
-or_cases true b h = inl refl
-or_cases false b h = inr h
 
 text_there : (given : List DeclaredClass) (name : List ℕ) → names_text (object name) ≡ true → (class : ℕ) × (class_number (built_in ++ given) name ≡ Some class)
 text_there given name h =
@@ -182,7 +176,7 @@ module _ (o : Outline) (given : List DeclaredClass) (classes : o.classes ≡ bui
   both_ends : answers_text declared ≡ true → IsEnd o target end.Return × IsEnd o target (end.Parameter 0)
   both_ends h =
       let parts = and_parts (not (is_static declared.flags)) (names_text (result_type declared.descriptor).base) h in
-      (result_end parts.1, receiver_end (untrue (is_static declared.flags) parts.0))
+      (result_end parts.1, receiver_end (not-true (is_static declared.flags) parts.0))
 
   -- all rows but FreeMe's have their ends
   ends_are : (row : Native) → has_ends row declared ≡ true → is_free_me row ≡ false → NativeEnds o target row
@@ -191,7 +185,7 @@ module _ (o : Outline) (given : List DeclaredClass) (classes : o.classes ≡ bui
   ends_are GetMessage h other = both_ends h
   ends_are ThrowableInitOf h other =
       let parts = and_parts (not (is_static declared.flags)) (bytes_eq declared.descriptor (codes "(Ljava/lang/String;)V")) h in
-      let instance : is_static declared.flags ≡ false = untrue (is_static declared.flags) parts.0 in
+      let instance : is_static declared.flags ≡ false = not-true (is_static declared.flags) parts.0 in
       (receiver_end instance, message_end instance ((bytes_eq-Decides declared.descriptor (codes "(Ljava/lang/String;)V")).0 parts.1))
   ends_are FreeMeFree h other = false≢true (sym other)
   ends_are FreeMeLink h other = false≢true (sym other)

@@ -1,9 +1,9 @@
 -- The rows of objects, fields, casts and arrays: what is read from an object is of its class, and so is what is put into it; a new object's home is the word
 -- that it becomes.
-use Rattle.std.proofs.Common.{◌≡◌, ℕ, zero, suc, ◌+◌, ◌-◌, ◌<◌, ◌≤◌, Bool, true, false, cond, List, [], ◌∷◌, ◌++◌, length, Option, Some, None, option_and_then, option_map, IsSomeAnd, Contains, refl, sym, ◌∙◌, ap, subst, inl, slice_get, arith, ⊎_elim, length-append}
+use Rattle.std.proofs.Common.{◌≡◌, ℕ, zero, suc, ◌+◌, ◌-◌, ◌<◌, ◌≤◌, Bool, true, false, cond, List, [], ◌∷◌, ◌++◌, length, Option, Some, None, option_map, IsSomeAnd, Contains, refl, sym, ◌∙◌, ap, subst, inl, slice_get, arith, ⊎_elim, length-append}
 use Rattle.std.proofs.lemmas.Bool.{false≢true}
 use Rattle.std.proofs.lemmas.Option.{same_Some, slice_get_within}
-use Rattle.fm_base.proofs.OptionFacts.{Some-from_some_and}
+use Rattle.fm_base.proofs.OptionFacts.{cond-some_then, option_and_then-some, Some-from_some_and}
 use Rattle.fm_base.specs.declared.ids.FieldId.{FieldId}
 use Rattle.fm_base.specs.declared.ids.TypeId.{TypeId}
 use Rattle.fm_base.specs.declared.kinds.Kind.{Kind}
@@ -154,10 +154,6 @@ module _ (p : Program) (facts : Facts) (exact : AreFacts p facts) (f : Frame) (i
 
 -- ---- what rows require of slots
 
-pub bound_some : {X Y : Type 0} (k : X → Option Y) (o : Option X) (y : Y) → option_and_then k o ≡ Some y → (x : X) × (o ≡ Some x) × (k x ≡ Some y)
-bound_some k None y h = absurd (cc)
-bound_some k (Some x) y h = (x, refl, h)
-
 pub mapped_some : {X Y : Type 0} (k : X → Y) (o : Option X) (y : Y) → option_map k o ≡ Some y → (x : X) × (o ≡ Some x)
 mapped_some k None y h = absurd (cc)
 mapped_some k (Some x) y h = (x, refl)
@@ -168,14 +164,10 @@ fits_reference o slot.Null t h = refl
 fits_reference o (slot.Ref s) t h = refl
 fits_reference o s t h = absurd (false≢true h)
 
-pub some_if : {X : Type 0} (b : Bool) (o : Option X) (y : X) → cond b o None ≡ Some y → (b ≡ true) × (o ≡ Some y)
-some_if true o y h = (refl, h)
-some_if false o y h = absurd (cc)
-
 pub taken_top : (o : Outline) (wanted : slots.Slot) (more stack rest : List slots.Slot) → taken o (wanted ∷ more) stack ≡ Some rest
     → (s : slots.Slot) × (slice_get stack 0 ≡ Some s) × (fits o s wanted ≡ true)
 taken_top o wanted more [] rest h = absurd (cc)
-taken_top o wanted more (s ∷ stack) rest h = (s, refl, (some_if (fits o s wanted) (taken o more stack) rest h).0)
+taken_top o wanted more (s ∷ stack) rest h = (s, refl, (cond-some_then (fits o s wanted) (taken o more stack) rest h).0)
 
 -- where a reference is wanted on top, one is there
 pub reference_on_top : (o : Outline) (wanted more stack rest : List slots.Slot) (t : TypeRef) → wanted ≡ slot.Ref t ∷ more → taken o wanted stack ≡ Some rest
@@ -194,8 +186,8 @@ put_field_top : (o : Outline) (method : ℕ) (f : FieldId) (n : TypeId) (t : Typ
     → (top : slots.Slot) × (slice_get s.stack 0 ≡ Some top) × (is_reference top ≡ true)
 unfolding put_field_row
 put_field_top o method f n t s after is h =
-    let named = bound_some _ (slice_get o.types n.0) after h in
-    let rest = bound_some _ (taken o (named_rows.field_words o f.0) s.stack) after named.2 in
+    let named = option_and_then-some _ (slice_get o.types n.0) after h in
+    let rest = option_and_then-some _ (taken o (named_rows.field_words o f.0) s.stack) after named.2 in
     reference_on_top o (named_rows.field_words o f.0) [] s.stack rest.0 t (field_slot o f.0 t is) rest.1
 
 put_static_top : (o : Outline) (f : FieldId) (n : TypeId) (t : TypeRef) (s after : TypeState) → kind_of_field o f.0 ≡ kind.Ref t
@@ -203,7 +195,7 @@ put_static_top : (o : Outline) (f : FieldId) (n : TypeId) (t : TypeRef) (s after
     → (top : slots.Slot) × (slice_get s.stack 0 ≡ Some top) × (is_reference top ≡ true)
 unfolding put_static_row
 put_static_top o f n t s after is h =
-    let named = bound_some _ (slice_get o.types n.0) after h in
+    let named = option_and_then-some _ (slice_get o.types n.0) after h in
     let rest = mapped_some _ (taken o (named_rows.field_words o f.0) s.stack) after named.2 in
     reference_on_top o (named_rows.field_words o f.0) [] s.stack rest.0 t (field_slot o f.0 t is) rest.1
 
@@ -211,7 +203,7 @@ get_static_stack : (o : Outline) (f : FieldId) (n : TypeId) (s after : TypeState
     → after.stack ≡ named_rows.field_words o f.0 ++ s.stack
 unfolding get_static_row
 get_static_stack o f n s after h =
-    let named = bound_some _ (slice_get o.types n.0) after h in
+    let named = option_and_then-some _ (slice_get o.types n.0) after h in
     ap (λ (q : TypeState). q.stack) (same_Some after _ (sym named.2))
 
 front_found : (xs ys : List slots.Slot) (q : ℕ) (s : slots.Slot) → slice_get xs q ≡ Some s → slice_get (xs ++ ys) q ≡ Some s

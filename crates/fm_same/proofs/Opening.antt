@@ -240,7 +240,7 @@ static_first o store colour true k rest h zero v at = subst (λ w. HasColour sto
 static_first o store colour true k rest h (suc slot) v at = h slot v at
 static_first o store colour false k rest h slot v at = h slot v at
 
-abbrev first_field : Outline → OwnedField → List Value
+abbrev pub first_field : Outline → OwnedField → List Value
 first_field o f = cond (is_static f.field.flags) (first_of (field_kind o.classes f.field) ∷ []) []
 
 statics_first : (o : Outline) (store : Store) (colour : Colour) (fields : List OwnedField) (slot : ℕ) (v : Value)
@@ -250,7 +250,7 @@ statics_first o store colour (f ∷ fields) slot v at =
     static_first o store colour (is_static f.field.flags) (field_kind o.classes f.field) (flat_map (first_field o) fields)
     (λ s w there. statics_first o store colour fields s w there) slot v at
 
-zeros_found : (texts : List (List ℕ)) (n : ℕ) → slice_index_or (map (λ (text : List ℕ). zero) texts) n zero ≡ zero
+pub zeros_found : (texts : List (List ℕ)) (n : ℕ) → slice_index_or (map (λ (text : List ℕ). zero) texts) n zero ≡ zero
 zeros_found [] n = refl
 zeros_found (text ∷ texts) zero = refl
 zeros_found (text ∷ texts) (suc n) = zeros_found texts n

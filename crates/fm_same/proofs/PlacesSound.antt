@@ -14,7 +14,7 @@ use Rattle.fm_same.specs.Resolved.{IsResolved}
 use Rattle.fm_same.specs.Standing.{Stand, StandsAt}
 use Rattle.fm_law_sound.proofs.PlaceRows.{row_agrees}
 
-insn_here : (p : Program) (f : Frame) (code : Code) (i : Insn) → code_at p f.method ≡ Some code → insn_of code f.item ≡ Some i → next_insn p f ≡ Some i
+pub insn_here : (p : Program) (f : Frame) (code : Code) (i : Insn) → code_at p f.method ≡ Some code → insn_of code f.item ≡ Some i → next_insn p f ≡ Some i
 insn_here p f code i code_is is = ap (λ o. option_and_then (λ (c : Code). insn_of c f.item) o) code_is ∙ is
 
 module _ (p : Program) (facts : Facts) (ready : IsResolved p) where

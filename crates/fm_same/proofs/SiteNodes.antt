@@ -4,14 +4,17 @@ use Rattle.std.specs.Prelude.{is_some, nat_le, nat_lt, option_map, option_to_lis
 use Rattle.std.specs.List.{list_any, AllZip}
 use Rattle.std.proofs.lemmas.Bool.{cases_lt, false≢true}
 use Rattle.std.proofs.lemmas.List.{length-append, length-reverse, reverse-append}
+use Rattle.std.proofs.lemmas.List.Elements.{length_all_zip}
 use Rattle.std.proofs.lemmas.Option.{none-some, option_and_then_some, same_Some}
 use Rattle.fm_base.proofs.OptionFacts.{IsSomeAnd-from_some}
+use Rattle.fm_base.proofs.TestFacts.{and_left, and_right}
 use Rattle.fm_base.specs.declared.ids.MethodId.{MethodId}
 use Rattle.fm_base.specs.declared.ids.TypeId.{TypeId}
 use Rattle.fm_base.specs.declared.kinds.Base.{Base}
 use Rattle.fm_base.specs.declared.kinds.Kind.{Kind}
 use Rattle.fm_base.specs.declared.kinds.Kind.TheVariants as kind
 use Rattle.fm_base.specs.declared.kinds.TypeRef.{TypeRef}
+use Rattle.fm_code.proofs.EdgesLemmas.{insn_inside}
 use Rattle.fm_code.specs.AccessFlags.{is_static}
 use Rattle.fm_code.specs.Edges.{falls_through, insn_of, IsNormalEdge}
 use Rattle.fm_code.specs.declared.code_array.Code.{Code}
@@ -25,7 +28,6 @@ use Rattle.fm_conn.specs.Shapes.{method_with}
 use Rattle.fm_conn.specs.Summaries.{same_number}
 use Rattle.fm_types.proofs.RowOrder.{rows-keep_whole}
 use Rattle.fm_types.proofs.StateOrder.{shape_of, Stands, under-parts}
-use Rattle.fm_types.proofs.Zips.{zip-length}
 use Rattle.fm_types.specs.ArrayRows.{multi_array_row, new_array_row, new_references_row}
 use Rattle.fm_types.specs.CallRows.{constructed, constructor_called, initialised, instance_call_row, is_constructor, is_initializer, is_type, names_own_or_above, special_call_row, static_call_row}
 use Rattle.fm_types.specs.Named.{argument_words, class_of_method, on_method, on_type, result_of, result_words}
@@ -44,13 +46,13 @@ use Rattle.fm_world.specs.declared.calls.CallKind.TheVariants as call
 use Rattle.fm_world.specs.declared.uses.Use.{Use}
 use Rattle.fm_world.specs.declared.uses.Use.TheVariants as resolved
 use Rattle.fm_frames.specs.CallRows.{words_of_arguments}
+use Rattle.fm_law_sound.proofs.ReturnsStand.{arguments_count}
 use Rattle.fm_law_sound.specs.Going.{ConstructorsGiveNothing}
 use Rattle.fm_law_sound.specs.Resolved.{StepsAreResolved}
-use Rattle.fm_place.proofs.BusyLemmas.{words_keep_busy}
-use Rattle.fm_place.proofs.PlaceLemmas.{both-first, both-second}
+use Rattle.fm_place.proofs.BusyLemmas.{depth_of, words_keep_busy}
 use Rattle.fm_place.specs.Sites.{constructs, has_reference_result, is_doubled, Constructs, kind_of_site, makes_array, MakesArray, may_give_old, names_constructor, new_item, receives_new, ReceivesNew, site_kind, site_node}
-use Rattle.fm_same.proofs.CallWords.{alike_other, arguments_length, slice_after, taken_off, tested, untested}
-use Rattle.fm_same.proofs.EdgesKeep.{edge_to_next, item_with_insn}
+use Rattle.fm_same.proofs.CallWords.{alike_other, slice_after, taken_off, tested, untested}
+use Rattle.fm_same.proofs.EdgesKeep.{edge_to_next}
 use Rattle.fm_same.specs.Laws.{SitesAreNodes, SitesMakeBusy}
 
 -- ---- what is on top
@@ -98,7 +100,7 @@ array-heads o method item news u i s after is there = absurd (false≢true is)
 
 -- ---- calls that give a reference
 
-abbrev refers : Option Kind → Bool
+abbrev pub refers : Option Kind → Bool
 refers None = false
 refers (Some k) = is_reference_kind k
 
@@ -129,15 +131,15 @@ method-heads facts x k after (resolved.OfMethod m t) follows each is there = by_
   by_type (Some named) is there =
       let some = nat_lt 0 (length (targets x.program (made named))) in
       each m.0 named
-      (both-first (has_reference_result x.program.outline m.0) some
-      (both-first (has_reference_result x.program.outline m.0 && some)
+      (and_left (has_reference_result x.program.outline m.0) some
+      (and_left (has_reference_result x.program.outline m.0 && some)
       (not (list_any (may_give_old x.program.outline facts) (targets x.program (made named)))) is)) there
 method-heads facts x k after u follows each is there = absurd (none-some after there)
 
 -- ---- calls of constructors
 
 -- the word under which this many lie
-word_above : (xs ys : List slots.Slot) (v : slots.Slot) → slice_get (reverse (xs ++ v ∷ ys)) (length ys) ≡ Some v
+pub word_above : (xs ys : List slots.Slot) (v : slots.Slot) → slice_get (reverse (xs ++ v ∷ ys)) (length ys) ≡ Some v
 word_above xs ys v =
     let size : length ys ≡ length (reverse ys) + 0 = omega (arith, length-reverse ys) in
     ap (λ list. slice_get list (length ys)) (reverse-append xs (v ∷ ys) ∙ ap (λ list. list ++ reverse xs) (reverse-append (v ∷ []) ys)
@@ -159,7 +161,7 @@ built-heads o method news named (slot.Uninit item) below rest s after same there
 built-heads o method news named receiver below rest s after same there = absurd (false≢true same)
 
 -- the words of a stack with its top first, by how many lie below
-abbrev doubled_in : List slots.Slot → ℕ → Bool
+abbrev pub doubled_in : List slots.Slot → ℕ → Bool
 doubled_in stack zero = false
 doubled_in stack (suc below) =
     same_number (option_and_then new_item (slice_get (reverse stack) (suc below))) (option_and_then new_item (slice_get (reverse stack) below))
@@ -176,13 +178,13 @@ constructor-heads o method news m named s after doubled there = by_rest (taken o
   below [] found further = absurd (none-some after further)
   below (receiver ∷ []) found further =
       let off = taken_off o (argument_words o m) s.stack (receiver ∷ []) found in
-      let words : length off.words ≡ words_of_arguments o m = zip-length _ off.words (argument_words o m) off.fitting ∙ arguments_length o m in
+      let words : length off.words ≡ words_of_arguments o m = length_all_zip _ off.words (argument_words o m) off.fitting ∙ arguments_count o m in
       let all : length s.stack ≡ length off.words + 1 = ap length off.is ∙ length-append off.words (receiver ∷ []) in
       let none : length s.stack - (1 + words_of_arguments o m) ≡ 0 = omega (arith, words, all) in
       absurd (false≢true (sym (ap (doubled_in s.stack) none) ∙ doubled))
   below (receiver ∷ under ∷ rest) found further =
       let off = taken_off o (argument_words o m) s.stack (receiver ∷ under ∷ rest) found in
-      let words : length off.words ≡ words_of_arguments o m = zip-length _ off.words (argument_words o m) off.fitting ∙ arguments_length o m in
+      let words : length off.words ≡ words_of_arguments o m = length_all_zip _ off.words (argument_words o m) off.fitting ∙ arguments_count o m in
       let all : length s.stack ≡ length off.words + suc (suc (length rest)) = ap length off.is ∙ length-append off.words (receiver ∷ under ∷ rest) in
       let depth : length s.stack - (1 + words_of_arguments o m) ≡ suc (length rest) = omega (arith, words, all) in
       let first : slice_get (reverse s.stack) (suc (length rest)) ≡ Some receiver =
@@ -199,19 +201,15 @@ constructor-heads o method news m named s after doubled there = by_rest (taken o
   by_rest None found further = absurd (none-some after further)
   by_rest (Some rest) found further = below rest found further
 
-chosen : (b : Bool) (x y : Option TypeState) (after : TypeState) → b ≡ true → cond b x y ≡ Some after → x ≡ Some after
+pub chosen : (b : Bool) (x y : Option TypeState) (after : TypeState) → b ≡ true → cond b x y ≡ Some after → x ≡ Some after
 chosen true x y after is there = there
 chosen false x y after is there = absurd (false≢true is)
 
-doubled-stack : (x : TypedMethod) (j : ℕ) (s : TypeState) → state_at x.states j ≡ Some s → (depth : ℕ) → is_doubled x j depth ≡ doubled_in s.stack depth
+pub doubled-stack : (x : TypedMethod) (j : ℕ) (s : TypeState) → state_at x.states j ≡ Some s → (depth : ℕ) → is_doubled x j depth ≡ doubled_in s.stack depth
 doubled-stack x j s at zero = refl
 doubled-stack x j s at (suc below) =
     λ k. same_number (option_and_then new_item (option_and_then (λ (t : TypeState). slice_get (reverse t.stack) (suc below)) (at k)))
     (option_and_then new_item (option_and_then (λ (t : TypeState). slice_get (reverse t.stack) below) (at k)))
-
-abbrev depth_in : Option TypeState → ℕ
-depth_in None = 0
-depth_in (Some s) = length s.stack
 
 special-heads : (x : TypedMethod) (j index : ℕ) (news : ℕ → Option TypeRef) (s after : TypeState) → state_at x.states j ≡ Some s
     → ((m : MethodId) (t : TypeId) → use_at x (insn.Special index) ≡ resolved.OfMethod m t
@@ -224,15 +222,15 @@ special-heads x j index news s after at no_static made there = by_use (use_at x 
   o = x.program.outline
 
   depth : depth_at x j ≡ length s.stack
-  depth = ap depth_in at
+  depth = ap depth_of at
 
   by_use : (u : Use) → use_at x (insn.Special index) ≡ u
       → (names_constructor o u && is_doubled x j (depth_at x j - words_taken o u (insn.Special index))) ≡ true
       → special_call_row o x.number news u s ≡ Some after → heads after.stack ≡ true
   by_use (resolved.OfMethod m t) used both row =
       let constructor : is_constructor o m.0 ≡ true =
-      both-first (is_constructor o m.0) (is_doubled x j (depth_at x j - words_taken o (resolved.OfMethod m t) (insn.Special index))) both in
-      let doubled = both-second (is_constructor o m.0) (is_doubled x j (depth_at x j - words_taken o (resolved.OfMethod m t) (insn.Special index))) both in
+      and_left (is_constructor o m.0) (is_doubled x j (depth_at x j - words_taken o (resolved.OfMethod m t) (insn.Special index))) both in
+      let doubled = and_right (is_constructor o m.0) (is_doubled x j (depth_at x j - words_taken o (resolved.OfMethod m t) (insn.Special index))) both in
       let words : words_taken o (resolved.OfMethod m t) (insn.Special index) ≡ 1 + words_of_arguments o m.0 =
       ap (λ b. cond b 0 1 + words_of_arguments o m.0) (no_static m t used) in
       let under : doubled_in s.stack (length s.stack - (1 + words_of_arguments o m.0)) ≡ true =
@@ -310,7 +308,7 @@ module _ (facts : Facts) (x : TypedMethod) (item : ℕ) (news : ℕ → Option T
 -- ---- sites
 
 -- control goes on to the next item
-sites-fall : (facts : Facts) (x : TypedMethod) (j : ℕ) (i : Insn) → is_some (kind_of_site facts x j i) ≡ true → falls_through i ≡ true
+pub sites-fall : (facts : Facts) (x : TypedMethod) (j : ℕ) (i : Insn) → is_some (kind_of_site facts x j i) ≡ true → falls_through i ≡ true
 sites-fall facts x j (insn.Goto target) is = absurd (false≢true is)
 sites-fall facts x j (insn.Table low others targets) is = absurd (false≢true is)
 sites-fall facts x j (insn.Lookup others keys targets) is = absurd (false≢true is)
@@ -367,7 +365,7 @@ module _ (p : Program) (facts : Facts) (method : ℕ) (code : Code) (states : Li
       edge_to_next code j i is falls
       (⊎_elim (λ (inside : j + 1 < length code.items). inside)
       (λ (past : length code.items ≤ j + 1).
-      let here = item_with_insn code j i is in
+      let here = insn_inside code j i is in
       absurd (typed.stays_inside (record {
         item = j;
         reachable = (typed.reachable j).0 (ap is_some at);
@@ -382,7 +380,7 @@ module _ (p : Program) (facts : Facts) (method : ℕ) (code : Code) (states : Li
     by_next None at is = absurd is
     by_next (Some t) at is =
         let under = under-parts p.outline after t is whole (typed.items (j + 1) t at).whole in
-        subst (λ (g : Option TypeState). IsSomeAnd (option_and_then (λ (v : TypeState). slice_get (reverse v.stack) (depth_in g - 1)) g)
+        subst (λ (g : Option TypeState). IsSomeAnd (option_and_then (λ (v : TypeState). slice_get (reverse v.stack) (depth_of g - 1)) g)
         (λ v. is_reference v ≡ true)) (sym at) (top_word t.stack (under-heads p.outline after.stack t.stack under.stack.level top))
 
   reached-node : (s : TypeState) (i : Insn) → state_at states j ≡ Some s → insn_of code j ≡ Some i → is_some (kind_of_site facts x j i) ≡ true

@@ -23,13 +23,13 @@ use Rattle.fm_types.specs.declared.slots.Slot.TheVariants as slot
 use Rattle.fm_world.specs.Causes.{static_method_wanted}
 use Rattle.fm_world.specs.Programs.{code_at, Outline, Program, targets}
 use Rattle.fm_world.specs.declared.calls.Call.{Call}
-use Rattle.fm_world.specs.declared.uses.Use.{Use}
 use Rattle.fm_world.specs.declared.uses.Use.TheVariants as resolved
 use Rattle.fm_frames.specs.CallRows.{words_of_arguments}
 use Rattle.fm_frames.specs.Runnable.{IsUseIn}
 use Rattle.fm_frames.specs.States.{Frame}
 use Rattle.fm_frames.specs.Steps.{next_insn}
 use Rattle.fm_frames.specs.declared.values.Value.{Value}
+use Rattle.fm_law_sound.proofs.ReturnsStand.{named_in}
 use Rattle.fm_law_sound.specs.Sound as sound
 use Rattle.fm_same.specs.Regions.{argument}
 use Rattle.fm_same.specs.Resolved.{IsResolved}
@@ -141,14 +141,6 @@ goes_on p facts exact f h = record {
 
 -- ---- a frame that waits
 
-abbrev used_method : Use → Option ℕ
-used_method (resolved.OfMethod m t) = Some m.0
-used_method u = None
-
-named_use : (u : Use) (named : ℕ) → used_method u ≡ Some named → (m : MethodId) × (t : TypeId) × (u ≡ resolved.OfMethod m t) × (m.0 ≡ named)
-named_use (resolved.OfMethod m t) named h = (m, t, refl, same_Some m.0 named h)
-named_use u named h = absurd (none-some named h)
-
 called_words : (o : Outline) (i : Insn) (named words : ℕ) → sound.words_of_call o i named ≡ Some words
     → (static : Bool) × (static_method_wanted i ≡ Some static) × (words_of_arguments o named + receiver_count (not static) ≡ words)
 called_words o (insn.Virtual index) named words h = (false, refl, same_Some (words_of_arguments o named + 1) words h)
@@ -175,7 +167,7 @@ module _ (p : Program) (facts : Facts) (exact : AreFacts p facts) (ready : IsRes
   same = insn_same p f at.code at.insn h.called at.code_is at.insn_is h.at
 
   used : (m : MethodId) × (t : TypeId) × (use_by p f.method h.called ≡ resolved.OfMethod m t) × (m.0 ≡ h.named)
-  used = named_use (use_by p f.method h.called) h.named h.names
+  used = named_in (use_by p f.method h.called) h.named h.names
 
   sort : (static : Bool) × (static_method_wanted h.called ≡ Some static) × (words_of_arguments p.outline h.named + receiver_count (not static) ≡ h.words)
   sort = called_words p.outline h.called h.named h.words h.takes

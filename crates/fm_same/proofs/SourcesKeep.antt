@@ -6,6 +6,7 @@ use Rattle.std.proofs.lemmas.Option.{same_Some, slice_get-get_or}
 use Rattle.fm_base.specs.declared.kinds.Kind.{Kind}
 use Rattle.fm_base.specs.declared.kinds.Kind.TheVariants as kind
 use Rattle.fm_base.specs.declared.kinds.TypeRef.{TypeRef}
+use Rattle.fm_cells.proofs.Elements.{elements_at-none, elements_at-some}
 use Rattle.fm_cells.specs.Objects.{Object}
 use Rattle.fm_cells.specs.Stores.{elements_at, Store, object_at}
 use Rattle.fm_conn.specs.Facts.{Facts}
@@ -23,9 +24,9 @@ use Rattle.fm_same.specs.Colours.{Colour, HasColour, IsEdgeEven, IsFrameColoured
 use Rattle.fm_same.specs.Evenness.{ActsEvenly, ComesFrom, IsObjectSource, IsPlainKind, LeadsOn, Point, PutsEvenly, SetsEvenly, word}
 use Rattle.fm_same.specs.Regions.{Everywhere, Region, region, Retired}
 use Rattle.fm_same.specs.Standing.{StandsAt}
-use Rattle.fm_law_sound.specs.Placing.{IsPlain, kind_in, PutAgrees, ReadAgrees}
+use Rattle.fm_law_sound.specs.Placing.{kind_in, PutAgrees, ReadAgrees}
 use Rattle.fm_law_sound.specs.Sound.{IsReference}
-use Rattle.fm_same.proofs.ActsKeep.{ActHas, cell_has, PutHas, SourceHas, SourceLeads, StaticHas, Went}
+use Rattle.fm_same.proofs.ActsKeep.{ActHas, cell_has, plain_has, PutHas, SourceHas, SourceLeads, StaticHas, Went}
 use Rattle.fm_same.proofs.RegionLemmas.{region_global, region_within}
 use Rattle.fm_same.proofs.StoreChanges.{for_ever-is_of, has-later, IsKept}
 
@@ -42,12 +43,6 @@ has_if_reference store colour r value.Top h = tt
 has_if_reference store colour r (value.Int n) h = tt
 has_if_reference store colour r (value.Long n) h = tt
 has_if_reference store colour r (value.Ref cell) h = h tt
-
-plain_value : (store : Store) (colour : Colour) (r : Region) (v : Value) → IsPlain v → HasColour store colour r v
-plain_value store colour r value.Top h = tt
-plain_value store colour r (value.Int n) h = tt
-plain_value store colour r (value.Long n) h = tt
-plain_value store colour r (value.Ref cell) h = OfNull h
 
 sum_value : (store : Store) (colour : Colour) (r : Region) (v : Value) (by : ℤ) → HasColour store colour r (sum_of v by)
 sum_value store colour r value.Top by = tt
@@ -68,12 +63,6 @@ number_read store colour r (kind.Ref t) n h = absurd h
 reference_read : (store : Store) (colour : Colour) (r : Region) (t : TypeRef) (n : ℕ) → IsOf store colour r n → HasColour store colour r (read (kind.Ref t) n)
 unfolding read
 reference_read store colour r t n h = h
-
-elements_of : (store : Store) (cell : ℕ) (object : Object) → object_at store cell ≡ Some object → elements_at store cell ≡ object.elements
-elements_of store cell object held = cc
-
-no_elements : (store : Store) (cell : ℕ) → object_at store cell ≡ None → elements_at store cell ≡ []
-no_elements store cell none = cc
 
 -- ---- at a frame
 
@@ -185,7 +174,7 @@ module _ (p : Program) (facts : Facts) (f : Frame) (callers : List Frame) (at : 
         → IsOf y.store colour (region_in class) (slice_index_or (elements_at y.store cell) place 0)
     element_has class cell place (OfNull e) agrees =
         let none : object_at y.store cell ≡ None = ap (λ c. object_at y.store c) e ∙ went.areas.orderly.null_not_held in
-        OfNull (ap (λ (xs : List ℕ). slice_index_or xs place 0) (no_elements y.store cell none))
+        OfNull (ap (λ (xs : List ℕ). slice_index_or xs place 0) (elements_at-none y.store cell none))
     element_has class cell place (OfObject object held other) agrees =
         let kept : IsKept y.store cell object = went.extends.kept cell object held in
         let kind_is : (u : TypeRef) × (kind_in p.outline object place ≡ Some (kind.Ref u)) = agrees object held in
@@ -195,13 +184,13 @@ module _ (p : Program) (facts : Facts) (f : Frame) (callers : List Frame) (at : 
         let region_is : colour kept.now.birth ≡ region_in class = ⊎_elim
         (λ fixed. let impossible : true ≡ false = sym fixed ∙ sym kept.fixed ∙ edge.not_fixed in absurd (false≢true (sym impossible)))
         (λ has. ap colour kept.birth ∙ has) other in
-        subst (λ (xs : List ℕ). IsOf y.store colour (region_in class) (slice_index_or xs place 0)) (sym (elements_of y.store cell kept.now kept.is))
+        subst (λ (xs : List ℕ). IsOf y.store colour (region_in class) (slice_index_or xs place 0)) (sym (elements_at-some y.store cell kept.now kept.is))
         (subst (λ r. IsOf y.store colour r (slice_index_or kept.now.elements place 0)) region_is edge.even)
 
     -- what a source gives where its value is of the class
     pub source_gives : (class : ℕ) (s : Source) → ComesFrom point home class s → ReadAgrees p.outline store f.stack s
         → HasColour y.store colour (region_in class) (value_of after s)
-    source_gives class (Plain v) from agrees = plain_value y.store colour (region_in class) v from
+    source_gives class (Plain v) from agrees = plain_has y.store colour (region_in class) v from
     source_gives class (OfOperand n) from agrees = later_has class (word_at f.stack n) (operand_has n class from)
     source_gives class (OfLocal k) from agrees = later_has class (word_at f.locals k) (local_has k class from.0 from.1)
     source_gives class (LocalPlus k by) from agrees = sum_value y.store colour (region_in class) (word_at f.locals k) by

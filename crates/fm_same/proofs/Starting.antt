@@ -1,27 +1,26 @@
 -- What the start of a class makes of an effect owes no more than the effect; so the next effect of a sound state owes what it should.
-use Rattle.std.proofs.Common.{◌≡◌, ℕ, ◌==◌, Bool, true, false, List, [], ◌∷◌, Option, Some, None, codes, option_and_then, refl, sym, ◌∙◌, ap, subst, slice_get, eq-eqb}
+use Rattle.std.proofs.Common.{◌≡◌, ℕ, ◌==◌, Bool, true, false, List, [], ◌∷◌, Option, Some, None, codes, refl, sym, ◌∙◌, ap, subst, slice_get, eq-eqb}
 use Rattle.std.specs.List.{AllByRecursion, cons_option}
 use Rattle.fm_base.proofs.ListFacts.{AllByRecursion-append}
 use Rattle.fm_base.specs.Texts.{units}
 use Rattle.fm_base.specs.declared.kinds.Kind.{Kind}
 use Rattle.fm_base.specs.declared.kinds.Kind.TheVariants as kind
 use Rattle.fm_cells.specs.Stores.{Store}
-use Rattle.fm_code.specs.Edges.{insn_of}
-use Rattle.fm_code.specs.declared.code_array.Code.{Code}
 use Rattle.fm_code.specs.declared.instructions.Insn.{Insn}
 use Rattle.fm_conn.specs.Facts.{AreFacts, Facts}
 use Rattle.fm_code.specs.AccessFlags.{is_static}
 use Rattle.fm_world.specs.Members.{field_at, slot_of, start_of}
 use Rattle.fm_world.specs.Numbers.{text_number}
-use Rattle.fm_world.specs.Programs.{code_at, Outline, Program}
+use Rattle.fm_world.specs.Programs.{Outline, Program}
 use Rattle.fm_world.specs.declared.declarations.Constant.{Constant}
 use Rattle.fm_world.specs.declared.declarations.Constant.TheVariants as constant
+use Rattle.fm_frames.proofs.Programs.{start_by}
 use Rattle.fm_frames.specs.Effects.{Effect, OfLiteral, Plain}
 use Rattle.fm_frames.specs.ObjectRows.{kind_of_field}
 use Rattle.fm_frames.specs.Sights.{sights}
 use Rattle.fm_frames.specs.Starts.{fields_at, set_constant, start_actions, start_methods, start_of_class, to_start, with_start}
 use Rattle.fm_frames.specs.States.{Frame, State}
-use Rattle.fm_frames.specs.Steps.{effect_at, effect_by, next_insn, is_start, next_effect}
+use Rattle.fm_frames.specs.Steps.{effect_at, effect_by, is_start, next_effect}
 use Rattle.fm_frames.specs.declared.values.Value.{Value}
 use Rattle.fm_frames.specs.declared.values.Value.TheVariants as value
 use Rattle.fm_same.specs.Advances.{OwesAt, point_of}
@@ -30,6 +29,7 @@ use Rattle.fm_same.specs.Evenness.{ActsEvenly, HoldsNumbers, IsNumber, IsPlainKi
 use Rattle.fm_same.specs.Standing.{Goes, Stand}
 use Rattle.fm_same.proofs.ItemFacts.{AtInsn, depth_is}
 use Rattle.fm_same.proofs.Owing.{effect_obeys}
+use Rattle.fm_same.proofs.PlacesSound.{insn_here as insn_is}
 use Rattle.fm_law_sound.specs.Placing.{PlacesAgree}
 use Rattle.fm_law_sound.proofs.FoundMethods.{own_method_found}
 use Rattle.fm_law_sound.proofs.Opening.{all_flat, with_text}
@@ -80,16 +80,11 @@ start_is o started e = refl
 abbrev Both : Outline → Point → Insn → Store → List Value → Effect → Type 0
 Both o x i store stack e = Obeys o x i e × PlacesAgree o store stack e
 
--- whether a method is the one that is found
-abbrev is_start_by : ℕ → Option ℕ → Bool
-is_start_by m None = false
-is_start_by m (Some start) = start == m
-
 -- the methods that start classes are such ones
 start_itself : (o : Outline) (class m : ℕ) → start_of o.classes class ≡ Some m → is_start o m ≡ true
 start_itself o class m is =
     let found = own_method_found o.classes is_static (codes "<clinit>") (codes "()V") class m is in
-    ap (is_start_by m) (ap (start_of o.classes) found.owner ∙ is) ∙ eq-eqb m m refl
+    ap (start_by m) (ap (start_of o.classes) found.owner ∙ is) ∙ eq-eqb m m refl
 
 pub starts_are : (o : Outline) (classes : List ℕ) → AllByRecursion (λ m. is_start o m ≡ true) (start_methods o classes)
 starts_are o [] = tt
@@ -127,9 +122,6 @@ class_owes o x i store stack numbers started e owes (Some class) =
     (starts_are o (to_start o started class))
 
 -- ---- at a state
-
-insn_is : (p : Program) (f : Frame) (code : Code) (i : Insn) → code_at p f.method ≡ Some code → insn_of code f.item ≡ Some i → next_insn p f ≡ Some i
-insn_is p f code i code_is is = ap (λ o. option_and_then (λ (c : Code). insn_of c f.item) o) code_is ∙ is
 
 module _ (p : Program) (facts : Facts) (exact : AreFacts p facts) (numbers : HoldsNumbers p.outline) where
   topmost_owes : (y : State) (f : Frame) (callers : List Frame) → Goes p facts f → CoversAt p facts (record y { frames = f ∷ callers }) (f ∷ callers)

@@ -3,10 +3,9 @@ use Rattle.std.proofs.Common.{◌≡◌, ℕ, cond, List, [], ◌∷◌, ◌++�
 use Rattle.std.specs.Prelude.{option_to_list, nat_eq}
 use Rattle.std.specs.List.{filter_map, cons_option, range_with_len}
 use Rattle.std.proofs.lemmas.Bool.{eqb-true}
-use Rattle.fm_code.proofs.EdgesLemmas.{Contains-from_filter}
-use Rattle.fm_conn.proofs.ListLemmas.{Contains-first, Contains-later, Contains-none, Contains-one}
-use Rattle.fm_base.proofs.ContainsFacts.{Contains-cons_cases}
-use Rattle.fm_place.proofs.PlaceLemmas.{any-found}
+use Rattle.fm_code.proofs.EdgesLemmas.{Contains-from_filter, Contains-later}
+use Rattle.fm_conn.proofs.ListLemmas.{Contains-first, Contains-one}
+use Rattle.fm_base.proofs.ContainsFacts.{any-found, Contains-cons_cases, Contains-none}
 use Rattle.fm_world.specs.Chains.{is_among}
 use Rattle.fm_world.specs.Lookups.{select, special_target}
 use Rattle.fm_world.specs.Members.{methods_of}

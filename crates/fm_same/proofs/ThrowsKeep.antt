@@ -5,6 +5,7 @@ use Rattle.std.proofs.lemmas.Bool.{false≢true}
 use Rattle.std.proofs.lemmas.Option.{same_Some}
 use Rattle.fm_base.specs.declared.kinds.TypeRef.{TypeRef}
 use Rattle.fm_cells.specs.Stores.{Store}
+use Rattle.fm_code.proofs.EdgesLemmas.{insn_inside}
 use Rattle.fm_code.specs.Edges.{IsHandlerEdge}
 use Rattle.fm_code.specs.Live.{stores_over}
 use Rattle.fm_conn.specs.Facts.{AreFacts, Facts}
@@ -22,7 +23,7 @@ use Rattle.fm_same.specs.Colours.{AreFramesColoured, Colour, HasColour, IsFrameC
 use Rattle.fm_same.specs.Regions.{Everywhere, region}
 use Rattle.fm_same.specs.Standing.{Called, Goes, method_of, Stand, StandBelow, StandsAt, Waits}
 use Rattle.fm_same.proofs.CallRegions.{state_found}
-use Rattle.fm_same.proofs.EdgesKeep.{call_keeps, handler_edge, item_with_insn, item_with_state, live_before}
+use Rattle.fm_same.proofs.EdgesKeep.{call_keeps, handler_edge, item_with_state, live_before}
 use Rattle.fm_same.proofs.GoesOnKeep.{same_node}
 use Rattle.fm_same.proofs.LinkedClasses.{same_class_if_paired}
 use Rattle.fm_same.proofs.RegionLemmas.{region_global}
@@ -39,7 +40,7 @@ module _ (p : Program) (facts : Facts) (exact : AreFacts p facts) (f : Frame) (c
   edge stands =
       handler_edge p f t at.code h at.code_is found
       (item_with_state p facts exact f.method at.code at.code_is h stands.at.state stands.at.state_is)
-      (item_with_insn at.code f.item at.insn at.insn_is)
+      (insn_inside at.code f.item at.insn at.insn_is)
 
   -- the handler's word is paired with Global
   handler_pair : Goes p facts catching → IsNode (method_of p facts f at.code) (Slot h 0)

@@ -1,10 +1,12 @@
 -- The ends of methods that have no code, and what built-in methods link.
 use Rattle.std.proofs.Common.{◌≡◌, ℕ, zero, suc, ◌<◌, ◌⊎◌, ◌↔◌, ◌&&◌, ◌||◌, not, Bool, true, false, cond, eqb, List, [], ◌∷◌, ◌++◌, length, drop, map, get_or, Option, Some, None, IsSomeAnd, Contains, refl, ap, sym, ◌∙◌, subst, inl, inr, ⊎_elim, arith, eqb-true, ne_eqb}
-use Rattle.std.proofs.lemmas.Bool.{false≢true}
+use Rattle.std.proofs.lemmas.Bool.{false≢true, or_cases}
 use Rattle.std.proofs.lemmas.List.Elements.{Contains-append_left, Contains-append_right, Contains-append_cases}
 use Rattle.std.specs.List.{flat_map, list_all, list_any, range_with_len, slice_get}
-use Rattle.fm_base.proofs.ContainsFacts.{Contains-cons_cases}
+use Rattle.fm_base.proofs.ContainsFacts.{any-found, Contains-cons_cases, Contains-flat_map, Contains-none}
+use Rattle.fm_base.proofs.TestFacts.{and_left, and_right}
 use Rattle.fm_base.specs.declared.kinds.Kind.{Kind}
+use Rattle.fm_code.proofs.EdgesLemmas.{Contains-from_map, Contains-map}
 use Rattle.fm_code.specs.AccessFlags.{is_static}
 use Rattle.fm_code.specs.declared.code_array.Code.{Code}
 use Rattle.fm_types.specs.CallRows.{is_constructor}
@@ -27,37 +29,18 @@ use Rattle.fm_conn.specs.declared.ends.End2.{End2}
 use Rattle.fm_conn.specs.declared.ends.End2.TheVariants as end
 use Rattle.fm_conn.proofs.ListedEndLemmas.{links-from, links-is}
 use Rattle.fm_summ.proofs.EntryLemmas.{end_number-listed, number_is, same_end-is}
-use Rattle.fm_conn.proofs.ListLemmas.{Contains-first, Contains-flat_map, Contains-from_flat_map, Contains-from_map, Contains-later, Contains-map, Contains-none, Contains-one, Contains-range}
+use Rattle.fm_conn.proofs.ListLemmas.{Contains-first, Contains-from_flat_map, Contains-one, Contains-range}
 use Rattle.fm_summ.specs.inner.BuiltIns.{bare_ends, bare_entries, entry_number, entry_words, is_linked_by, is_one_of, linking_rows, own_number, parameter_end, parameter_ends, result_end, row_in}
 use Rattle.fm_summ.specs.inner.State.{IsBare}
 
 -- ---- tests of lists
 
-and_first : (a b : Bool) → (a && b) ≡ true → a ≡ true
-and_first true b both = refl
-and_first false b both = absurd (false≢true both)
-
-and_second : (a b : Bool) → (a && b) ≡ true → b ≡ true
-and_second true b both = both
-and_second false b both = absurd (false≢true both)
-
-or_cases : (a b : Bool) → (a || b) ≡ true → (a ≡ true) ⊎ (b ≡ true)
-or_cases true b either = inl refl
-or_cases false b either = inr either
-
 all_pass : {X : Type 0} (test : X → Bool) (xs : List X) → list_all test xs ≡ true → (x : X) → Contains xs x → test x ≡ true
 all_pass test [] all x found = absurd (Contains-none x found)
 all_pass test (y ∷ xs) all x found =
-    ⊎_elim (λ (same : x ≡ y). ap test same ∙ and_first (test y) (list_all test xs) all)
-    (λ later. all_pass test xs (and_second (test y) (list_all test xs) all) x later)
+    ⊎_elim (λ (same : x ≡ y). ap test same ∙ and_left (test y) (list_all test xs) all)
+    (λ later. all_pass test xs (and_right (test y) (list_all test xs) all) x later)
     (Contains-cons_cases y xs x found)
-
-some_passes : {X : Type 0} (test : X → Bool) (xs : List X) → list_any test xs ≡ true → (x : X) × Contains xs x × (test x ≡ true)
-some_passes test [] any = absurd (false≢true any)
-some_passes test (x ∷ xs) any =
-    ⊎_elim (λ here. (x, Contains-first x xs, here))
-    (λ later. let found = some_passes test xs later in (found.0, Contains-later x xs found.0 found.1, found.2))
-    (or_cases (test x) (list_any test xs) any)
 
 -- ---- rows
 
@@ -71,9 +54,9 @@ finds a b row = list_any (λ (entry : ℕ × List (End2 × End2)). eqb entry.0 r
 found_link : (a b : End2) (row : ℕ) → finds a b row ≡ true → IsNativeLink row a b
 unfolding finds is_pair
 found_link a b row finds_it =
-    let entry = some_passes (λ (entry : ℕ × List (End2 × End2)). eqb entry.0 row && list_any (is_pair a b) entry.1) native_links finds_it in
-    let row_is : entry.0.0 ≡ row = eqb-true entry.0.0 row (and_first (eqb entry.0.0 row) (list_any (is_pair a b) entry.0.1) entry.2) in
-    let pair = some_passes (is_pair a b) entry.0.1 (and_second (eqb entry.0.0 row) (list_any (is_pair a b) entry.0.1) entry.2) in
+    let entry = any-found (λ (entry : ℕ × List (End2 × End2)). eqb entry.0 row && list_any (is_pair a b) entry.1) native_links finds_it in
+    let row_is : entry.0.0 ≡ row = eqb-true entry.0.0 row (and_left (eqb entry.0.0 row) (list_any (is_pair a b) entry.0.1) entry.2) in
+    let pair = any-found (is_pair a b) entry.0.1 (and_right (eqb entry.0.0 row) (list_any (is_pair a b) entry.0.1) entry.2) in
     let first = pair.0.0 in
     let second = pair.0.1 in
     record {
@@ -82,12 +65,12 @@ found_link a b row finds_it =
       among =
           ⊎_elim
           (λ both.
-          let one : first ≡ a = same_end-is first a (and_first (is_same_end first a) (is_same_end second b) both) in
-          let other : second ≡ b = same_end-is second b (and_second (is_same_end first a) (is_same_end second b) both) in
+          let one : first ≡ a = same_end-is first a (and_left (is_same_end first a) (is_same_end second b) both) in
+          let other : second ≡ b = same_end-is second b (and_right (is_same_end first a) (is_same_end second b) both) in
           inl (subst (λ e. Contains entry.0.1 (a, e)) other (subst (λ e. Contains entry.0.1 (e, second)) one pair.1)))
           (λ both.
-          let one : first ≡ b = same_end-is first b (and_first (is_same_end first b) (is_same_end second a) both) in
-          let other : second ≡ a = same_end-is second a (and_second (is_same_end first b) (is_same_end second a) both) in
+          let one : first ≡ b = same_end-is first b (and_left (is_same_end first b) (is_same_end second a) both) in
+          let other : second ≡ a = same_end-is second a (and_right (is_same_end first b) (is_same_end second a) both) in
           inr (subst (λ e. Contains entry.0.1 (b, e)) other (subst (λ e. Contains entry.0.1 (e, second)) one pair.1)))
           (or_cases (is_same_end first a && is_same_end second b) (is_same_end first b && is_same_end second a) pair.2);
     }
@@ -115,7 +98,7 @@ rows_of_parameters = refl
 
 row_listed : (rows : List ℕ) (row : ℕ) → is_one_of rows row ≡ true → Contains rows row
 row_listed rows row one =
-    let found = some_passes (λ n. eqb n row) rows one in subst (λ n. Contains rows n) (eqb-true found.0 row found.2) found.1
+    let found = any-found (λ n. eqb n row) rows one in subst (λ n. Contains rows n) (eqb-true found.0 row found.2) found.1
 
 tells : (a b : End2) (row : ℕ) → list_all (tells_rows a b) (linking_rows b) ≡ true → is_one_of (linking_rows a) row ≡ true →
     is_one_of (linking_rows b) row ≡ true → IsNativeLink row a b
@@ -169,9 +152,9 @@ linked_both row a b link =
     listed_rows (row, link.links) link.row_has in
     ⊎_elim
     (λ one. let both = all_pass test link.links all (a, b) one in
-    (and_first (is_linked_by (Some row) a) (is_linked_by (Some row) b) both, and_second (is_linked_by (Some row) a) (is_linked_by (Some row) b) both))
+    (and_left (is_linked_by (Some row) a) (is_linked_by (Some row) b) both, and_right (is_linked_by (Some row) a) (is_linked_by (Some row) b) both))
     (λ other. let both = all_pass test link.links all (b, a) other in
-    (and_second (is_linked_by (Some row) b) (is_linked_by (Some row) a) both, and_first (is_linked_by (Some row) b) (is_linked_by (Some row) a) both))
+    (and_right (is_linked_by (Some row) b) (is_linked_by (Some row) a) both, and_left (is_linked_by (Some row) b) (is_linked_by (Some row) a) both))
     link.among
 
 -- ---- numbers of ends

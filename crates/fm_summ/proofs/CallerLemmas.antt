@@ -5,8 +5,7 @@ use Rattle.std.proofs.lemmas.List.{get_or-set_same, get_or-set_other, get_or_pas
 use Rattle.std.specs.Global.{Vec}
 use Rattle.fm_base.specs.declared.ids.MethodId.{MethodId}
 use Rattle.std.proofs.lemmas.List.Elements.{Contains-append_left, Contains-push, Contains-push_cases}
-use Rattle.fm_base.proofs.ContainsFacts.{Contains-cons_cases}
-use Rattle.fm_conn.proofs.ListLemmas.{Contains-none}
+use Rattle.fm_base.proofs.ContainsFacts.{Contains-cons_cases, Contains-none}
 use Rattle.fm_summ.specs.inner.Callers.{all_targets, lists_of, targets_at, with_all, with_caller, with_callers, with_calls, HasCallers}
 
 -- what a step keeps: the lists stay, all that is listed stays listed, and what is new lies below a bound

@@ -3,6 +3,7 @@ use Rattle.std.proofs.Common.{◌≡◌, ◌≢◌, ℕ, ◌+◌, ◌<◌, ◌�
 use Rattle.std.proofs.lemmas.Bool.{cases_lt}
 use Rattle.std.proofs.lemmas.List.{get_or_append_left, get_or_default, get_or_read, get_or-map, get_or_push, length_push, map-append, map-set, take_all, take_more}
 use Rattle.std.specs.Global.{Vec}
+use Rattle.fm_base.proofs.ContainsFacts.{Contains-flat_map}
 use Rattle.fm_base.specs.Graph.{AreNodes}
 use Rattle.fm_summ.specs.inner.Callers.{lists_of, with_caller}
 use Rattle.std.proofs.lemmas.List.Filters.{dedup_is}
@@ -24,8 +25,10 @@ use Rattle.fm_summ.specs.inner.State.{first_shape}
 use Rattle.std.specs.List.Retain.{IsFiltered, DiffersFromLast}
 use Rattle.std.specs.List.Sorted.{IsBinarySearchResult, IsPermutation, IsSorted, IsStrictlyIncreasing}
 use Rattle.std.specs.Ordering.{nat_cmp}
-use Rattle.fm_conn.proofs.ListLemmas.{Contains-first, Contains-flat_map, Contains-later}
-use Rattle.fm_summ.proofs.NumberLemmas.{lower_place, number_in-none, number_in-place}
+use Rattle.fm_code.proofs.EdgesLemmas.{Contains-later}
+use Rattle.fm_flow.proofs.MergeLemmas.{not_above}
+use Rattle.fm_conn.proofs.ListLemmas.{Contains-first}
+use Rattle.fm_summ.proofs.NumberLemmas.{number_in-none, number_in-place}
 use Rattle.fm_summ.specs.inner.Numbers.{named, number_in}
 
 -- ---- the numbers of pairs
@@ -51,7 +54,7 @@ names_named pairs flat sorted names are permutation filtered a b found =
 search_result : (names : List ℕ) (n : ℕ) (r : Result ℕ ℕ) → IsStrictlyIncreasing names → IsBinarySearchResult (λ y. nat_cmp y n) names r →
     MatchResult r (λ i. (i < length names) × (get_or names i 0 ≡ n))
     (λ i. (i ≤ length names) × ((k : ℕ) → k < i → get_or names k 0 < n) × ((k : ℕ) → i ≤ k → k < length names → n < get_or names k 0))
-search_result names n r rising found = searched names n r found (λ i j le inside. lower_place names rising i j le inside)
+search_result names n r rising found = searched names n r found (λ i j le inside. not_above names rising i j le inside)
 
 pub place_found : (names : List ℕ) (n i : ℕ) → IsStrictlyIncreasing names → IsBinarySearchResult (λ y. nat_cmp y n) names (Ok i) →
     (i < length names) × (get_or names i 0 ≡ n)

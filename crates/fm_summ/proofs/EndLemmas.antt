@@ -2,13 +2,13 @@
 use Rattle.std.proofs.Common.{◌≡◌, ℕ, ◌+◌, ◌<◌, Bool, true, List, [], ◌∷◌, length, map, get_or, Contains, ap, sym, ◌∙◌, subst, inl, ⊎_elim, Result, Ok, Err, IfOk, arith}
 use Rattle.std.proofs.lemmas.List.{get_or-map, length-map}
 use Rattle.std.specs.Global.{Vec}
+use Rattle.fm_base.proofs.ContainsFacts.{Contains-none}
 use Rattle.fm_base.specs.declared.ids.MethodId.{MethodId}
 use Rattle.fm_world.specs.Members.{methods_of}
 use Rattle.fm_world.specs.Programs.{Program}
 use Rattle.fm_conn.specs.Links.{Typings}
 use Rattle.fm_conn.specs.declared.shapes.Shape.{Shape}
 use Rattle.fm_conn.specs.declared.summaries.Summaries.{Summaries}
-use Rattle.fm_conn.proofs.ListLemmas.{Contains-none}
 use Rattle.fm_summ.proofs.LoopLemmas.{going_on, targets_of_method}
 use Rattle.fm_summ.proofs.RoundLemmas.{exact}
 use Rattle.fm_summ.proofs.StartLemmas.{first_sound, first_targets}

@@ -1,16 +1,13 @@
 -- The results of the analysis make the facts of a program.
-use Rattle.std.proofs.Common.{◌≡◌, ◌↔◌, ℕ, ◌<◌, ◌≤◌, true, false, List, [], ◌∷◌, length, Some, ⊎_elim, ap, ◌∙◌, sym, arith}
+use Rattle.std.proofs.Common.{◌≡◌, ◌↔◌, ℕ, ◌<◌, ◌≤◌, true, false, List, [], ◌∷◌, length, ⊎_elim, ap, ◌∙◌, sym, arith}
 use Rattle.std.proofs.lemmas.Bool.{cases_lt, false≢true}
 use Rattle.std.proofs.lemmas.List.{get_or_past}
-use Rattle.std.proofs.lemmas.Option.{none-some, slice_get_past}
-use Rattle.std.specs.Option.{option_map}
 use Rattle.fm_base.proofs.OptionFacts.{Some-from_some_and}
 use Rattle.fm_base.specs.Rows.{has}
+use Rattle.fm_code.proofs.EdgesLemmas.{insn_inside}
 use Rattle.fm_code.specs.Edges.{insn_of}
 use Rattle.fm_code.specs.Live.{stores_over, LeadsToLoad, Live}
 use Rattle.fm_code.specs.declared.code_array.Code.{Code}
-use Rattle.fm_code.specs.declared.code_array.Item.{Item}
-use Rattle.fm_code.specs.declared.instructions.Insn.{Insn}
 use Rattle.fm_code.specs.declared.instructions.Insn.TheVariants as insn
 use Rattle.fm_code.specs.declared.operations.Reg.TheVariants as reg
 use Rattle.fm_flow.specs.LiveRows.{is_live, IsLiveRowsOf}
@@ -20,18 +17,10 @@ use Rattle.fm_summ.specs.Answers.{AnswersAreFacts}
 
 -- ---- past the last item
 
--- where there is an instruction there is an item
-item_inside : (code : Code) (j : ℕ) (i : Insn) → insn_of code j ≡ Some i → j < length code.items
-item_inside code j i is =
-    ⊎_elim (λ (inside : j < length code.items). inside)
-    (λ (past : length code.items ≤ j).
-    let none = ap (option_map (λ (item : Item). item.insn)) (slice_get_past code.items j past) in absurd (none-some i (sym none ∙ is)))
-    (cases_lt j (length code.items))
-
 live_inside : (code : Code) (k j : ℕ) (path : List ℕ) → LeadsToLoad code k j path → j < length code.items
-live_inside code k j [] loads = item_inside code j (insn.Load reg.Ref k) loads
+live_inside code k j [] loads = insn_inside code j (insn.Load reg.Ref k) loads
 live_inside code k j (next ∷ rest) (keeps, edge, onward) =
-    let some = Some-from_some_and (insn_of code j) (λ i. stores_over k i ≡ false) keeps in item_inside code j some.0 some.1
+    let some = Some-from_some_and (insn_of code j) (λ i. stores_over k i ≡ false) keeps in insn_inside code j some.0 some.1
 
 live_told : (code : Code) (live : LiveRows) → IsLiveRowsOf code live → (k j : ℕ) → (is_live live k j ≡ true) ↔ Live code k j
 live_told code live is k j =

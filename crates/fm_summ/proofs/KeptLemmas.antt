@@ -3,6 +3,8 @@ use Rattle.std.proofs.Common.{◌≡◌, ◌≢◌, ℕ, ◌<◌, ◌≤◌, ◌
 use Rattle.std.proofs.lemmas.Bool.{cases_eq, cases_lt}
 use Rattle.std.proofs.lemmas.List.{get_or_past, get_or-set_same, get_or-set_other}
 use Rattle.std.proofs.Math.Seq.{map-set_same}
+use Rattle.fm_base.proofs.ContainsFacts.{Contains-none}
+use Rattle.fm_code.proofs.EdgesLemmas.{Contains-from_map, Contains-map}
 use Rattle.fm_code.specs.declared.code_array.Code.{Code}
 use Rattle.fm_world.specs.Members.{methods_of}
 use Rattle.fm_world.specs.Programs.{code_at, targets, Program}
@@ -19,7 +21,6 @@ use Rattle.fm_conn.proofs.LinkLemmas.{ends_linked}
 use Rattle.fm_conn.proofs.ListedEndLemmas.{links-is}
 use Rattle.fm_summ.proofs.EntryLemmas.{end_number-listed, listed-renumbered, renumbered-listed}
 use Rattle.fm_summ.proofs.JoinLemmas.{joined_by_numbers, joined_one, NodesOf}
-use Rattle.fm_conn.proofs.ListLemmas.{Contains-from_map, Contains-map, Contains-none}
 use Rattle.fm_summ.proofs.PassLemmas.{become_one, pair_of, PairOf}
 use Rattle.fm_summ.specs.Exact.{no_shape, shape_at}
 use Rattle.fm_summ.specs.inner.Callers.{call_targets}

@@ -1,17 +1,18 @@
 -- What a step of the loop over the methods that wait leaves, and that the loop ends.
 use Rattle.std.proofs.Common.{◌≡◌, ◌≢◌, ℕ, ◌+◌, ◌*◌, ◌<◌, ◌≤◌, ◌⊎◌, Bool, true, false, not, ◌||◌, eqb, List, [], ◌∷◌, length, map, get_or, set, sum_by, Contains, refl, ap, sym, ◌∙◌, subst, inl, inr, ⊎_elim, arith, eqb-true, eq-eqb, length-set}
-use Rattle.std.proofs.lemmas.Bool.{cases_eq, false≢true}
+use Rattle.std.proofs.lemmas.Bool.{cases_eq, false≢true, not-false, or_cases, or_parts}
 use Rattle.std.proofs.lemmas.List.{get_or-map, get_or-set_same, length-map, set-get_or}
 use Rattle.std.proofs.lemmas.List.Sums.{get_or-le-sum_by, sum_by-set, sum_by-cons}
 use Rattle.std.proofs.Math.Nat.{mul-le-mul_right}
-use Rattle.fm_base.proofs.ContainsFacts.{Contains-cons_cases}
+use Rattle.fm_base.proofs.ContainsFacts.{Contains-cons_cases, Contains-none}
+use Rattle.fm_code.proofs.EdgesLemmas.{Contains-later, Contains-map}
 use Rattle.fm_world.specs.Programs.{Program}
 use Rattle.fm_world.specs.Programs.{targets as targets_in}
 use Rattle.fm_conn.specs.declared.ends.End2.{End2}
 use Rattle.fm_conn.specs.declared.shapes.CallShape.{CallShape}
 use Rattle.fm_conn.specs.declared.shapes.Shape.{Shape}
 use Rattle.fm_summ.proofs.KeptLemmas.{closed_after, ends_elsewhere, sound_after, targets_after}
-use Rattle.fm_conn.proofs.ListLemmas.{Contains-first, Contains-later, Contains-map, Contains-none}
+use Rattle.fm_conn.proofs.ListLemmas.{Contains-first}
 use Rattle.fm_summ.specs.Exact.{no_shape, shape_at}
 use Rattle.fm_summ.specs.inner.Callers.{call_targets, HasCallers}
 use Rattle.fm_summ.specs.inner.Numbers.{Merges}
@@ -49,23 +50,11 @@ passes_none targets shapes method none = record {
 
 -- ---- numbers that change
 
-not_false : (b : Bool) → not b ≡ false → b ≡ true
-not_false true is = refl
-not_false false is = absurd (false≢true (sym is))
-
-or_false : (a b : Bool) → (a || b) ≡ false → (a ≡ false) × (b ≡ false)
-or_false true b is = absurd (false≢true (sym is))
-or_false false b is = (refl, is)
-
-or_true : (a b : Bool) → (a || b) ≡ true → (a ≡ true) ⊎ (b ≡ true)
-or_true true b is = inl refl
-or_true false b is = inr is
-
 ends_unchanged : (f : ℕ → ℕ) (ends : List (End2 × ℕ)) → is_changed f ends ≡ false → renumbered_ends f ends ≡ ends
 ends_unchanged f [] is = refl
 ends_unchanged f (e ∷ ends) is =
-    let both = or_false (not (eqb (f e.1) e.1)) (is_changed f ends) is in
-    let same : f e.1 ≡ e.1 = eqb-true (f e.1) e.1 (not_false (eqb (f e.1) e.1) both.0) in
+    let both = or_parts (not (eqb (f e.1) e.1)) (is_changed f ends) is in
+    let same : f e.1 ≡ e.1 = eqb-true (f e.1) e.1 (not-false (eqb (f e.1) e.1) both.0) in
     λ k. (e.0, same k) ∷ ends_unchanged f ends both.1 k
 
 sum_down : (f : ℕ → ℕ) → ((n : ℕ) → f n ≤ n) → (ends : List (End2 × ℕ)) →
@@ -93,7 +82,7 @@ sum_falls f down (e ∷ ends) is =
     (λ (apart : f e.1 ≢ e.1). let falls : f e.1 < e.1 = omega arith in omega arith)
     (cases_eq (f e.1) e.1))
     (λ later. let rest = sum_falls f down ends later in omega arith)
-    (or_true (not (eqb (f e.1) e.1)) (is_changed f ends) is)
+    (or_cases (not (eqb (f e.1) e.1)) (is_changed f ends) is)
 
 -- some numbers are made one
 pub passes_some : (targets : List (List ℕ)) (shapes after : List Shape) (method : ℕ) (f : ℕ → ℕ) (changed : Bool) → method < length shapes →

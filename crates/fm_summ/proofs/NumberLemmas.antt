@@ -2,17 +2,16 @@
 use Rattle.std.proofs.Common.{◌≡◌, ◌≢◌, ℕ, zero, suc, ◌<◌, ◌≤◌, ◌⊎◌, cond, List, [], ◌∷◌, length, map, get_or, Contains, refl, ap, sym, ◌∙◌, subst, inl, inr, ⊎_elim, arith, eq-eqb, ne_eqb}
 use Rattle.std.proofs.lemmas.Bool.{cases_eq, cases_lt}
 use Rattle.std.proofs.lemmas.List.{get_or-map, length-map}
-use Rattle.std.proofs.lemmas.List.Kept.{AllPairs-from_increasing}
 use Rattle.std.specs.List.Sorted.{IsStrictlyIncreasing}
+use Rattle.fm_base.proofs.GraphLemmas.{paired_back}
 use Rattle.fm_base.specs.Graph.{AreJoined, AreLeastJoined, AreNodes, ArePaired, IsPath}
+use Rattle.fm_code.proofs.EdgesLemmas.{Contains-from_map, Contains-map}
+use Rattle.fm_flow.proofs.MergeLemmas.{not_above}
+use Rattle.fm_flow.proofs.RisingLemmas.{rising_pair}
 use Rattle.fm_conn.proofs.ChainLemmas.{numbers_back, numbers_then}
-use Rattle.fm_conn.proofs.ListLemmas.{Contains-from_map, Contains-map}
 use Rattle.fm_summ.specs.inner.Numbers.{Merges, named, number_in}
 
 -- ---- places
-
-rising_pair : (names : List ℕ) → IsStrictlyIncreasing names → (i j : ℕ) → i < j → j < length names → get_or names i 0 < get_or names j 0
-rising_pair names rising i j before inside = AllPairs-from_increasing names rising i j 0 before inside
 
 -- one place for each number
 one_place : (names : List ℕ) → IsStrictlyIncreasing names → (i j : ℕ) → i < length names → j < length names → get_or names i 0 ≡ get_or names j 0 → i ≡ j
@@ -20,13 +19,6 @@ one_place names rising i j first second same =
     ⊎_elim (λ (before : i < j). absurd (let up = rising_pair names rising i j before second in omega arith))
     (λ (le : j ≤ i).
     ⊎_elim (λ (after : j < i). absurd (let up = rising_pair names rising j i after first in omega arith)) (λ (ge : i ≤ j). omega arith) (cases_lt j i))
-    (cases_lt i j)
-
--- an earlier place has the smaller number
-pub lower_place : (names : List ℕ) → IsStrictlyIncreasing names → (i j : ℕ) → i ≤ j → j < length names → get_or names i 0 ≤ get_or names j 0
-lower_place names rising i j le inside =
-    ⊎_elim (λ (before : i < j). let up = rising_pair names rising i j before inside in omega arith)
-    (λ (ge : j ≤ i). let same : i ≡ j = omega arith in omega (arith, ap (λ k. get_or names k 0) same))
     (cases_lt i j)
 
 -- ---- what a number becomes
@@ -91,11 +83,6 @@ path_named names indexed pairs are i (next ∷ rest) j (paired, path) =
     let onward = path_named names indexed pairs are next rest j path in
     (get_or names next 0 ∷ onward.0, (paired_named names indexed pairs are i next paired, onward.1))
 
--- the two nodes of a pair the other way round
-back_one : (pairs : List (ℕ × ℕ)) (a b : ℕ) → ArePaired pairs a b → ArePaired pairs b a
-back_one pairs a b (inl found) = inr found
-back_one pairs a b (inr found) = inl found
-
 -- ---- the renumbering
 
 record Setting (pairs indexed : List (ℕ × ℕ)) (names roots values : List ℕ) : Type 0 where
@@ -123,7 +110,7 @@ same_root pairs indexed names roots values s i j first second paired =
     let one = s.least.each i first in
     let other = s.least.each j second in
     let up = one.no_less (get_or roots j 0) (j ∷ other.joined.0, (paired, other.joined.1)) in
-    let down = other.no_less (get_or roots i 0) (i ∷ one.joined.0, (back_one indexed i j paired, one.joined.1)) in
+    let down = other.no_less (get_or roots i 0) (i ∷ one.joined.0, (paired_back indexed i j paired, one.joined.1)) in
     omega arith
 
 merges_same : (pairs indexed : List (ℕ × ℕ)) (names roots values : List ℕ) → Setting pairs indexed names roots values → (a b : ℕ) →
@@ -180,7 +167,7 @@ merges_down pairs indexed names roots values s n =
     (λ (place : HasIndex names n).
     let up = roots_inside pairs indexed names roots values s place.index place.inside in
     let value = value_at pairs indexed names roots values s n place.index place.inside place.is in
-    let lower = lower_place names s.rising (get_or roots place.index 0) place.index up place.inside in
+    let lower = not_above names s.rising (get_or roots place.index 0) place.index up place.inside in
     omega (arith, value, lower, place.is))
     (λ none. omega (arith, number_in-none names values n none))
     (place_or_none names n)

@@ -3,15 +3,16 @@ use Rattle.std.proofs.Common.{◌≡◌, ℕ, ◌⊎◌, ◌+◌, ◌<◌, Bool,
 use Rattle.std.proofs.lemmas.List.Elements.{Contains-append_left, Contains-append_right, Contains-append_cases}
 use Rattle.std.proofs.lemmas.List.{drop_more}
 use Rattle.std.specs.Global.{Vec}
-use Rattle.fm_base.proofs.ContainsFacts.{Contains-cons_cases}
+use Rattle.fm_base.proofs.ContainsFacts.{Contains-cons_cases, Contains-flat_map, Contains-none}
 use Rattle.fm_base.specs.declared.ids.MethodId.{MethodId}
+use Rattle.fm_code.proofs.EdgesLemmas.{Contains-later}
 use Rattle.fm_world.specs.Programs.{targets, Program}
 use Rattle.fm_conn.specs.Summaries.{links}
 use Rattle.fm_conn.specs.declared.ends.End2.{End2}
 use Rattle.fm_conn.specs.declared.shapes.CallShape.{CallShape}
 use Rattle.fm_conn.specs.declared.shapes.Shape.{Shape}
 use Rattle.fm_conn.proofs.ListedEndLemmas.{first_with-one, first_with-there, links-from, links-is, numbered-from, numbered-of}
-use Rattle.fm_conn.proofs.ListLemmas.{Contains-first, Contains-flat_map, Contains-from_flat_map, Contains-later, Contains-none, Contains-one}
+use Rattle.fm_conn.proofs.ListLemmas.{Contains-first, Contains-from_flat_map, Contains-one}
 use Rattle.fm_summ.specs.inner.Callers.{call_targets, numbers_of, targets_at}
 use Rattle.fm_conn.specs.inner.ListedEnds.{first_with, numbered}
 use Rattle.fm_summ.specs.inner.Passed.{call_pairs, ends_at, method_pairs, pair_unless_same, stand_pairs, target_pairs}

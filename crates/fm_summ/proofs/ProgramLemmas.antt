@@ -1,6 +1,6 @@
 -- Programs of class files have what is required of a program: what uses name is there, and built-in
 -- methods have no code.
-use Rattle.std.proofs.Common.{◌≡◌, refl, sym, ◌∙◌, ap, subst, ℕ, ◌+◌, ◌-◌, ◌<◌, ◌≤◌, List, [], ◌∷◌, ◌++◌, length, map, get_or, replicate, Option, None, ⊎_elim, append_assoc, arith}
+use Rattle.std.proofs.Common.{◌≡◌, refl, sym, ◌∙◌, ap, subst, ℕ, ◌+◌, ◌-◌, ◌<◌, ◌≤◌, List, [], ◌∷◌, ◌++◌, length, map, get_or, replicate, Option, None, ⊎_elim, arith}
 use Rattle.std.specs.List.{flat_map, AllByRecursion}
 use Rattle.std.proofs.lemmas.Bool.{cases_lt}
 use Rattle.std.proofs.lemmas.List.{get_or_append_left, get_or-append_right, get_or-replicate, length-replicate}
@@ -13,11 +13,11 @@ use Rattle.fm_code.specs.declared.code_array.Code.{Code}
 use Rattle.fm_code.specs.declared.constant_pool.Entry.{Entry}
 use Rattle.fm_check_rows.proofs.UseLemmas.{uses_name_members}
 use Rattle.fm_check_rows.specs.Members.{NamesMember}
+use Rattle.fm_world.proofs.TableLemmas.{methods_from-append}
 use Rattle.fm_world.specs.BuiltIns.{built_in}
 use Rattle.fm_world.specs.Declarations.{declared_from, declared_method, no_method}
 use Rattle.fm_world.specs.Members.{method_at, methods_from, methods_of, OwnedMethod}
 use Rattle.fm_world.specs.Programs.{classes_of, codes_of, outline_of, program_of, use_of, Outline}
-use Rattle.fm_world.specs.declared.declarations.DeclaredClass.{DeclaredClass}
 use Rattle.fm_world.specs.declared.uses.Use.{Use}
 use Rattle.fm_world.specs.declared.uses.Use.TheVariants as resolved
 use Rattle.fm_conn.proofs.TypeLemmas.{types_in}
@@ -53,15 +53,6 @@ no_rows_from class file [] = tt
 no_rows_from class file (c ∷ given) =
     AllByRecursion-append HasNoRow (map (λ m. record { class = class; method = m }) (map (declared_method c.pool.entries) c.methods))
     (methods_from (class + 1) (declared_from (file + 1) given)) (no_rows class c.pool.entries c.methods) (no_rows_from (class + 1) (file + 1) given)
-
-methods_from-append : (class : ℕ) (classes more : List DeclaredClass) →
-    methods_from class (classes ++ more) ≡ methods_from class classes ++ methods_from (class + length classes) more
-methods_from-append class [] more = let same : class ≡ class + 0 = omega arith in ap (λ k. methods_from k more) same
-methods_from-append class (c ∷ classes) more =
-    let same : class + 1 + length classes ≡ class + length (c ∷ classes) = omega arith in
-    let own : List OwnedMethod = map (λ m. record { class = class; method = m }) c.methods in
-    ap (λ ms. own ++ ms) (methods_from-append (class + 1) classes more ∙ ap (λ k. methods_from (class + 1) classes ++ methods_from k more) same)
-    ∙ sym (append_assoc own (methods_from (class + 1) classes) (methods_from (class + length (c ∷ classes)) more))
 
 -- the methods of the files come behind the built-in ones
 all_methods : (given : List ClassDef) →

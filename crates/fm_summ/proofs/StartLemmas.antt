@@ -3,6 +3,7 @@ use Rattle.std.proofs.Common.{◌≡◌, ℕ, ◌<◌, ◌≤◌, List, [], leng
 use Rattle.std.proofs.lemmas.Bool.{cases_lt}
 use Rattle.std.proofs.lemmas.List.{ext_get_or, get_or-map, get_or_default, get_or_past, length-map}
 use Rattle.std.proofs.lemmas.List.FromFn.{get_or-map-range_with_len, length-map-range_with_len}
+use Rattle.fm_base.proofs.ContainsFacts.{Contains-none}
 use Rattle.fm_code.specs.declared.code_array.Code.{Code}
 use Rattle.fm_world.specs.Members.{method_at}
 use Rattle.fm_world.specs.Programs.{body_of, code_at, method_info, Program}
@@ -19,7 +20,6 @@ use Rattle.fm_conn.specs.declared.shapes.CallShape.{CallShape}
 use Rattle.fm_conn.specs.declared.shapes.Shape.{Shape}
 use Rattle.fm_summ.proofs.BareLemmas.{bare_is}
 use Rattle.fm_summ.proofs.KeptLemmas.{same_calls, tells-renumbered}
-use Rattle.fm_conn.proofs.ListLemmas.{Contains-none}
 use Rattle.fm_summ.specs.Exact.{no_shape, shape_at, AreShapesOf, HasBareBuiltIns}
 use Rattle.fm_summ.specs.inner.BuiltIns.{bare_entries}
 use Rattle.fm_summ.specs.inner.Callers.{call_targets, AreCallsIn}

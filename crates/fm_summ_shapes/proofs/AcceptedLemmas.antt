@@ -1,8 +1,9 @@
 -- The program of accepted class files that link may be analysed, if its methods are typed.
-use Rattle.std.proofs.Common.{◌≡◌, ℕ, false, List, [], ◌∷◌, map, Option, Some, None, IfSome}
+use Rattle.std.proofs.Common.{◌≡◌, ℕ, Bool, false, List, [], ◌∷◌, map, Option, Some, None, IfSome}
 use Rattle.std.specs.List.{AllByRecursion}
 use Rattle.fm_summ_shapes.specs.Analysed.{AcceptedAreAnalysable, IsAccepted}
 use Rattle.fm_base.proofs.ListFacts.{AllByRecursion-weaker}
+use Rattle.fm_code.specs.AccessFlags.{is_interface}
 use Rattle.fm_code.specs.Edges.{HasNoLeftOut}
 use Rattle.fm_code.specs.Members.{code_of}
 use Rattle.fm_code.specs.Profile.{is_left_out, IsSupported, IsWithinLimits, ItemIsSupported, MethodIsSupported}
@@ -23,10 +24,10 @@ none_left_out : (entries : List Entry) (items : List Item) → AllByRecursion (I
 none_left_out entries [] all = tt
 none_left_out entries (item ∷ items) all = (all.0.not_left_out, none_left_out entries items all.1)
 
-supported_members : (entries : List Entry) (members : List Member) → AllByRecursion (MethodIsSupported entries) members
+supported_members : (in_interface : Bool) (entries : List Entry) (members : List Member) → AllByRecursion (MethodIsSupported in_interface entries) members
     → AreAll HasNoLeftOut (map code_of members)
-supported_members entries [] all = tt
-supported_members entries (m ∷ members) all = (supported (code_of m) all.0.items, supported_members entries members all.1) where
+supported_members in_interface entries [] all = tt
+supported_members in_interface entries (m ∷ members) all = (supported (code_of m) all.0.items, supported_members in_interface entries members all.1) where
   supported : (o : Option Code) → IfSome o (λ code. AllByRecursion (ItemIsSupported entries) code.items) → IfSome o HasNoLeftOut
   supported None items = tt
   supported (Some code) items = none_left_out entries code.items items
@@ -34,7 +35,7 @@ supported_members entries (m ∷ members) all = (supported (code_of m) all.0.ite
 supported_files : (given : List ClassDef) → AllByRecursion IsSupported given
     → AllByRecursion (λ (c : ClassDef). AreAll HasNoLeftOut (map code_of c.methods)) given
 supported_files [] all = tt
-supported_files (c ∷ given) all = (supported_members c.pool.entries c.methods all.0.methods, supported_files given all.1)
+supported_files (c ∷ given) all = (supported_members (is_interface c.flags) c.pool.entries c.methods all.0.methods, supported_files given all.1)
 
 -- accepted class files that link may be checked
 pub accepted_checkable : (given : List ClassDef) (main : List ℕ) → AllByRecursion IsAccepted given → refusals given main ≡ []

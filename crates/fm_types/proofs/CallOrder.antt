@@ -35,7 +35,7 @@ follows-on_method R o resolved.Unused f g each = tt
 -- ---- calls of methods
 
 -- the arguments, and below them a reference, are whole
-called-whole : (o : Outline) (m : ℕ) (named : TypeRef) → is_whole (argument_words o m ++ slot.Ref named ∷ []) ≡ true
+pub called-whole : (o : Outline) (m : ℕ) (named : TypeRef) → is_whole (argument_words o m ++ slot.Ref named ∷ []) ≡ true
 called-whole o m named = whole-append (argument_words o m) (slot.Ref named ∷ []) (argument_words-whole o m) refl
 
 pub instance_call_row-under : (o : Outline) → AreTree o.classes → (u : Use) (s t : TypeState) → IsUnder o s t
@@ -153,7 +153,7 @@ receiver-under o tree method news named x slot.UninitThis s t f h =
       built w = record { locals = w.locals; stack = w.stack; built = λ e. refl }
 
 -- the rest of the row, once the arguments are taken
-abbrev after_arguments : Outline → ℕ → (ℕ → Option TypeRef) → TypeRef → TypeState → List Slot → Option TypeState
+abbrev pub after_arguments : Outline → ℕ → (ℕ → Option TypeRef) → TypeRef → TypeState → List Slot → Option TypeState
 after_arguments o method news named s [] = None
 after_arguments o method news named s (receiver ∷ stack) = constructed o method news named receiver (record s { stack = stack })
 
@@ -196,7 +196,7 @@ special_call_row-under o tree method news u s t h =
 -- ---- returns
 
 -- the row of a result that is known
-abbrev return_by : Outline → TypeState → Option Reg → Option Kind → Option TypeState
+abbrev pub return_by : Outline → TypeState → Option Reg → Option Kind → Option TypeState
 return_by o s None None = cond s.built (Some s) None
 return_by o s None (Some k) = None
 return_by o s (Some r) None = None

@@ -11,30 +11,12 @@ use Rattle.fm_types.specs.Fits.{AreTree, depth_of, fits, fits_base, fits_type, i
 use Rattle.fm_types.specs.Joins.{are_classes, common_base, common_class, is_interface_base, IsChosen, IsJoin, join, join_type, objects_with}
 use Rattle.fm_types.specs.declared.slots.Slot.{Slot}
 use Rattle.fm_types.specs.declared.slots.Slot.TheVariants as slot
+use Rattle.fm_world.proofs.TableLemmas.{same_base-eq, same_base-refl}
 use Rattle.fm_world.specs.Chains.{same_base, same_type}
 use Rattle.fm_world.specs.Programs.{Outline}
 use Rattle.fm_world.specs.declared.declarations.DeclaredClass.{DeclaredClass}
 
 -- ---- equal types
-
-same_base-eq : (a b : Base) → same_base a b ≡ true → a ≡ b
-same_base-eq base.Boolean base.Boolean h = refl
-same_base-eq base.Byte base.Byte h = refl
-same_base-eq base.Char base.Char h = refl
-same_base-eq base.Short base.Short h = refl
-same_base-eq base.Int base.Int h = refl
-same_base-eq base.Long base.Long h = refl
-same_base-eq (base.OfClass c) (base.OfClass d) h = ap (λ n. base.OfClass (record { 0 = n })) (eqb-true c.0 d.0 h)
-same_base-eq a b h = absurd (false≢true h)
-
-same_base-refl : (b : Base) → same_base b b ≡ true
-same_base-refl base.Boolean = refl
-same_base-refl base.Byte = refl
-same_base-refl base.Char = refl
-same_base-refl base.Short = refl
-same_base-refl base.Int = refl
-same_base-refl base.Long = refl
-same_base-refl (base.OfClass c) = eq-eqb c.0 c.0 refl
 
 pub same_type-eq : (a b : TypeRef) → same_type a b ≡ true → a ≡ b
 same_type-eq a b h =

@@ -4,6 +4,7 @@ use Rattle.std.specs.List.{AllZip, slice_get}
 use Rattle.std.specs.Option.{option_map}
 use Rattle.std.specs.Prelude.{nat_lt}
 use Rattle.std.proofs.lemmas.Bool.{false≢true}
+use Rattle.std.proofs.lemmas.List.Elements.{length_all_zip}
 use Rattle.fm_code.specs.declared.instructions.Insn.{Insn}
 use Rattle.fm_code.specs.declared.operations.Conv.{Conv}
 use Rattle.fm_code.specs.declared.operations.Conv.TheVariants as conv
@@ -11,7 +12,7 @@ use Rattle.fm_code.specs.declared.operations.Reg.{Reg}
 use Rattle.fm_code.specs.declared.operations.Reg.TheVariants as reg
 use Rattle.fm_types.proofs.Order.{fits-top}
 use Rattle.fm_types.proofs.StateOrder.{Fitting, IsStackUnder, IsUnder, on_top, pushed-under, shape_of, Stands, whole-level, whole-long, whole-other, with_stack, worked-under}
-use Rattle.fm_types.proofs.Zips.{Follows, follows-if, follows-map, follows-then, zip-append, zip-drop, zip-get, zip-length, zip-set}
+use Rattle.fm_types.proofs.Zips.{Follows, follows-if, follows-map, follows-then, zip-append, zip-drop, zip-get, zip-set}
 use Rattle.fm_types.specs.Fits.{AreTree, fits}
 use Rattle.fm_types.specs.Moves.{moved, Moves, moves_of, words_at}
 use Rattle.fm_types.specs.NumberRows.{constant_row, convert_row, increment_row, is_int, load_row, loaded, move_row, store_row, stored_from, suits}
@@ -147,7 +148,7 @@ cut_before-under o (suc k) xs ys h = by_tests (is_long (local_at xs k)) (is_long
   by_tests false false e f = h
 
 -- slots written one after another
-abbrev written : ℕ → List Slot → List Slot → List Slot
+abbrev pub written : ℕ → List Slot → List Slot → List Slot
 written k [] locals = locals
 written k (s ∷ slots) locals = written (suc k) slots (set locals k s)
 
@@ -163,8 +164,8 @@ stored-under : (o : Outline) (k : ℕ) (us vs xs ys : List Slot) → AllZip (Fit
     → Follows (AllZip (Fitting o)) (stored k us xs) (stored k vs ys)
 stored-under o k us vs xs ys w h =
     by_tests (nat_lt (length xs) (k + length us)) (nat_lt (length ys) (k + length vs))
-    (ap (λ n. nat_lt n (k + length us)) (zip-length (Fitting o) xs ys h)
-    ∙ ap (λ n. nat_lt (length ys) (k + n)) (zip-length (Fitting o) us vs w)) where
+    (ap (λ n. nat_lt n (k + length us)) (length_all_zip (Fitting o) xs ys h)
+    ∙ ap (λ n. nat_lt (length ys) (k + n)) (length_all_zip (Fitting o) us vs w)) where
       by_tests : (p q : Bool) → p ≡ q
           → Follows (AllZip (Fitting o)) (cond p None (Some (written k us (cut_before k xs)))) (cond q None (Some (written k vs (cut_before k ys))))
       by_tests p true e = tt
@@ -179,7 +180,7 @@ stored_from-under o k us vs a b s t w rest h =
     (λ xs ys locals. record { locals = locals; stack = rest; built = h.built })
 
 -- the row over stacks of its own
-abbrev store_by : Reg → ℕ → TypeState → List Slot → Option TypeState
+abbrev pub store_by : Reg → ℕ → TypeState → List Slot → Option TypeState
 store_by r k s [] = None
 store_by reg.Int k s (found ∷ stack) = cond (is_int found) (stored_from k (found ∷ []) stack s) None
 store_by reg.Ref k s (found ∷ stack) = cond (is_reference found) (stored_from k (found ∷ []) stack s) None
@@ -237,7 +238,7 @@ words_at-level o a b (place ∷ places) h =
 
 moved-level : (o : Outline) (m : Moves) (a b : List Slot) → AllZip (Stands o) a b → Follows (AllZip (Stands o)) (moved m a) (moved m b)
 moved-level o m a b h =
-    by_tests (nat_lt (length a) m.takes) (nat_lt (length b) m.takes) (ap (λ n. nat_lt n m.takes) (zip-length (Stands o) a b h)) where
+    by_tests (nat_lt (length a) m.takes) (nat_lt (length b) m.takes) (ap (λ n. nat_lt n m.takes) (length_all_zip (Stands o) a b h)) where
       kept : Follows (AllZip (Stands o)) (option_map (λ words. words ++ drop m.takes a) (words_at a m.gives))
           (option_map (λ words. words ++ drop m.takes b) (words_at b m.gives))
       kept =
@@ -252,7 +253,7 @@ moved-level o m a b h =
       by_tests false false e = kept
 
 -- the row of a move that is known
-abbrev move_by : Option Moves → TypeState → Option TypeState
+abbrev pub move_by : Option Moves → TypeState → Option TypeState
 move_by m s = option_and_then (λ m. option_and_then (λ stack. cond (is_whole stack) (Some (record s { stack = stack })) None) (moved m s.stack)) m
 
 move_by-under : (o : Outline) (m : Option Moves) (s t : TypeState) → IsUnder o s t → Follows (IsUnder o) (move_by m s) (move_by m t)

@@ -55,7 +55,7 @@ unfolding fits
 top_above o slot.Top h = refl
 top_above o b h = absurd (false≢true h)
 
-shape-top : (a : Slot) → shape_of a ≡ 0 → a ≡ slot.Top
+pub shape-top : (a : Slot) → shape_of a ≡ 0 → a ≡ slot.Top
 shape-top slot.Top h = refl
 shape-top a h = absurd (omega (arith, h))
 

@@ -1,5 +1,5 @@
 -- Lists whose elements are related pair by pair, and steps that give something wherever others do.
-use Rattle.std.proofs.Common.{◌≡◌, refl, ℕ, zero, suc, Bool, true, false, List, [], ◌∷◌, ◌++◌, length, map, drop, set, Option, Some, None, option_and_then, cond, ap}
+use Rattle.std.proofs.Common.{◌≡◌, refl, ℕ, zero, suc, Bool, true, false, List, [], ◌∷◌, ◌++◌, map, drop, set, Option, Some, None, option_and_then, cond}
 use Rattle.std.specs.List.{AllZip, slice_get}
 use Rattle.std.specs.Option.{option_map}
 use Rattle.std.proofs.lemmas.Bool.{false≢true}
@@ -42,12 +42,6 @@ zip-map R S f g each [] [] h = tt
 zip-map R S f g each [] (y ∷ ys) h = absurd h
 zip-map R S f g each (x ∷ xs) [] h = absurd h
 zip-map R S f g each (x ∷ xs) (y ∷ ys) h = (each x y h.0, zip-map R S f g each xs ys h.1)
-
-pub zip-length : {X : Type 0} (R : X → X → Type 0) (xs ys : List X) → AllZip R xs ys → length xs ≡ length ys
-zip-length R [] [] h = refl
-zip-length R [] (y ∷ ys) h = absurd h
-zip-length R (x ∷ xs) [] h = absurd h
-zip-length R (x ∷ xs) (y ∷ ys) h = ap suc (zip-length R xs ys h.1)
 
 -- ---- options: where the second gives something, the first gives something that is so related to it
 

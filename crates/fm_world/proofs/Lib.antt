@@ -1,9 +1,9 @@
-mod Example
-mod TableLemmas
-mod Told
+pub mod Example
+pub mod TableLemmas
+pub mod Told
 mod Selected
 pub mod LayerLemmas
 pub mod Displays
-mod Marks
+pub mod Marks
 pub mod Acyclic
 mod ClassTypes

@@ -57,7 +57,7 @@ AreMarked-more marks found (Some number) are k h = by_number (cases_eq k number)
 
 -- ---- what is selected
 
-only_found : (o : Option ℕ) → cons_option o [] ≡ option_to_list o
+pub only_found : (o : Option ℕ) → cons_option o [] ≡ option_to_list o
 only_found None = refl
 only_found (Some number) = refl
 

@@ -1,6 +1,6 @@
 -- The statuses of ends, of refusals and of outcomes, apart from one another.
 use Rattle.std.proofs.Common.{◌≡◌, ◌≢◌, ◌≤◌, ◌⊎◌, ℕ, Bool, true, false, inl, inr, List, ◌∷◌, Contains, Ok, Err, refl, sym, ◌∙◌, arith}
-use Rattle.std.specs.Int.{w32, cast_unsigned}
+use Rattle.std.specs.Int.{w32, cast_unsigned, is_in_range}
 use Rattle.std.specs.List.{list_all}
 use Rattle.std.proofs.lemmas.Bool.{and_parts, leb-false, leb-true}
 use Rattle.std.proofs.lemmas.List.Elements.{All-contains}
@@ -63,16 +63,12 @@ pub record IsBetween (least most status : ℕ) : Type 0 where
   pub low : least ≤ status
   pub high : status ≤ most
 
--- whether it is
-abbrev is_between : ℕ → ℕ → ℕ → Bool
-is_between least most status = nat_le least status && nat_le status most
-
 -- a status of some, all of which are
-one_between : (least most : ℕ) (statuses : List ℕ) → list_all (is_between least most) statuses ≡ true → (status : ℕ) → Contains statuses status
+one_between : (least most : ℕ) (statuses : List ℕ) → list_all (is_in_range least most) statuses ≡ true → (status : ℕ) → Contains statuses status
     → IsBetween least most status
 one_between least most statuses are status among =
-    let passes : is_between least most status ≡ true =
-    All-contains (λ s. is_between least most s ≡ true) statuses status (AllPass-from_list_all (is_between least most) statuses are) among in
+    let passes : is_in_range least most status ≡ true =
+    All-contains (λ s. is_in_range least most s ≡ true) statuses status (AllPass-from_list_all (is_in_range least most) statuses are) among in
     let own = and_parts (nat_le least status) (nat_le status most) passes in
     record { low = leb-true least status own.0; high = leb-true status most own.1 }
 

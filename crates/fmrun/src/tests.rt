@@ -10,10 +10,18 @@ use crate::top_call::fmrun_run;
 use fm_base::NoMemory;
 use fm_files::{MemFiles, MemSink, SureFiles, SureSink};
 use fm_test_classes::{
-    CALLS_ITSELF, COMPUTED, COMPUTES, DIVIDES_BY_ZERO, PRINTS_FOREVER, PRINTS_SUM,
+    CALLS_ITSELF, COMPUTED, COMPUTES, ClassSample, DIVIDES_BY_ZERO, PRINTS_FOREVER, PRINTS_SUM,
+    RETURNS,
 };
 use std::alloc::Global;
 use std::test::Fail;
+
+// An interface of 52.0 whose main has code.
+const RUNS_IN_INTERFACE: ClassSample<'static> = ClassSample {
+    version: b"\0\0\0\x34",
+    flags: b"\x06\x01",
+    ..RETURNS
+};
 
 // A call over files in memory, and its outcome. The number of a call that fails is counted from 1;
 // 0 is none.
@@ -189,6 +197,20 @@ fn each_status_has_its_output_and_its_report(rt: HostRuntime) -> Result<(), Fail
     for case in other_cases(sum_case(&prints_sum), &divides_by_zero, &prints_forever) {
         assert!(rt; comes_out(alloc, case)?, "{}", case.words);
     }
+    Ok(())
+}
+
+#[test]
+fn a_method_with_code_in_an_interface_is_refused(rt: HostRuntime) -> Result<(), Fail> {
+    let alloc = rt.alloc();
+    let interface = RUNS_IN_INTERFACE.bytes(alloc)?;
+    let case = Case {
+        status: 69,
+        printed: b"",
+        reported: b"refused: unsupported M.class main 0\n",
+        ..sum_case(&interface)
+    };
+    assert!(rt; comes_out(alloc, case)?);
     Ok(())
 }
 

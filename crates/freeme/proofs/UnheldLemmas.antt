@@ -18,7 +18,8 @@ use Rattle.fm_rewrite.specs.Rewritten.{AreRewritten, counts_from}
 use Rattle.fm_rewrite.specs.declared.counts.Count.{Count}
 use Rattle.fm_rewrite.specs.declared.rewriting.Rewritten.{Rewritten}
 use Rattle.fm_world.specs.Programs.{Program, program_of}
-use Rattle.freeme.proofs.WrittenLemmas.{by_change, is_all, rewritten-is}
+use Rattle.fm_place_weave.proofs.ClassLawLemmas.{by_change, rewritten-is}
+use Rattle.freeme.proofs.WrittenLemmas.{is_all}
 use Rattle.freeme.specs.TopCall.{AreStill, HoldsStill}
 use Rattle.freeme.specs.Writing.{written_name}
 

@@ -30,7 +30,7 @@ use Rattle.fm_flow.proofs.CodeFacts.{items_counted}
 use Rattle.fm_layout.specs.Laid.{laid_length, refused_length}
 use Rattle.fm_place.proofs.WovenLemmas.{woven_is_laid_out}
 use Rattle.fm_place.specs.Insertions.{all_insertions, full_insertions, Insertions}
-use Rattle.fm_place.specs.Rewriting.{changes, first_given, free_index, Plans, rewritten_class, rewritten_from, rewritten_major, rewritten_methods}
+use Rattle.fm_place.specs.Rewriting.{changes, first_given, free_index, Plans, rewritten_class, rewritten_from}
 use Rattle.fm_place.specs.Safe.{full_plans}
 use Rattle.fm_place.specs.Sites.{held_sites}
 use Rattle.fm_place.specs.Woven.{woven}
@@ -50,26 +50,13 @@ use Rattle.fm_cli.specs.Printed.{printed}
 use Rattle.fm_world.specs.BuiltIns.{built_in}
 use Rattle.fm_world.specs.Causes.{own_name}
 use Rattle.fm_world.specs.Programs.{code_at, Program, program_of}
-use Rattle.fm_law_spelled.proofs.ApartLemmas.{names_apart}
+use Rattle.fm_place_weave.proofs.ClassLawLemmas.{by_change, rewritten-is}
+use Rattle.fm_law_spelled.proofs.ApartLemmas.{names_apart, printed_name}
 use Rattle.fm_law_spelled.proofs.ClassSpelled.{changed_spelled}
 use Rattle.fm_law_spelled.proofs.SupportedLemmas.{changed_accepted}
 use Rattle.freeme.proofs.WovenFew.{few_items}
 use Rattle.fm_law_spelled.specs.Names.{AreNew}
 use Rattle.fm_law_spelled.specs.Changed.{AttributeCan, CanWeave, IsShort, MethodCan, MethodsCan}
-
--- ---- a class, by whether it changes
-
-abbrev pub by_change : Plans → (first : ℕ) → ClassDef → Bool → ClassDef
-by_change plans first c false = c
-by_change plans first c true = record c {
-  minor = 0;
-  major = rewritten_major;
-  pool = record { entries = with_free c.pool.entries };
-  methods = rewritten_methods plans (free_index c) first c.methods;
-}
-
-pub rewritten-is : (plans : Plans) (first : ℕ) (c : ClassDef) → rewritten_class plans first c ≡ by_change plans first c (changes plans first c)
-rewritten-is plans first c = refl
 
 -- ---- what hinders nothing
 
@@ -296,9 +283,6 @@ name_kept plans first c (bytes, spells) = ap own_name (rewritten-is plans first 
       let found = Some-from_some_and (class_name_at entries c.this_class) _ spells.this_class in
       let stays = class_kept entries (sought_free entries).missing c.this_class found.0 found.1 in
       ap (λ o. unwrap_or o []) (stays ∙ sym found.1)
-
-abbrev printed_name : ClassDef → List ℕ
-printed_name c = printed (own_name c)
 
 names_kept : (plans : Plans) (first : ℕ) (classes : List ClassDef) → AllByRecursion HasSpelling classes
     → map printed_name (rewritten_from plans first classes) ≡ map printed_name classes

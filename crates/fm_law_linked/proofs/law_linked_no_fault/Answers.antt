@@ -5,4 +5,4 @@ pub returns : goal.returns
 returns c given main spelled supported none few typings =
     c.law_no_fault.ensures.runs (program_of given main) typings (c.law_resolved.ensures given main spelled none few)
     (c.law_sound_steps.ensures given main spelled supported none few) (c.law_makeable.ensures given main spelled none few)
-    (c.law_cells.ensures given main spelled none few) (c.law_main.ensures given main spelled supported none)
+    (c.law_cells.ensures given main spelled supported none few) (c.law_main.ensures given main spelled supported none)

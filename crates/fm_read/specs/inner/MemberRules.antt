@@ -96,9 +96,9 @@ IsAbstractAlone flags = is_abstract flags ≡ true → (is_static flags || is_pr
 abbrev pub InitIsConstructor : List Entry → Member → Type 0
 InitIsConstructor entries m = utf8_at entries m.name ≡ Some (codes "<init>") → IsConstructor entries m
 
--- a method of an interface is abstract, but for the start of the interface itself
+-- a method of an interface isn't native; of the interface's start the flag doesn't count
 abbrev pub SuitsInterface : Bool → List Entry → Member → Type 0
-SuitsInterface in_interface entries m = in_interface ≡ true → (is_abstract m.flags ≡ true) ⊎ (utf8_at entries m.name ≡ Some (codes "<clinit>"))
+SuitsInterface in_interface entries m = in_interface ≡ true → (is_native m.flags ≡ false) ⊎ (utf8_at entries m.name ≡ Some (codes "<clinit>"))
 
 -- a method by its flags, its name and its descriptor, and by whether it has code
 pub record MethodMeetsRules (in_interface : Bool) (entries : List Entry) (m : Member) : Type 0 where

@@ -2,9 +2,7 @@
 use Rattle.std.specs.Prelude.{◌≡◌, ℕ, ◌-◌, ◌==◌, ◌||◌, ◌&&◌, not, Bool, false, List, [], ◌∷◌, length, slice_index, if◌then◌else◌}
 use Rattle.fm_base.specs.declared.characters.TheConstants.{FLOAT_LETTER, DOUBLE_LETTER, CLASS_LETTER, SEMICOLON}
 use Rattle.std.specs.List.{slice_index_or}
-use Rattle.fm_code.specs.AccessFlags.{is_native}
 use Rattle.fm_code.specs.ConstantPool.{entry_at}
-use Rattle.fm_code.specs.declared.class_file.Member.{Member}
 use Rattle.fm_code.specs.declared.constant_pool.Entry.{Entry}
 use Rattle.fm_code.specs.declared.constant_pool.Entry.TheVariants as entry
 
@@ -32,7 +30,3 @@ mark_of e = false
 -- for each index whether the text there has
 abbrev pub AreMarks : List Entry → List Bool → Type 0
 AreMarks entries marks = (index : ℕ) → slice_index_or marks index false ≡ mark_of (entry_at entries index)
-
--- a method isn't native, and its descriptor isn't marked
-abbrev pub has_unmarked_head : List Bool → Member → Bool
-has_unmarked_head marks m = not (is_native m.flags) && not (slice_index_or marks m.descriptor false)

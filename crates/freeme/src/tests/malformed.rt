@@ -212,9 +212,8 @@ const OPERANDS: [Change; 15] = [
     (b"\xb2\0\x11", b"\xb2\0\x28"), // a pool index after the pool
 ];
 
-const OF_INTERFACES: [Change; 3] = [
+const OF_INTERFACES: [Change; 2] = [
     (b"\0\x19\0\x08", b"\0\x11\0\x08"), // a field of an interface that isn't static
-    (b"\x01\0\x08<clinit>", b"\x01\0\x04init"), // a method of an interface with Code
     (b"\x04\x01\0\x05", b"\x01\x01\0\x05"), // a method of an interface that is native
 ];
 

@@ -3,7 +3,7 @@
 use crate::tests::M;
 use crate::tests::changes::{LongChange, is_answered, is_change_answered, is_long_change_answered};
 use fm_base::NoMemory;
-use fm_test_classes::EVERY_PART;
+use fm_test_classes::{EVERY_PART, INTERFACE};
 use std::alloc::Global;
 use std::test::Fail;
 
@@ -86,6 +86,13 @@ const UNSUPPORTED: [Row; 20] = [
     ),
 ];
 
+// Each a method with code in an interface that isn't its start.
+const OF_INTERFACES: [Row; 3] = [
+    (b"\x01\0\x08<clinit>", b"\x01\0\x04init", "init 0"), // a static one
+    (b"\0\x08\0\x0a\0\x06", b"\0\x01\0\x08\0\x06", "N 0"), // a public one of objects
+    (b"\0\x08\0\x0a\0\x06", b"\0\x02\0\x08\0\x06", "N 0"), // a private one
+];
+
 // 1,025 handlers.
 const HANDLERS: LongChange = (
     b"\0\0\0\x0d\0\0\0\x01\0\0\0\x01\xb1\0\0",
@@ -95,7 +102,25 @@ const HANDLERS: LongChange = (
     b"",
 );
 
-// The place of the first row that isn't refused with this status, by a line of this start.
+// The place of the first row of the class file that isn't refused with this status, by a line of
+// this start.
+fn first_other_of(
+    alloc: Global,
+    class: &[u8],
+    rows: &[Row],
+    status: u8,
+    start: &str,
+) -> Result<Option<usize>, NoMemory> {
+    for (place, (old, new, end)) in rows.iter().enumerate() {
+        let line = format!(in alloc; "{start}{end}\n")?;
+        if !is_change_answered(alloc, class, (*old, *new), status, line.as_str())? {
+            return Ok(Some(place));
+        }
+    }
+    Ok(None)
+}
+
+// The first one of `EVERY_PART`.
 fn first_other(
     alloc: Global,
     rows: &[Row],
@@ -103,13 +128,7 @@ fn first_other(
     start: &str,
 ) -> Result<Option<usize>, NoMemory> {
     let class = EVERY_PART.bytes(alloc)?;
-    for (place, (old, new, end)) in rows.iter().enumerate() {
-        let line = format!(in alloc; "{start}{end}\n")?;
-        if !is_change_answered(alloc, class.as_slice(), (*old, *new), status, line.as_str())? {
-            return Ok(Some(place));
-        }
-    }
-    Ok(None)
+    first_other_of(alloc, class.as_slice(), rows, status, start)
 }
 
 #[test]
@@ -143,8 +162,11 @@ fn methods_above_a_limit_are_refused(rt: HostRuntime) -> Result<(), Fail> {
 #[test]
 fn what_is_not_supported_is_refused(rt: HostRuntime) -> Result<(), Fail> {
     let alloc = rt.alloc();
+    let start = "refused: unsupported M.class ";
+    assert_eq!(rt; first_other(alloc, &UNSUPPORTED, 69, start)?, None);
+    let interface = INTERFACE.bytes(alloc)?;
     assert_eq!(rt;
-        first_other(alloc, &UNSUPPORTED, 69, "refused: unsupported M.class ")?,
+        first_other_of(alloc, interface.as_slice(), &OF_INTERFACES, 69, start)?,
         None
     );
     Ok(())

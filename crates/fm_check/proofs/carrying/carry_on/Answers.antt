@@ -1,6 +1,7 @@
 use Rattle.std.proofs.Common.{◌∙◌, refl, sym, subst, ℕ, List, Contains}
+use Rattle.fm_base.proofs.TestFacts.{match_true}
 use Rattle.fm_check_handlers.proofs.GivingLemmas.{guarded-later}
-use Rattle.fm_check_walk.proofs.Outcomes.{match_true, ok_weaker}
+use Rattle.fm_check_walk.proofs.Outcomes.{ok_weaker}
 use Rattle.fm_check_walk.proofs.CarryLemmas.{can_carry_later}
 use Rattle.fm_check.proofs.RiseLemmas.{CarriesOn-both, rises_local}
 use Rattle.fm_check_walk.specs.declared.risen.Rise.{Rise}

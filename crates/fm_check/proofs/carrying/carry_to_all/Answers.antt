@@ -1,7 +1,7 @@
 use Rattle.std.proofs.Common.{subst, ℕ, List, get_or}
 use Rattle.std.proofs.lemmas.List.{take_all}
 use Rattle.std.proofs.lemmas.List.Elements.{Contains-get_or}
-use Rattle.fm_check_walk.proofs.Outcomes.{match_true}
+use Rattle.fm_base.proofs.TestFacts.{match_true}
 use Rattle.fm_check_walk.proofs.CarryLemmas.{can_carry_later}
 use Rattle.fm_check.proofs.RiseLemmas.{CarriesAll-more, CarriesAll-none}
 use Rattle.fm_check_walk.specs.inner.Walks.{Carries, Untypable, walked}

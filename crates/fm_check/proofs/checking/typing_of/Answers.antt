@@ -1,7 +1,7 @@
 use Rattle.std.proofs.Common.{◌∙◌, sym, ap, subst, List, map, None, Option}
 use Rattle.std.specs.Option.{option_map}
+use Rattle.fm_base.proofs.TestFacts.{match_true}
 use Rattle.fm_check.proofs.ItemLemmas.{entry_forced, settled-is_least, Walking-first}
-use Rattle.fm_check_walk.proofs.Outcomes.{match_true}
 use Rattle.fm_check_walk.proofs.WalkLemmas.{too_large}
 use Rattle.fm_check.specs.inner.Steps.{HasSettled, IsLeast, Walking}
 use Rattle.fm_check_walk.specs.inner.Walks.{IsForced, not_begun, Untypable, Walked, walked, with_state}

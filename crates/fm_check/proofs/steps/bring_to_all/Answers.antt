@@ -1,9 +1,9 @@
 use Rattle.std.proofs.Common.{subst, ℕ, List, get_or}
 use Rattle.std.proofs.lemmas.List.{take_all}
 use Rattle.std.proofs.lemmas.List.Elements.{Contains-get_or}
+use Rattle.fm_base.proofs.TestFacts.{match_true}
 use Rattle.fm_types.specs.Typings.{type_state}
 use Rattle.fm_check.proofs.ItemLemmas.{BringsAll-more, BringsAll-none}
-use Rattle.fm_check_walk.proofs.Outcomes.{match_true}
 use Rattle.fm_check_walk.specs.inner.Walks.{Brings, Untypable, walked}
 use Rattle.fm_check.specs.inner.Steps.{BringsAll}
 use Rattle.fm_check_walk.specs.inner.Tasks.{task}

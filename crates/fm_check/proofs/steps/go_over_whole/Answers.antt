@@ -1,8 +1,9 @@
 use Rattle.std.proofs.Common.{◌∙◌, sym, ap, None, Bool}
 use Rattle.std.specs.List.{slice_index_or}
+use Rattle.fm_base.proofs.TestFacts.{match_true}
 use Rattle.fm_check_handlers.proofs.GivingLemmas.{all_brought, guarded-later}
 use Rattle.fm_check.proofs.ItemLemmas.{GoesOver-item, GoesOver-none, next_forced, read_insn, row_unmet_at}
-use Rattle.fm_check_walk.proofs.Outcomes.{match_true, ok_weaker}
+use Rattle.fm_check_walk.proofs.Outcomes.{ok_weaker}
 use Rattle.fm_check_walk.proofs.WalkLemmas.{state_copied, state_seen}
 use Rattle.fm_check_walk.specs.inner.Risen.{known_state}
 use Rattle.fm_check_handlers.specs.inner.Runs.{GivesAll, is_brought}

@@ -1,7 +1,7 @@
 use Rattle.std.proofs.Common.{◌∙◌, sym, ap, subst, List, Option, None}
 use Rattle.std.specs.List.{slice_index_or}
+use Rattle.fm_base.proofs.TestFacts.{match_true}
 use Rattle.fm_check_handlers.proofs.GivingLemmas.{guarded-first}
-use Rattle.fm_check_walk.proofs.Outcomes.{match_true}
 use Rattle.fm_check.proofs.ItemLemmas.{popped-rise, Stands-taken, taken-inside, taken-met, takes-popped, waiting_marked, Walking-more}
 use Rattle.fm_check_walk.specs.declared.known_state.SlotPlace.{SlotPlace}
 use Rattle.fm_check.specs.inner.Steps.{GoesOverGuarded, IsMetBut}

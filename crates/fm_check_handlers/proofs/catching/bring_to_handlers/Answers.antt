@@ -1,9 +1,9 @@
 use Rattle.std.proofs.Common.{subst, List, get_or}
 use Rattle.std.proofs.lemmas.List.{take_all}
 use Rattle.std.proofs.lemmas.List.Elements.{Contains-get_or}
+use Rattle.fm_base.proofs.TestFacts.{match_true}
 use Rattle.fm_types.specs.Typings.{type_state}
 use Rattle.fm_check_handlers.proofs.HandlerLemmas.{blank, BringsHandlers-more, BringsHandlers-none}
-use Rattle.fm_check_walk.proofs.Outcomes.{match_true}
 use Rattle.fm_check_handlers.specs.inner.Runs.{BringsCaught, BringsHandlers}
 use Rattle.fm_check_walk.specs.inner.Walks.{Untypable, walked}
 use Rattle.fm_check_walk.specs.inner.Tasks.{task}

@@ -1,6 +1,7 @@
 use Rattle.std.proofs.Common.{◌∙◌, sym, subst, List, Contains}
+use Rattle.fm_base.proofs.TestFacts.{match_true}
 use Rattle.fm_check_handlers.proofs.GivingLemmas.{all_local, GivesRun-brought, GivesRun-open, open_can}
-use Rattle.fm_check_walk.proofs.Outcomes.{match_true, ok_weaker}
+use Rattle.fm_check_walk.proofs.Outcomes.{ok_weaker}
 use Rattle.fm_check_walk.specs.declared.risen.Rise.{Rise}
 use Rattle.fm_check_handlers.specs.inner.Runs.{GivesRun, has_room, is_brought, BringsHandlers}
 use Rattle.fm_check_walk.specs.inner.Walks.{CanCarry, Untypable, walked}

@@ -1,9 +1,9 @@
 use Rattle.std.proofs.Common.{rules, ◌≡◌, length, subst, List, get_or}
 use Rattle.std.proofs.lemmas.List.{take_all}
 use Rattle.std.proofs.lemmas.List.Elements.{Contains-get_or}
+use Rattle.fm_base.proofs.TestFacts.{match_true}
 use Rattle.fm_check_handlers.proofs.GivingLemmas.{CarriesHandlers-nothing}
 use Rattle.fm_check_handlers.proofs.HandlerLemmas.{blank, CarriesHandlers-more, CarriesHandlers-none}
-use Rattle.fm_check_walk.proofs.Outcomes.{match_true}
 use Rattle.fm_check_walk.proofs.CarryLemmas.{can_carry_later}
 use Rattle.fm_check_walk.specs.inner.Walks.{Carries, Untypable, walked}
 use Rattle.fm_check_handlers.specs.inner.Runs.{CarriesHandlers}

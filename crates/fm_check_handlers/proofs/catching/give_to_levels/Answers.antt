@@ -1,6 +1,6 @@
 use Rattle.std.proofs.Common.{◌<◌, ◌≤◌, ◌∙◌, refl, sym, ap, subst, length, Contains, ℕ, arith, ◌/◌}
+use Rattle.fm_base.proofs.TestFacts.{match_true}
 use Rattle.fm_check_handlers.proofs.GivingLemmas.{GivesAll-all, GivesLevels-more, GivesLevels-none, halved-more, level_given, MayGive-later, place_read, same_length, stays-taken}
-use Rattle.fm_check_walk.proofs.Outcomes.{match_true}
 use Rattle.fm_check_handlers.specs.inner.Runs.{entries_in, GivesLevel, is_taken}
 use Rattle.fm_check_walk.specs.inner.Walks.{Untypable, walked}
 use Rattle.fm_check_walk.specs.inner.Tasks.{task}

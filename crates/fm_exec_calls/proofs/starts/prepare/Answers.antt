@@ -1,6 +1,7 @@
 use Rattle.std.proofs.Common.{◌≡◌, ◌+◌, ◌++◌, [], length, map, min, true, false, refl, ap, sym, ◌∙◌, subst, arith}
+use Rattle.std.proofs.lemmas.Result.{IfOk-weaker}
 use Rattle.fm_base.specs.declared.ids.ClassId.{ClassId}
-use Rattle.fm_exec_calls.proofs.StartSteps.{asked, can-reserved, first-price, prepared-by, told-if}
+use Rattle.fm_exec_calls.proofs.StartSteps.{asked, can-reserved, first-price, prepared-by}
 use Rattle.fm_exec_calls.proofs.StartWords.{words-whole}
 use Rattle.fm_exec_calls.proofs.starts.prepare.Goals as goal
 use Rattle.fm_exec_calls.specs.inner.Actions.{ActsAll, AllSuit}
@@ -63,7 +64,7 @@ returns g c =
     let first = start_actions o (map (λ (k : ClassId). k.0) c.args.classes.now) in
     let listed : map action_of c.as_slice-listed.result.now ≡ first = ap (map action_of) c.as_slice-listed.ensures.value ∙ c.in_ok-actions.ensures in
     let is = c.in_ok-needed.ensures ∙ ap (λ l. min (c.args.words + words_among o a.areas [] l) most_words) listed in
-    told-if c.act_all.result _ _
+    IfOk-weaker c.act_all.result _ _
     (λ goes acts f plain has next.
     prepared-by p g.M.Memory.choose x b z first f c.args.words c.args.frames goes c.requires.can plain has next (c.if-not-has_room.ensures.room refl)
     (subst (λ l. objects_made (l ++ f.actions) ≡ objects_made f.actions) listed (first-price c.as_slice-listed.result.now f.actions))

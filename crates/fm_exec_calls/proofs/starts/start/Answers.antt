@@ -1,6 +1,7 @@
 use Rattle.std.proofs.Common.{◌≡◌, length, map, ap, ◌∙◌, subst, arith}
+use Rattle.std.proofs.lemmas.Result.{IfOk-weaker}
 use Rattle.fm_base.specs.declared.ids.ClassId.{ClassId}
-use Rattle.fm_exec_calls.proofs.StartSteps.{prepared-before, start-suits, told-if}
+use Rattle.fm_exec_calls.proofs.StartSteps.{prepared-before, start-suits}
 use Rattle.fm_exec_calls.proofs.starts.start.Goals as goal
 use Rattle.fm_exec_calls.specs.inner.Starting.{Prepared}
 use Rattle.fm_frames.specs.Starts.{start_actions, start_methods, to_start}
@@ -20,7 +21,7 @@ returns g c =
     ap (map (λ (k : ClassId). k.0)) c.as_slice-listed.ensures.value ∙ c.in_ok-classes.ensures in
     let counted : c.start_count-methods.result ≡ length (start_methods o (to_start o x.areas.started c.args.class.0)) =
     c.start_count-methods.ensures ∙ ap (λ l. length (start_methods o l)) is in
-    told-if c.prepare.result _ _
+    IfOk-weaker c.prepare.result _ _
     (λ goes so f plain has next.
     prepared-before p g.M.Memory.choose x c.prepare.new.machine c.args.class.0 f goes (omega (arith, counted, c.if-methods-gt0.false))
     (subst (λ l. Prepared p g.M.Memory.choose x c.prepare.new.machine (start_actions o l) f goes) is (so f plain has next)))

@@ -1,7 +1,7 @@
 use Rattle.std.proofs.Common.{◌≡◌, suc, ◌+◌, ◌*◌, min, None, Some, slice_get, ap, ◌∙◌, rules, arith}
 use Rattle.fm_frames.specs.Steps.{most_words, stack_of}
 use Rattle.fm_frames.specs.inner.Doings.{int_in}
-use Rattle.fm_exec_nests.proofs.CountSteps.{len_of}
+use Rattle.fm_exec.proofs.ArraySteps.{len_of}
 use Rattle.fm_exec_nests.proofs.CountSums.{arrays-next, arrays-none, negative-counted, none-counted, told}
 use Rattle.fm_exec_nests.proofs.costs.arrays_on.Goals as goal
 use Rattle.fm_exec_nests.specs.inner.Counts.{arrays_on}

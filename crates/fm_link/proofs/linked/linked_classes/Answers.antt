@@ -4,7 +4,7 @@ use Rattle.fm_link_names.specs.inner.ClassNumbering.{NumbersClasses}
 use Rattle.fm_link_names.specs.inner.Numbering.{lent, texts_in}
 use Rattle.fm_link_supers.proofs.ParentRefusals.{are_sound}
 use Rattle.fm_link.proofs.ClassSteps.{named-made}
-use Rattle.fm_link.proofs.Phases.{files_numbered, none_of_both}
+use Rattle.fm_link.proofs.Phases.{files_numbered}
 use Rattle.fm_link_refusals.proofs.FirstRefusals.{first-append, first_after}
 use Rattle.fm_link_refusals.specs.Refused.{refusal_of}
 use Rattle.fm_link_refusals.specs.inner.GivenClasses.{given_in}
@@ -12,6 +12,7 @@ use Rattle.fm_link_refusals.specs.inner.Linking.{names_array}
 use Rattle.fm_world.specs.Linking.{refused_missing_classes, refused_parents}
 use Rattle.fm_world.specs.Programs.{classes_of}
 use Rattle.fm_world.specs.declared.declarations.DeclaredClass.{DeclaredClass}
+use Rattle.fm_link_records.proofs.RefusalLaws.{both_none}
 use Rattle.fm_link.proofs.linked.linked_classes.Goals as goal
 
 pub refuse_missing_classes-requires-clause-numbered : goal.refuse_missing_classes-requires-clause-numbered
@@ -51,7 +52,7 @@ returns-clause-refuses c =
     let named = named-made given texts (lent c.as_slice-texts.result.now) c.args.ready.files.now c.args.ready.classes.now c.in_ok-numbers.numbers
     c.as_slice-by_text.result.now c.in_ok-named.named.items c.in_ok-ancestors.ancestors c.requires.classes_are c.requires.files_are
     c.in_ok-numbers.ensures (ap lent c.as_slice-texts.ensures.keys) c.as_slice-by_text.ensures.value c.in_ok-named.ensures c.in_ok-ancestors.ensures in
-    none_of_both (refused_missing_classes given) (refused_parents given) c.in_ok-refuse_missing_classes.ensures
+    both_none (refused_missing_classes given) (refused_parents given) c.in_ok-refuse_missing_classes.ensures
     (c.in_ok-refuse_parents.ensures texts (files_numbered texts c.args.ready.files.now c.requires.files_are) named.ancestors named.numbers_are
     named.by_text_is)
 

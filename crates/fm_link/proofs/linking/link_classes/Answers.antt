@@ -8,11 +8,11 @@ use Rattle.fm_link_names.specs.inner.DescriptorTypes.{type_of_name}
 use Rattle.fm_link_names.specs.inner.Numbering.{lent, texts_in}
 use Rattle.fm_link.proofs.Phases.{files_numbered}
 use Rattle.fm_link.specs.inner.Judged.{class_refusals, member_refusals}
-use Rattle.fm_link_records.proofs.SizeSteps.{map-map}
 use Rattle.fm_link_refusals.proofs.FirstRefusals.{first-append, first_after, refuses_after}
 use Rattle.fm_link_refusals.specs.Refused.{refusal_of}
 use Rattle.fm_link_refusals.specs.inner.GivenClasses.{given_in, AreNumbered}
 use Rattle.fm_world.specs.Programs.{classes_of}
+use Rattle.fm_link_supers.proofs.ParentTables.{map_twice}
 use Rattle.fm_link.proofs.linking.link_classes.Goals as goal
 
 pub returns-in_err-linked-clause-refuses : goal.returns-in_err-linked-clause-refuses
@@ -45,7 +45,7 @@ tables_of-requires-clause-types c =
     let classes = classes_of (given_in c.args.ready.files.now) in
     let name : List ℕ → Option TypeRef = type_of_name classes in
     c.as_slice-by_text.ensures.value ∙ c.in_ok-named.ensures classes c.in_ok-linked.ensures.linked.numbers
-    ∙ sym (map-map name (λ (b : Bor (List ℕ)). b.now) c.as_slice-texts.result.now)
+    ∙ sym (map_twice name (λ (b : Bor (List ℕ)). b.now) c.as_slice-texts.result.now)
     ∙ ap (λ ts. map name (lent ts)) c.as_slice-texts.ensures.keys
     ∙ ap (λ (ts : Texts). map name (texts_in ts)) (sym c.linking-linking.ensures.texts)
 

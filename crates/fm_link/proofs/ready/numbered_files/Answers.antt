@@ -3,10 +3,11 @@ use Rattle.std.proofs.lemmas.Result.{err_from_is_err_and}
 use Rattle.fm_link_names.specs.declared.given.GivenFile.{GivenFile}
 use Rattle.fm_link_names.specs.inner.Files.{AreFiles}
 use Rattle.fm_link_names.specs.inner.Numbering.{lent, texts_in}
-use Rattle.fm_link.proofs.Phases.{given_is, none_of_both, ready_of}
+use Rattle.fm_link.proofs.Phases.{given_is, ready_of}
 use Rattle.fm_link_refusals.proofs.FirstRefusals.{first-append, first_after}
 use Rattle.fm_link_refusals.specs.Refused.{refusal_of}
 use Rattle.fm_world.specs.Linking.{refused_built_ins, refused_duplicates}
+use Rattle.fm_link_records.proofs.RefusalLaws.{both_none}
 use Rattle.fm_link.proofs.ready.numbered_files.Goals as goal
 
 pub returns-in_err-refuse_duplicates-clause-refuses : goal.returns-in_err-refuse_duplicates-clause-refuses
@@ -27,7 +28,7 @@ returns-in_err-refuse_built_ins-clause-refuses c =
 
 pub returns-clause-refuses : goal.returns-clause-refuses
 returns-clause-refuses c =
-    none_of_both (refused_duplicates c.args.given.now) (refused_built_ins c.args.given.now) c.in_ok-refuse_duplicates.ensures
+    both_none (refused_duplicates c.args.given.now) (refused_built_ins c.args.given.now) c.in_ok-refuse_duplicates.ensures
     c.in_ok-refuse_built_ins.ensures
 
 pub returns-clause-numbered : goal.returns-clause-numbered

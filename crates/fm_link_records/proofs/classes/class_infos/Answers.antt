@@ -1,11 +1,12 @@
 use Rattle.std.proofs.Common.{◌≡◌, ◌<◌, ◌+◌, sym, ◌∙◌, ap, ℕ, List, length, map, arith, refl, get_or, None}
 use Rattle.std.proofs.lemmas.List.{get_or_default, length-map}
+use Rattle.fm_world.proofs.TableLemmas.{length-row}
 use Rattle.fm_world.specs.Chains.{listed_interfaces, parent_of}
 use Rattle.fm_world.specs.Members.{first_method, size_of}
 use Rattle.fm_world.specs.Programs.{class_info}
 use Rattle.fm_link_records.specs.inner.Classes.{bare_outline}
 use Rattle.fm_link_records.specs.inner.Sizes.{lists}
-use Rattle.fm_link_records.proofs.ClassSteps.{info_is, length-lists, length-table, list_at, table_default}
+use Rattle.fm_link_records.proofs.ClassSteps.{info_is, length-lists, list_at, table_default}
 use Rattle.fm_link_records.proofs.RowSteps.{row_more}
 use Rattle.fm_link_records.proofs.classes.class_infos.Goals as goal
 
@@ -16,17 +17,17 @@ bounds-listed-place c =
 
 pub bounds-parents-place : goal.bounds-parents-place
 bounds-parents-place c =
-    let e = length-table (parent_of c.args.classes.now) (length c.args.classes.now) c.args.parents.now c.requires.parents in
+    let e = length-row (parent_of c.args.classes.now) (length c.args.classes.now) c.args.parents.now c.requires.parents in
     let h = c.loop-place-test.true in omega (arith, e, h)
 
 pub bounds-first-place : goal.bounds-first-place
 bounds-first-place c =
-    let e = length-table (first_method c.args.classes.now) (length c.args.classes.now + 1) c.args.first.now c.requires.first in
+    let e = length-row (first_method c.args.classes.now) (length c.args.classes.now + 1) c.args.first.now c.requires.first in
     let h = c.loop-place-test.true in omega (arith, e, h)
 
 pub bounds-sizes-place : goal.bounds-sizes-place
 bounds-sizes-place c =
-    let e = length-table (size_of c.args.classes.now) (length c.args.classes.now) c.args.sizes.now c.requires.sizes in
+    let e = length-row (size_of c.args.classes.now) (length c.args.classes.now) c.args.sizes.now c.requires.sizes in
     let h = c.loop-place-test.true in omega (arith, e, h)
 
 pub loop-place-preserved : goal.loop-place-preserved

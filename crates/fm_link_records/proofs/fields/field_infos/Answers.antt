@@ -1,8 +1,8 @@
 use Rattle.std.proofs.Common.{◌≡◌, rules, sym, ◌∙◌, ap, length, drop, ◌+◌, ◌++◌}
+use Rattle.fm_base.proofs.ListFacts.{drop_here}
 use Rattle.fm_world.specs.Members.{fields_from, fields_of}
 use Rattle.fm_link_records.specs.inner.Fields.{field_numbered, fields_among, fields_told}
 use Rattle.fm_link_records.specs.inner.Rows.{lent_kinds}
-use Rattle.fm_link_names.proofs.Drops.{drop_here}
 use Rattle.fm_link_records.proofs.RowSteps.{part_step}
 use Rattle.fm_link_records.proofs.fields.field_infos.Goals as goal
 

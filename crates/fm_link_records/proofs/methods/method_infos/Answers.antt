@@ -1,8 +1,8 @@
 use Rattle.std.proofs.Common.{◌≡◌, rules, sym, ◌∙◌, ap, length, drop, ◌+◌, ◌++◌}
+use Rattle.fm_base.proofs.ListFacts.{drop_here}
 use Rattle.fm_world.specs.Members.{methods_from, methods_of}
 use Rattle.fm_link_records.specs.inner.Methods.{method_numbered, methods_among, methods_told}
 use Rattle.fm_link_records.specs.inner.Rows.{lent_codes, lent_kinds}
-use Rattle.fm_link_names.proofs.Drops.{drop_here}
 use Rattle.fm_link_records.proofs.RowSteps.{part_step}
 use Rattle.fm_link_records.proofs.methods.method_infos.Goals as goal
 

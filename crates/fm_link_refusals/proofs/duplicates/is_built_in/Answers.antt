@@ -1,6 +1,7 @@
 use Rattle.std.proofs.Common.{sym, ◌∙◌, ap, is_some}
 use Rattle.std.specs.Str.{bytes_eq}
-use Rattle.fm_link_refusals.proofs.Positions.{is_some-position, list_any-map}
+use Rattle.fm_base.proofs.ListFacts.{is_some-position}
+use Rattle.fm_link_refusals.proofs.Positions.{list_any-map}
 use Rattle.fm_world.specs.Descriptors.{class_number}
 use Rattle.fm_world.specs.declared.declarations.DeclaredClass.{DeclaredClass}
 use Rattle.fm_world.specs.inner.BuiltInTable.{class_of_row}

@@ -1,14 +1,11 @@
 use Rattle.std.proofs.Common.{◌≡◌, refl, sym, ◌∙◌, ap, subst, ◌+◌, ◌++◌, ◌∷◌, [], ◌<◌, length, not, Bool, true, false, nat_eq, take, get_or, set, List, ℕ}
 use Rattle.std.specs.Global.{Vec}
 use Rattle.std.proofs.lemmas.List.{length-set, take_more}
+use Rattle.fm_base.proofs.TestFacts.{false_from_not}
 use Rattle.fm_link_supers.proofs.Distinct.{distinct_added, distinct_kept, marked_more}
 use Rattle.fm_world.specs.Chains.{distinct, is_among}
 use Rattle.fm_link_supers.proofs.once.distinct.Goals as goal
 use Rattle.fm_link_supers.proofs.once.distinct.Goals.{then-take_first+in_ok-push, else-take_first}
-
-opposite : (a b : Bool) → a ≡ not b → a ≡ true → b ≡ false
-opposite a false e h = refl
-opposite a true e h = sym h ∙ e
 
 same : (a b : Bool) → a ≡ not b → a ≡ false → b ≡ true
 same a true e h = refl
@@ -53,7 +50,7 @@ loop-number-preserved c =
             | then-take_first+in_ok-push w ↦
                 added xs i c.loop-number.kept.items c.if-take_first.kept.items here c.loop-number.invariant.kept
                 (ap (λ (v : Vec ℕ). v.items) w.kept-is ∙ w.in_ok-push.ensures.items)
-                (sym (c.loop-number.invariant.marks x) ∙ opposite c.take_first.result _ c.take_first.ensures.added w.if-take_first.true)
+                (sym (c.loop-number.invariant.marks x) ∙ false_from_not c.take_first.result _ c.take_first.ensures.added w.if-take_first.true)
             | else-take_first w ↦
                 kept xs i c.loop-number.kept.items c.if-take_first.kept.items here c.loop-number.invariant.kept
                 (ap (λ (v : Vec ℕ). v.items) w.kept-is)

@@ -1,9 +1,10 @@
 use Rattle.std.proofs.Common.{◌≡◌, ◌==◌, ◌-◌, ◌++◌, ◌∷◌, [], false, true, ap, sym, ◌∙◌, arith}
 use Rattle.std.specs.Prelude.{map}
 use Rattle.std.proofs.lemmas.Bool.{eq-eqb, ne_eqb}
+use Rattle.std.specs.Io.KnownBytes.{prepend_known}
 use Rattle.fm_cells.specs.declared.answers.Cell.{Cell}
 use Rattle.fm_frames.specs.Acts.{chain_cells}
-use Rattle.fm_native.proofs.ChainCells.{cells-more, chain-fixed, chain-gone, chain-next, chain-null, chain-over, with_rest}
+use Rattle.fm_native.proofs.ChainCells.{cells-more, chain-fixed, chain-gone, chain-next, chain-null, chain-over}
 use Rattle.fm_native.proofs.free_me.chained_cells.Goals as goal
 use Rattle.fm_native.specs.inner.Chains.{cells_in}
 
@@ -34,7 +35,7 @@ loop-cell-preserved g c =
     let some : (c.loop-cell.left == 0) ≡ false = ne_eqb c.loop-cell.left 0 (λ e. absurd (omega (arith, e, c.if-left-eq0.false))) in
     let pushed : cells_in c.push.new.self ≡ cells_in c.loop-cell.cells ++ c.loop-cell.cell.0 ∷ [] =
     ap (map (λ (cell : Cell). cell.0)) c.in_ok-push.ensures.items ∙ cells-more c.loop-cell.cells.items c.loop-cell.cell in
-    ap (λ cells. with_rest cells (chain_cells (c.loop-cell.left - 1) store c.chain-cell.result.0)) pushed
+    ap (λ cells. prepend_known cells (chain_cells (c.loop-cell.left - 1) store c.chain-cell.result.0)) pushed
     ∙ sym (chain-next c.loop-cell.left store c.loop-cell.cell.0 c.chain-cell.result.0 (cells_in c.loop-cell.cells) c.in-Some.head there some
     (sym c.in-Some.is ∙ c.head.ensures) c.if-head.false c.chain-cell.ensures)
     ∙ c.loop-cell.invariant

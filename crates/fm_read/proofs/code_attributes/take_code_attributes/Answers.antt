@@ -10,7 +10,7 @@ unfolding counted_at
 returns-in_err-count c = search rules
 
 pub loop-init : goal.loop-init
-loop-init c = begins (attribute_at c.args.known.now.entries c.args.places.now) c.new-attributes.result.items c.args.bytes.now c.in_ok-count.count c.in_ok-count.rest.now c.new-attributes.ensures.items c.in_ok-count.ensures
+loop-init c = begins (attribute_at c.args.known.now.entries c.args.places.now) c.new-attributes.result.items c.args.bytes.now c.in_ok-count.count c.in_ok-count.rest.now c.new-attributes.ensures.items c.in_ok-count.ensures.taken
 
 pub returns-in_err-attribute : goal.returns-in_err-attribute
 returns-in_err-attribute c =

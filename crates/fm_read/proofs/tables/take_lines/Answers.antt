@@ -10,7 +10,7 @@ unfolding counted_at
 returns-in_err-count c = search rules
 
 pub loop-init : goal.loop-init
-loop-init c = begins (line_at c.args.places.now) c.new-lines.result.items c.args.bytes.now c.in_ok-count.count c.in_ok-count.rest.now c.new-lines.ensures.items c.in_ok-count.ensures
+loop-init c = begins (line_at c.args.places.now) c.new-lines.result.items c.args.bytes.now c.in_ok-count.count c.in_ok-count.rest.now c.new-lines.ensures.items c.in_ok-count.ensures.taken
 
 pub returns-in_err-line : goal.returns-in_err-line
 returns-in_err-line c =

@@ -12,7 +12,7 @@ use Rattle.fm_read_limits.proofs.support.supported.Goals as goal
 pub first_method-requires-clause-declared : goal.first_method-requires-clause-declared
 first_method-requires-clause-declared c =
     let class = c.args.class.now in
-    subst (AllByRecursion (DeclaresMethod class.pool.entries)) (sym c.as_slice-3.ensures) (methods_declared c.requires.0 class c.requires.1)
+    subst (AllByRecursion (DeclaresMethod class.pool.entries)) (sym c.as_slice-methods.ensures) (methods_declared c.requires.0 class c.requires.1)
 
 pub returns-in-Some-first_method-clause-ok : goal.returns-in-Some-first_method-clause-ok
 returns-in-Some-first_method-clause-ok c =

@@ -1,6 +1,6 @@
 use Rattle.std.proofs.Common.{subst, List, get_or}
 use Rattle.std.proofs.lemmas.List.{take_all}
-use Rattle.fm_check_walk.proofs.Outcomes.{match_true}
+use Rattle.fm_base.proofs.TestFacts.{match_true}
 use Rattle.fm_check_walk.proofs.CarryLemmas.{can_one, Carries-more, Carries-none}
 use Rattle.fm_check_walk.proofs.RisenLemmas.{nothing}
 use Rattle.fm_check_walk.specs.declared.risen.Rise.{Rise}

@@ -1,5 +1,6 @@
 use Rattle.std.proofs.Common.{ap, subst, sym, true, arith}
-use Rattle.fm_frames.proofs.OpeningSteps.{grows-same, literal-fits, opens-literal, opens-number, opens-start, told-if}
+use Rattle.std.proofs.lemmas.Result.{IfOk-weaker}
+use Rattle.fm_frames.proofs.OpeningSteps.{grows-same, literal-fits, opens-literal, opens-number, opens-start}
 use Rattle.fm_frames.proofs.machine.Machine.open_action.Goals as goal
 use Rattle.fm_frames.specs.States.{State}
 use Rattle.fm_frames.specs.declared.actions.StartAction.{StartAction}
@@ -25,7 +26,7 @@ open_literal-requires-clause-len_fits g c =
 
 pub returns-in-MakeLiteral-clause-told : goal.returns-in-MakeLiteral-clause-told
 returns-in-MakeLiteral-clause-told g c =
-    told-if c.open_literal.result _ _
+    IfOk-weaker c.open_literal.result _ _
     (λ goes told.
     subst (λ (a : StartAction). OpensOne c.args.program.now g.M.Memory.choose c.args.self.now c.open_literal.new.self (action_of a) goes)
     (sym c.in-MakeLiteral.is) told)

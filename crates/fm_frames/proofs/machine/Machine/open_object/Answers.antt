@@ -1,9 +1,10 @@
 use Rattle.std.proofs.Common.{◌≡◌, [], None, Some, refl, subst, sym}
+use Rattle.std.proofs.lemmas.Result.{IfOk-weaker}
 use Rattle.std.specs.Prelude.{IfSome}
 use Rattle.fm_cells.specs.Objects.{new_object, Request, request_of}
 use Rattle.fm_cells.specs.Stores.{object_at}
 use Rattle.fm_cells.specs.declared.answers.Cell.{Cell}
-use Rattle.fm_frames.proofs.OpeningSteps.{asked-over, grows-ended, grows-made, object-made, opens-asked, request-is, told-if, told-on}
+use Rattle.fm_frames.proofs.OpeningSteps.{asked-over, grows-ended, grows-made, object-made, opens-asked, request-is, told-on}
 use Rattle.fm_frames.proofs.machine.Machine.open_object.Goals as goal
 use Rattle.fm_frames.specs.inner.Opening.{OpensAsked}
 
@@ -28,7 +29,7 @@ pub returns-clause-told : goal.returns-clause-told
 returns-clause-told g c =
     let p = c.args.program.now in
     let r = request_of c.type_id-id.result.0 c.args.len c.pack_of-pack.result c.args.fixed in
-    told-if c.make_object.result _ _
+    IfOk-weaker c.make_object.result _ _
     (λ made makes.
     subst (λ r. OpensAsked p g.M.Memory.choose c.args.self.now c.make_object.new.self r [] made)
     (sym (request-is p.outline c.args.t c.type_id-id.result.0 c.args.len c.pack_of-pack.result c.args.fixed c.type_id-id.ensures.number
@@ -49,7 +50,7 @@ pub returns-clause-object : goal.returns-clause-object
 returns-clause-object g c =
     let p = c.args.program.now in
     let r = request_of c.type_id-id.result.0 c.args.len c.pack_of-pack.result c.args.fixed in
-    told-if c.make_object.result _ _
+    IfOk-weaker c.make_object.result _ _
     (λ made makes.
     subst (λ (r : Request). IfSome made (λ (cell : Cell). object_at c.make_object.new.self.areas.store cell.0
     ≡ Some (new_object c.args.self.now.areas.store.births r)))

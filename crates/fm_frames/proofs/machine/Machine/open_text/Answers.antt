@@ -1,6 +1,7 @@
 use Rattle.std.proofs.Common.{ap, length, refl, sym, ◌∙◌}
+use Rattle.std.proofs.lemmas.Result.{IfOk-weaker}
 use Rattle.fm_cells.specs.Sizes.{packed_words}
-use Rattle.fm_frames.proofs.OpeningSteps.{asked-over, grows-ended, grows-made, opens-asked, told-if, told-on, wide-ended, wide-made}
+use Rattle.fm_frames.proofs.OpeningSteps.{asked-over, grows-ended, grows-made, opens-asked, told-on, wide-ended, wide-made}
 use Rattle.fm_frames.proofs.TextSteps.{text-pack}
 use Rattle.fm_frames.proofs.machine.Machine.open_text.Goals as goal
 use Rattle.fm_frames.specs.Acts.{requested}
@@ -24,7 +25,7 @@ pub returns-clause-told : goal.returns-clause-told
 returns-clause-told g c =
     let p = c.args.program.now in
     let units = c.args.units.now in
-    told-if c.make_units.result _ _
+    IfOk-weaker c.make_units.result _ _
     (λ made makes.
     opens-asked p g.M.Memory.choose c.args.self.now c.reserve.new.self c.make_units.new.self
     (requested p.outline (text_type p.outline) (length units) c.args.fixed) units c.text_words.result

@@ -1,10 +1,11 @@
 use Rattle.std.proofs.Common.{arith, not, ◌≡◌, sym, ◌∙◌, ap, ℕ, Bool, true, false, cond, Option, List, [], ◌∷◌, ◌++◌, is_some}
 use Rattle.std.specs.HashMap.{get}
 use Rattle.std.specs.List.{list_any}
+use Rattle.fm_base.proofs.ListFacts.{is_some-position}
 use Rattle.fm_base.specs.declared.kinds.TypeRef.{TypeRef}
 use Rattle.fm_world.specs.Chains.{same_type}
 use Rattle.fm_world.specs.Numbers.{type_number}
-use Rattle.fm_link_records.proofs.OneByOne.{is_some-position, numbered_step}
+use Rattle.fm_link_records.proofs.OneByOne.{numbered_step}
 use Rattle.fm_link_records.proofs.TypeSteps.{inserted, same_type-tells}
 use Rattle.fm_link_records.proofs.types.Types.add.Goals as goal
 

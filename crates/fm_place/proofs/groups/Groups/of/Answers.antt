@@ -37,10 +37,12 @@ returns c =
     subst (λ (list : List (ℕ × ℕ)). IsGroupsOf (classes_of list) numbers of_holders) (take_all c.loop-holder.holder held c.loop-holder-test.false)
     c.loop-holder.invariant in
     let are : AreMembers of_holders (length of_holders) rows =
-    subst (λ (list : List ℕ). AreMembers list (length list) rows) c.as_slice.ensures.value c.in_ok-members.ensures in
-    (record {
-      few = c.requires;
-      within = group_within held numbers of_holders groups rows are;
-      known = group_row held numbers of_holders groups rows are;
-      each = class_known held numbers of_holders groups rows are;
-    }, refl)
+    subst (λ (list : List ℕ). AreMembers list (length list) rows) c.as_slice.ensures.value c.in_ok-members.ensures in (
+      record {
+        few = c.requires;
+        within = group_within held numbers of_holders groups rows are;
+        known = group_row held numbers of_holders groups rows are;
+        each = class_known held numbers of_holders groups rows are;
+      },
+      refl,
+    )

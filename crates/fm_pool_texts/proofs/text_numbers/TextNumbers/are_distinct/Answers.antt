@@ -1,7 +1,8 @@
 use Rattle.std.proofs.Common.{◌≡◌, ◌+◌, ℕ, List, false, drop, subst}
 use Rattle.std.specs.BTreeSet.{contains}
+use Rattle.fm_base.proofs.TestFacts.{false_from_not}
 use Rattle.fm_code.specs.declared.class_file.Member.{Member}
-use Rattle.fm_pool_texts.proofs.KeysInTurn.{HasSeen, HasSeen-more, Adds, Adds-from_insert, fresh_from, key_is, turn}
+use Rattle.fm_pool_texts.proofs.KeysInTurn.{HasSeen, HasSeen-more, Adds, Adds-from_insert, key_is, turn}
 use Rattle.fm_pool_texts.specs.inner.Entries.{key_of, pair_order}
 use Rattle.fm_pool_texts.proofs.text_numbers.TextNumbers.are_distinct.Goals as goal
 
@@ -16,7 +17,7 @@ loop-member-preserved c =
     let key : ℕ × ℕ = (c.number_at.result, c.number_at-in-loop-member.result) in
     let same_key : key ≡ key_of numbers m =
     key_is numbers m c.number_at.result c.number_at-in-loop-member.result c.number_at.ensures c.number_at-in-loop-member.ensures in
-    let fresh : seen key ≡ false = fresh_from c.in_ok-insert.field-0 (seen key) c.in_ok-insert.ensures.added c.if-not-branch.false in
+    let fresh : seen key ≡ false = false_from_not c.in_ok-insert.field-0 (seen key) c.in_ok-insert.ensures.added c.if-not-branch.false in
     let adds : Adds key seen more = Adds-from_insert key c.loop-member.seen c.insert.new.self c.in_ok-insert.ensures.updates in
     let front = subst (λ (rest : List Member). HasSeen numbers members rest seen) (turn members i m c.loop-member-test.true c.member-item.is) c.loop-member.invariant in
     HasSeen-more numbers members m (drop (i + 1) members) seen more

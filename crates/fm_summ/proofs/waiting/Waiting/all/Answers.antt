@@ -1,5 +1,5 @@
 use Rattle.std.proofs.Common.{ℕ, List, Contains, below_more, subst, arith}
-use Rattle.fm_conn.proofs.ListLemmas.{Contains-none}
+use Rattle.fm_base.proofs.ContainsFacts.{Contains-none}
 use Rattle.fm_summ.proofs.WaitLemmas.{none_count, none_marked}
 use Rattle.fm_summ.proofs.waiting.Waiting.all.Goals as goal
 

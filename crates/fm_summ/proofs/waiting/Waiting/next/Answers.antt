@@ -1,5 +1,6 @@
 use Rattle.std.proofs.Common.{◌<◌, ◌∙◌, ◌∷◌, List, ℕ, false, Contains, sym, subst, arith, length-set}
-use Rattle.fm_conn.proofs.ListLemmas.{Contains-first, Contains-later}
+use Rattle.fm_code.proofs.EdgesLemmas.{Contains-later}
+use Rattle.fm_conn.proofs.ListLemmas.{Contains-first}
 use Rattle.fm_summ.proofs.WaitLemmas.{next_marked}
 use Rattle.fm_summ.proofs.waiting.Waiting.next.Goals as goal
 

@@ -1,0 +1,91 @@
+-- Classes with safe insertions, and with all of them, have runs in which holders are cleared and few inserted steps follow one another.
+use Rattle.std.proofs.Common.{◌≡◌, ℕ, ◌≤◌, false, List, [], ◌∷◌, length, Option, Some, None, option_map, option_and_then, refl, sym, ap, subst, ◌∙◌}
+use Rattle.std.specs.Prelude.{slice_get}
+use Rattle.std.specs.List.{AllByRecursion}
+use Rattle.std.proofs.lemmas.Option.{none-some, same_Some}
+use Rattle.fm_base.proofs.OptionFacts.{IsSomeAnd-from_some, option_and_then-some}
+use Rattle.fm_base.specs.declared.limits.TheConstants.{MAX_LIVE_WORDS}
+use Rattle.fm_code.specs.declared.class_file.ClassDef.{ClassDef}
+use Rattle.fm_code.specs.declared.code_array.Code.{Code}
+use Rattle.fm_conn.specs.Facts.{AreFacts, Facts}
+use Rattle.fm_conn.specs.Links.{typed_method}
+use Rattle.fm_conn.specs.Nodes.{TypedMethod}
+use Rattle.fm_frames.specs.Acts.{Choose}
+use Rattle.fm_frames.specs.Runs.{Job}
+use Rattle.fm_frames.specs.States.{Frame, null, word_at}
+use Rattle.fm_law_linked.specs.Laws.{MainOfProgramsIsReady, StepsOfProgramsAreResolved}
+use Rattle.fm_law_linked.specs.Makes.{MakesOfProgramsAreResolved}
+use Rattle.fm_law_same_runs.specs.Beside.{IsGiven, kept_item, Marks, reuse_run}
+use Rattle.fm_law_same_runs.specs.Programs.{AreClear, AreTaken, HoldersAreCleared, IsClear}
+use Rattle.fm_law_sound.specs.Sound.{AreTyped}
+use Rattle.fm_law_unwoven.specs.Runs.{AllRunsAreCleared, AreCleared, FewAreInsertedInRuns, IsCleared, RunsAreCleared, SafeRunsAreCleared}
+use Rattle.fm_law_unwoven.specs.WovenFrom.{inserted_by, SafeProgramsAreWoven}
+use Rattle.fm_place.proofs.FullLemmas.{full-safe}
+use Rattle.fm_place.specs.Insertions.{full_insertions, Holder, Insertions}
+use Rattle.fm_place.specs.Places.{is_busy}
+use Rattle.fm_place.specs.Safe.{Full, full_plans, IsSafeMethod, method_in_facts, Safe}
+use Rattle.fm_place.specs.Woven.{local_of}
+use Rattle.fm_types.specs.Typed.{IsTypingOf}
+use Rattle.fm_world.specs.Programs.{code_at, Program, program_of}
+
+-- the states of facts are a typing
+facts_typed : (p : Program) (facts : Facts) → AreFacts p facts → AreTyped p facts.typing
+facts_typed p facts exact method code is =
+    IsSomeAnd-from_some (code_at p method) (λ c. IsTypingOf p method c (facts.typing method)) code is (exact.methods method code is).typing
+
+pub safe_cleared : AllRunsAreCleared → SafeProgramsAreWoven → StepsOfProgramsAreResolved → MakesOfProgramsAreResolved → MainOfProgramsIsReady → SafeRunsAreCleared
+safe_cleared runs woven steps makes main given entry taken written marks safe job job_given choose words few free =
+    runs (program_of given entry) (program_of written entry) safe.facts safe.plans marks (woven given entry taken written marks safe)
+    (facts_typed (program_of given entry) safe.facts safe.exact) (steps given entry taken.spelled taken.supported taken.linked taken.few)
+    (makes given entry taken.spelled taken.linked taken.few) (main given entry taken.spelled taken.supported taken.linked)
+    choose job job_given.arguments words few free
+
+pub few_inserted : SafeRunsAreCleared → FewAreInsertedInRuns
+few_inserted runs given main taken written marks safe job job_given steps words other_words first few choose free has =
+    (runs given main taken written marks safe job job_given choose other_words few free).few
+
+-- ---- all insertions
+
+-- what is cleared by all of them
+full_clear : (p : Program) (facts : Facts) (marks : Marks) (f : Frame) → IsCleared p facts (full_plans p facts) marks f → IsClear p facts marks f
+full_clear p facts marks f cleared j x plan item_is x_is plan_is = by_code (code_at p f.method) refl where
+  by_code : (o : Option Code) → code_at p f.method ≡ o → AreClear facts x plan f j
+  by_code None none = absurd (none-some x (sym (ap (option_map (typed_method p facts.typing f.method)) none) ∙ x_is))
+  by_code (Some code) is = record {
+    clear = λ number holder held quiet.
+        let same : typed_method p facts.typing f.method code ≡ x =
+        same_Some (typed_method p facts.typing f.method code) x (sym (ap (option_map (typed_method p facts.typing f.method)) is) ∙ x_is) in
+        let plans : full_plans p facts f.method ≡ Some plan = ap (option_and_then (full_insertions facts)) x_is ∙ plan_is in
+        subst (λ (y : TypedMethod). word_at f.locals (local_of y.code number) ≡ null) same
+        (cleared j code number holder item_is is
+        (subst (λ o. slice_get (inserted_by o).holders number ≡ Some holder) (sym plans) held)
+        (subst (λ (y : TypedMethod). is_busy facts y holder.class j ≡ false) (sym same) quiet));
+  }
+
+all_clear : (p : Program) (facts : Facts) (marks : Marks) (frames : List Frame) → AreCleared p facts (full_plans p facts) marks frames
+    → AllByRecursion (IsClear p facts marks) frames
+all_clear p facts marks [] all = tt
+all_clear p facts marks (f ∷ frames) all = (full_clear p facts marks f all.0, all_clear p facts marks frames all.1)
+
+-- each method that has them, by the facts that they were made with
+full_method : (p : Program) (facts : Facts) (method : ℕ) (plan : Insertions) → full_plans p facts method ≡ Some plan → IsSafeMethod p facts method plan
+full_method p facts method plan found =
+    let parts = option_and_then-some (full_insertions facts) (method_in_facts p facts method) plan found in
+    record { x = parts.0; is = parts.1; safe = full-safe facts parts.0 plan parts.2 }
+
+-- they are safe, with these facts and plans
+safe_of : (given : List ClassDef) (main : List ℕ) (written : List ClassDef) (marks : Marks) → Full given main written marks → Safe given main written marks
+safe_of given main written marks full = record {
+  facts = full.facts;
+  exact = full.exact;
+  plans = full_plans (program_of given main) full.facts;
+  methods = full_method (program_of given main) full.facts;
+  written_is = full.written_is;
+  marks_are = full.marks_are;
+}
+
+pub full_cleared : SafeRunsAreCleared → HoldersAreCleared
+unfolding safe_of
+full_cleared runs given main taken written marks full job job_given choose words few free l going =
+    all_clear (program_of given main) full.facts marks (reuse_run (program_of written main) choose job words free l).state.frames
+    ((runs given main taken written marks (safe_of given main written marks full) job job_given choose words few free).cleared l going)
