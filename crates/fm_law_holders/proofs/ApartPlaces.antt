@@ -1,5 +1,5 @@
 -- Behind a site no place of the frame that isn't initialised leads to the result: each was there before, and led elsewhere.
-use Rattle.std.proofs.Common.{◌≡◌, ◌≢◌, ℕ, zero, suc, true, List, [], ◌∷◌, ◌++◌, length, Some, ap, subst, refl, slice_get, arith}
+use Rattle.std.proofs.Common.{◌≡◌, ◌≢◌, ℕ, zero, suc, true, List, [], ◌∷◌, ◌++◌, length, Some, ap, subst, sym, ◌∙◌, refl, slice_get, arith}
 use Rattle.std.specs.List.{AllByRecursion, AllZip}
 use Rattle.std.proofs.lemmas.Bool.{eqb-true, false≢true}
 use Rattle.std.proofs.lemmas.Option.{same_Some}
@@ -48,11 +48,18 @@ zip_by_places P Q (x ∷ xs) (y ∷ ys) all each =
 
 -- ---- slots
 
--- only the object of a `new` fits the object of a `new`
-pub uninit_below : (o : Outline) (a : Slot) (item : ℕ) → fits o a (slot.Uninit item) ≡ true → a ≡ slot.Uninit item
+-- a slot that stays along the edge to the next item
+pub stays_along : (o : Outline) (IsOne : ℕ → Type 0) (a b c : Slot) → Stays IsOne a b → fits o b c ≡ true → Stays IsOne a c
 unfolding fits
-uninit_below o (slot.Uninit other) item is = ap slot.Uninit (eqb-true other item is)
-uninit_below o a item is = absurd (false≢true is)
+stays_along o IsOne a (slot.Uninit other) (slot.Uninit item) stays fit found is =
+    let same : slot.Uninit other ≡ slot.Uninit found = ap slot.Uninit (eqb-true other item fit) ∙ is in stays found same
+stays_along o IsOne a b (slot.Uninit item) stays fit found is = absurd (false≢true fit)
+stays_along o IsOne a b slot.Top stays fit found is = absurd (cc)
+stays_along o IsOne a b slot.Int stays fit found is = absurd (cc)
+stays_along o IsOne a b slot.Long stays fit found is = absurd (cc)
+stays_along o IsOne a b slot.Null stays fit found is = absurd (cc)
+stays_along o IsOne a b (slot.Ref t) stays fit found is = absurd (cc)
+stays_along o IsOne a b slot.UninitThis stays fit found is = absurd (cc)
 
 module _ (cell : ℕ) where
   abbrev Elsewhere : Slot → Value → Type 0
@@ -60,7 +67,9 @@ module _ (cell : ℕ) where
 
   -- along the edge to the next item
   fitting_elsewhere : (o : Outline) (a b : Slot) (v : Value) → fits o a b ≡ true → Elsewhere a v → Elsewhere b v
-  fitting_elsewhere o a (slot.Uninit item) v fit there = subst (λ s. Elsewhere s v) (uninit_below o a item fit) there
+  unfolding fits
+  fitting_elsewhere o (slot.Uninit other) (slot.Uninit item) v fit there = there
+  fitting_elsewhere o a (slot.Uninit item) v fit there = absurd (false≢true fit)
   fitting_elsewhere o a slot.Top v fit there = tt
   fitting_elsewhere o a slot.Int v fit there = tt
   fitting_elsewhere o a slot.Long v fit there = tt

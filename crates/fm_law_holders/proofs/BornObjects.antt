@@ -14,17 +14,12 @@ use Rattle.fm_frames.specs.Elements.{kept}
 use Rattle.fm_frames.specs.NativeRows.{text_type}
 use Rattle.fm_frames.specs.States.{Areas}
 use Rattle.fm_frames.specs.declared.values.Value.{Value}
+use Rattle.fm_law_sound.proofs.Opening.{IsMade as IsFreeless}
 use Rattle.fm_same.proofs.ActsKeep.{made_as, make_is, stored_as}
 use Rattle.fm_same.proofs.StoreChanges.{changed-extends, Extends, extends-refl, extends-then, IsChanged, IsKept, IsMade, made-extends, put_here}
 use Rattle.fm_same.specs.Evenness.{ActsEvenly, Point}
 
 -- ---- actions that free nothing
-
-abbrev pub IsFreeless : Action → Type 0
-IsFreeless (Free operand) = ⊥
-IsFreeless (SetChain operand to) = ⊥
-IsFreeless (FreeChain operand) = ⊥
-IsFreeless other = Unit {0}
 
 even_is_freeless : (o : Outline) (x : Point) (home : ℕ) (action : Action) → ActsEvenly o x home action → IsFreeless action
 even_is_freeless o x home (Make t len content) h = tt
@@ -56,10 +51,6 @@ born-later births store later cell more h =
     let since = h.since in
     let same = kept.birth in
     record { object = kept.now; held = kept.is; since = omega (arith, since, same) }
-
-made_birth : (store : Store) (request : Request) (content : List ℕ) → (made_as store request content).birth ≡ store.births
-made_birth store request [] = refl
-made_birth store request (element ∷ elements) = refl
 
 -- null's cell, or such an object's
 abbrev pub IsNullOrBorn : ℕ → Store → ℕ → Type 0
@@ -114,7 +105,7 @@ made_goes store x made request content (Take cell grows) follows went may then =
     let is : IsMade x.store later cell object = make_is x.store request cell grows content may.1 in
     let more : Extends x.store later = made-extends x.store later cell object is in
     let risen = went.extends.births in
-    let birth = made_birth x.store request content in
+    let birth = is.birth in
     then (record x { store = later }) cell (went_stored store x (record x { store = later }) made went more)
     (record { object = object; held = put_here x.store later cell object is.puts; since = omega (arith, risen, birth) })
 
@@ -146,9 +137,6 @@ either_goes store true one other first second = first
 either_goes store false one other first second = second
 
 module _ (o : Outline) (choose : Choose) (may : (s : Store) (request : Request) → MayReuse s request (choose s request)) (store : Store) (locals stack : List Value) where
-  abbrev before : Areas → List ℕ → Sources
-  before x made = record { locals = locals; stack = stack; areas = x; made = made }
-
   -- all that the actions made was born since they began
   pub acts_go : (actions : List Action) (x : Areas) (made : List ℕ) → AllByRecursion IsFreeless actions → Went store x made
       → WentTo store (performed o choose locals stack actions x made)
@@ -172,12 +160,14 @@ module _ (o : Outline) (choose : Choose) (may : (s : Store) (request : Request) 
       (λ y cell. performed o choose locals stack more (literal_made y text cell) made) went (may x.store request)
       (λ y cell later new. acts_go more (literal_made y text cell) made h.1 (same_goes store y (literal_made y text cell) made refl later)))
   acts_go (Put object place k v ∷ more) x made h went =
-      acts_go more (put_value x (value_of (before x made) object) place k (value_of (before x made) v)) made h.1
-      (put_goes store x made (cell_of (value_of (before x made) object)) place (kept k (value_of (before x made) v))
-      (object_at x.store (cell_of (value_of (before x made) object))) refl went)
+      let from : Sources = record { locals = locals; stack = stack; areas = x; made = made } in
+      acts_go more (put_value x (value_of from object) place k (value_of from v)) made h.1
+      (put_goes store x made (cell_of (value_of from object)) place (kept k (value_of from v))
+      (object_at x.store (cell_of (value_of from object))) refl went)
   acts_go (SetStatic slot k v ∷ more) x made h went =
-      acts_go more (set_static x slot k (value_of (before x made) v)) made h.1
-      (same_goes store x (set_static x slot k (value_of (before x made) v)) made refl went)
+      let from : Sources = record { locals = locals; stack = stack; areas = x; made = made } in
+      acts_go more (set_static x slot k (value_of from v)) made h.1
+      (same_goes store x (set_static x slot k (value_of from v)) made refl went)
   acts_go (Start class ∷ more) x made h went =
       acts_go more (record x { started = slice_set x.started class true }) made h.1
       (same_goes store x (record x { started = slice_set x.started class true }) made refl went)

@@ -3,7 +3,7 @@ use Rattle.std.proofs.Common.{◌≡◌, ℕ, zero, suc, ◌+◌, ◌-◌, ◌<�
 use Rattle.std.specs.Prelude.{is_some}
 use Rattle.std.specs.List.{AllZip}
 use Rattle.std.proofs.lemmas.Bool.{false≢true}
-use Rattle.std.proofs.lemmas.List.{length-drop}
+use Rattle.std.proofs.lemmas.List.{length-drop, nil_from_length}
 use Rattle.std.proofs.lemmas.Option.{none-some, same_Some}
 use Rattle.fm_cells.proofs.Choices.{lawful_choice-may}
 use Rattle.fm_cells.specs.Choices.{lawful}
@@ -89,10 +89,6 @@ only_word : {X : Type 0} (xs : List X) → length xs ≡ 1 → (v : X) × (xs �
 only_word [] one = absurd (omega (arith, one))
 only_word (x ∷ []) one = (x, refl)
 only_word (x ∷ y ∷ xs) one = absurd (omega (arith, one))
-
-no_word : {X : Type 0} (xs : List X) → length xs ≡ 0 → xs ≡ []
-no_word [] none = refl
-no_word (x ∷ xs) none = absurd (omega (arith, none))
 
 -- what is taken begins the list
 taken_first : {X : Type 0} (n : ℕ) (xs : List X) (v : X) → take n xs ≡ v ∷ [] → (0 < n) × (slice_get xs 0 ≡ Some v)
@@ -453,7 +449,7 @@ module _ (p : Program) (facts : Facts) (exact : AreFacts p facts) (numbers : Hol
     constructed_result l =
         let next = next_length p facts exact steps f code code_is known at here (Others l.item) l.leaves in
         let none = ap length l.none in
-        let nothing : take words above.stack ≡ [] = no_word (take words above.stack) (returned_words 0 (omega (arith, next, none))) in
+        let nothing : take words above.stack ≡ [] = nil_from_length (take words above.stack) (returned_words 0 (omega (arith, next, none))) in
         let slot_is : slice_get (drop count known.stack) 0 ≡ Some (slot.Uninit l.item) = drop_at count known.stack ∙ l.top in
         let top = zip_found (Holding z.areas.store) (drop count known.stack) f.stack 0 (slot.Uninit l.item) holding.1 slot_is in
         let kept = first_word f.stack top.0 top.1 in

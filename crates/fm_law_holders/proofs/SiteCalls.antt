@@ -50,6 +50,7 @@ use Rattle.fm_same.proofs.TargetMethods.{target_alike}
 use Rattle.fm_same.specs.Covering.{CallsNative, CoversTargets, MeetsTarget}
 use Rattle.fm_same.specs.Standing.{method_of}
 use Rattle.fm_law_holders.proofs.OldResults.{row_gives_new}
+use Rattle.fm_law_holders.proofs.SiteStates.{result_one}
 use Rattle.fm_law_holders.proofs.SiteEffects.{first_made, gives_fault, gives_stuck, gives_thrown, GivesJust, native_gives_nothing, native_makes}
 
 -- ---- all that a call leads to
@@ -140,15 +141,6 @@ pub same_result : (p : Program) (c : Call) (target : ℕ) → Contains (targets 
     → result_of p.outline target ≡ result_of p.outline c.method.0
 same_result p c target among = ap (result_kind p.outline.classes) (target_alike p c target among).descriptor
 
-abbrev refers : Option Kind → Bool
-refers None = false
-refers (Some k) = is_reference_kind k
-
-reference_plain : (r : Option Kind) → refers r ≡ true → map plain (stack_slots (option_to_list r)) ≡ reference ∷ []
-reference_plain None is = absurd (false≢true is)
-reference_plain (Some (kind.Ref t)) is = refl
-reference_plain (Some k) is = absurd (false≢true is)
-
 -- a call that receives what is new: each target gives a reference, and nothing old
 pub record IsReceived (p : Program) (facts : Facts) (c : Call) : Type 0 where
   pub reference : has_reference_result p.outline c.method.0 ≡ true
@@ -210,7 +202,8 @@ module _ (p : Program) (facts : Facts) (exact : AreFacts p facts) (ready : Calls
   received_row target row is c new =
       let result : native_result row ≡ reference ∷ [] =
       sym (has_row p ready target row is).result
-      ∙ reference_plain (result_of p.outline target) (ap refers (same_result p c.call target c.among) ∙ new.reference) in
+      ∙ ap (map plain)
+      (ap (λ r. stack_slots (option_to_list r)) (same_result p c.call target c.among) ∙ (result_one p.outline c.call.method.0 new.reference).1) in
       native_makes p.outline byte s row result
       (row_gives_new p facts exact target (new.new target c.among) row c.number c.number_is c.row_is c.ends)
 

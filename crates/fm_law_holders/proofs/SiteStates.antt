@@ -43,6 +43,7 @@ use Rattle.fm_frames.specs.CallRows.{words_of_arguments}
 use Rattle.fm_law_sound.specs.Going.{ConstructorsGiveNothing}
 use Rattle.fm_law_sound.proofs.Leaving.{dropped}
 use Rattle.fm_law_sound.proofs.ReturnsStand.{arguments_count, taken_drop}
+use Rattle.fm_place.proofs.BusyLemmas.{depth_of}
 use Rattle.fm_place.specs.Sites.{constructs, has_reference_result, is_doubled, makes_array, may_give_old, names_constructor, new_item, receives_new}
 use Rattle.fm_same.proofs.CallWords.{tested, untested}
 use Rattle.fm_same.proofs.GoesOnKeep.{drop_found}
@@ -166,17 +167,14 @@ received_reference facts x c is =
     let none_old = not (list_any (may_give_old x.program.outline facts) (targets x.program c)) in
     and_left (has_reference_result x.program.outline c.method.0) some (and_left (has_reference_result x.program.outline c.method.0 && some) none_old is)
 
-abbrev refers : Option Kind → Bool
-refers None = false
-refers (Some k) = is_reference_kind k
-
-result_one : (o : Outline) (m : ℕ) → has_reference_result o m ≡ true → (t : TypeRef) × (result_words o m ≡ slot.Ref t ∷ [])
+pub result_one : (o : Outline) (m : ℕ) → has_reference_result o m ≡ true → (t : TypeRef) × (result_words o m ≡ slot.Ref t ∷ [])
 result_one o m is = by_result (result_of o m) refl is where
   by_kind : (k : Kind) → is_reference_kind k ≡ true → (t : TypeRef) × (stack_slots (k ∷ []) ≡ slot.Ref t ∷ [])
   by_kind (kind.Ref t) is = (t, refl)
   by_kind k is = absurd (false≢true is)
 
-  by_result : (r : Option Kind) → result_of o m ≡ r → refers r ≡ true → (t : TypeRef) × (stack_slots (option_to_list r) ≡ slot.Ref t ∷ [])
+  by_result : (r : Option Kind) → result_of o m ≡ r
+      → (elim r as (λ _. Bool) [ None ↦ false | Some k ↦ is_reference_kind k ]) ≡ true → (t : TypeRef) × (stack_slots (option_to_list r) ≡ slot.Ref t ∷ [])
   by_result None at is = absurd (false≢true is)
   by_result (Some k) at is = by_kind k is
 
@@ -252,7 +250,10 @@ module _ (facts : Facts) (x : TypedMethod) (item : ℕ) (news : ℕ → Option T
 
   no_constructor : (m : ℕ) → has_reference_result o m ≡ true → (b : Bool) → is_constructor o m ≡ b → b ≡ false
   no_constructor m has false is = refl
-  no_constructor m has true is = absurd (false≢true (sym (ap refers (constructors m is)) ∙ has))
+  no_constructor m has true is =
+      let none : result_words o m ≡ [] = ap (λ r. stack_slots (option_to_list r)) (constructors m is) in
+      let some = (result_one o m has).1 in
+      absurd (cc (none, some))
 
   otherwise : (b : Bool) (one other : Option TypeState) → b ≡ false → cond b one other ≡ Some after → other ≡ Some after
   otherwise true one other is row = absurd (false≢true (sym is))
@@ -389,10 +390,6 @@ module _ (x : TypedMethod) (j : ℕ) (s : TypeState) (at : state_at x.states j �
         let parts = option_and_then-some (of_rest named) (taken oo (argument_words oo m) s.stack) after row in
         with_stack m named after parts.0 doubled parts.1 parts.2
 
-abbrev depth_in : Option TypeState → ℕ
-depth_in None = 0
-depth_in (Some s) = length s.stack
-
 chosen : (b : Bool) (one other : Option TypeState) (after : TypeState) → b ≡ true → cond b one other ≡ Some after → one ≡ Some after
 chosen true one other after is row = row
 chosen false one other after is row = absurd (false≢true is)
@@ -419,7 +416,7 @@ constructor_leaves x j news s after (insn.Special index) flagged at both row =
     let constructor : is_constructor o f.m.0 ≡ true = ap (names_constructor o) (sym f.use_is) ∙ names in
     let words : words_taken o u i ≡ 1 + words_of_arguments o f.m.0 =
     ap (λ v. words_taken o v i) f.use_is ∙ ap (λ b. cond b 0 1 + words_of_arguments o f.m.0) (flagged f.m f.t false f.use_is refl) in
-    let deep : depth_at x j ≡ length s.stack = ap depth_in at in
+    let deep : depth_at x j ≡ length s.stack = ap depth_of at in
     let under : is_doubled x j (length s.stack - (1 + words_of_arguments o f.m.0)) ≡ true =
     sym (λ k. is_doubled x j (deep k - words k)) ∙ doubled in
     subst (LeavesBuilt s after) (sym words)

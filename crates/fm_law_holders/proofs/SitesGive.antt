@@ -43,7 +43,7 @@ use Rattle.fm_law_sound.specs.Resolved.{StepsAreResolved}
 use Rattle.fm_law_sound.specs.Sound.{AreTyped}
 use Rattle.fm_place.specs.Sites.{constructs, Constructs, kind_of_site, makes_array, MakesArray, receives_new, ReceivesNew, site_kind}
 use Rattle.fm_same.proofs.EdgesKeep.{call_falls, call_keeps, live_before}
-use Rattle.fm_law_holders.proofs.ApartPlaces.{along_elsewhere, LeadsElsewhere, uninit_below, words_elsewhere, zip_back, zip_found}
+use Rattle.fm_law_holders.proofs.ApartPlaces.{along_elsewhere, LeadsElsewhere, stays_along, words_elsewhere, zip_back, zip_found}
 use Rattle.fm_law_holders.proofs.SiteStates.{array_leaves, constructor_leaves, Leaves, LeavesBuilt, LeavesOne, received_leaves, Stays}
 use Rattle.fm_law_holders.specs.NewResults.{IsApart}
 
@@ -230,7 +230,7 @@ module _ (p : Program) (facts : Facts) (exact : AreFacts p facts) (steps : Steps
     local_before k item there live =
         let after = zip_back (Fitting p.outline) h.after.locals h.next.locals k (slot.Uninit item) h.locals_fit there in
         let before = zip_back (Stays IsOne) known.locals h.after.locals k after.0 l.locals after.1 in
-        let stays = before.2 item (uninit_below p.outline after.0 item after.2) in (
+        let stays = stays_along p.outline IsOne before.0 after.0 (slot.Uninit item) before.2 after.2 item refl in (
           before.1 ∙ ap Some stays.0,
           stays.1,
           live_before p facts exact f.method code code_is f.item (f.item + 1) k h.insn h.insn_is (inl h.edge) (h.stores k) live,
