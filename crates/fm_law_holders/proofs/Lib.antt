@@ -12,3 +12,14 @@ pub mod StepMade
 pub mod StepsMade
 pub mod OpeningMade
 pub mod Below
+pub mod BornObjects
+pub mod SiteEffects
+pub mod SiteStates
+pub mod ApartPlaces
+pub mod OldResults
+pub mod SiteCalls
+pub mod StepsBehind
+pub mod UnsharedObjects
+pub mod SitesGive
+pub mod ResultsNew
+pub mod KeptResults

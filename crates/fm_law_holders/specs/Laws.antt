@@ -1,23 +1,34 @@
 -- The laws that the functions of `laws` prove.
-use Rattle.std.specs.Prelude.{◌≢◌, ℕ}
+use Rattle.std.specs.Prelude.{◌≡◌, ◌≢◌, ℕ, false, true, List, length, Some, None, is_some}
 use Rattle.fm_cells.specs.Choices.{lawful}
-use Rattle.fm_cells.specs.Stores.{Store}
-use Rattle.fm_conn.specs.Facts.{Facts}
+use Rattle.fm_cells.specs.Objects.{Object}
+use Rattle.fm_cells.specs.Soundness.{IsOrderly}
+use Rattle.fm_cells.specs.Stores.{object_at, Store}
+use Rattle.fm_code.specs.declared.code_array.Code.{Code}
+use Rattle.fm_conn.specs.Facts.{AreFacts, Facts}
+use Rattle.fm_conn.specs.Links.{typed_method}
+use Rattle.fm_types.specs.States.{TypeState}
+use Rattle.fm_types.specs.Typed.{state_at}
 use Rattle.fm_types.specs.declared.slots.Slot.TheVariants as slot
-use Rattle.fm_world.specs.Programs.{Program}
+use Rattle.fm_world.specs.Programs.{code_at, Program}
 use Rattle.fm_frames.specs.Acts.{cell_of, Choose}
-use Rattle.fm_frames.specs.Runs.{Job, opening}
-use Rattle.fm_frames.specs.States.{State}
+use Rattle.fm_frames.specs.States.{Frame, State}
 use Rattle.fm_frames.specs.Steps.{step}
 use Rattle.fm_frames.specs.declared.values.Value.{Value}
+use Rattle.fm_place.specs.Sites.{is_captured_site, site_class, site_kind}
 use Rattle.fm_same.specs.Colours.{Colour, Coloured}
+use Rattle.fm_same.specs.Covering.{CoversAt}
 use Rattle.fm_same.specs.Resolved.{CallsNoFreeMe, IsResolved}
-use Rattle.fm_law_sound.specs.Making.{MakesAreResolved, MakesFew}
+use Rattle.fm_same.specs.Standing.{Stand}
 use Rattle.fm_law_sound.specs.Resolved.{StepsAreResolved}
+use Rattle.fm_law_holders.specs.Holding.{Holding, IsUnshared, MayFree}
+use Rattle.fm_law_holders.specs.NewResults.{GoesOnBehind, HasNewResult}
+use Rattle.fm_law_holders.specs.Uninitialised.{AreMade, AreMadeIn, FramesAreBelow, Made, made_after, ValueIsMade}
+use Rattle.fm_frames.specs.Runs.{Job, opening}
+use Rattle.fm_law_sound.specs.Making.{MakesAreResolved, MakesFew}
 use Rattle.fm_law_sound.specs.Sound.{IsSoundBy, Typings}
 use Rattle.fm_law_no_fault.specs.CellsResolved.{CellsAreResolved}
 use Rattle.fm_law_no_fault.specs.Whole.{IsWholeBy}
-use Rattle.fm_law_holders.specs.Uninitialised.{AreMade, FramesAreBelow, Made, made_after, ValueIsMade}
 
 -- ---- objects that aren't initialised
 
@@ -45,3 +56,37 @@ abbrev pub UninitialisedAreBelow : Type 0
 UninitialisedAreBelow =
     (p : Program) (facts : Facts) (x : State) (colour : Colour) (made : Made) → Coloured p facts x colour → AreMade facts.typing x made
     → FramesAreBelow facts x.areas.store colour x.frames
+
+-- ---- sites
+
+-- Behind a site of a frame the next state has a new result on top.
+abbrev pub SitesGiveNew : Type 0
+SitesGiveNew =
+    (p : Program) (facts : Facts) → AreFacts p facts → IsResolved p → StepsAreResolved p
+    → (choose : Choose) (x : State) (colour : Colour) (made : Made) → x.ended ≡ None → (step p (lawful choose) x).state.ended ≡ None
+    → Coloured p facts x colour → Stand p facts x.frames → CoversAt p facts x x.frames → Stand p facts (step p (lawful choose) x).state.frames
+    → (f : Frame) (callers : List Frame) → GoesOnBehind p x f callers
+    → (code : Code) → code_at p f.method ≡ Some code → is_some (site_kind facts (typed_method p facts.typing f.method code) f.item) ≡ true
+    → (known : TypeState) → state_at (facts.typing f.method) f.item ≡ Some known
+    → AreMadeIn x.areas.store made known f
+    → HasNewResult facts x (step p (lawful choose) x).state colour known f callers
+
+-- Where the site is captured, the result is what a holder for its class holds.
+abbrev pub KeptResultsAreOwn : Type 0
+KeptResultsAreOwn =
+    (p : Program) (facts : Facts) → AreFacts p facts → StepsAreResolved p
+    → (x next : State) (colour other : Colour) (known : TypeState) (f : Frame) (callers : List Frame)
+    → (h : HasNewResult facts x next colour known f callers) → Coloured p facts next other → Stand p facts next.frames
+    → (code : Code) → code_at p f.method ≡ Some code → is_captured_site facts (typed_method p facts.typing f.method code) f.item ≡ true
+    → Holding next.areas.store other (length callers) (site_class facts (typed_method p facts.typing f.method code) f.item) h.result
+
+-- And no holder of the frame has it yet, on a memory that made as many objects: so no two holders of a frame ever hold one object.
+abbrev pub NewResultsAreUnheld : Type 0
+NewResultsAreUnheld =
+    (facts : Facts) (x next : State) (colour : Colour) (made : Made) (known : TypeState) (f : Frame) (callers : List Frame)
+    → (h : HasNewResult facts x next colour known f callers) → IsOrderly next.areas.store → AreMadeIn x.areas.store made known f
+    → (store : Store) → IsOrderly store → store.births ≡ x.areas.store.births
+    → (class : ℕ) (v : Value) → Holding store colour (length callers) class v
+    → ((birth : ℕ) → MayFree store v birth → IsUnshared facts x.areas.store known f birth)
+    → (object : Object) → object_at next.areas.store (cell_of h.result) ≡ Some object → object.fixed ≡ false
+    → MayFree store v object.birth → ⊥

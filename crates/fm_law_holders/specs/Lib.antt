@@ -1,2 +1,4 @@
 pub mod Uninitialised
+pub mod NewResults
+pub mod Holding
 pub mod Laws

@@ -11,3 +11,11 @@ pub fn law_uninitialised()
     ensures apart { law.UninitialisedAreApart }
     ensures below { law.UninitialisedAreBelow }
 {}
+
+/// Behind a site of a method the next state has a new result on top: null, what lives for ever, or an object that no
+/// holder of the frame has; and where the site is captured, it has the region of the site's class.
+pub fn law_new_results()
+    ensures new { law.SitesGiveNew }
+    ensures own { law.KeptResultsAreOwn }
+    ensures unheld { law.NewResultsAreUnheld }
+{}
