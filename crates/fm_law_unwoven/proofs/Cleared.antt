@@ -1,5 +1,5 @@
 -- Holders are cleared in frames at kept items and in those that haven't begun.
-use Rattle.std.proofs.Common.{◌≡◌, ℕ, zero, suc, ◌+◌, ◌<◌, ◌⊎◌, inl, inr, true, false, List, [], ◌∷◌, ◌++◌, length, map, drop, Option, Some, None, refl, sym, ap, subst, ◌∙◌, arith}
+use Rattle.std.proofs.Common.{◌≡◌, ℕ, zero, suc, ◌+◌, ◌<◌, ◌⊎◌, inl, inr, true, List, [], ◌∷◌, ◌++◌, length, map, Option, Some, None, sym, ap, ◌∙◌, arith}
 use Rattle.std.specs.Prelude.{slice_get}
 use Rattle.std.specs.List.{range_with_len}
 use Rattle.std.proofs.lemmas.Bool.{false≢true}
@@ -10,14 +10,14 @@ use Rattle.fm_conn.specs.Links.{typed_method}
 use Rattle.fm_frames.specs.States.{Frame, null, word_at}
 use Rattle.fm_law_same_runs.specs.Beside.{kept_item, Marks}
 use Rattle.fm_law_unwoven.specs.Kept.{HasNotBegun, HoldersStand, StandBelow, StandKept, StandsAtKept}
-use Rattle.fm_law_unwoven.specs.Laid.{all_insns_to, frees_at, LieInserted, mark_at, starts_of, Todo, ToStart}
+use Rattle.fm_law_unwoven.specs.Laid.{all_insns_to, frees_at, LieInserted, mark_at, Todo, ToStart}
 use Rattle.fm_law_unwoven.specs.Runs.{AreCleared, IsCleared}
 use Rattle.fm_law_unwoven.specs.WovenFrom.{HasInserted, inserted_by, IsWovenFrom, own_marks}
 use Rattle.fm_place.specs.Insertions.{Holder, Insertions}
 use Rattle.fm_place.specs.Places.{is_busy, MayHold}
 use Rattle.fm_place.specs.Rewriting.{Plans}
 use Rattle.fm_place.specs.Woven.{local_of}
-use Rattle.fm_world.specs.Programs.{code_at, Program}
+use Rattle.fm_world.specs.Programs.{Program}
 
 -- where something has to start, the first item is inserted
 first_inserted : (new : Code) (own : List (Option ℕ)) (free : ℕ) (old : Code) (count : ℕ) (rest : List Todo) (next : ℕ) → 0 < count

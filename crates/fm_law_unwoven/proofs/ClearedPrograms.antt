@@ -1,27 +1,24 @@
 -- Classes with safe insertions, and with all of them, have runs in which holders are cleared and few inserted steps follow one another.
-use Rattle.std.proofs.Common.{◌≡◌, ℕ, ◌≤◌, false, List, [], ◌∷◌, length, Option, Some, None, option_map, option_and_then, refl, sym, ap, subst, ◌∙◌}
+use Rattle.std.proofs.Common.{◌≡◌, ℕ, false, List, [], ◌∷◌, Option, Some, None, option_map, option_and_then, refl, sym, ap, subst, ◌∙◌}
 use Rattle.std.specs.Prelude.{slice_get}
 use Rattle.std.specs.List.{AllByRecursion}
 use Rattle.std.proofs.lemmas.Option.{none-some, same_Some}
 use Rattle.fm_base.proofs.OptionFacts.{IsSomeAnd-from_some, option_and_then-some}
-use Rattle.fm_base.specs.declared.limits.TheConstants.{MAX_LIVE_WORDS}
 use Rattle.fm_code.specs.declared.class_file.ClassDef.{ClassDef}
 use Rattle.fm_code.specs.declared.code_array.Code.{Code}
 use Rattle.fm_conn.specs.Facts.{AreFacts, Facts}
 use Rattle.fm_conn.specs.Links.{typed_method}
 use Rattle.fm_conn.specs.Nodes.{TypedMethod}
-use Rattle.fm_frames.specs.Acts.{Choose}
-use Rattle.fm_frames.specs.Runs.{Job}
 use Rattle.fm_frames.specs.States.{Frame, null, word_at}
 use Rattle.fm_law_linked.specs.Laws.{MainOfProgramsIsReady, StepsOfProgramsAreResolved}
 use Rattle.fm_law_linked.specs.Makes.{MakesOfProgramsAreResolved}
-use Rattle.fm_law_same_runs.specs.Beside.{IsGiven, kept_item, Marks, reuse_run}
-use Rattle.fm_law_same_runs.specs.Programs.{AreClear, AreTaken, HoldersAreCleared, IsClear}
+use Rattle.fm_law_same_runs.specs.Beside.{Marks, reuse_run}
+use Rattle.fm_law_same_runs.specs.Programs.{AreClear, HoldersAreCleared, IsClear}
 use Rattle.fm_law_sound.specs.Sound.{AreTyped}
-use Rattle.fm_law_unwoven.specs.Runs.{AllRunsAreCleared, AreCleared, FewAreInsertedInRuns, IsCleared, RunsAreCleared, SafeRunsAreCleared}
+use Rattle.fm_law_unwoven.specs.Runs.{AllRunsAreCleared, AreCleared, FewAreInsertedInRuns, IsCleared, SafeRunsAreCleared}
 use Rattle.fm_law_unwoven.specs.WovenFrom.{inserted_by, SafeProgramsAreWoven}
 use Rattle.fm_place.proofs.FullLemmas.{full-safe}
-use Rattle.fm_place.specs.Insertions.{full_insertions, Holder, Insertions}
+use Rattle.fm_place.specs.Insertions.{full_insertions, Insertions}
 use Rattle.fm_place.specs.Places.{is_busy}
 use Rattle.fm_place.specs.Safe.{Full, full_plans, IsSafeMethod, method_in_facts, Safe}
 use Rattle.fm_place.specs.Woven.{local_of}

@@ -1,5 +1,5 @@
 -- The opening of a run comes to a kept item: main's frame begins, or that of a method that starts its class.
-use Rattle.std.proofs.Common.{◌≡◌, ℕ, ◌+◌, ◌<◌, ◌≤◌, List, [], ◌∷◌, ◌++◌, length, map, inr, true, Option, Some, None, refl, sym, ap, subst, ◌∙◌, arith}
+use Rattle.std.proofs.Common.{◌≡◌, ℕ, ◌+◌, ◌<◌, ◌≤◌, List, [], ◌∷◌, ◌++◌, length, map, inr, true, Some, None, refl, sym, ap, subst, ◌∙◌, arith}
 use Rattle.std.specs.List.{AllByRecursion}
 use Rattle.fm_base.specs.declared.limits.TheConstants.{MAX_LIVE_WORDS, MAX_MADE_WORDS}
 use Rattle.fm_cells.specs.Choices.{lawful}
@@ -7,20 +7,20 @@ use Rattle.fm_cells.specs.Stores.{opened, Store}
 use Rattle.fm_code.specs.declared.code_array.Code.{Code}
 use Rattle.fm_conn.specs.Facts.{Facts}
 use Rattle.fm_frames.specs.Acts.{Choose}
-use Rattle.fm_frames.specs.Runs.{after, Job, opening}
+use Rattle.fm_frames.specs.Runs.{after, opening}
 use Rattle.fm_frames.specs.Starts.{start_methods}
 use Rattle.fm_frames.specs.States.{Frame, ref, State}
 use Rattle.fm_frames.specs.Steps.{is_start, max_locals_of, new_frame, start_frames}
-use Rattle.fm_law_same_runs.specs.Beside.{Marks, reuse_run}
+use Rattle.fm_law_same_runs.specs.Beside.{Marks}
 use Rattle.fm_law_sound.proofs.Budgets.{opening_budget}
 use Rattle.fm_law_sound.proofs.CallsStand.{new_stands}
 use Rattle.fm_law_sound.proofs.ClassStarts.{starts_are_methods}
 use Rattle.fm_law_sound.specs.Going.{StartsClass}
 use Rattle.fm_law_sound.specs.Laws.{SoundRuns}
-use Rattle.fm_law_sound.specs.Making.{ArgumentsFit, MakesAreResolved}
+use Rattle.fm_law_sound.specs.Making.{MakesAreResolved}
 use Rattle.fm_law_sound.specs.Resolved.{MainIsReady, StepsAreResolved}
 use Rattle.fm_law_sound.specs.Sound.{AreTyped, HaveKinds, IsSoundBy, Stand}
-use Rattle.fm_law_unwoven.proofs.KeptGoes.{begins, new_width, not_begun, old_new}
+use Rattle.fm_law_unwoven.proofs.KeptGoes.{new_width, not_begun, old_new}
 use Rattle.fm_law_unwoven.proofs.KeptOnwards.{begins_comes}
 use Rattle.fm_law_unwoven.proofs.KeptSound.{arguments_fit, methods_coded}
 use Rattle.fm_law_unwoven.proofs.Openings.{BothOpen, NoneOpens, Opened, opened_frames, openings, SecondEnds}
@@ -30,7 +30,6 @@ use Rattle.fm_law_unwoven.specs.Kept.{old_frame, old_state, StandBelow}
 use Rattle.fm_law_unwoven.specs.Runs.{ComesToKept, HasEnded, OpeningsComeToKept}
 use Rattle.fm_law_unwoven.specs.WovenFrom.{IsWovenFrom}
 use Rattle.fm_place.specs.Rewriting.{Plans}
-use Rattle.fm_types.specs.Typed.{entry_slots}
 use Rattle.fm_world.specs.Programs.{code_at, Outline, Program}
 
 module _ (p q : Program) (facts : Facts) (plans : Plans) (marks : Marks) (from : IsWovenFrom p q facts plans marks) (typed : AreTyped p facts.typing)

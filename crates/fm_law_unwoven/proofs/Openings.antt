@@ -1,14 +1,14 @@
 -- The opening of a run of the second program, beside that of the first one on the same memory.
-use Rattle.std.proofs.Common.{◌≡◌, ℕ, zero, suc, ◌+◌, ◌<◌, ◌≤◌, Bool, true, false, cond, List, [], ◌∷◌, ◌++◌, length, map, Some, None, nat_lt, refl, sym, ap, subst, ◌∙◌, arith, if◌then◌else◌}
-use Rattle.std.specs.List.{AllByRecursion, slice_index_or}
+use Rattle.std.proofs.Common.{◌≡◌, ℕ, suc, ◌+◌, Bool, true, false, cond, List, [], ◌∷◌, ◌++◌, length, Some, None, nat_lt, refl, sym, subst, ◌∙◌, arith}
+use Rattle.std.specs.List.{slice_index_or}
 use Rattle.fm_cells.specs.Sizes.{cell_words}
 use Rattle.fm_cells.specs.Stores.{live_words, Store}
 use Rattle.fm_frames.specs.Acts.{Choose, Did, FullAt, LostAt, performed, Performed}
 use Rattle.fm_frames.specs.Effects.{Action}
-use Rattle.fm_frames.specs.Runs.{after_action, first_areas, framed, Job, opened_by, opening, opening_actions, opening_frames, unopened, with_streams}
+use Rattle.fm_frames.specs.Runs.{after_action, first_areas, framed, Job, opened_by, opening, opening_actions, unopened, with_streams}
 use Rattle.fm_frames.specs.Starts.{start_actions, start_methods, to_start}
 use Rattle.fm_frames.specs.States.{Frame, ref, State}
-use Rattle.fm_frames.specs.Steps.{is_over, is_start, new_frame, start_frames, stopped, words_made}
+use Rattle.fm_frames.specs.Steps.{is_over, new_frame, start_frames, stopped, words_made}
 use Rattle.fm_frames.specs.declared.ends.Ended.{Ended}
 use Rattle.fm_frames.specs.declared.ends.Ended.TheVariants as end
 use Rattle.fm_world.specs.Programs.{Outline, Program}

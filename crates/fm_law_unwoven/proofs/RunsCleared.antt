@@ -1,5 +1,5 @@
 -- Each state of a run comes to a kept item by few inserted steps; so its holders are cleared, and few inserted steps follow one another.
-use Rattle.std.proofs.Common.{◌≡◌, ℕ, zero, suc, ◌+◌, ◌<◌, ◌≤◌, ◌⊎◌, inl, inr, true, false, List, [], ◌∷◌, length, map, drop, Some, None, is_some, refl, sym, ap, subst, ◌∙◌, arith}
+use Rattle.std.proofs.Common.{◌≡◌, ℕ, zero, suc, ◌+◌, ◌<◌, ◌≤◌, ◌⊎◌, inl, inr, false, List, [], ◌∷◌, length, map, drop, None, is_some, sym, ap, subst, ◌∙◌, arith}
 use Rattle.std.proofs.lemmas.Bool.{cases_lt, false≢true}
 use Rattle.std.proofs.lemmas.Option.{none-some}
 use Rattle.fm_cells.specs.Choices.{lawful}
@@ -8,9 +8,8 @@ use Rattle.fm_frames.proofs.StepCounts.{step_ended}
 use Rattle.fm_frames.specs.Acts.{Choose}
 use Rattle.fm_frames.specs.States.{Frame, Moved, State}
 use Rattle.fm_frames.specs.Steps.{step}
-use Rattle.fm_frames.specs.declared.ends.Ended.{Ended}
 use Rattle.fm_law_same_runs.proofs.Openings.{runs_go}
-use Rattle.fm_law_same_runs.specs.Beside.{IsAtInserted, is_at_kept, kept_item, Marks, most_inserted_steps, reuse_run}
+use Rattle.fm_law_same_runs.specs.Beside.{IsAtInserted, is_at_kept, Marks, most_inserted_steps, reuse_run}
 use Rattle.fm_law_sound.specs.Making.{MakesAreResolved}
 use Rattle.fm_law_sound.specs.Resolved.{StepsAreResolved}
 use Rattle.fm_law_unwoven.proofs.Cleared.{frames_cleared}

@@ -1,5 +1,5 @@
 -- The frames that start classes, above others that wait for them.
-use Rattle.std.proofs.Common.{◌≡◌, ℕ, List, [], ◌∷◌, ◌++◌, length, map, Some, inr, true, refl, ap, ◌∙◌, arith}
+use Rattle.std.proofs.Common.{◌≡◌, ℕ, List, [], ◌∷◌, ◌++◌, map, Some, inr, true, ap, ◌∙◌, arith}
 use Rattle.std.specs.List.{AllByRecursion}
 use Rattle.fm_conn.specs.Facts.{Facts}
 use Rattle.fm_frames.specs.States.{Frame}

@@ -3,13 +3,12 @@ use Rattle.std.specs.Prelude.{◌≡◌, ℕ, suc, ◌+◌, ◌<◌, ◌≤◌, 
 use Rattle.std.specs.List.{AllByRecursion}
 use Rattle.fm_base.specs.declared.limits.TheConstants.{MAX_LIVE_WORDS}
 use Rattle.fm_cells.specs.Choices.{lawful}
-use Rattle.fm_cells.specs.Stores.{opened}
 use Rattle.fm_code.specs.declared.class_file.ClassDef.{ClassDef}
 use Rattle.fm_code.specs.declared.code_array.Code.{Code}
 use Rattle.fm_conn.specs.Facts.{Facts}
 use Rattle.fm_conn.specs.Links.{typed_method}
 use Rattle.fm_frames.specs.Acts.{Choose}
-use Rattle.fm_frames.specs.Runs.{after, Job, opening}
+use Rattle.fm_frames.specs.Runs.{Job}
 use Rattle.fm_frames.specs.States.{Frame, Moved, null, State, word_at}
 use Rattle.fm_frames.specs.Steps.{step}
 use Rattle.fm_frames.specs.declared.ends.Ended.{Ended}
