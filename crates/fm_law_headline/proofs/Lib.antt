@@ -1,0 +1,4 @@
+pub mod MethodEntries
+pub mod FoundCalls
+pub mod FreeMeNamed
+pub mod Taken
