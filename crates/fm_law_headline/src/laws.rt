@@ -1,8 +1,9 @@
 // Laws of the definitions, each as the contract of a function that does nothing.
 
 ghost use Rattle.fm_law_headline.specs.Taken.{CheckedAreTaken, FirstCallIsFound};
+ghost use Rattle.fm_law_headline.specs.WholeRuns.{MatchedStepsGiveEnds, SameProgramsEndTheSame};
 
-use fm_law_linked::law_linking;
+use fm_law_linked::{law_linked_no_fault, law_linking, law_resolved, law_two_memories};
 
 /// Where no call of FreeMe is found, no instruction names one of its methods; so class files that are
 /// accepted, linked and typed and have no such call are all that the statements on the classes written
@@ -13,4 +14,17 @@ pub fn law_taken()
 {
     // By this law.
     law_linking();
+}
+
+/// Where another program does the same as a linked one, step for matched step, whole runs of both on
+/// memory that reuses cells end the same, or the other one lacks steps or words; so it is of the classes
+/// written, once their steps are matched.
+pub fn law_two_programs()
+    ensures same { SameProgramsEndTheSame }
+    ensures matched { MatchedStepsGiveEnds }
+{
+    // By these laws.
+    law_resolved();
+    law_two_memories();
+    law_linked_no_fault();
 }

@@ -4,4 +4,4 @@
 
 mod laws;
 
-pub use laws::law_taken;
+pub use laws::{law_taken, law_two_programs};
