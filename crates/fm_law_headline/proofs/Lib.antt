@@ -5,3 +5,4 @@ pub mod Taken
 pub mod DeepCosts
 pub mod WholeRuns
 pub mod TwoPrograms
+pub mod InStep

@@ -1,3 +1,4 @@
 pub mod Taken
 pub mod Headline
 pub mod WholeRuns
+pub mod InStep

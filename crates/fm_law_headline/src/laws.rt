@@ -1,5 +1,6 @@
 // Laws of the definitions, each as the contract of a function that does nothing.
 
+ghost use Rattle.fm_law_headline.specs.InStep.{RunsInStepDoAlike};
 ghost use Rattle.fm_law_headline.specs.Taken.{CheckedAreTaken, FirstCallIsFound};
 ghost use Rattle.fm_law_headline.specs.WholeRuns.{MatchedStepsGiveEnds, SameProgramsEndTheSame};
 
@@ -28,3 +29,9 @@ pub fn law_two_programs()
     law_two_memories();
     law_linked_no_fault();
 }
+
+/// Runs that keep pace, where words are balanced and the first one has no fault, go together; at matched
+/// states words are balanced, and the second run has no fault.
+pub fn law_in_step()
+    ensures { RunsInStepDoAlike }
+{}
