@@ -6,3 +6,4 @@ pub mod DeepCosts
 pub mod WholeRuns
 pub mod TwoPrograms
 pub mod InStep
+pub mod Parts

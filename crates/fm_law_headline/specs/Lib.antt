@@ -1,4 +1,5 @@
-pub mod Taken
 pub mod Headline
+pub mod Taken
 pub mod WholeRuns
 pub mod InStep
+pub mod Parts
