@@ -1,0 +1,9 @@
+pub mod MethodEntries
+pub mod FoundCalls
+pub mod FreeMeNamed
+pub mod Taken
+pub mod DeepCosts
+pub mod WholeRuns
+pub mod TwoPrograms
+pub mod InStep
+pub mod Parts

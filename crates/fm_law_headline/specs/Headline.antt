@@ -1,0 +1,50 @@
+-- What is to be proved of the classes that are written, as one record: with all held sites and all places, on memory that reuses cells in any way, they do
+-- what the classes read do (JVMS 2.6, 2.10, 2.11).
+use Rattle.std.specs.Prelude.{◌≡◌, ℕ, ◌≤◌, List, None, Option}
+use Rattle.std.specs.List.{AllByRecursion}
+use Rattle.fm_base.specs.declared.limits.TheConstants.{MAX_LIVE_WORDS}
+use Rattle.fm_code.specs.declared.class_file.ClassDef.{ClassDef}
+use Rattle.fm_conn.specs.Facts.{Facts}
+use Rattle.fm_world.specs.Programs.{Program, program_of}
+use Rattle.fm_frames.specs.Acts.{Choose}
+use Rattle.fm_frames.specs.Runs.{Job}
+use Rattle.fm_place.specs.Safe.{Full}
+use Rattle.fm_law_cells_made.specs.MostHeld.{all_most_held, first_state, store_after}
+use Rattle.fm_law_same_runs.specs.Beside.{AreMatched, InAllRuns, IsGiven, IsWithoutFault, Marks, reuse_run, Same}
+use Rattle.fm_law_same_runs.specs.Programs.{AreWholeRuns, IsAsFar, IsClear, WholeRuns, WordsAreBalanced}
+use Rattle.fm_law_same_runs.specs.Renaming.{StatesAreRenamed}
+
+-- in each run of the second program, in all frames, each holder whose class isn't busy is null
+abbrev pub HoldersStayClear : (one other : Program) → Facts → Marks → Type 0
+HoldersStayClear one other facts marks =
+    (job : Job) → IsGiven job → (choose : Choose) (words : ℕ) → words ≤ MAX_LIVE_WORDS → (free : List (List ℕ)) (l : ℕ)
+    → (reuse_run other choose job words free l).state.ended ≡ None
+    → AllByRecursion (IsClear one facts marks) (reuse_run other choose job words free l).state.frames
+
+-- in each run on memory that takes the last freed cell, of each size class as many cells are made as were held at once
+abbrev pub MakesAsHeld : Program → Type 0
+MakesAsHeld p =
+    (job : Job) (budget : ℕ) (limit : Option ℕ) (count : ℕ)
+    → (store_after p (first_state p job budget limit) count).made ≡ all_most_held p (first_state p job budget limit) count
+
+-- whole runs of two programs end the same, or the second one lacks steps or words
+abbrev pub EndTheSame : (one other : Program) → Type 0
+EndTheSame one other = (r : WholeRuns) → r.one ≡ one → r.other ≡ other → AreWholeRuns r → IsAsFar r
+
+-- what the classes written do, beside those that were given
+pub record DoesTheSame (given : List ClassDef) (main : List ℕ) (written : List ClassDef) (marks : Marks) (full : Full given main written marks) : Type 0 where
+  -- step for matched step they print and read the same, no more words live, few inserted steps follow one another, and they end alike
+  pub same : Same (program_of given main) (program_of written main) marks
+  -- no freed cell is read, written or freed again
+  pub faultless : InAllRuns (program_of given main) (program_of written main) marks IsWithoutFault
+  -- at matched states what isn't retired is the same under other cells
+  pub renamed : InAllRuns (program_of given main) (program_of written main) marks
+      (λ b. (k l : ℕ) → AreMatched b k l → StatesAreRenamed full.facts b k l)
+  -- at matched states the words that live, with those that were freed, are the words that live in the first run
+  pub balanced : InAllRuns (program_of given main) (program_of written main) marks (λ b. (k l : ℕ) → AreMatched b k l → WordsAreBalanced b k l)
+  -- what isn't busy is freed at once
+  pub cleared : HoldersStayClear (program_of given main) (program_of written main) full.facts marks
+  -- and its cells serve again
+  pub most_held : MakesAsHeld (program_of written main)
+  -- in whole runs over cells that serve again in both programs
+  pub ends : EndTheSame (program_of given main) (program_of written main)

@@ -1,0 +1,5 @@
+pub mod Headline
+pub mod Taken
+pub mod WholeRuns
+pub mod InStep
+pub mod Parts

@@ -1,0 +1,7 @@
+// What the classes that are written do beside those that are read, in one record, and what is proved on the
+// way to it.
+#![tactic(auto)]
+
+mod laws;
+
+pub use laws::{law_in_step, law_parts, law_taken, law_two_programs};
