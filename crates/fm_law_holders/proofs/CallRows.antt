@@ -1,5 +1,5 @@
 -- The frame that the row of a call leaves is as the state after it, where a built-in method was called.
-use Rattle.std.proofs.Common.{◌≡◌, ℕ, Bool, true, List, [], ◌∷◌, ◌++◌, length, drop, map, Option, None, Some, sym, ◌∙◌, ap, subst}
+use Rattle.std.proofs.Common.{◌≡◌, ℕ, true, List, ◌++◌, length, drop, map, Option, sym, ◌∙◌, ap, subst}
 use Rattle.std.proofs.lemmas.List.{length-map}
 use Rattle.std.proofs.lemmas.Slice.Zip.{AllZip-long}
 use Rattle.fm_cells.specs.Stores.{Store}
@@ -30,7 +30,7 @@ use Rattle.fm_law_no_fault.proofs.WaitingFrames.{zip_dropped}
 use Rattle.fm_law_holders.specs.Uninitialised.{Made}
 use Rattle.fm_law_holders.proofs.CallsLeave.{call_are}
 use Rattle.fm_law_holders.proofs.Leaving.{from, Goes, LeftBy, Row}
-use Rattle.fm_law_holders.proofs.Slots.{Are, AreAt, Is}
+use Rattle.fm_law_holders.proofs.Slots.{AreAt, Is}
 
 module _ (p : Program) (ready : CallsAreResolved p) (typings : Typings) (f : Frame) (i : Insn) (after : TypeState) (h : StandsAtRow p typings f i after) (kinds : FrameHasKinds h.known f.locals f.stack) (store : Store) (made : Made) (areas : Areas) (cells : List ℕ) (statics : HaveKinds (static_slots p.outline) areas.statics) (are : AreAt store made h.known f.locals f.stack) where
   abbrev pub row_at : Row

@@ -1,6 +1,6 @@
 -- The state after a call, against the frame that made it and a result on top of the words below those of the call.
-use Rattle.std.proofs.Common.{◌≡◌, ℕ, ◌+◌, Bool, true, false, cond, List, [], ◌∷◌, ◌++◌, length, drop, map, Option, Some, None, option_and_then, option_to_list, refl, sym, ◌∙◌, ap, subst}
-use Rattle.std.specs.List.{AllByRecursion, AllZip}
+use Rattle.std.proofs.Common.{◌≡◌, ℕ, ◌+◌, Bool, true, false, cond, List, [], ◌∷◌, ◌++◌, length, drop, Option, Some, None, option_to_list, refl, sym, ◌∙◌, ap, subst}
+use Rattle.std.specs.List.{AllByRecursion}
 use Rattle.std.proofs.lemmas.List.{length-append}
 use Rattle.std.proofs.lemmas.Option.{same_Some}
 use Rattle.fm_base.proofs.OptionFacts.{cond-some_else, cond-some_then, option_and_then-some, option_map-some}
@@ -20,6 +20,7 @@ use Rattle.fm_world.specs.Programs.{Outline}
 use Rattle.fm_world.specs.declared.uses.Use.{Use}
 use Rattle.fm_frames.specs.CallRows.{words_of_arguments}
 use Rattle.fm_frames.specs.declared.values.Value.{Value}
+use Rattle.fm_same.proofs.CallsKeep.{no_words}
 use Rattle.fm_law_sound.specs.Going.{ConstructorsGiveNothing}
 use Rattle.fm_law_sound.specs.Sound.{words_of_call}
 use Rattle.fm_law_sound.proofs.Leaving.{dropped}
@@ -35,13 +36,9 @@ pub result_other : (given : Option Kind) → AllByRecursion IsOther (stack_slots
 result_other None = tt
 result_other (Some k) = kind_other k
 
-no_values : (values : List Value) → length values ≡ 0 → values ≡ []
-no_values [] none = refl
-no_values (v ∷ values) none = absurd (cc)
-
 -- a constructor gives nothing
 no_result : (given : Option Kind) (result : List Value) → given ≡ None → length result ≡ length (stack_slots (option_to_list given)) → result ≡ []
-no_result None result is long = no_values result long
+no_result None result is long = no_words result long
 no_result (Some k) result is long = absurd (cc)
 
 -- ---- objects that are initialised

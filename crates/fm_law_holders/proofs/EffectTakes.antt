@@ -1,10 +1,9 @@
 -- How many words the effects of plain rows take where the frame goes on.
-use Rattle.std.proofs.Common.{◌≡◌, ℕ, ℤ, ◌+◌, ◌||◌, not, int_lt, pos, unsigned_abs, reverse, Bool, true, false, List, [], ◌∷◌, codes, nat_lt, Option, Some, None, refl}
-use Rattle.std.specs.List.{list_any, range_with_len}
+use Rattle.std.proofs.Common.{ℕ, ℤ, ◌+◌, ◌||◌, not, int_lt, pos, unsigned_abs, Bool, true, false, List, [], codes, nat_lt, Option, Some, None, refl}
+use Rattle.std.specs.List.{list_any}
 use Rattle.fm_alu.specs.Operations.{result_of_op}
 use Rattle.fm_base.specs.declared.kinds.TypeRef.{TypeRef}
 use Rattle.fm_code.specs.declared.operations.Elem.{Elem}
-use Rattle.fm_code.specs.declared.operations.Elem.TheVariants as elem
 use Rattle.fm_code.specs.declared.operations.Op.{Op}
 use Rattle.fm_code.specs.declared.operations.Shift.{Shift}
 use Rattle.fm_code.specs.declared.operations.Test.{Test}
@@ -14,7 +13,7 @@ use Rattle.fm_world.specs.Programs.{Outline}
 use Rattle.fm_frames.specs.ArrayRows.{array_made, arrays_of, element_type, length_effect, on_element, put_element, put_reference, thrown_negative}
 use Rattle.fm_frames.specs.Effects.{Effect, going, Make, making}
 use Rattle.fm_frames.specs.JumpRows.{int_jump_effect, jumps_if, lookup_effect, null_jump_effect, pair_jump_effect, table_effect}
-use Rattle.fm_frames.specs.NumberRows.{compare_effect, int_converted, int_negate_effect, int_op_effect, int_shift_effect, long_negate_effect, long_op_effect, long_shift_effect}
+use Rattle.fm_frames.specs.NumberRows.{compare_effect, int_negate_effect, int_op_effect, int_shift_effect, long_negate_effect, long_op_effect, long_shift_effect}
 use Rattle.fm_frames.specs.Operands.{thrown}
 use Rattle.fm_frames.specs.Sights.{Looks, Sight}
 use Rattle.fm_law_sound.proofs.Cases.{by_held, by_if, by_int, by_long, by_passing, by_reference, by_thrown}

@@ -1,6 +1,6 @@
 -- The frame that an effect leaves is as the state that the row of the checker gives: one lemma for each way in which rows are made.
-use Rattle.std.proofs.Common.{◌≡◌, ℕ, ◌+◌, true, List, [], ◌∷◌, ◌++◌, length, drop, map, cond, nat_lt, suc, Option, Some, None, option_and_then, refl, sym, ◌∙◌, ap, subst, slice_get, slice_set, arith}
-use Rattle.std.specs.List.{AllByRecursion, AllZip}
+use Rattle.std.proofs.Common.{◌≡◌, ℕ, ◌+◌, List, [], ◌∷◌, ◌++◌, length, drop, map, cond, nat_lt, suc, Option, Some, None, option_and_then, refl, sym, ◌∙◌, ap, subst, slice_get, slice_set, arith}
+use Rattle.std.specs.List.{AllByRecursion}
 use Rattle.std.specs.Option.{option_map}
 use Rattle.std.proofs.lemmas.Option.{same_Some}
 use Rattle.std.proofs.lemmas.Slice.Zip.{AllZip-long}
@@ -14,7 +14,7 @@ use Rattle.fm_world.specs.Programs.{Outline}
 use Rattle.fm_code.specs.declared.instructions.Insn.{Insn}
 use Rattle.fm_frames.specs.Acts.{Sources, value_of}
 use Rattle.fm_frames.specs.Effects.{Effect, Falls, Jumps, JumpsIfSame, Next, OfOperand, words}
-use Rattle.fm_frames.specs.States.{Areas, Frame, word_at}
+use Rattle.fm_frames.specs.States.{Areas, Frame}
 use Rattle.fm_frames.specs.Steps as steps
 use Rattle.fm_frames.specs.declared.values.Value.{Value}
 use Rattle.fm_frames.specs.declared.values.Value.TheVariants as value
@@ -24,7 +24,7 @@ use Rattle.fm_law_sound.proofs.Leaving.{dropped}
 use Rattle.fm_law_sound.proofs.ReturnsStand.{taken_drop}
 use Rattle.fm_law_no_fault.proofs.FramesKeep.{zip_appended}
 use Rattle.fm_law_no_fault.proofs.WaitingFrames.{zip_dropped}
-use Rattle.fm_law_holders.specs.Uninitialised.{Made, ValueIsMade}
+use Rattle.fm_law_holders.specs.Uninitialised.{Made}
 use Rattle.fm_law_holders.proofs.Slots.{above_long, Are, AreAt, cut_are, Is, is_at, IsOther, others_are, set_are}
 
 -- ---- how many words an effect takes

@@ -7,8 +7,8 @@ use Rattle.fm_cells.specs.Choices.{MayReuse}
 use Rattle.fm_cells.specs.Objects.{Object, Request}
 use Rattle.fm_cells.specs.Stores.{object_at, Store}
 use Rattle.fm_world.specs.Programs.{Outline}
-use Rattle.fm_frames.specs.Acts.{Choose, Did, is_there, literal_made, literal_text, made_object, made_then, performed, Performed, requested, set_static, Sources, value_of}
-use Rattle.fm_frames.specs.Effects.{Action, Free, FreeChain, Make, MakeFixed, MakeLiteral, Put, SetChain, SetStatic, Source, Start}
+use Rattle.fm_frames.specs.Acts.{Choose, Did, is_there, literal_made, literal_text, made_object, made_then, performed, Performed, requested, set_static, value_of}
+use Rattle.fm_frames.specs.Effects.{Action, Make, MakeLiteral, SetStatic, Start}
 use Rattle.fm_frames.specs.NativeRows.{text_type}
 use Rattle.fm_frames.specs.States.{Areas}
 use Rattle.fm_frames.specs.declared.values.Value.{Value}

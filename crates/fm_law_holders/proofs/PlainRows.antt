@@ -1,17 +1,15 @@
 -- The frame that a row of no call leaves is as the state after it.
-use Rattle.std.proofs.Common.{◌≡◌, ℕ, ℤ, ◌+◌, ◌-◌, ◌==◌, ◌&&◌, not, Bool, true, false, List, [], ◌∷◌, ◌++◌, length, drop, replicate, reverse, cond, codes, if◌then◌else◌, pos, nat_le, nat_lt, Option, Some, None, option_and_then, refl, sym, ◌∙◌, ap, subst, slice_get, slice_set, slice_index_or}
-use Rattle.std.specs.List.{AllByRecursion, list_any, range_with_len}
+use Rattle.std.proofs.Common.{◌≡◌, ℕ, ℤ, ◌+◌, ◌-◌, ◌&&◌, Bool, true, false, List, [], ◌∷◌, ◌++◌, length, drop, replicate, reverse, cond, codes, if◌then◌else◌, pos, nat_le, nat_lt, Option, Some, None, refl, sym, ap, subst, slice_get, slice_set, slice_index_or}
+use Rattle.std.specs.List.{AllByRecursion, range_with_len}
 use Rattle.std.proofs.lemmas.Bool.{false≢true}
 use Rattle.std.proofs.lemmas.List.{length-replicate}
 use Rattle.std.proofs.lemmas.Option.{same_Some}
 use Rattle.fm_base.proofs.OptionFacts.{cond-some_then, option_and_then-some, option_map-some}
 use Rattle.fm_base.specs.Kinds.{kind_words}
-use Rattle.fm_base.specs.declared.kinds.Base.{Base}
 use Rattle.fm_base.specs.declared.kinds.Base.TheVariants as base
 use Rattle.fm_base.specs.declared.kinds.Kind.{Kind}
 use Rattle.fm_base.specs.declared.kinds.Kind.TheVariants as kind
 use Rattle.fm_base.specs.declared.kinds.TypeRef.{TypeRef}
-use Rattle.fm_code.specs.StackWords.{element_words}
 use Rattle.fm_code.specs.declared.instructions.Insn.{Insn}
 use Rattle.fm_code.specs.declared.instructions.Insn.TheVariants as insn
 use Rattle.fm_code.specs.declared.operations.Conv.{Conv}
@@ -25,7 +23,7 @@ use Rattle.fm_types.specs.ArrayRows.{array_load_row, array_store_row, is_array_o
 use Rattle.fm_types.specs.Fits.{fits}
 use Rattle.fm_types.specs.Named.{field_words, object_slot, throwable_type}
 use Rattle.fm_types.specs.NumberRows.{constant_row, convert_row, increment_row, is_int, load_row, loaded, move_row, store_row, stored_from, suits}
-use Rattle.fm_types.specs.ObjectRows.{cast_row, get_field_row, get_static_row, has_objects, is_a_row, new_row, put_field_row, put_static_row, takes_field}
+use Rattle.fm_types.specs.ObjectRows.{cast_row, get_field_row, get_static_row, is_a_row, new_row, put_field_row, put_static_row, takes_field}
 use Rattle.fm_types.specs.Rows.{row_after}
 use Rattle.fm_types.specs.States.{is_long, is_reference, is_uninit, local_at, pushed, replaced, stack_slots, stored, taken, TypeState, worked}
 use Rattle.fm_types.specs.declared.slots.Slot.{Slot}
@@ -56,8 +54,8 @@ use Rattle.fm_law_sound.proofs.Leaving.{kind_slots}
 use Rattle.fm_law_sound.proofs.ObjectRows.{row_of_field, row_of_type}
 use Rattle.fm_law_holders.specs.Uninitialised.{IsMadeAt}
 use Rattle.fm_law_holders.proofs.EffectTakes.{arrays_take, compare_takes, element_takes, int_jump_takes, int_negate_takes, int_op_takes, int_shift_takes, length_takes, long_negate_takes, long_op_takes, long_shift_takes, lookup_takes, made_takes, null_jump_takes, pair_jump_takes, put_takes, table_takes}
-use Rattle.fm_law_holders.proofs.Leaving.{above_goes, Goes, Leads, leaves_stack, Left, moved_leaves, one_stored, pushed_goes, Row, Takes, two_stored, worked_below_goes, worked_goes}
-use Rattle.fm_law_holders.proofs.Slots.{Are, AreAt, Is, is_at, IsOther, other_is, replaced_are, written_are}
+use Rattle.fm_law_holders.proofs.Leaving.{Goes, Leads, leaves_stack, Left, moved_leaves, one_stored, pushed_goes, Row, Takes, two_stored, worked_below_goes, worked_goes}
+use Rattle.fm_law_holders.proofs.Slots.{Are, AreAt, Is, is_at, IsOther, replaced_are, written_are}
 
 -- ---- slots of which nothing is asked
 

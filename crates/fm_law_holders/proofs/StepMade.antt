@@ -1,5 +1,5 @@
 -- A step leads from frames that are as the states of their items have them to such frames.
-use Rattle.std.proofs.Common.{◌≡◌, ℕ, ◌+◌, ◌<◌, ◌≤◌, cond, nat_lt, Bool, true, false, List, [], ◌∷◌, ◌++◌, Option, Some, None, refl, sym, ◌∙◌, ap, subst, slice_get, slice_index_or, arith}
+use Rattle.std.proofs.Common.{◌≡◌, ℕ, ◌<◌, ◌≤◌, cond, nat_lt, Bool, true, false, List, [], ◌∷◌, ◌++◌, Option, Some, None, refl, sym, ◌∙◌, ap, subst, slice_get, slice_index_or, arith}
 use Rattle.std.specs.List.{AllByRecursion}
 use Rattle.std.proofs.lemmas.Bool.{false≢true}
 use Rattle.std.proofs.lemmas.Bool.Decides.{nat_tests}
@@ -14,12 +14,11 @@ use Rattle.fm_types.specs.declared.slots.Slot.{Slot}
 use Rattle.fm_types.specs.declared.slots.Slot.TheVariants as slot
 use Rattle.fm_world.specs.Programs.{Outline, Program}
 use Rattle.fm_frames.specs.Acts.{Choose, Did, performed}
-use Rattle.fm_frames.specs.Effects.{Action, Calls, Effect, Enters, Exits, Falls, Faults, Jumps, JumpsIfSame, Make, Next, nothing, Returns, Throws}
+use Rattle.fm_frames.specs.Effects.{Action, Calls, Effect, Enters, Exits, Falls, Faults, Jumps, JumpsIfSame, Make, Next, Returns, Throws}
 use Rattle.fm_frames.specs.Rows.{effect_of}
 use Rattle.fm_frames.specs.Sights.{sights}
-use Rattle.fm_frames.specs.Starts.{start_actions, start_methods, started_by, to_start, with_start}
+use Rattle.fm_frames.specs.Starts.{start_actions, start_methods, to_start, with_start}
 use Rattle.fm_frames.specs.States.{Frame, State}
-use Rattle.fm_frames.specs.Steps.{step}
 use Rattle.fm_frames.specs.declared.values.Value.{Value}
 use Rattle.fm_same.proofs.StoreChanges.{Extends, IsKept}
 use Rattle.fm_law_sound.specs.Going.{CallLeads, StandsAtRow}
@@ -30,6 +29,7 @@ use Rattle.fm_law_sound.proofs.CallsLead.{calls_lead}
 use Rattle.fm_law_sound.proofs.FramesStand.{typing_of}
 use Rattle.fm_law_sound.proofs.Opening.{IsOfStart, start_made}
 use Rattle.fm_law_sound.proofs.Rows.{effect_leads}
+use Rattle.fm_law_sound.proofs.StartActs.{after_methods, for_class}
 use Rattle.fm_law_no_fault.proofs.StoresKeep.{zip_each}
 use Rattle.fm_law_holders.specs.Uninitialised.{AreMadeIn, FrameIsMade, IsMadeAt, Made, made_from, ValueIsMade}
 use Rattle.fm_law_holders.proofs.CallRows.{calls_go, row_at}
@@ -94,15 +94,6 @@ new_is_made store later made item cell h = record {
   new_item false is = refl
 
 -- ---- the effect of an instruction, and what the start of its class makes of it
-
--- the effects after the start of classes
-abbrev with_methods : Outline → List ℕ → Effect → List ℕ → Effect
-with_methods o classes e [] = record e { starts = None; actions = start_actions o classes ++ e.actions }
-with_methods o classes e (m ∷ methods) = record nothing { actions = start_actions o classes; next = Enters (m ∷ methods) }
-
-abbrev with_class : Outline → List Bool → Effect → Option ℕ → Effect
-with_class o started e None = e
-with_class o started e (Some class) = started_by o (to_start o started class) e
 
 module _ (p : Program) (typings : Typings) (typed : AreTyped p typings) (steps : StepsAreResolved p) (choose : Choose) (z : State) (f : Frame) (callers : List Frame) (sound : IsSoundBy p typings (record z { frames = f ∷ callers })) (made : Made) (are : AllByRecursion (FrameIsMade typings z.areas.store made) (f ∷ callers)) (i : Insn) (after : TypeState) (h : StandsAtRow p typings f i after) where
   abbrev o : Outline
@@ -211,13 +202,13 @@ module _ (p : Program) (typings : Typings) (typed : AreTyped p typings) (steps :
   plain_start y cells did more statics =
       effect_follows y cells more statics (new_then y cells more statics [] tt did) (is_call i) refl
 
-  methods_follow : (classes methods : List ℕ) → Follows (with_methods o classes effect methods)
+  methods_follow : (classes methods : List ℕ) → Follows (after_methods o classes effect methods)
   methods_follow classes [] y cells did more statics =
       started_ready y cells more statics effect (start_actions o classes ++ effect.actions) effect.next
       (effect_follows y cells more statics (new_then y cells more statics (start_actions o classes) (start_made o classes) did) (is_call i) refl)
   methods_follow classes (m ∷ methods) y cells did more statics = tt
 
-  class_follows : (started : List Bool) (class : Option ℕ) → Follows (with_class o started effect class)
+  class_follows : (started : List Bool) (class : Option ℕ) → Follows (for_class o started effect class)
   class_follows started None = plain_start
   class_follows started (Some class) = methods_follow (to_start o started class) (start_methods o (to_start o started class))
 

@@ -1,5 +1,5 @@
 -- A step of a whole state leads from frames that are as the states of their items have them to such frames.
-use Rattle.std.proofs.Common.{◌≡◌, ℕ, ◌+◌, cond, max, Bool, true, false, List, [], ◌∷◌, length, Option, Some, None, option_and_then, refl, sym, ◌∙◌, ap, subst, slice_get, arith}
+use Rattle.std.proofs.Common.{◌≡◌, ℕ, ◌+◌, cond, max, false, List, [], ◌∷◌, Option, Some, None, option_and_then, refl, sym, ◌∙◌, ap, subst, slice_get, arith}
 use Rattle.std.specs.List.{AllByRecursion}
 use Rattle.fm_base.proofs.OptionFacts.{option_and_then-some, Some-from_some_and}
 use Rattle.fm_cells.proofs.Choices.{lawful_choice-may}
@@ -10,7 +10,7 @@ use Rattle.fm_code.specs.declared.instructions.Insn.{Insn}
 use Rattle.fm_types.specs.Named.{class_of_method}
 use Rattle.fm_types.specs.Rows.{row_after}
 use Rattle.fm_types.specs.States.{TypeState}
-use Rattle.fm_types.specs.Typed.{after_item, FitsAt, IsTypingOf, made_at, MeetsItem, use_by}
+use Rattle.fm_types.specs.Typed.{after_item, FitsAt, made_at, MeetsItem, use_by}
 use Rattle.fm_world.specs.Programs.{Outline, Program}
 use Rattle.fm_frames.specs.Acts.{Choose, Did, FullAt, LostAt, performed, Performed}
 use Rattle.fm_frames.specs.Effects.{Action, Effect}

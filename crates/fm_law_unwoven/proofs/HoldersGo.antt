@@ -1,11 +1,10 @@
 -- The holders of a frame at the next old item, once all that is inserted before it is done.
-use Rattle.std.proofs.Common.{◌≡◌, ◌≢◌, ℕ, ◌+◌, ◌<◌, ◌≤◌, ◌⊎◌, inl, inr, Bool, true, false, List, [], ◌∷◌, ◌++◌, length, map, Some, Contains, refl, sym, ap, subst, ◌∙◌, arith}
+use Rattle.std.proofs.Common.{◌≡◌, ◌≢◌, ℕ, ◌+◌, ◌<◌, ◌⊎◌, inl, inr, Bool, true, false, List, [], ◌∷◌, ◌++◌, length, map, Some, Contains, refl, sym, ap, subst, ◌∙◌, arith}
 use Rattle.std.specs.Prelude.{nat_eq, slice_get, slice_set}
 use Rattle.std.specs.List.{range_with_len}
 use Rattle.std.proofs.lemmas.Bool.{cases_eq, eqb-true}
 use Rattle.std.proofs.lemmas.Option.{slice_get_within}
 use Rattle.fm_code.specs.Edges.{IsEdge}
-use Rattle.fm_code.specs.declared.code_array.Code.{Code}
 use Rattle.fm_code.proofs.EdgesLemmas.{Contains-from_map}
 use Rattle.fm_conn.proofs.ListLemmas.{Contains-from_range, Contains-range}
 use Rattle.fm_conn.specs.Facts.{Facts}

@@ -1,5 +1,5 @@
 -- After a step at a kept item few inserted steps lead to the next kept item, or the run ends.
-use Rattle.std.proofs.Common.{◌≡◌, ℕ, zero, suc, ◌+◌, ◌*◌, ◌<◌, ◌≤◌, List, [], ◌∷◌, ◌++◌, length, map, drop, Option, Some, None, option_and_then, unwrap_or, Contains, refl, sym, ap, subst, ◌∙◌, arith}
+use Rattle.std.proofs.Common.{◌≡◌, ℕ, ◌+◌, ◌*◌, ◌<◌, ◌≤◌, List, [], ◌∷◌, ◌++◌, length, map, drop, Option, Some, None, option_and_then, unwrap_or, Contains, refl, sym, ap, subst, ◌∙◌, arith}
 use Rattle.std.proofs.lemmas.Option.{slice_get_within}
 use Rattle.fm_base.specs.declared.limits.TheConstants.{MAX_LIVE_WORDS}
 use Rattle.fm_cells.specs.Choices.{lawful}
@@ -19,7 +19,6 @@ use Rattle.fm_law_sound.proofs.Budgets.{step_budget}
 use Rattle.fm_law_sound.proofs.CallsStand.{max_locals_in}
 use Rattle.fm_law_sound.proofs.RunsSound.{makes_few}
 use Rattle.fm_law_sound.specs.Laws.{SoundStatesStep}
-use Rattle.fm_law_sound.specs.Making.{MakesAreResolved}
 use Rattle.fm_law_sound.specs.Resolved.{StepsAreResolved}
 use Rattle.fm_law_sound.specs.Sound.{IsReference, IsSoundBy, Stand}
 use Rattle.fm_law_unwoven.proofs.HoldersGo.{behind_stand, frees_stand, goes_along, IsWide, may_begin, may_behind, may_frees, start_stand}
@@ -29,8 +28,8 @@ use Rattle.fm_law_unwoven.proofs.KeptReached.{coded, Holds, item_inside, reaches
 use Rattle.fm_law_unwoven.proofs.KeptSites.{gives, safe_at}
 use Rattle.fm_law_unwoven.proofs.TodoCounts.{frees_count, keeps_count, starts_count, steps_both}
 use Rattle.fm_law_unwoven.proofs.TodosDone.{one_passed}
-use Rattle.fm_law_unwoven.specs.Doing.{all_locals_after, all_steps_to, IsPassed, with_frame}
-use Rattle.fm_law_unwoven.specs.Kept.{Begins, BothDo, BothFault, but_frames, FrameGoes, FramesGo, GoesBefore, GoesBehind, GoesByJump, GoesOn, HoldersStand, InMethod, IsAtKept, KeptStepsAreSteps, old_frame, old_state, Resumes, StandBelow, StandsAtKept, StatesGo, StepsAlike}
+use Rattle.fm_law_unwoven.specs.Doing.{all_steps_to, IsPassed, with_frame}
+use Rattle.fm_law_unwoven.specs.Kept.{Begins, BothDo, BothFault, but_frames, FrameGoes, GoesBefore, GoesBehind, GoesByJump, GoesOn, HoldersStand, InMethod, KeptStepsAreSteps, old_frame, old_state, Resumes, StandBelow, StandsAtKept, StatesGo, StepsAlike}
 use Rattle.fm_law_unwoven.specs.Laid.{all_insns_to, frees_at, keeps_at, LieInserted, mark_at, starts_of, Todo}
 use Rattle.fm_law_unwoven.specs.Runs.{ComesToKept, HasEnded, Kept, KeptStatesGoOn}
 use Rattle.fm_law_unwoven.specs.WovenFrom.{HasInserted, inserted_by, IsWovenFrom, own_marks}

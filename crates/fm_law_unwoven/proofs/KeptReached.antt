@@ -1,5 +1,5 @@
 -- From inserted items on, all that is inserted is done, and a state at a kept item follows; or the run ends where something is freed that isn't held.
-use Rattle.std.proofs.Common.{◌≡◌, ℕ, zero, suc, ◌+◌, ◌*◌, ◌<◌, ◌≤◌, List, [], ◌∷◌, length, map, take, drop, Some, None, unwrap_or, refl, sym, ap, subst, ◌∙◌, arith}
+use Rattle.std.proofs.Common.{◌≡◌, ℕ, zero, suc, ◌+◌, ◌*◌, ◌<◌, ◌≤◌, List, ◌∷◌, length, map, take, drop, Some, unwrap_or, refl, sym, ap, subst, ◌∙◌, arith}
 use Rattle.fm_base.proofs.OptionFacts.{same_value}
 use Rattle.fm_base.specs.declared.limits.TheConstants.{MAX_LIVE_WORDS}
 use Rattle.fm_cells.specs.Choices.{lawful}

@@ -1,5 +1,5 @@
 -- What is known of a method's insertions: they are safe at each item, and what an item with holders gave is a reference on top of the stack.
-use Rattle.std.proofs.Common.{◌≡◌, ℕ, ◌+◌, ◌-◌, ◌<◌, Bool, true, List, [], ◌∷◌, length, reverse, Option, Some, None, option_and_then, IsSomeAnd, Contains, slice_get, refl, sym, ap, subst, ◌∙◌, arith}
+use Rattle.std.proofs.Common.{◌≡◌, ℕ, ◌+◌, ◌-◌, ◌<◌, true, List, [], ◌∷◌, length, reverse, Option, Some, None, option_and_then, IsSomeAnd, Contains, slice_get, refl, sym, ap, subst, ◌∙◌, arith}
 use Rattle.std.specs.Prelude.{is_some, nat_eq}
 use Rattle.std.specs.List.{IsDistinct}
 use Rattle.std.proofs.lemmas.Bool.{and_parts, eqb-true, false≢true}
@@ -18,7 +18,7 @@ use Rattle.fm_law_sound.specs.Resolved.{StepsAreResolved}
 use Rattle.fm_law_sound.specs.Sound.{AreTyped, HasKind, HaveKinds, IsReference, StandsWithout}
 use Rattle.fm_law_unwoven.specs.WovenFrom.{inserted_by, IsWovenFrom}
 use Rattle.fm_place.proofs.FullLemmas.{numbers-found}
-use Rattle.fm_place.specs.Insertions.{after_at, Holder, Insertions}
+use Rattle.fm_place.specs.Insertions.{after_at, Insertions}
 use Rattle.fm_place.specs.Rewriting.{Plans}
 use Rattle.fm_place.specs.Safe.{AreSafe, IsSafeAt, IsSafeHolder}
 use Rattle.fm_place.specs.Sites.{is_captured, site_class, site_kind, site_node}

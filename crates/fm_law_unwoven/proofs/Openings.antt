@@ -25,8 +25,10 @@ pub data Opened (p q : Program) (x y : State) : Type 0 where
   NoneOpens : x.frames ≡ [] → x.ended ≡ None → Opened p q x y
 
 starts_length : (of : Program) (methods : List ℕ) (below : List Frame) → length (start_frames of methods ++ below) ≡ length methods + length below
-starts_length of [] below = omega arith
-starts_length of (m ∷ methods) below = let rest = starts_length of methods below in omega (arith, rest)
+starts_length of [] below = let same : length below ≡ 0 + length below = omega arith in same
+starts_length of (m ∷ methods) below =
+    let rest = starts_length of methods below in
+    let same : suc (length (start_frames of methods ++ below)) ≡ suc (length methods) + length below = omega (arith, rest) in same
 
 module _ (p q : Program) (outline : q.outline ≡ p.outline) (choose : Choose) where
   either_opened : (b : Bool) (x y u v : State) → Opened p q x y → Opened p q u v → Opened p q (cond b x u) (cond b y v)

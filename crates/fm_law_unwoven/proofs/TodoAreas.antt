@@ -1,5 +1,5 @@
 -- When things may be done, and what is freed by them: areas stay sound.
-use Rattle.std.proofs.Common.{◌≡◌, ℕ, zero, suc, ◌+◌, ◌<◌, ◌≤◌, ◌^◌, List, [], ◌∷◌, ◌++◌, length, map, Contains, refl, sym, ap, subst, ◌∙◌, arith}
+use Rattle.std.proofs.Common.{◌≡◌, ℕ, zero, suc, ◌+◌, ◌<◌, ◌≤◌, ◌^◌, List, [], ◌∷◌, ◌++◌, length, map, Contains, refl, ap, ◌∙◌, arith}
 use Rattle.std.specs.Prelude.{slice_set}
 use Rattle.fm_cells.proofs.Choices.{lawful_choice-may}
 use Rattle.fm_cells.specs.Choices.{lawful}
@@ -12,7 +12,7 @@ use Rattle.fm_frames.specs.declared.values.Value.{Value}
 use Rattle.fm_law_sound.proofs.ActsKeep.{actions_keep}
 use Rattle.fm_law_sound.specs.Sound.{AreasAreSound, IsReference}
 use Rattle.fm_law_unwoven.proofs.TodoLocals.{length_after, null_after, nulled_references}
-use Rattle.fm_law_unwoven.specs.Doing.{all_areas_after, all_locals_after, areas_after, freed_from, locals_after, MayDo, MayDoAll}
+use Rattle.fm_law_unwoven.specs.Doing.{all_areas_after, all_locals_after, freed_from, locals_after, MayDoAll}
 use Rattle.fm_law_unwoven.specs.Laid.{Todo, ToFree, ToKeep, ToStart}
 use Rattle.fm_place.specs.Woven.{local_of}
 use Rattle.fm_world.specs.Members.{size_of}

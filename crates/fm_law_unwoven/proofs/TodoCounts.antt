@@ -1,5 +1,5 @@
 -- How many steps inserted things take at most.
-use Rattle.std.proofs.Common.{◌≡◌, ℕ, zero, suc, ◌+◌, ◌-◌, ◌*◌, ◌<◌, ◌≤◌, Bool, true, false, List, [], ◌∷◌, ◌++◌, length, map, max, Some, None, Contains, ⊎_elim, refl, sym, ap, ◌∙◌, arith, if◌then◌else◌}
+use Rattle.std.proofs.Common.{◌≡◌, ℕ, ◌+◌, ◌-◌, ◌*◌, ◌<◌, ◌≤◌, Bool, true, false, List, [], ◌∷◌, ◌++◌, length, map, Some, None, Contains, ⊎_elim, refl, sym, ap, ◌∙◌, arith, if◌then◌else◌}
 use Rattle.std.specs.Prelude.{nat_eq}
 use Rattle.std.specs.List.{IsDistinct, range_with_len}
 use Rattle.std.proofs.lemmas.Bool.{cases_lt, eqb-true}
@@ -13,7 +13,7 @@ use Rattle.fm_code.specs.declared.code_array.Code.{Code}
 use Rattle.fm_code.proofs.EdgesLemmas.{Contains-map}
 use Rattle.fm_conn.proofs.ListLemmas.{Contains-range}
 use Rattle.fm_law_same_runs.specs.Beside.{greatest, Marks, most_added_locals, most_inserted_steps}
-use Rattle.fm_law_unwoven.specs.Doing.{all_steps_to, steps_to}
+use Rattle.fm_law_unwoven.specs.Doing.{all_steps_to}
 use Rattle.fm_law_unwoven.specs.Laid.{frees_at, keeps_at, starts_of, Todo, ToFree, ToKeep, ToStart}
 use Rattle.fm_law_unwoven.specs.WovenFrom.{HasInserted}
 use Rattle.fm_place.specs.Insertions.{after_at, before_at, Holder, Insertions, numbers_of}

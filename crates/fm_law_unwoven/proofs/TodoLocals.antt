@@ -5,12 +5,11 @@ use Rattle.std.proofs.lemmas.Bool.{cases_eq}
 use Rattle.std.proofs.lemmas.List.{get_or-set_other, get_or-set_same, length-set, take-set-le}
 use Rattle.fm_code.proofs.EdgesLemmas.{Contains-first, Contains-later}
 use Rattle.fm_code.specs.declared.code_array.Code.{Code}
-use Rattle.fm_frames.specs.Acts.{cell_of}
-use Rattle.fm_frames.specs.States.{Areas, null, word_at}
+use Rattle.fm_frames.specs.States.{null, word_at}
 use Rattle.fm_frames.specs.declared.values.Value.{Value}
 use Rattle.fm_frames.specs.declared.values.Value.TheVariants as value
 use Rattle.fm_law_sound.specs.Sound.{IsReference}
-use Rattle.fm_law_unwoven.specs.Doing.{all_areas_after, all_locals_after, all_steps_to, areas_after, freed_from, locals_after, MayDo, MayDoAll, steps_to}
+use Rattle.fm_law_unwoven.specs.Doing.{all_locals_after, locals_after}
 use Rattle.fm_law_unwoven.specs.Laid.{Todo, ToFree, ToKeep, ToStart}
 use Rattle.fm_place.specs.Woven.{local_of}
 

@@ -157,6 +157,16 @@ fn other_cases<'a>(
     ]
 }
 
+// The case of an interface whose main has code.
+fn interface_case<'a>(sum: Case<'a>) -> Case<'a> {
+    Case {
+        status: 69,
+        printed: b"",
+        reported: b"refused: unsupported M.class main 0\n",
+        ..sum
+    }
+}
+
 // The pieces between single spaces.
 fn split_words(alloc: Global, text: &str) -> Result<Vec<String>, NoMemory> {
     let mut words = Vec::new(alloc);
@@ -204,13 +214,7 @@ fn each_status_has_its_output_and_its_report(rt: HostRuntime) -> Result<(), Fail
 fn a_method_with_code_in_an_interface_is_refused(rt: HostRuntime) -> Result<(), Fail> {
     let alloc = rt.alloc();
     let interface = RUNS_IN_INTERFACE.bytes(alloc)?;
-    let case = Case {
-        status: 69,
-        printed: b"",
-        reported: b"refused: unsupported M.class main 0\n",
-        ..sum_case(&interface)
-    };
-    assert!(rt; comes_out(alloc, case)?);
+    assert!(rt; comes_out(alloc, interface_case(sum_case(&interface)))?);
     Ok(())
 }
 

@@ -131,6 +131,17 @@ fn first_other(
     first_other_of(alloc, class.as_slice(), rows, status, start)
 }
 
+// The first one of the interface.
+fn first_other_of_interface(
+    alloc: Global,
+    rows: &[Row],
+    status: u8,
+    start: &str,
+) -> Result<Option<usize>, NoMemory> {
+    let interface = INTERFACE.bytes(alloc)?;
+    first_other_of(alloc, interface.as_slice(), rows, status, start)
+}
+
 #[test]
 fn other_versions_are_refused(rt: HostRuntime) -> Result<(), Fail> {
     let alloc = rt.alloc();
@@ -164,9 +175,8 @@ fn what_is_not_supported_is_refused(rt: HostRuntime) -> Result<(), Fail> {
     let alloc = rt.alloc();
     let start = "refused: unsupported M.class ";
     assert_eq!(rt; first_other(alloc, &UNSUPPORTED, 69, start)?, None);
-    let interface = INTERFACE.bytes(alloc)?;
     assert_eq!(rt;
-        first_other_of(alloc, interface.as_slice(), &OF_INTERFACES, 69, start)?,
+        first_other_of_interface(alloc, &OF_INTERFACES, 69, start)?,
         None
     );
     Ok(())
