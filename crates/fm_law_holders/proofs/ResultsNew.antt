@@ -61,7 +61,7 @@ use Rattle.fm_law_holders.proofs.SiteStates.{Any, LeavesBuilt, LeavesOne, Others
 use Rattle.fm_law_holders.proofs.SitesGive.{ArrayLeaves, behind_apart, ConstructorLeaves, count_of, FactoryLeaves, next_length, site_facts, SiteFacts, SiteLeaves}
 use Rattle.fm_law_holders.proofs.StepsBehind.{Begins, done_areas, EntersFirst, falls_frames, IsDoneTo, IsSame, own_begins, returns_frames, step_done}
 use Rattle.fm_law_holders.specs.Laws.{SitesGiveNew}
-use Rattle.fm_law_holders.specs.NewResults.{GoesOnBehind, HasNewResult, IsApart, IsDone, IsNew, IsReturnedTo, IsUnbuilt, KeepsBirths}
+use Rattle.fm_law_holders.specs.NewResults.{GoesOnBehind, HasNewResult, IsApart, IsDone, IsNew, IsReturnedTo, IsUnbuilt, KeepsObjects}
 use Rattle.fm_law_holders.specs.Uninitialised.{AreMadeIn, IsMadeAt, Made, ValueIsMade}
 
 -- ---- lists
@@ -178,8 +178,8 @@ module _ (p : Program) (facts : Facts) (exact : AreFacts p facts) (numbers : Hol
         result = result;
         below = below;
         frames_are = frames_are;
-        kept = subst (λ (a : Areas). KeepsBirths store a.store) (sym areas_are)
-            (λ cell object held. let now = extends.kept cell object held in (now.now, now.is, now.birth));
+        kept = subst (λ (a : Areas). KeepsObjects store a.store) (sym areas_are)
+            (λ cell object held. let now = extends.kept cell object held in (now.now, now.is, now.birth, now.fixed));
         new = subst (λ (a : Areas). IsNew y colour known f depth a.store (cell_of result)) (sym areas_are) new.new;
         apart = λ after after_is.
             subst (λ t. IsApart facts t (behind (result ∷ below)) (cell_of result)) (same_Some here.next after (sym here.next_is ∙ after_is)) apart;

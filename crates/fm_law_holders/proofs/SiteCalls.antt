@@ -1,14 +1,12 @@
 -- What the effects of calls that are sites give, where a built-in method is called and control goes on: the object that the step made, or nothing of a
 -- constructor.
-use Rattle.std.proofs.Common.{◌≡◌, ℕ, ◌+◌, ◌&&◌, not, Bool, true, false, List, [], ◌∷◌, length, map, Option, Some, None, codes, refl, sym, ◌∙◌, ap, subst, Contains}
+use Rattle.std.proofs.Common.{◌≡◌, ℕ, ◌+◌, ◌&&◌, not, Bool, true, List, [], ◌∷◌, length, map, Option, Some, None, codes, refl, sym, ◌∙◌, ap, subst, Contains}
 use Rattle.std.specs.Prelude.{nat_lt, option_map, option_to_list}
 use Rattle.std.specs.List.{list_any}
 use Rattle.std.proofs.lemmas.Bool.{false≢true, not-true}
 use Rattle.std.proofs.lemmas.Option.{none-some, same_Some}
 use Rattle.fm_base.proofs.TestFacts.{and_left, and_right}
 use Rattle.fm_base.specs.declared.ids.MethodId.{MethodId}
-use Rattle.fm_base.specs.declared.kinds.Kind.{Kind}
-use Rattle.fm_base.specs.declared.kinds.Kind.TheVariants as kind
 use Rattle.fm_base.specs.declared.kinds.TypeRef.{TypeRef}
 use Rattle.fm_code.specs.declared.code_array.Code.{Code}
 use Rattle.fm_code.specs.declared.instructions.Insn.{Insn}
@@ -16,7 +14,6 @@ use Rattle.fm_code.specs.declared.instructions.Insn.TheVariants as insn
 use Rattle.fm_conn.specs.Facts.{AreFacts, Facts}
 use Rattle.fm_conn.specs.Nodes.{TypedMethod}
 use Rattle.fm_conn.specs.Pairs.{call_of, call_with, use_at}
-use Rattle.fm_conn.specs.Rows.{is_reference_kind}
 use Rattle.fm_types.specs.CallRows.{is_constructor}
 use Rattle.fm_types.specs.Named.{class_of_method, result_of, result_words}
 use Rattle.fm_types.specs.States.{stack_slots}

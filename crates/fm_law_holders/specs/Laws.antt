@@ -1,9 +1,8 @@
 -- The laws that the functions of `laws` prove.
-use Rattle.std.specs.Prelude.{◌≡◌, ◌≢◌, ℕ, false, true, List, length, Some, None, is_some}
+use Rattle.std.specs.Prelude.{◌≡◌, ◌≢◌, ℕ, ◌+◌, true, List, ◌∷◌, length, Some, None, is_some, slice_get, slice_set}
 use Rattle.fm_cells.specs.Choices.{lawful}
-use Rattle.fm_cells.specs.Objects.{Object}
 use Rattle.fm_cells.specs.Soundness.{IsOrderly}
-use Rattle.fm_cells.specs.Stores.{object_at, Store}
+use Rattle.fm_cells.specs.Stores.{Store}
 use Rattle.fm_code.specs.declared.code_array.Code.{Code}
 use Rattle.fm_conn.specs.Facts.{AreFacts, Facts}
 use Rattle.fm_conn.specs.Links.{typed_method}
@@ -15,14 +14,16 @@ use Rattle.fm_frames.specs.Acts.{cell_of, Choose}
 use Rattle.fm_frames.specs.States.{Frame, State}
 use Rattle.fm_frames.specs.Steps.{step}
 use Rattle.fm_frames.specs.declared.values.Value.{Value}
+use Rattle.fm_place.specs.Insertions.{Holder, Insertions}
+use Rattle.fm_place.specs.Woven.{local_of}
 use Rattle.fm_place.specs.Sites.{is_captured_site, site_class, site_kind}
 use Rattle.fm_same.specs.Colours.{Colour, Coloured}
 use Rattle.fm_same.specs.Covering.{CoversAt}
 use Rattle.fm_same.specs.Resolved.{CallsNoFreeMe, IsResolved}
 use Rattle.fm_same.specs.Standing.{Stand}
 use Rattle.fm_law_sound.specs.Resolved.{StepsAreResolved}
-use Rattle.fm_law_holders.specs.Holding.{Holding, IsUnshared, MayFree}
-use Rattle.fm_law_holders.specs.NewResults.{GoesOnBehind, HasNewResult}
+use Rattle.fm_law_holders.specs.Holding.{HoldersHold, Holding, IsUnshared, MayFree}
+use Rattle.fm_law_holders.specs.NewResults.{frame_behind, GoesOnBehind, HasNewResult, KeepsObjects}
 use Rattle.fm_law_holders.specs.Uninitialised.{AreMade, AreMadeIn, FramesAreBelow, Made, made_after, ValueIsMade}
 use Rattle.fm_frames.specs.Runs.{Job, opening}
 use Rattle.fm_law_sound.specs.Making.{MakesAreResolved, MakesFew}
@@ -88,5 +89,21 @@ NewResultsAreUnheld =
     → (store : Store) → IsOrderly store → store.births ≡ x.areas.store.births
     → (class : ℕ) (v : Value) → Holding store colour (length callers) class v
     → ((birth : ℕ) → MayFree store v birth → IsUnshared facts x.areas.store known f birth)
-    → (object : Object) → object_at next.areas.store (cell_of h.result) ≡ Some object → object.fixed ≡ false
-    → MayFree store v object.birth → ⊥
+    → (birth : ℕ) → MayFree next.areas.store h.result birth → MayFree store v birth → ⊥
+
+-- So a holder that gets such a result in place of what it had keeps what holds of all holders of its frame, where that holds after the step of what they had
+-- before: the value that it gets leads to the result's object, or to nothing that may be freed.
+abbrev pub KeepingKeepsHolders : Type 0
+KeepingKeepsHolders =
+    (facts : Facts) (x next : State) (colour other : Colour) (made : Made) (known after : TypeState) (f : Frame) (callers : List Frame)
+    → (h : HasNewResult facts x next colour known f callers) → IsOrderly next.areas.store → AreMadeIn x.areas.store made known f
+    → state_at (facts.typing f.method) (f.item + 1) ≡ Some after
+    → (before later : Store) → IsOrderly before → IsOrderly later → before.births ≡ x.areas.store.births → KeepsObjects before later
+    → (code : Code) (plan : Insertions) (locals : List Value)
+    → HoldersHold facts colour x.areas.store known f (length callers) before code plan locals
+    → HoldersHold facts other next.areas.store after (frame_behind f (h.result ∷ h.below)) (length callers) later code plan locals
+    → length locals ≡ code.max_locals + length plan.holders
+    → (kept : ℕ) (holder : Holder) → slice_get plan.holders kept ≡ Some holder
+    → (w : Value) → Holding later other (length callers) holder.class w
+    → ((birth : ℕ) → MayFree later w birth → MayFree next.areas.store h.result birth)
+    → HoldersHold facts other next.areas.store after (frame_behind f (h.result ∷ h.below)) (length callers) later code plan (slice_set locals (local_of code kept) w)

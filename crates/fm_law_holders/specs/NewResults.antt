@@ -56,16 +56,21 @@ pub data IsNew (x : State) (colour : Colour) (known : TypeState) (f : Frame) (de
   IsBuilt : IsUnbuilt known f cell → IsNew x colour known f depth later cell
 
 -- each object that is held stays in its cell
-abbrev pub KeepsBirths : (store later : Store) → Type 0
-KeepsBirths store later =
-    (cell : ℕ) (object : Object) → object_at store cell ≡ Some object → (now : Object) × (object_at later cell ≡ Some now) × (now.birth ≡ object.birth)
+abbrev pub KeepsObjects : (store later : Store) → Type 0
+KeepsObjects store later =
+    (cell : ℕ) (object : Object) → object_at store cell ≡ Some object
+    → (now : Object) × (object_at later cell ≡ Some now) × (now.birth ≡ object.birth) × (now.fixed ≡ object.fixed)
+
+-- the frame, with this stack, at the item behind its own
+abbrev pub frame_behind : Frame → List Value → Frame
+frame_behind f stack = record f { item = f.item + 1; stack = stack }
 
 -- the next state has the frame behind its item, with a new result on top, and nothing live of the frame that isn't initialised leads to that
 pub record HasNewResult (facts : Facts) (x next : State) (colour : Colour) (known : TypeState) (f : Frame) (callers : List Frame) : Type 0 where
   pub result : Value
   pub below : List Value
-  pub frames_are : next.frames ≡ record f { item = f.item + 1; stack = result ∷ below } ∷ callers
-  pub kept : KeepsBirths x.areas.store next.areas.store
+  pub frames_are : next.frames ≡ frame_behind f (result ∷ below) ∷ callers
+  pub kept : KeepsObjects x.areas.store next.areas.store
   pub new : IsNew x colour known f (length callers) next.areas.store (cell_of result)
   pub apart : (after : TypeState) → state_at (facts.typing f.method) (f.item + 1) ≡ Some after
-      → IsApart facts after (record f { item = f.item + 1; stack = result ∷ below }) (cell_of result)
+      → IsApart facts after (frame_behind f (result ∷ below)) (cell_of result)

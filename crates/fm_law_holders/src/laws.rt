@@ -13,9 +13,11 @@ pub fn law_uninitialised()
 {}
 
 /// Behind a site of a method the next state has a new result on top: null, what lives for ever, or an object that no
-/// holder of the frame has; and where the site is captured, it has the region of the site's class.
+/// holder of the frame has; and where the site is captured, it has the region of the site's class. So where a holder
+/// gets it, no two holders of the frame have one object that may be freed.
 pub fn law_new_results()
     ensures new { law.SitesGiveNew }
     ensures own { law.KeptResultsAreOwn }
     ensures unheld { law.NewResultsAreUnheld }
+    ensures keeping { law.KeepingKeepsHolders }
 {}
