@@ -55,10 +55,6 @@ table_listed : all_listed 0 natives ≡ true
 unfolding native_links built_in methods_of chain_of
 table_listed = refl
 
-second_holds : (a b : Bool) → (not a || b) ≡ true → a ≡ true → b ≡ true
-second_holds true b either first = either
-second_holds false b either first = absurd (false≢true first)
-
 listed_at : (k : ℕ) (rows : List Native) (n : ℕ) (row : Native) → all_listed k rows ≡ true → slice_get rows n ≡ Some row → gives_operand row ≡ true
     → list_any (is_listed (k + n)) native_links ≡ true
 listed_at k [] n row all at is = absurd (cc)
@@ -66,7 +62,7 @@ listed_at k (first ∷ rows) zero row all at is =
     let parts = and_parts (not (gives_operand first) || list_any (is_listed k) native_links) (all_listed (suc k) rows) all in
     let here : k + 0 ≡ k = omega arith in
     ap (λ i. list_any (is_listed i) native_links) here
-    ∙ second_holds (gives_operand first) (list_any (is_listed k) native_links) parts.0 (ap gives_operand (same_Some first row at) ∙ is)
+    ∙ sym (ap (λ operand. not operand || list_any (is_listed k) native_links) (ap gives_operand (same_Some first row at) ∙ is)) ∙ parts.0
 listed_at k (first ∷ rows) (suc n) row all at is =
     let parts = and_parts (not (gives_operand first) || list_any (is_listed k) native_links) (all_listed (suc k) rows) all in
     let there : k + suc n ≡ suc k + n = omega arith in

@@ -47,7 +47,7 @@ use Rattle.fm_same.proofs.TargetMethods.{target_alike}
 use Rattle.fm_same.specs.Covering.{CallsNative, CoversTargets, MeetsTarget}
 use Rattle.fm_same.specs.Standing.{method_of}
 use Rattle.fm_law_holders.proofs.OldResults.{row_gives_new}
-use Rattle.fm_law_holders.proofs.SiteStates.{result_one}
+use Rattle.fm_law_holders.proofs.SiteStates.{reference_slots}
 use Rattle.fm_law_holders.proofs.SiteEffects.{first_made, gives_fault, gives_stuck, gives_thrown, GivesJust, native_gives_nothing, native_makes}
 
 -- ---- all that a call leads to
@@ -200,7 +200,7 @@ module _ (p : Program) (facts : Facts) (exact : AreFacts p facts) (ready : Calls
       let result : native_result row ≡ reference ∷ [] =
       sym (has_row p ready target row is).result
       ∙ ap (map plain)
-      (ap (λ r. stack_slots (option_to_list r)) (same_result p c.call target c.among) ∙ (result_one p.outline c.call.method.0 new.reference).1) in
+      (ap (λ r. stack_slots (option_to_list r)) (same_result p c.call target c.among) ∙ (reference_slots (result_of p.outline c.call.method.0) new.reference).1) in
       native_makes p.outline byte s row result
       (row_gives_new p facts exact target (new.new target c.among) row c.number c.number_is c.row_is c.ends)
 

@@ -167,22 +167,20 @@ received_reference facts x c is =
     let none_old = not (list_any (may_give_old x.program.outline facts) (targets x.program c)) in
     and_left (has_reference_result x.program.outline c.method.0) some (and_left (has_reference_result x.program.outline c.method.0 && some) none_old is)
 
-pub result_one : (o : Outline) (m : ℕ) → has_reference_result o m ≡ true → (t : TypeRef) × (result_words o m ≡ slot.Ref t ∷ [])
-result_one o m is = by_result (result_of o m) refl is where
+-- a result that is a reference is one word
+pub reference_slots : (r : Option Kind) → (elim r as (λ _. Bool) [ None ↦ false | Some k ↦ is_reference_kind k ]) ≡ true
+    → (t : TypeRef) × (stack_slots (option_to_list r) ≡ slot.Ref t ∷ [])
+reference_slots None is = absurd (false≢true is)
+reference_slots (Some k) is = by_kind k is where
   by_kind : (k : Kind) → is_reference_kind k ≡ true → (t : TypeRef) × (stack_slots (k ∷ []) ≡ slot.Ref t ∷ [])
   by_kind (kind.Ref t) is = (t, refl)
   by_kind k is = absurd (false≢true is)
-
-  by_result : (r : Option Kind) → result_of o m ≡ r
-      → (elim r as (λ _. Bool) [ None ↦ false | Some k ↦ is_reference_kind k ]) ≡ true → (t : TypeRef) × (stack_slots (option_to_list r) ≡ slot.Ref t ∷ [])
-  by_result None at is = absurd (false≢true is)
-  by_result (Some k) at is = by_kind k is
 
 -- a call's row, where the result is a reference
 result_leaves : (o : Outline) (m : ℕ) (wanted : List Slot) (s after : TypeState) → has_reference_result o m ≡ true
     → worked o wanted (result_words o m) s ≡ Some after → LeavesOne s after (length wanted)
 result_leaves o m wanted s after has row =
-    let result = result_one o m has in worked_leaves o wanted result.0 s after (ap (λ g. worked o wanted g s) (sym result.1) ∙ row)
+    let result = reference_slots (result_of o m) has in worked_leaves o wanted result.0 s after (ap (λ g. worked o wanted g s) (sym result.1) ∙ row)
 
 abbrev with_receiver : Outline → ℕ → TypeRef → List Slot
 with_receiver o m t = argument_words o m ++ slot.Ref t ∷ []
@@ -252,7 +250,7 @@ module _ (facts : Facts) (x : TypedMethod) (item : ℕ) (news : ℕ → Option T
   no_constructor m has false is = refl
   no_constructor m has true is =
       let none : result_words o m ≡ [] = ap (λ r. stack_slots (option_to_list r)) (constructors m is) in
-      let some = (result_one o m has).1 in
+      let some = (reference_slots (result_of o m) has).1 in
       absurd (cc (none, some))
 
   otherwise : (b : Bool) (one other : Option TypeState) → b ≡ false → cond b one other ≡ Some after → other ≡ Some after
@@ -390,10 +388,6 @@ module _ (x : TypedMethod) (j : ℕ) (s : TypeState) (at : state_at x.states j �
         let parts = option_and_then-some (of_rest named) (taken oo (argument_words oo m) s.stack) after row in
         with_stack m named after parts.0 doubled parts.1 parts.2
 
-chosen : (b : Bool) (one other : Option TypeState) (after : TypeState) → b ≡ true → cond b one other ≡ Some after → one ≡ Some after
-chosen true one other after is row = row
-chosen false one other after is row = absurd (false≢true is)
-
 -- a constructor of a new object that the caller keeps
 pub constructor_leaves : (x : TypedMethod) (j : ℕ) (news : ℕ → Option TypeRef) (s after : TypeState) (i : Insn)
     → ((m : MethodId) (t : TypeId) (static : Bool) → use_at x i ≡ resolved.OfMethod m t → static_method_wanted i ≡ Some static
@@ -405,11 +399,10 @@ constructor_leaves x j news s after (insn.Special index) flagged at both row =
     let o : Outline = x.program.outline in
     let i : Insn = insn.Special index in
     let u : Use = use_at x i in
-    let f = found_by o u
-    (λ m named. cond (is_constructor o m) (constructor_called o x.number news m named s)
-    (cond (is_initializer o m) None
+    let otherwise_row : ℕ → TypeRef → Option TypeState = λ m named. cond (is_initializer o m) None
     (cond (names_own_or_above o (class_of_method o x.number) named)
-    (worked o (with_receiver o m (type_of_class (class_of_method o x.number))) (result_words o m) s) None))) after row in
+    (worked o (with_receiver o m (type_of_class (class_of_method o x.number))) (result_words o m) s) None) in
+    let f = found_by o u (λ m named. cond (is_constructor o m) (constructor_called o x.number news m named s) (otherwise_row m named)) after row in
     let names : names_constructor o u ≡ true = and_left (names_constructor o u) (is_doubled x j (depth_at x j - words_taken o u i)) both in
     let doubled : is_doubled x j (depth_at x j - words_taken o u i) ≡ true =
     and_right (names_constructor o u) (is_doubled x j (depth_at x j - words_taken o u i)) both in
@@ -421,5 +414,5 @@ constructor_leaves x j news s after (insn.Special index) flagged at both row =
     sym (λ k. is_doubled x j (deep k - words k)) ∙ doubled in
     subst (LeavesBuilt s after) (sym words)
     (called_leaves x j s at x.number news f.m.0 f.named after under
-    (chosen (is_constructor o f.m.0) (constructor_called o x.number news f.m.0 f.named s) _ after constructor f.row))
+    (sym (ap (λ b. cond b (constructor_called o x.number news f.m.0 f.named s) (otherwise_row f.m.0 f.named)) constructor) ∙ f.row))
 constructor_leaves x j news s after i flagged at both row = absurd (false≢true both)
