@@ -11,7 +11,6 @@ use Rattle.fm_cells.specs.Stores.{live_words}
 use Rattle.fm_code.specs.declared.instructions.Insn.{Insn}
 use Rattle.fm_code.specs.declared.instructions.Insn.TheVariants as insn
 use Rattle.fm_exec_nests.proofs.CostSteps.{cost-at, cost-cheap, cost-none, nest-alone, nest-insn}
-use Rattle.fm_exec_nests.proofs.NestRows.{magnitudes}
 use Rattle.fm_exec_nests.specs.inner.Costs.{nest_of}
 use Rattle.fm_exec_nests.specs.inner.Nests.{nest_effect}
 use Rattle.fm_frames.proofs.StepCounts.{step_going}
@@ -29,6 +28,7 @@ use Rattle.fm_frames.specs.declared.ends.Ended.TheVariants as end
 use Rattle.fm_law_same_runs.proofs.Costs.{end_counts, is_counted, steps_rise}
 use Rattle.fm_law_same_runs.specs.Programs as programs
 use Rattle.fm_law_sound.proofs.Cases.{by_on_type}
+use Rattle.fm_law_sound.proofs.InsnActs.{magnitudes}
 use Rattle.fm_types.specs.Typed.{use_in}
 use Rattle.fm_world.specs.Programs.{Outline, Program}
 use Rattle.fm_world.specs.declared.uses.Use.{Use}
