@@ -22,9 +22,9 @@ pub fn law_taken()
     law_linking();
 }
 
-/// Where another program does the same as a linked one, step for matched step, whole runs of both on
-/// memory that reuses cells end the same, or the other one lacks steps or words; so it is of the classes
-/// written, once their steps are matched.
+/// Where another program does the same as a linked and typed one, step for matched step, whole runs of
+/// both on memory that reuses cells end the same, or the other one lacks steps or words; so it is of the
+/// classes written, once their steps are matched.
 pub fn law_two_programs()
     ensures same { SameProgramsEndTheSame }
     ensures matched { MatchedStepsGiveEnds }
@@ -35,8 +35,8 @@ pub fn law_two_programs()
     law_linked_no_fault();
 }
 
-/// Runs that keep pace, where words are balanced and the first one has no fault, go together; at matched
-/// states words are balanced, and the second run has no fault.
+/// Runs that keep pace, where few inserted steps follow one another, words are balanced and the first one
+/// has no fault, go together; at matched states words are balanced, and the second run has no fault.
 pub fn law_in_step()
     ensures { RunsInStepDoAlike }
 {}

@@ -4,7 +4,7 @@ ghost use Rattle.fm_law_holders.specs.Laws as law;
 
 /// Each place that the checker has for the object of a `new` leads to an object that was made at the item of
 /// this `new`: at the opening, and after each step of a program that calls no FreeMe, whatever the memory
-/// chooses. So the objects of two items are never one, and a live one has no own region of a frame above.
+/// chooses, unless the step makes an object of more than 2^27 words. So the objects of two items are never one, and a live one has no own region of a frame above.
 pub fn law_uninitialised()
     ensures opening { law.OpeningIsMade }
     ensures steps { law.StepsKeepMade }

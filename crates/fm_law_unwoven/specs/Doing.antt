@@ -67,7 +67,7 @@ all_steps_to (t ∷ todos) = steps_to t + all_steps_to todos
 
 -- ---- what is required
 
--- what is kept is a reference, and what is freed is held by a holder that is one
+-- there is a word to keep, what is freed is a reference, and the holder's local is there
 abbrev pub MayDo : Code → List Value → List Value → Todo → Type 0
 MayDo old stack locals (ToStart h) = local_of old h < length locals
 MayDo old stack locals (ToKeep h) = (0 < length stack) × (local_of old h < length locals)
@@ -80,7 +80,7 @@ MayDoAll old stack locals (t ∷ todos) = MayDo old stack locals t × MayDoAll o
 
 -- ---- what comes of it
 
--- the topmost frame of a state that goes on
+-- the state with these frames, which goes on
 abbrev pub with_frame : State → Frame → List Frame → State
 with_frame y f callers = record y { frames = f ∷ callers; ended = None }
 

@@ -32,7 +32,7 @@ insns_to free old (ToFree h) = insn.Load reg.Ref (local_of old h) ∷ insn.Stati
 abbrev pub all_insns_to : (free : ℕ) → Code → List Todo → List Insn
 all_insns_to free old todos = flat_map (insns_to free old) todos
 
--- all that is done at the start, after an old item, and before one
+-- each holder becomes null at the start
 abbrev pub starts_of : Insertions → List Todo
 starts_of plan = map ToStart (range_with_len 0 (length plan.holders))
 

@@ -42,7 +42,7 @@ AreCleared p facts plans marks frames = AllByRecursion (IsCleared p facts plans 
 
 -- ---- from one kept item to the next
 
--- Few inserted steps lead to a state at a kept item, or to the step that ends the run at a cell that is to be freed and isn't held; or the run has ended.
+-- Few inserted steps lead to a state at a kept item, or to an inserted step that ends the run; or the run has ended.
 pub data ComesToKept (p q : Program) (facts : Facts) (plans : Plans) (marks : Marks) (choose : Choose) (y : State) : Type 0 where
   Kept : (count : ℕ) (z : State) → count ≤ most_inserted_steps p q → IsPassed q marks choose count y z → z.ended ≡ None → IsAtKept p q facts plans marks z
       → ComesToKept p q facts plans marks choose y

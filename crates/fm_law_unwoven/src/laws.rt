@@ -23,8 +23,8 @@ pub fn law_woven()
     law_resolved();
 }
 
-/// The effect of an instruction doesn't look at where its targets lead, and uses no locals and targets but
-/// those that the instruction names; the opposite of a branch goes where the branch doesn't.
+/// The effect of an instruction doesn't look at where its targets lead, and uses no local and no target
+/// behind those that the instruction names; the opposite of a branch goes where the branch doesn't.
 pub fn law_unseen_code()
     ensures targets { TargetsAreUnseen }
     ensures opposites { OppositesExchange }
