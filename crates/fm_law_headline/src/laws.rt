@@ -35,8 +35,8 @@ pub fn law_two_programs()
     law_linked_no_fault();
 }
 
-/// Runs that keep pace, where few inserted steps follow one another, words are balanced and the first one
-/// has no fault, go together; at matched states words are balanced, and the second run has no fault.
+/// Runs that keep pace, where few inserted steps follow one another and words are balanced, go together;
+/// at matched states words are balanced, and the second run has no fault.
 pub fn law_in_step()
     ensures { RunsInStepDoAlike }
 {}
