@@ -54,9 +54,9 @@ pub record AreTakenAgain (given : List ClassDef) (main : List ℕ) (made : Rewri
       → AreTyped (program_of made.classes.items main)
 
 -- Its class files make a program of typed methods that calls no FreeMe, and these are its classes
--- with a holder for each held site that is freed at all places of its class, with the counts of
--- each; no pool of them is full, and no method too long. The bytes of each class spell it, it is of
--- the profile, and all of them are taken again.
+-- with a holder for each held site that is freed at all its places, where it may hold something and
+-- its class isn't busy, with the counts of each; no pool of them is full, and no method too long.
+-- The bytes of each class spell it, it is of the profile, and all of them are taken again.
 pub record AreFreed (job : FreemeJob) (contents : Contents) (made : Rewritten) : Type 0 where
   pub classes : List ClassDef
   pub checked : AreChecked (given_of job) contents classes
