@@ -1,0 +1,13 @@
+package java.lang;
+
+/** What is built in of this class, for the compiler alone: the bodies do nothing. */
+public class Object {
+    public Object() {
+    }
+
+    public native int hashCode();
+
+    public native boolean equals(Object other);
+
+    public native String toString();
+}

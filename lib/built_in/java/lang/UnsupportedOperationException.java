@@ -1,0 +1,10 @@
+package java.lang;
+
+/** What is built in of this class, for the compiler alone: the bodies do nothing. */
+public class UnsupportedOperationException extends RuntimeException {
+    public UnsupportedOperationException() {
+    }
+
+    public UnsupportedOperationException(String message) {
+    }
+}

@@ -1,0 +1,16 @@
+package java.lang;
+
+/** A sequence of chars. The built-in texts and builders aren't of these yet. */
+public interface CharSequence {
+    /** Returns the number of chars. */
+    int length();
+
+    /** Returns the char at an index. */
+    char charAt(int index);
+
+    /** Returns the chars from {@code start} to before {@code end}. */
+    CharSequence subSequence(int start, int end);
+
+    /** Returns the chars as a text. */
+    String toString();
+}

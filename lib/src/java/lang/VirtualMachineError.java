@@ -1,0 +1,13 @@
+package java.lang;
+
+/** The machine is broken or has no room. */
+public class VirtualMachineError extends Error {
+    /** Makes one without a message, in constant time. */
+    public VirtualMachineError() {
+    }
+
+    /** Makes one with a message, in constant time. */
+    public VirtualMachineError(String message) {
+        super(message);
+    }
+}

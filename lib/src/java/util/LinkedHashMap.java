@@ -1,0 +1,92 @@
+package java.util;
+
+/**
+ * A hash map whose keys come in the order in which they were put first. (An order by use would need a constructor with a float.)
+ *
+ * <p>What stays is what stays of a HashMap.
+ */
+public class LinkedHashMap<K, V> extends HashMap<K, V> {
+    private Linked<K, V> eldest;
+    private Linked<K, V> youngest;
+
+    /** Makes an empty map with room for twelve keys, in constant time. */
+    public LinkedHashMap() {
+    }
+
+    /** Makes an empty map with a table of at least {@code capacity} places, in constant time. */
+    public LinkedHashMap(int capacity) {
+        super(capacity);
+    }
+
+    /** Makes a map of the keys and values of another one, in linear time. */
+    public LinkedHashMap(Map<? extends K, ? extends V> others) {
+        putAll(others);
+    }
+
+    /** An entry between those that were put before and after it. */
+    static final class Linked<K, V> extends HashMap.Node<K, V> {
+        Linked<K, V> before;
+        Linked<K, V> behind;
+
+        Linked(int hash, K key, V value) {
+            super(hash, key, value);
+        }
+    }
+
+    HashMap.Node<K, V> node(int hash, K key, V value) {
+        Linked<K, V> made = new Linked<K, V>(hash, key, value);
+        made.before = youngest;
+        if (youngest == null) {
+            eldest = made;
+        } else {
+            youngest.behind = made;
+        }
+        youngest = made;
+        return made;
+    }
+
+    void added(HashMap.Node<K, V> node) {
+        if (removeEldestEntry(eldest)) {
+            unlink(eldest);
+        }
+    }
+
+    void removed(HashMap.Node<K, V> node) {
+        Linked<K, V> linked = (Linked<K, V>) node;
+        if (linked.before == null) {
+            eldest = linked.behind;
+        } else {
+            linked.before.behind = linked.behind;
+        }
+        if (linked.behind == null) {
+            youngest = linked.before;
+        } else {
+            linked.behind.before = linked.before;
+        }
+    }
+
+    HashMap.Node<K, V> first() {
+        return eldest;
+    }
+
+    HashMap.Node<K, V> after(HashMap.Node<K, V> node) {
+        return ((Linked<K, V>) node).behind;
+    }
+
+    /** Is asked once a key was added whether the eldest one is to be removed: no, but a class below may say yes. Constant time. */
+    protected boolean removeEldestEntry(Map.Entry<K, V> eldest) {
+        return false;
+    }
+
+    /** Removes all keys, in the time of the table, which keeps its length. */
+    public void clear() {
+        super.clear();
+        eldest = null;
+        youngest = null;
+    }
+
+    /** Makes a map of the same keys and values in the same order, in linear time. */
+    public Object clone() {
+        return new LinkedHashMap<K, V>(this);
+    }
+}
