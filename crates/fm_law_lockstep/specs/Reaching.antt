@@ -1,0 +1,19 @@
+-- What the first run reaches is the same in the second one, under other cells (JVMS 2.7).
+use Rattle.std.specs.Prelude.{◌≡◌, ℕ, Some, slice_get}
+use Rattle.fm_conn.specs.Facts.{Facts}
+use Rattle.fm_frames.specs.States.{State}
+use Rattle.fm_frames.specs.declared.values.Value.{Value}
+use Rattle.fm_law_same_runs.specs.Beside.{Beside}
+use Rattle.fm_law_same_runs.specs.Renaming.{AreRenamed}
+use Rattle.fm_same.specs.DeadRegions.{IsRoot, LeadsTo}
+use Rattle.fm_world.specs.Programs.{Outline}
+
+-- neither a live local nor a word of the stack of any frame, nor a static field, leads to the object of that birth
+pub record IsUnreached (o : Outline) (facts : Facts) (x : State) (birth : ℕ) : Type 0 where
+  pub no_root : (v : Value) → IsRoot facts x.frames v → ¬ LeadsTo o x.areas.store v birth
+  pub no_static : (slot : ℕ) (v : Value) → slice_get x.areas.statics slot ≡ Some v → ¬ LeadsTo o x.areas.store v birth
+
+-- what is reached in the k-th state of the first run is the same in the l-th of the second one, under other cells
+abbrev pub ReachedIsRenamed : Facts → Beside → (k l : ℕ) → Type 0
+ReachedIsRenamed facts r k l =
+    AreRenamed r.one.outline facts (IsUnreached r.one.outline facts (r.xs k).state) (r.xs k).state (r.ys l).state
