@@ -155,7 +155,11 @@ module _ (o : Outline) (facts : Facts) (R S : ℕ → Type 0) (weaker : (birth :
 pub together_is_renamed : TogetherIsRenamed
 together_is_renamed b x y t =
     renamed_weaker b.one.outline b.facts (λ birth. t.gone.births birth ≡ true) (IsUnreached b.one.outline b.facts x)
-    (λ birth lost. record { no_root = (dead birth lost).no_root; no_static = (dead birth lost).no_static }) x y
+    (λ birth lost. record {
+      not_fixed = λ cell object held born. t.paired.areas.store.loose cell object held (ap t.gone.births born ∙ lost);
+      no_root = (dead birth lost).no_root;
+      no_static = (dead birth lost).no_static;
+    }) x y
     (record {
       objects = object_there b.one.outline t.gone x.areas.store y.areas.store t.paired.areas.store;
       apart = twins_apart b.one.outline t.gone x.areas.store y.areas.store t.paired.areas.store;

@@ -1,5 +1,7 @@
 -- What the first run reaches is the same in the second one, under other cells (JVMS 2.7).
-use Rattle.std.specs.Prelude.{◌≡◌, ℕ, Some, slice_get}
+use Rattle.std.specs.Prelude.{◌≡◌, ℕ, false, Some, slice_get}
+use Rattle.fm_cells.specs.Objects.{Object}
+use Rattle.fm_cells.specs.Stores.{object_at}
 use Rattle.fm_conn.specs.Facts.{Facts}
 use Rattle.fm_frames.specs.States.{State}
 use Rattle.fm_frames.specs.declared.values.Value.{Value}
@@ -8,8 +10,9 @@ use Rattle.fm_law_same_runs.specs.Renaming.{AreRenamed}
 use Rattle.fm_same.specs.DeadRegions.{IsRoot, LeadsTo}
 use Rattle.fm_world.specs.Programs.{Outline}
 
--- neither a live local nor a word of the stack of any frame, nor a static field, leads to the object of that birth
+-- the object of that birth doesn't live for ever, and neither a live local nor a word of the stack of any frame, nor a static field, leads to it
 pub record IsUnreached (o : Outline) (facts : Facts) (x : State) (birth : ℕ) : Type 0 where
+  pub not_fixed : (cell : ℕ) (object : Object) → object_at x.areas.store cell ≡ Some object → object.birth ≡ birth → object.fixed ≡ false
   pub no_root : (v : Value) → IsRoot facts x.frames v → ¬ LeadsTo o x.areas.store v birth
   pub no_static : (slot : ℕ) (v : Value) → slice_get x.areas.statics slot ≡ Some v → ¬ LeadsTo o x.areas.store v birth
 
