@@ -1,7 +1,7 @@
 -- Each step of both programs goes on together.
-use Rattle.std.proofs.Common.{◌≡◌, ◌+◌, ◌<◌, true, false, None, Some, refl, sym, subst, ◌∙◌, arith}
+use Rattle.std.proofs.Common.{◌≡◌, ◌+◌, ◌*◌, ◌<◌, true, false, None, Some, refl, sym, subst, ◌∙◌, arith}
 use Rattle.std.proofs.lemmas.Option.{same_Some}
-use Rattle.fm_base.specs.declared.limits.TheConstants.{MAX_LIVE_WORDS, MAX_MADE_WORDS}
+use Rattle.fm_base.specs.declared.limits.TheConstants.{MAX_MADE_WORDS}
 use Rattle.fm_cells.specs.Choices.{lawful}
 use Rattle.fm_frames.specs.Acts.{Choose}
 use Rattle.fm_frames.specs.States.{Moved, State}
@@ -70,7 +70,7 @@ module _ (b : Both) (from : IsWovenFrom b.one b.other b.facts b.plans b.marks) (
       let own = t.limits.budget in
       let theirs = t.limits.other_budget in omega (arith, less, own, theirs)
 
-  little_room : IsTooSmall t.gone y.areas.store.limit x.areas.store.budget y.areas.store.budget → MAX_LIVE_WORDS < b.words
+  little_room : IsTooSmall t.gone y.areas.store.limit x.areas.store.budget y.areas.store.budget → MAX_MADE_WORDS < 2 * b.words
   little_room small =
       let limit : small.0 ≡ MAX_MADE_WORDS = same_Some small.0 MAX_MADE_WORDS (sym small.1 ∙ t.limits.limited) in
       let own = t.limits.budget in

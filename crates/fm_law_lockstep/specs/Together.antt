@@ -1,6 +1,6 @@
 -- The lockstep: a program on memory that is never reused and its form with insertions on memory that reuses cells go together from kept item to kept item.
-use Rattle.std.specs.Prelude.{◌≡◌, ℕ, ◌+◌, ◌<◌, ◌≤◌, true, List, [], None, Some}
-use Rattle.fm_base.specs.declared.limits.TheConstants.{MAX_LIVE_WORDS, MAX_MADE_WORDS}
+use Rattle.std.specs.Prelude.{◌≡◌, ℕ, ◌+◌, ◌*◌, ◌<◌, ◌≤◌, true, List, [], None, Some}
+use Rattle.fm_base.specs.declared.limits.TheConstants.{MAX_MADE_WORDS}
 use Rattle.fm_cells.specs.Choices.{lawful}
 use Rattle.fm_cells.specs.Stores.{live_words, opened, Store}
 use Rattle.fm_frames.specs.Acts.{Choose}
@@ -54,10 +54,10 @@ pub record GoTogetherAt (b : Both) (x y : State) : Type 0 where
 
 -- ---- how they go on
 
--- the second run ends for want of words, of which the first one may have more, or of room, where the first one may have more than fit twice
+-- the second run ends for want of words, of which the first one may have more, or of room, where not all words of the first budget fit twice
 pub data IsWantOf (b : Both) (e : Ended) : Type 0 where
   OfWords : (live needed : ℕ) → e ≡ end.Exhausted live needed → b.other_words < b.words → IsWantOf b e
-  OfRoom : (made needed : ℕ) → e ≡ end.StoreFull made needed → MAX_LIVE_WORDS < b.words → IsWantOf b e
+  OfRoom : (made needed : ℕ) → e ≡ end.StoreFull made needed → MAX_MADE_WORDS < 2 * b.words → IsWantOf b e
 
 -- few inserted steps, each of which costs 1, lead the second run to a state that goes together with this one of the first
 pub record CatchesUpAt (b : Both) (second : Choose) (x y : State) : Type 0 where

@@ -221,7 +221,14 @@ module _ (b : Beside) (first second : Choose) (by_steps : GoBySteps b first seco
       (abreast_first b first second first_goes second_goes IsPace paces.paces by_steps.first_steps by_steps.second_steps c)
   opening_stage (OpensAtEnd e ended other_ended printed faultless) =
       AtEnd e ended faultless
-      (record { l = 0; reached = λ j less. absurd (omega (arith, less)); ended = other_ended; printed = printed; cost = sym by_steps.first_steps })
+      (record {
+        l = 0;
+        reached = λ j less. absurd (omega (arith, less));
+        ended = other_ended;
+        printed = printed;
+        number = refl;
+        cost = sym by_steps.first_steps;
+      })
   opening_stage (OpensInWant e ended want printed) = InWant
       (record {
         l = 0;
@@ -263,6 +270,7 @@ module _ (b : Beside) (first second : Choose) (by_steps : GoBySteps b first seco
         reached = reached_next b first second first_goes second_goes k l (paces.paces k l pace) abreast reaches;
         ended = other_ended;
         printed = printed;
+        number = number_next b.marks b.ys l true (paces.paces k l pace).kept ∙ (let here = abreast.number in omega (arith, here));
         cost =
             kept_next b.marks b.ys l true (paces.paces k l pace).kept
             ∙ ap (λ n. n + ((b.ys (suc l)).state.steps - (b.ys l).state.steps)) abreast.done
@@ -307,7 +315,8 @@ module _ (b : Beside) (first second : Choose) (by_steps : GoBySteps b first seco
       from : Stage b IsPace k → EndedBefore b k ⊎ HasMatch b k
       from (InPace l pace abreast) =
           let matched : AreMatched b k l = as_matched b first second first_goes second_goes k l reaches (paces.paces k l pace) abreast in
-          inr (record { l = l; matched = matched; once = λ m stands. matches_are_one b second second_goes k m l stands matched.stands })
+          inr
+          (record { l = l; matched = matched; number = abreast.number; once = λ m stands. matches_are_one b second second_goes k m l stands matched.stands })
       from (InWant before) = inl before
       from (AtEnd e ended faultless alike) = absurd (none-some e (sym going ∙ ended))
 
@@ -322,6 +331,7 @@ module _ (b : Beside) (first second : Choose) (by_steps : GoBySteps b first seco
             reached = alike.reached;
             ended = alike.ended ∙ sym is ∙ ended;
             printed = alike.printed;
+            number = alike.number;
             cost = alike.cost;
           })
 
