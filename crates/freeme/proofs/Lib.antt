@@ -8,3 +8,4 @@ pub mod WriteLemmas
 pub mod WrittenLemmas
 pub mod TakenAgain
 pub mod TextLemmas
+pub mod MeaningLemmas

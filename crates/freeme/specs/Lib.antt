@@ -4,3 +4,4 @@ pub mod Refusal
 pub mod Writing
 pub mod TopCall
 pub mod Causes
+pub mod Meaning
