@@ -1,4 +1,5 @@
 pub mod CauseLemmas
+pub mod CompleteLemmas
 pub mod FreeingLemmas
 pub mod JobLemmas
 pub mod StatusLemmas

@@ -4,6 +4,7 @@ ghost use Rattle.fm_cli.specs.Line.{Tells};
 ghost use Rattle.fm_cli.specs.Words.{texts};
 ghost use Rattle.fm_cli.specs.declared.status.TheConstants.{MALFORMED, UNSUPPORTED, VERSION};
 ghost use Rattle.freeme.specs.Causes.{ChangesOnly, IsFaultless, IsForBytes, IsForCheck, IsForDone, IsForLimit, IsForLink, IsForMemory, IsForRead, IsForRewrite, IsForText, IsForWords, IsForWrite, IsStatus, KeepsContents};
+ghost use Rattle.freeme.specs.Complete.{IsComplete};
 ghost use Rattle.fm_cli_requests.specs.FreemeRequest.{job_of};
 ghost use Rattle.freeme.specs.Meaning.{KeepsMeaning};
 ghost use Rattle.freeme.specs.TopCall.{ComesOf, ComesTo, IsTopCall, StaysWithin, outcome_line, outcome_status};
@@ -70,6 +71,10 @@ pub fn freeme_run<F: Files, S: Sink>(
     ensures write { IsForWrite (texts words.now)
         (F.disk files.old) (F.disk files.new) (S.output out.old) (S.output out.new) result }
     ensures memory { IsForMemory (texts words.now)
+        (F.disk files.old) (F.disk files.new) (S.output out.old) (S.output out.new) result }
+
+    // Where nothing is against a job and nothing fails, it is done, or memory can't be had.
+    ensures complete { IsComplete (texts words.now)
         (F.disk files.old) (F.disk files.new) (S.output out.old) (S.output out.new) result }
 
     // What fails and what changes.
