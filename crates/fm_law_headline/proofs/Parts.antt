@@ -11,13 +11,13 @@ use Rattle.fm_law_can_step.specs.Ready.{CanRun}
 use Rattle.fm_law_cells_made.specs.MostHeld.{MadeIsMostHeld}
 use Rattle.fm_law_headline.specs.Alike.{SafeClassesDoAlike}
 use Rattle.fm_law_headline.specs.Headline.{ClassesDoTheSame}
-use Rattle.fm_law_headline.specs.Parts.{PartsMakeTheWhole}
+use Rattle.fm_law_headline.specs.Parts.{ClassesDoTheSameRenamed}
 use Rattle.fm_law_headline.specs.Renamed.{SafeClassesAreRenamed}
 use Rattle.fm_law_headline.specs.WholeRuns.{MatchedStepsGiveEnds}
 use Rattle.fm_law_linked.specs.Laws.{ProgramsCanRun}
 use Rattle.fm_law_relinked.specs.Again.{SafeClassesLink}
 use Rattle.fm_law_same_runs.specs.Beside.{Marks}
-use Rattle.fm_law_same_runs.specs.Programs.{AreTaken, HoldersAreCleared, StepsAreMatched}
+use Rattle.fm_law_same_runs.specs.Programs.{AreTaken, HoldersAreCleared, ObjectsAreRenamed, StepsAreMatched}
 use Rattle.fm_law_unwoven.proofs.ClearedPrograms.{safe_of}
 use Rattle.fm_world.specs.Programs.{program_of}
 
@@ -54,7 +54,7 @@ module _ (links : SafeClassesLink) (can_run : ProgramsCanRun) (made : MadeIsMost
       }
 
 -- with the renaming, which safe insertions have by the same facts
-pub whole : PartsMakeTheWhole
+pub whole : ClassesDoTheSame → ObjectsAreRenamed → ClassesDoTheSameRenamed
 unfolding safe_of
 whole same renamed given main taken written marks full spelled supported = record {
   does = same given main taken written marks full spelled supported;

@@ -10,10 +10,11 @@ use Rattle.fm_law_lockstep.specs.Both.{Both}
 use Rattle.fm_law_lockstep.specs.Composing.{LockstepsStep}
 use Rattle.fm_law_lockstep.specs.Opening.{OpeningsAreTogether}
 use Rattle.fm_law_lockstep.specs.Reaching.{ReachedIsRenamed}
-use Rattle.fm_law_lockstep.specs.Renamed.{TogetherIsRenamed}
+use Rattle.fm_law_lockstep.specs.Renamed.{MatchedAreRenamed, TogetherIsRenamed}
 use Rattle.fm_law_lockstep.specs.Together.{GoTogetherIn, TogetherCostsSame}
 use Rattle.fm_law_same_runs.proofs.Openings.{runs_go}
 use Rattle.fm_law_same_runs.specs.Beside.{Beside, runs_of}
+use Rattle.fm_law_same_runs.specs.Programs.{ObjectsAreRenamed}
 use Rattle.fm_law_unwoven.specs.Runs.{FewAreInsertedInRuns}
 use Rattle.fm_law_unwoven.specs.WovenFrom.{SafeProgramsAreWoven}
 use Rattle.fm_world.specs.Programs.{program_of}
@@ -32,3 +33,11 @@ pub classes_renamed : ProgramsAreResolved → CellsOfProgramsAreResolved → Lin
 classes_renamed resolved cells without woven few renamed given main taken written marks safe =
     renamed (program_of given main) (program_of written main) safe.facts safe.plans marks (woven given main taken written marks safe)
     (are_linked resolved cells without given main taken safe.facts safe.exact) (few given main taken written marks safe)
+
+-- what isn't retired is the same, too
+pub objects_renamed : ProgramsAreResolved → CellsOfProgramsAreResolved → LinkedIsWithoutFrees → SafeProgramsAreWoven → MatchedAreRenamed → ObjectsAreRenamed
+objects_renamed resolved cells without woven matched given main taken written marks safe job fits count words other_words within other_within choose free has_words =
+    let one = program_of given main in
+    let other = program_of written main in
+    matched (both_of one other safe.facts safe.plans marks (runs_of one other marks count words other_words job choose free)) (woven given main taken written marks safe)
+    (are_linked resolved cells without given main taken safe.facts safe.exact) within other_within count job choose free fits.arguments has_words

@@ -3,17 +3,18 @@
 ghost use Rattle.fm_law_headline.specs.Alike.{SafeClassesDoAlike};
 ghost use Rattle.fm_law_headline.specs.Headline.{ClassesDoTheSame};
 ghost use Rattle.fm_law_headline.specs.InStep.{RunsInStepDoAlike};
-ghost use Rattle.fm_law_headline.specs.Parts.{PartsMakeTheWhole};
+ghost use Rattle.fm_law_headline.specs.Parts.{ClassesDoTheSameRenamed};
 ghost use Rattle.fm_law_headline.specs.Renamed.{SafeClassesAreRenamed};
 ghost use Rattle.fm_law_headline.specs.Taken.{CheckedAreTaken, FirstCallIsFound};
 ghost use Rattle.fm_law_headline.specs.WholeRuns.{MatchedStepsGiveEnds, SameProgramsEndTheSame};
+ghost use Rattle.fm_law_same_runs.specs.Programs.{ObjectsAreRenamed};
 
 use fm_law_cells_made::law_most_held;
 use fm_law_linked::{
     law_can_run, law_cells, law_linked_no_fault, law_linking, law_resolved, law_two_memories,
     law_without_frees,
 };
-use fm_law_lockstep::{law_costs, law_lockstep, law_opens, law_renamed};
+use fm_law_lockstep::{law_costs, law_lockstep, law_opens, law_renamed, law_retired};
 use fm_law_relinked::law_links;
 use fm_law_unwoven::{law_cleared, law_woven};
 
@@ -95,7 +96,24 @@ pub fn law_headline()
     law_two_programs();
 }
 
-/// Where what isn't retired is renamed, they do the same under other cells.
+/// In matched states each object of the first run is one of the second one under another cell, but for what was
+/// retired by the facts of the insertions.
+pub fn law_objects_renamed()
+    ensures { ObjectsAreRenamed }
+{
+    // By these laws.
+    law_woven();
+    law_resolved();
+    law_cells();
+    law_without_frees();
+    law_retired();
+}
+
+/// So the classes written do the same under other cells.
 pub fn law_parts()
-    ensures { PartsMakeTheWhole }
-{}
+    ensures { ClassesDoTheSameRenamed }
+{
+    // By these laws.
+    law_headline();
+    law_objects_renamed();
+}

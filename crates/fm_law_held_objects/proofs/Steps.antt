@@ -33,7 +33,7 @@ use Rattle.fm_world.specs.Programs.{Program}
 -- ---- colours
 
 -- a holder's class is captured
-captured_class : (facts : Facts) (x : TypedMethod) (holder : Holder) → IsSafeHolder facts x holder → is_captured facts x holder.class ≡ true
+pub captured_class : (facts : Facts) (x : TypedMethod) (holder : Holder) → IsSafeHolder facts x holder → is_captured facts x holder.class ≡ true
 captured_class facts x holder h =
     subst (λ class. is_captured facts x class ≡ true) (sym h.class)
     (and_right (is_some (site_kind facts x holder.site)) (is_captured facts x (site_class facts x holder.site)) h.captured)

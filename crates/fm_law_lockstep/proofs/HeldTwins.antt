@@ -57,23 +57,27 @@ module _ (gone : Gone) (o : Outline) (one other : Store) (paired : ArePaired gon
         let same : h.twin ≡ t.second = same_Some h.twin t.second (sym h.held ∙ ap (object_at other) cells ∙ t.twin_held) in
         ap (λ (a : Object). a.fixed) (sym same) ∙ h.alike.fixed
 
+  -- what the second one leads to may be freed where the first one's object may, if that isn't gone
+  pub there_may : (v w : Value) → SameValue gone one other v w → IsThere gone one (cell_of v) → (birth : ℕ) → MayFree other w birth → MayFree one v birth
+  there_may v w same there birth may =
+      by_found (found_same gone one other (cell_of v) (cell_of w) there (cell_same gone one other v w same)) where
+        by_found : SameFound one other (cell_of v) (cell_of w) → MayFree one v birth
+        by_found (inl none) = absurd (not_null other (cell_of w) may.object paired.other_orderly may.held none.1)
+        by_found (inr t) =
+            let object : t.second ≡ may.object = same_Some t.second may.object (sym t.twin_held ∙ may.held) in
+            record {
+              object = t.object;
+              held = t.held;
+              not_fixed = sym (twins_fixed (cell_of v) (cell_of w) t) ∙ ap (λ (a : Object). a.fixed) object ∙ may.not_fixed;
+              birth_is = sym t.born ∙ ap (λ (a : Object). a.birth) object ∙ may.birth_is;
+            }
+
   module _ (depth class : ℕ) (v w : Value) (same : SameValue gone one other v w) (holds : Holding one colour depth class v) where
     found : SameFound one other (cell_of v) (cell_of w)
     found = found_same gone one other (cell_of v) (cell_of w) (holds_there depth class v holds) (cell_same gone one other v w same)
 
-    -- what the second one leads to may be freed where the first one's object may
     pub twin_may : (birth : ℕ) → MayFree other w birth → MayFree one v birth
-    twin_may birth may = by_found found where
-      by_found : SameFound one other (cell_of v) (cell_of w) → MayFree one v birth
-      by_found (inl none) = absurd (not_null other (cell_of w) may.object paired.other_orderly may.held none.1)
-      by_found (inr t) =
-          let object : t.second ≡ may.object = same_Some t.second may.object (sym t.twin_held ∙ may.held) in
-          record {
-            object = t.object;
-            held = t.held;
-            not_fixed = sym (twins_fixed (cell_of v) (cell_of w) t) ∙ ap (λ (a : Object). a.fixed) object ∙ may.not_fixed;
-            birth_is = sym t.born ∙ ap (λ (a : Object). a.birth) object ∙ may.birth_is;
-          }
+    twin_may birth may = there_may v w same (holds_there depth class v holds) birth may
 
     -- only null is the twin of null
     null_twin : v ≡ null → w ≡ null

@@ -23,3 +23,9 @@ pub mod OpeningWords
 pub mod NullsFreed
 pub mod OpeningsTogether
 pub mod Renamed
+pub mod WhatIsFreed
+pub mod Since
+pub mod KeptSince
+pub mod SinceStep
+pub mod Histories
+pub mod MatchedRenamed

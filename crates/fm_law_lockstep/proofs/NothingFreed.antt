@@ -12,7 +12,7 @@ use Rattle.fm_frames.specs.NativeRows.{text_type}
 use Rattle.fm_frames.specs.States.{Areas, Frame, State}
 use Rattle.fm_frames.specs.Steps.{next_effect, step}
 use Rattle.fm_frames.specs.declared.values.Value.{Value}
-use Rattle.fm_law_holders.proofs.BornObjects.{acts_made, Went, WentTo}
+use Rattle.fm_law_holders.proofs.BornObjects.{acts_made, OldWereThere, Went, WentTo}
 use Rattle.fm_law_holders.proofs.StepsBehind.{done_areas, IsDoneTo, step_done}
 use Rattle.fm_law_holders.specs.NewResults.{KeepsObjects}
 use Rattle.fm_law_sound.proofs.Opening.{IsMade as IsFreeless}
@@ -90,9 +90,10 @@ module _ (o : Outline) (choose : Choose) (words : ℕ) (locals stack : List Valu
 
 -- ---- steps
 
--- what is held stays in its cell, and as many words are freed
+-- what is held stays in its cell, what isn't born later was there, and as many words are freed
 pub record FreesNothing (x later : Areas) : Type 0 where
   pub keeps : KeepsObjects x.store later.store
+  pub old : OldWereThere x.store later.store
   pub words : later.freed_words ≡ x.freed_words
 
 module _ (alike : NextEffectsAreAlike) (p : Program) (typings : Typings) (without : IsWithoutFrees p typings) (choose : Choose) where
@@ -123,6 +124,7 @@ module _ (alike : NextEffectsAreAlike) (p : Program) (typings : Typings) (withou
     at_frame = record {
       keeps = subst (λ (a : Areas). KeepsObjects z.areas.store a.store) (sym (done_areas p (lawful choose) z f callers later done))
           (λ cell object held. let now = went.extends.kept cell object held in (now.now, now.is, now.birth, now.fixed));
+      old = subst (λ (a : Areas). OldWereThere z.areas.store a.store) (sym (done_areas p (lawful choose) z f callers later done)) went.old;
       words = ap (λ (a : Areas). a.freed_words) (done_areas p (lawful choose) z f callers later done) ∙ freed_same;
     }
 

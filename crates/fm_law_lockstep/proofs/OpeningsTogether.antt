@@ -1,8 +1,8 @@
 -- The openings of both programs go together: the second one's first frames have no holders that hold anything.
-use Rattle.std.proofs.Common.{◌≡◌, ℕ, ◌+◌, ◌<◌, ◌≤◌, List, [], ◌∷◌, ◌++◌, append-nil, length, map, take, Option, Some, None, Contains, unwrap_or, refl, sym, ap, subst, ◌∙◌, arith}
+use Rattle.std.proofs.Common.{◌≡◌, ℕ, false, ◌+◌, ◌<◌, ◌≤◌, List, [], ◌∷◌, ◌++◌, append-nil, length, map, take, Option, Some, None, Contains, get_or, unwrap_or, refl, sym, ap, subst, ◌∙◌, arith}
 use Rattle.std.specs.List.{AllByRecursion, AllZip}
 use Rattle.std.proofs.lemmas.Bool.{false≢true}
-use Rattle.std.proofs.lemmas.Option.{none-some, same_Some, slice_get_within}
+use Rattle.std.proofs.lemmas.Option.{none-some, same_Some, slice_get-get_or, slice_get_within}
 use Rattle.fm_base.specs.declared.limits.TheConstants.{MAX_LIVE_WORDS, MAX_MADE_WORDS}
 use Rattle.fm_cells.specs.Choices.{lawful}
 use Rattle.fm_cells.specs.Stores.{opened, Store}
@@ -24,7 +24,7 @@ use Rattle.fm_law_lockstep.proofs.QuietTodos.{starts_quiet}
 use Rattle.fm_law_lockstep.specs.Both.{Both}
 use Rattle.fm_law_lockstep.specs.Known.{IsKnown, IsLinked}
 use Rattle.fm_law_lockstep.specs.Opening.{OpeningLaws, OpeningsAreTogether}
-use Rattle.fm_law_lockstep.specs.Together.{CatchesUpAt, GoTogetherAt, OfRoom, OfWords, OpenAtEnd, OpensTogether, OpenTogether, OpenWanting}
+use Rattle.fm_law_lockstep.specs.Together.{CatchesUpAt, GoTogetherAt, HoldsNothing, OfRoom, OfWords, OpenAtEnd, OpensTogether, OpenTogether, OpenWanting}
 use Rattle.fm_law_no_fault.specs.Whole.{HasNoFault, IsWholeBy}
 use Rattle.fm_law_same_runs.specs.Beside.{kept_item, most_original_words}
 use Rattle.fm_law_sound.proofs.Budgets.{opening_budget}
@@ -45,7 +45,8 @@ use Rattle.fm_law_unwoven.specs.Kept.{Begins, BeginsOn, BothDo, BothFault, but_f
 use Rattle.fm_law_unwoven.specs.Laid.{frees_at, starts_of, Todo}
 use Rattle.fm_law_unwoven.specs.Reached.{AllReached, IsReached, jumps_ahead, OneMissed, Reached, state_reached, todos_ahead}
 use Rattle.fm_law_unwoven.specs.WovenFrom.{inserted_by, IsWovenFrom}
-use Rattle.fm_place.specs.Insertions.{before_at, Insertions}
+use Rattle.fm_law_unwoven.proofs.Cleared.{none_at_first}
+use Rattle.fm_place.specs.Insertions.{before_at, Holder, Insertions}
 use Rattle.fm_place.specs.Woven.{local_of}
 use Rattle.fm_same.specs.Colours.{Colour, Coloured}
 
@@ -143,6 +144,21 @@ module _ (laws : OpeningLaws) (b : Both) (from : IsWovenFrom b.one b.other b.fac
 
   -- ---- both go on
 
+  -- the second run catches up, nothing is gone, and no holder holds anything
+  abbrev CatchesUpEmpty : Type 0
+  CatchesUpEmpty = (c : CatchesUpAt b second x y) × ((birth : ℕ) → c.together.gone.births birth ≡ false) × AllByRecursion (HoldsNothing b) c.caught.frames
+
+  -- a frame at the first item of its method has no holders, if that is kept
+  new_empty : (frames : List Frame) → AllByRecursion (λ (h : Frame). h.item ≡ 0) frames → AllByRecursion (HoldsNothing b) frames
+  new_empty [] first_items = tt
+  new_empty (g ∷ frames) first_items = (
+    λ item code h item_is code_is few.
+        let any : Holder = record { site = 0; class = 0; looped = false } in
+        absurd (none_at_first b.one b.other b.facts b.plans b.marks from g.method code code_is item (ap (kept_item b.marks g.method) (sym first_items.0) ∙ item_is) h
+        (get_or (inserted_by (b.plans g.method)).holders h any) (slice_get-get_or (inserted_by (b.plans g.method)).holders h any few)),
+    new_empty frames first_items.1,
+  )
+
   module _ (still : AlikeStill none_gone b.one.outline b.words b.other_words (Some MAX_MADE_WORDS) x z) (going : z.ended ≡ None) (goes_on : x.ended ≡ None)
       (same : but_frames y ≡ but_frames z) (f g : Frame) (callers below : List Frame) (old_are : z.frames ≡ f ∷ callers) (new_are : y.frames ≡ g ∷ below) where
     abbrev plan : Insertions
@@ -236,7 +252,7 @@ module _ (laws : OpeningLaws) (b : Both) (from : IsWovenFrom b.one b.other b.fac
         ended = subst (λ e. EndAlike none_gone x.areas.store z.areas.store e None) (sym goes_on) refl;
       }
 
-      together : IsAtKept b.one b.other b.facts b.plans b.marks reached_state → GoTogetherAt b x reached_state
+      abbrev together : IsAtKept b.one b.other b.facts b.plans b.marks reached_state → GoTogetherAt b x reached_state
       together kept = record {
         colour = colour;
         made = λ birth. 0;
@@ -258,19 +274,27 @@ module _ (laws : OpeningLaws) (b : Both) (from : IsWovenFrom b.one b.other b.fac
         };
       }
 
-      by_done : IsReached b.one b.other b.facts b.plans b.marks (lawful second) r.code z g below todos 0 r.number → CatchesUpAt b second x y
+      top_empty : HoldsNothing b top
+      top_empty item code h item_is code_is few =
+          subst (λ c. word_at top.locals (local_of c h) ≡ null) (same_Some r.code code (sym r.code_is ∙ code_is)) (null_then h few)
+
+      by_done : IsReached b.one b.other b.facts b.plans b.marks (lawful second) r.code z g below todos 0 r.number → CatchesUpEmpty
       by_done (OneMissed lost number last end fewer passed inserted printed ended) =
           absurd (nulls_not_lost r.code g z.areas (starts_of plan) (starts_quiet _) (before_at plan f.item) (λ h there. inside h (among h there))
           (λ h there. all_null h (among h there)) lost)
-      by_done (AllReached passed kept) = record {
-        count = 0 + all_steps_to todos;
-        few = r.few;
-        caught = reached_state;
-        passed = subst (λ s. IsPassed b.other b.marks (lawful second) (0 + all_steps_to todos) s reached_state) (sym y_is)
-            (subst (IsPassed b.other b.marks (lawful second) (0 + all_steps_to todos) (with_frame z g below)) caught_is passed);
-        steps = ap (λ (s : State). s.steps + (0 + all_steps_to todos)) (sym y_is);
-        together = together (subst (IsAtKept b.one b.other b.facts b.plans b.marks) caught_is kept);
-      }
+      by_done (AllReached passed kept) = (
+        record {
+          count = 0 + all_steps_to todos;
+          few = r.few;
+          caught = reached_state;
+          passed = subst (λ s. IsPassed b.other b.marks (lawful second) (0 + all_steps_to todos) s reached_state) (sym y_is)
+              (subst (IsPassed b.other b.marks (lawful second) (0 + all_steps_to todos) (with_frame z g below)) caught_is passed);
+          steps = ap (λ (s : State). s.steps + (0 + all_steps_to todos)) (sym y_is);
+          together = together (subst (IsAtKept b.one b.other b.facts b.plans b.marks) caught_is kept);
+        },
+        λ birth. refl,
+        (top_empty, new_empty below news),
+      )
 
     -- ---- the frames begin
 
@@ -290,19 +314,19 @@ module _ (laws : OpeningLaws) (b : Both) (from : IsWovenFrom b.one b.other b.fac
         subst (AllByRecursion (λ (h : Frame). h.item ≡ 0)) (sym (is ∙ ap (λ rest. new ++ rest) waits ∙ append-nil new)) first_items
 
     onwards : FramesGo b.one b.other b.facts b.plans b.marks (but_frames z) f g callers below → (way : FrameGoes b.one b.other b.facts b.plans b.marks (but_frames z) f g below)
-        → Reaches way → CatchesUpAt b second x y
+        → Reaches way → CatchesUpEmpty
     onwards go (InMethod j old old_is w was on edge stands) r = absurd (none_there was.above was.was was.frames_are)
     onwards go (Resumes stands is above before) r = absurd (none_there above g before)
     onwards go (Begins old_first first_item empty width begun) r = by_done go old_first (new_below begun) r r.done
 
-    pub caught_up : FramesGo b.one b.other b.facts b.plans b.marks (but_frames z) f g callers below → CatchesUpAt b second x y
+    pub caught_up : FramesGo b.one b.other b.facts b.plans b.marks (but_frames z) f g callers below → CatchesUpEmpty
     caught_up go =
         onwards go go.top
         (laws.reach b.one b.other b.facts b.plans b.marks from linked.without.steps second (but_frames z) z f g callers below go held_sound
         (subst (λ n. n ≤ MAX_LIVE_WORDS) (sym (opening_budget b.one (lawful second) job two)) other_few))
 
   by_frames : AlikeStill none_gone b.one.outline b.words b.other_words (Some MAX_MADE_WORDS) x z → z.ended ≡ None → x.ended ≡ None → but_frames y ≡ but_frames z
-      → (fs gs : List Frame) → z.frames ≡ fs → y.frames ≡ gs → StatesGo b.one b.other b.facts b.plans b.marks (but_frames z) fs gs → CatchesUpAt b second x y
+      → (fs gs : List Frame) → z.frames ≡ fs → y.frames ≡ gs → StatesGo b.one b.other b.facts b.plans b.marks (but_frames z) fs gs → CatchesUpEmpty
   by_frames still going goes_on same [] gs old_are new_are go = absurd go
   by_frames still going goes_on same (f ∷ callers) [] old_are new_are go = absurd go
   by_frames still going goes_on same (f ∷ callers) (g ∷ below) old_are new_are go = caught_up still going goes_on same f g callers below old_are new_are go
@@ -339,8 +363,8 @@ module _ (laws : OpeningLaws) (b : Both) (from : IsWovenFrom b.one b.other b.fac
       by_end : (o : Option Ended) → z.ended ≡ o → OpensTogether b second x y
       by_end (Some e) is = both_end words e is (other_end e is) x.ended refl still.paired.ended
       by_end None is =
-          OpenTogether
-          (by_frames still is (first_going x.ended refl still.paired.ended is) same z.frames y.frames refl refl (go is))
+          let caught = by_frames still is (first_going x.ended refl still.paired.ended is) same z.frames y.frames refl refl (go is) in
+          OpenTogether caught.0 caught.1 caught.2
 
   by_opened : ¬ LacksWords x
       → StepsAlike b.one b.other b.facts b.plans b.marks (but_frames z) (opening b.one (lawful second) job two) (opening b.other (lawful second) job two)

@@ -31,7 +31,7 @@ module _ (b : Both) where
     pub second_goes_on : y.ended ≡ None
     second_goes_on = subst (λ e. EndAlike t.gone x.areas.store y.areas.store e y.ended) t.goes_on t.paired.ended
 
-    at_kept : (frames : List Frame) → StandKept b.one b.other b.facts b.plans b.marks frames → 0 < length (map (old_frame b.one b.marks) frames)
+    pub at_kept : (frames : List Frame) → StandKept b.one b.other b.facts b.plans b.marks frames → 0 < length (map (old_frame b.one b.marks) frames)
         → is_at_kept b.marks (record y { frames = frames }) ≡ true
     at_kept [] stands some = absurd (omega (arith, some))
     at_kept (g ∷ callers) stands some = ap is_some (stands.0).item_is
@@ -74,10 +74,10 @@ module _ (b : Both) where
     unfolding after
     second_on l = refl
 
-    first_goes : (k : ℕ) → (xs (suc k)).state ≡ (step b.one (lawful never_choice) (xs k).state).state
+    pub first_goes : (k : ℕ) → (xs (suc k)).state ≡ (step b.one (lawful never_choice) (xs k).state).state
     first_goes = (runs_go b.one b.other b.marks steps b.words b.other_words job choose free).first_goes
 
-    second_goes : (l : ℕ) → (ys (suc l)).state ≡ (step b.other (lawful choose) (ys l).state).state
+    pub second_goes : (l : ℕ) → (ys (suc l)).state ≡ (step b.other (lawful choose) (ys l).state).state
     second_goes = (runs_go b.one b.other b.marks steps b.words b.other_words job choose free).second_goes
 
     pub keeps_pace : CostsAreSame b → (k l : ℕ) → IsPaceOf k l → KeepsPace runs k l
@@ -110,7 +110,7 @@ module _ (b : Both) where
           ap (λ k. (ys k).printed) same ∙ more.1 ∙ nothing,
         )
 
-    inserted : (n l : ℕ) (z : State) → IsPassed b.other b.marks (lawful choose) n (ys l).state z → AreAtInserted runs l n
+    pub inserted : (n l : ℕ) (z : State) → IsPassed b.other b.marks (lawful choose) n (ys l).state z → AreAtInserted runs l n
     inserted zero l z passed j less = absurd (omega (arith, less))
     inserted (suc n) l z passed zero less =
         let same : l + 0 ≡ l = omega arith in subst (λ k. IsAtInserted b.marks (ys k).state) (sym same) passed.0
@@ -132,7 +132,7 @@ module _ (b : Both) where
 
     -- ---- a step of both
 
-    want : (e : Ended) → IsWantOf b e → IsWant runs e
+    pub want : (e : Ended) → IsWantOf b e → IsWant runs e
     want e (OfWords live needed is less) = beside.OfWords live needed is less
     want e (OfRoom made needed is more) = beside.OfRoom made needed is more
 
@@ -170,10 +170,10 @@ module _ (b : Both) where
 
     -- ---- the opening
 
-    first_printed : (xs 0).printed ≡ []
+    pub first_printed : (xs 0).printed ≡ []
     first_printed = (runs_go b.one b.other b.marks steps b.words b.other_words job choose free).first_printed
 
-    second_printed : (ys 0).printed ≡ []
+    pub second_printed : (ys 0).printed ≡ []
     second_printed = (runs_go b.one b.other b.marks steps b.words b.other_words job choose free).second_printed
 
     pub opens : OpeningsGoTogether b → ArgumentsFit job.arguments → ¬ LacksWords (xs 0).state → Opens runs IsPaceOf
@@ -181,7 +181,7 @@ module _ (b : Both) where
     opens openings fits words = by_opening (openings never_choice choose job fits free words) where
       by_opening : OpensTogether b choose (opening b.one (lawful never_choice) job (opened b.words None [])).state
           (opening b.other (lawful choose) job (opened b.other_words (Some MAX_MADE_WORDS) free)).state → Opens runs IsPaceOf
-      by_opening (OpenTogether caught) = OpensInPace (catches_up 0 0 (second_printed ∙ sym first_printed) caught)
+      by_opening (OpenTogether caught all empty) = OpensInPace (catches_up 0 0 (second_printed ∙ sym first_printed) caught)
       by_opening (OpenAtEnd e is other_is none) = OpensAtEnd e is other_is (second_printed ∙ sym first_printed) none
       by_opening (OpenWanting e is lacks) = OpensInWant e is (want e lacks) second_printed
 

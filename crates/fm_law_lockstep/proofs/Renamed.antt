@@ -2,7 +2,7 @@
 use Rattle.std.proofs.Common.{◌≡◌, ℕ, zero, suc, ◌⊎◌, inl, inr, true, List, [], ◌∷◌, map, take, Option, Some, refl, sym, ap, subst, ◌∙◌, ⊎_elim}
 use Rattle.std.specs.Prelude.{slice_get}
 use Rattle.std.specs.List.{AllZip, slice_index_or}
-use Rattle.std.proofs.lemmas.Bool.{cases_Bool}
+use Rattle.std.proofs.lemmas.Bool.{cases_Bool, false≢true}
 use Rattle.std.proofs.lemmas.Option.{none-some, same_Some}
 use Rattle.fm_base.specs.declared.kinds.Kind.{Kind}
 use Rattle.fm_base.specs.declared.kinds.Kind.TheVariants as kind
@@ -14,8 +14,11 @@ use Rattle.fm_frames.specs.Steps.{max_locals_of}
 use Rattle.fm_frames.specs.declared.values.Value.{Value}
 use Rattle.fm_frames.specs.declared.values.Value.TheVariants as value
 use Rattle.fm_law_lockstep.proofs.Seen.{itself}
+use Rattle.fm_law_lockstep.proofs.SinceStep.{MissingIs}
+use Rattle.fm_law_lockstep.specs.Both.{Both}
 use Rattle.fm_law_lockstep.specs.Reaching.{IsUnreached}
 use Rattle.fm_law_lockstep.specs.Renamed.{TogetherIsRenamed}
+use Rattle.fm_law_lockstep.specs.Together.{GoTogetherAt}
 use Rattle.fm_law_same_runs.specs.Beside.{Marks}
 use Rattle.fm_law_same_runs.specs.Renaming.{AreRenamed, HasName, IsFrameRenamed, SameOrRetired}
 use Rattle.fm_law_sound.specs.Placing.{kind_in}
@@ -120,15 +123,17 @@ module _ (o : Outline) (gone : Gone) (one other : Store) (paired : ArePaired gon
 
 -- ---- what is left out
 
-module _ (o : Outline) (facts : Facts) (R S : ℕ → Type 0) (weaker : (birth : ℕ) → R birth → S birth) where
-  element_weaker : (one other : Store) (k : Option Kind) (element twin : ℕ) → SameOrRetired R one other k element twin → SameOrRetired S one other k element twin
-  element_weaker one other (Some (kind.Ref t)) element twin (inl same) = inl same
-  element_weaker one other (Some (kind.Ref t)) element twin (inr leads) =
-      inr (record { object = leads.object; held = leads.held; retired = weaker leads.object.birth leads.retired })
-  element_weaker one other k element twin same = same
+module _ (o : Outline) (facts : Facts) (x y : State) (R S : ℕ → Type 0)
+    (weaker : (cell : ℕ) (object : Object) → object_at x.areas.store cell ≡ Some object → R object.birth → S object.birth) where
+  element_weaker : (k : Option Kind) (element twin : ℕ) → SameOrRetired R x.areas.store y.areas.store k element twin
+      → SameOrRetired S x.areas.store y.areas.store k element twin
+  element_weaker (Some (kind.Ref t)) element twin (inl same) = inl same
+  element_weaker (Some (kind.Ref t)) element twin (inr leads) =
+      inr (record { object = leads.object; held = leads.held; retired = weaker element leads.object leads.held leads.retired })
+  element_weaker k element twin same = same
 
-  name_weaker : (one other : Store) (object : Object) → HasName o R one other object → HasName o S one other object
-  name_weaker one other object name = record {
+  name_weaker : (object : Object) → HasName o R x.areas.store y.areas.store object → HasName o S x.areas.store y.areas.store object
+  name_weaker object name = record {
     cell = name.cell;
     twin = name.twin;
     held = name.held;
@@ -137,36 +142,53 @@ module _ (o : Outline) (facts : Facts) (R S : ℕ → Type 0) (weaker : (birth :
       birth = name.renamed.birth;
       len = name.renamed.len;
       elements = λ place.
-          element_weaker one other (kind_in o object place) (slice_index_or object.elements place 0) (slice_index_or name.twin.elements place 0)
-          (name.renamed.elements place);
+          element_weaker (kind_in o object place) (slice_index_or object.elements place 0) (slice_index_or name.twin.elements place 0) (name.renamed.elements place);
     };
   }
 
-  renamed_weaker : (x y : State) → AreRenamed o facts R x y → AreRenamed o facts S x y
-  renamed_weaker x y renamed = record {
+  renamed_weaker : AreRenamed o facts R x y → AreRenamed o facts S x y
+  renamed_weaker renamed = record {
     objects = λ cell object held.
-        ⊎_elim (λ lost. inl (weaker object.birth lost)) (λ name. inr (name_weaker x.areas.store y.areas.store object name)) (renamed.objects cell object held);
+        ⊎_elim (λ lost. inl (weaker cell object held lost)) (λ name. inr (name_weaker object name)) (renamed.objects cell object held);
     apart = renamed.apart;
     frames = renamed.frames;
     statics = renamed.statics;
   }
 
--- what is gone is retired, so nothing leads to it
+-- ---- states that go together
+
+-- nothing leads to what is gone, as it is retired
+dead : (b : Both) (x y : State) (t : GoTogetherAt b x y) (birth : ℕ) → t.gone.births birth ≡ true → IsDead b.one b.facts birth x x
+dead b x y t birth lost =
+    dead_if_retired b.one b.facts x x t.colour birth t.known.coloured (t.retired birth lost) (itself b.one b.facts x t.colour t.known.coloured)
+
+gone_renamed : (b : Both) (x y : State) (t : GoTogetherAt b x y) → AreRenamed b.one.outline b.facts (λ birth. t.gone.births birth ≡ true) x y
+gone_renamed b x y t = record {
+  objects = object_there b.one.outline t.gone x.areas.store y.areas.store t.paired.areas.store;
+  apart = twins_apart b.one.outline t.gone x.areas.store y.areas.store t.paired.areas.store;
+  frames = frames_there b.one.outline t.gone x.areas.store y.areas.store t.paired.areas.store b.one b.facts b.marks x.frames y.frames t.paired.frames
+      (λ v root birth lost. (dead b x y t birth lost).no_root v root);
+  statics = all_there b.one.outline t.gone x.areas.store y.areas.store t.paired.areas.store x.areas.statics y.areas.statics
+      (λ slot v at birth lost. (dead b x y t birth lost).no_static slot v at) t.paired.areas.statics;
+}
+
 pub together_is_renamed : TogetherIsRenamed
 together_is_renamed b x y t =
-    renamed_weaker b.one.outline b.facts (λ birth. t.gone.births birth ≡ true) (IsUnreached b.one.outline b.facts x)
-    (λ birth lost. record {
-      not_fixed = λ cell object held born. t.paired.areas.store.loose cell object held (ap t.gone.births born ∙ lost);
-      no_root = (dead birth lost).no_root;
-      no_static = (dead birth lost).no_static;
-    }) x y
-    (record {
-      objects = object_there b.one.outline t.gone x.areas.store y.areas.store t.paired.areas.store;
-      apart = twins_apart b.one.outline t.gone x.areas.store y.areas.store t.paired.areas.store;
-      frames = frames_there b.one.outline t.gone x.areas.store y.areas.store t.paired.areas.store b.one b.facts b.marks x.frames y.frames t.paired.frames
-          (λ v root birth lost. (dead birth lost).no_root v root);
-      statics = all_there b.one.outline t.gone x.areas.store y.areas.store t.paired.areas.store x.areas.statics y.areas.statics
-          (λ slot v at birth lost. (dead birth lost).no_static slot v at) t.paired.areas.statics;
-    }) where
-      dead : (birth : ℕ) → t.gone.births birth ≡ true → IsDead b.one b.facts birth x x
-      dead birth lost = dead_if_retired b.one b.facts x x t.colour birth t.known.coloured (t.retired birth lost) (itself b.one b.facts x t.colour t.known.coloured)
+    renamed_weaker b.one.outline b.facts x y (λ birth. t.gone.births birth ≡ true) (IsUnreached b.one.outline b.facts x)
+    (λ cell object held lost.
+    record {
+      not_fixed = λ c second there born. t.paired.areas.store.loose c second there (ap t.gone.births born ∙ lost);
+      no_root = (dead b x y t object.birth lost).no_root;
+      no_static = (dead b x y t object.birth lost).no_static;
+    })
+    (gone_renamed b x y t)
+
+-- what is gone is missing in the second state
+pub missing_renamed : (b : Both) (x y : State) → GoTogetherAt b x y → (S : ℕ → Type 0) → MissingIs S x.areas.store y.areas.store
+    → AreRenamed b.one.outline b.facts S x y
+missing_renamed b x y t S missing =
+    renamed_weaker b.one.outline b.facts x y (λ birth. t.gone.births birth ≡ true) S
+    (λ cell object held lost.
+    missing cell object held
+    (λ twin second there same.
+    false≢true (sym (t.paired.areas.store.absent twin second there) ∙ ap t.gone.births same ∙ lost))) (gone_renamed b x y t)

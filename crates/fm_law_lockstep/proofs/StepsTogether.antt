@@ -46,11 +46,11 @@ module _ (b : Both) (from : IsWovenFrom b.one b.other b.facts b.plans b.marks) (
   few_made : is_over b.one.outline y.areas (next_effect b.one x).actions ≡ false → MakesFew b.one x
   few_made within fits = few_within b.one.outline y.areas (next_effect b.one x).actions t.kept.words within
 
-  known : is_over b.one.outline y.areas (next_effect b.one x).actions ≡ false → HasNoFault next.state
+  pub known : is_over b.one.outline y.areas (next_effect b.one x).actions ≡ false → HasNoFault next.state
       × (x.ended ≡ None → next.state.ended ≡ None → IsKnownOn b.one b.facts x next.state t.colour t.made)
   known within = known_on b.one b.facts linked first x t.colour t.made (few_made within) t.known
 
-  goes : KeptStepGoes b.one b.other b.facts b.plans b.marks t.gone x y next following
+  pub goes : KeptStepGoes b.one b.other b.facts b.plans b.marks t.gone x y next following
   goes =
       kept_go b.one b.other b.facts b.plans b.marks from linked.without first second t.gone few_gone x y t.known.whole.sound t.paired
       (retired_is_unseen b.one b.facts linked.without x t.colour t.gone t.known.coloured t.retired t.paired.areas.store.loose)

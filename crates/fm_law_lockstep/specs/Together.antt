@@ -1,11 +1,13 @@
 -- The lockstep: a program on memory that is never reused and its form with insertions on memory that reuses cells go together from kept item to kept item.
-use Rattle.std.specs.Prelude.{◌≡◌, ℕ, ◌+◌, ◌*◌, ◌<◌, ◌≤◌, true, List, [], None, Some}
+use Rattle.std.specs.Prelude.{◌≡◌, ℕ, ◌+◌, ◌*◌, ◌<◌, ◌≤◌, true, false, List, [], length, None, Some}
+use Rattle.std.specs.List.{AllByRecursion}
 use Rattle.fm_base.specs.declared.limits.TheConstants.{MAX_MADE_WORDS}
 use Rattle.fm_cells.specs.Choices.{lawful}
 use Rattle.fm_cells.specs.Stores.{live_words, opened, Store}
+use Rattle.fm_code.specs.declared.code_array.Code.{Code}
 use Rattle.fm_frames.specs.Acts.{Choose}
 use Rattle.fm_frames.specs.Runs.{Job, opening}
-use Rattle.fm_frames.specs.States.{Moved, State}
+use Rattle.fm_frames.specs.States.{Frame, Moved, null, State, word_at}
 use Rattle.fm_frames.specs.Steps.{cost, step}
 use Rattle.fm_frames.specs.declared.ends.Ended.{Ended}
 use Rattle.fm_frames.specs.declared.ends.Ended.TheVariants as end
@@ -15,16 +17,18 @@ use Rattle.fm_law_lockstep.specs.Both.{Both}
 use Rattle.fm_law_lockstep.specs.Known.{IsKnown, IsLinked}
 use Rattle.fm_law_lockstep.specs.Stepping.{RiseAlike}
 use Rattle.fm_law_no_fault.specs.Whole.{HasNoFault}
-use Rattle.fm_law_same_runs.specs.Beside.{Beside, HasWords, most_inserted_steps, most_original_words, runs_of}
+use Rattle.fm_law_same_runs.specs.Beside.{Beside, HasWords, kept_item, most_inserted_steps, most_original_words, runs_of}
 use Rattle.fm_law_same_runs.specs.Paces.{KeepPaces}
 use Rattle.fm_law_sound.specs.Making.{ArgumentsFit}
 use Rattle.fm_law_two_memories.specs.Pairing.{Gone, StatesPaired}
 use Rattle.fm_law_two_memories.specs.Runs.{LacksWords}
 use Rattle.fm_law_unwoven.specs.Doing.{IsPassed}
 use Rattle.fm_law_unwoven.specs.Kept.{IsAtKept, old_state}
-use Rattle.fm_law_unwoven.specs.WovenFrom.{IsWovenFrom}
+use Rattle.fm_law_unwoven.specs.WovenFrom.{inserted_by, IsWovenFrom}
+use Rattle.fm_place.specs.Woven.{local_of}
 use Rattle.fm_same.specs.Colours.{Colour}
 use Rattle.fm_same.specs.Regions.{Retired}
+use Rattle.fm_world.specs.Programs.{code_at}
 
 -- ---- states that go together
 
@@ -85,9 +89,16 @@ StepsGoTogether b =
 
 -- ---- how they open
 
--- The second run catches up; or both end alike, by no fault; or the second one ends in want.
+-- no holder of a frame at a kept item holds anything
+abbrev pub HoldsNothing : Both → Frame → Type 0
+HoldsNothing b g =
+    (item : ℕ) (code : Code) (h : ℕ) → kept_item b.marks g.method g.item ≡ Some item → code_at b.one g.method ≡ Some code
+    → h < length (inserted_by (b.plans g.method)).holders → word_at g.locals (local_of code h) ≡ null
+
+-- The second run catches up, nothing is gone, and no holder holds anything; or both end alike, by no fault; or the second one ends in want.
 pub data OpensTogether (b : Both) (second : Choose) (x y : State) : Type 0 where
-  OpenTogether : CatchesUpAt b second x y → OpensTogether b second x y
+  OpenTogether : (c : CatchesUpAt b second x y) → ((birth : ℕ) → c.together.gone.births birth ≡ false) → AllByRecursion (HoldsNothing b) c.caught.frames
+      → OpensTogether b second x y
   OpenAtEnd : (e : Ended) → x.ended ≡ Some e → y.ended ≡ Some e → HasNoFault x → OpensTogether b second x y
   OpenWanting : (e : Ended) → y.ended ≡ Some e → IsWantOf b e → OpensTogether b second x y
 

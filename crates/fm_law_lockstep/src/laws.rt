@@ -4,7 +4,7 @@ ghost use Rattle.fm_law_lockstep.specs.Composing.{LockstepsStep, ProgramsCatchUp
 ghost use Rattle.fm_law_lockstep.specs.Known.{KnownStatesStand, RetiredIsUnseen, StepsStayKnown};
 ghost use Rattle.fm_law_lockstep.specs.Limits.{ShallowStepsCost, StepsStayWithin, UnlimitedIsNeverFull};
 ghost use Rattle.fm_law_lockstep.specs.Opening.{OpeningsAreTogether};
-ghost use Rattle.fm_law_lockstep.specs.Renamed.{TogetherIsRenamed};
+ghost use Rattle.fm_law_lockstep.specs.Renamed.{MatchedAreRenamed, TogetherIsRenamed};
 ghost use Rattle.fm_law_lockstep.specs.Stepping.{KeptStepsGoTogether, StepsAreUncounted, WantingStepsDoNothing};
 ghost use Rattle.fm_law_lockstep.specs.Together.{LockstepsKeepPace, TogetherCostsSame};
 
@@ -13,7 +13,7 @@ use fm_law_holders::{law_new_results, law_uninitialised};
 use fm_law_no_fault::{law_no_fault, law_rows};
 use fm_law_sound::law_sound;
 use fm_law_unwoven::{law_kept_steps, law_opened, law_reached};
-use fm_same::{law_calls, law_colours, law_effects, law_place_kinds, law_targets};
+use fm_same::{law_calls, law_colours, law_effects, law_place_kinds, law_sites, law_targets};
 
 /// No word of the topmost stack leads to what is gone, where all of that is retired.
 pub fn law_seen()
@@ -134,6 +134,25 @@ pub fn law_opens()
 pub fn law_renamed()
     ensures { TogetherIsRenamed }
 {}
+
+/// At matched states of both runs of one job each object is the same in both, under other cells, but for what a
+/// region retired before: what a holder frees was led to by its frame, and its class isn't busy any longer.
+pub fn law_retired()
+    ensures { MatchedAreRenamed }
+{
+    // By these laws.
+    law_known();
+    law_kept_together();
+    law_step_costs();
+    law_caught_up();
+    law_lockstep();
+    law_opens();
+    law_costs();
+    law_kept_steps();
+    law_reached();
+    law_sites();
+    fm_law_two_memories::law_rows();
+}
 
 /// Runs that open together, and of which each step goes on together, keep pace: so all follows of them that follows of
 /// such runs.

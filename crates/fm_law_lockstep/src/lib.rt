@@ -6,5 +6,6 @@ mod laws;
 
 pub use laws::{
     law_caught_up, law_costs, law_kept_together, law_known, law_lockstep, law_opens, law_paced,
-    law_renamed, law_seen, law_step_costs, law_uncounted, law_unlimited, law_wanting, law_within,
+    law_renamed, law_retired, law_seen, law_step_costs, law_uncounted, law_unlimited, law_wanting,
+    law_within,
 };
