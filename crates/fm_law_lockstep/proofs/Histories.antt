@@ -1,5 +1,5 @@
 -- Along two runs that go together: what the second one lacks was retired before in the first one.
-use Rattle.std.proofs.Common.{◌≡◌, ◌⊎◌, inl, inr, ℕ, zero, suc, ◌+◌, ◌-◌, ◌<◌, ◌≤◌, true, false, List, [], ◌∷◌, length, map, get_or, Option, Some, None, refl, sym, ap, subst, ◌∙◌, arith, ⊎_elim}
+use Rattle.std.proofs.Common.{◌≡◌, ◌⊎◌, inl, inr, ℕ, suc, ◌+◌, ◌-◌, ◌<◌, ◌≤◌, true, false, List, [], ◌∷◌, Some, None, refl, sym, ap, subst, ◌∙◌, arith, ⊎_elim}
 use Rattle.std.specs.List.{AllByRecursion, AllZip}
 use Rattle.std.proofs.lemmas.Bool.{cases_lt, false≢true}
 use Rattle.std.proofs.lemmas.Option.{none-some, slice_get_within}
@@ -14,17 +14,16 @@ use Rattle.fm_frames.specs.Acts.{Choose}
 use Rattle.fm_frames.specs.Runs.{after, Job, opening}
 use Rattle.fm_frames.specs.States.{Frame, Moved, State}
 use Rattle.fm_frames.specs.Steps.{step}
-use Rattle.fm_frames.specs.declared.ends.Ended.{Ended}
 use Rattle.fm_frames.specs.declared.ends.Ended.TheVariants as end
 use Rattle.fm_frames.specs.declared.values.Value.{Value}
 use Rattle.fm_law_held_objects.proofs.Holdings.{nothing_of_null}
-use Rattle.fm_law_holders.specs.Holding.{holder_value, MayFree}
+use Rattle.fm_law_holders.specs.Holding.{MayFree}
 use Rattle.fm_law_lockstep.proofs.NothingFreed.{FreesNothing, nothing_freed}
-use Rattle.fm_law_lockstep.proofs.Paced.{at_kept, catches_up, first_goes, first_printed, goes_along, inserted, is_kept, keeps_pace, reached, second_goes, second_goes_on, second_printed, want}
-use Rattle.fm_law_lockstep.proofs.Since.{FramesSince, HoldersSince}
+use Rattle.fm_law_lockstep.proofs.Paced.{at_kept, first_goes, first_printed, goes_along, inserted, is_kept, keeps_pace, reached, second_goes, second_goes_on, second_printed, want}
+use Rattle.fm_law_lockstep.proofs.Since.{FramesSince}
 use Rattle.fm_law_lockstep.proofs.StepHeld.{frees_nothing}
 use Rattle.fm_law_lockstep.proofs.StepsTogether.{goes, known}
-use Rattle.fm_law_lockstep.proofs.SinceStep.{IsMissing, MissingIs, TellsOn, told_on}
+use Rattle.fm_law_lockstep.proofs.SinceStep.{MissingIs, TellsOn, told_on}
 use Rattle.fm_law_lockstep.specs.Both.{Both}
 use Rattle.fm_law_lockstep.specs.Composing.{BothCatchUp}
 use Rattle.fm_law_lockstep.specs.Known.{IsKnownOn, IsLinked, StepsStayKnown}
@@ -48,7 +47,7 @@ use Rattle.fm_law_unwoven.specs.WovenFrom.{inserted_by, IsWovenFrom}
 use Rattle.fm_place.specs.Sites.{is_captured}
 use Rattle.fm_same.specs.Laws.{SitesMakeBusy}
 use Rattle.fm_same.specs.DeadRegions.{IsHeldAt, IsMethodAt, IsOver, LeadsTo}
-use Rattle.fm_world.specs.Programs.{code_at, Program}
+use Rattle.fm_world.specs.Programs.{code_at}
 
 -- ---- what is told of holders
 

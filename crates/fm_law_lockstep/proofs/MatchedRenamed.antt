@@ -1,5 +1,4 @@
 -- In matched states what the second run lacks was retired, so all else has another cell.
-use Rattle.std.proofs.Common.{ℕ}
 use Rattle.fm_cells.specs.Choices.{lawful, never_choice}
 use Rattle.fm_law_lockstep.proofs.Histories.{HistoryLaws, IsPaceSince, keep_paces_since}
 use Rattle.fm_law_lockstep.proofs.Renamed.{missing_renamed}

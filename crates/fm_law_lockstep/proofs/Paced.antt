@@ -15,7 +15,7 @@ use Rattle.fm_law_lockstep.specs.Stepping.{RiseAlike}
 use Rattle.fm_law_lockstep.specs.Together.{CatchesUpAt, CostsAreSame, EndsTogether, EndsWanting, GoTogetherAt, GoTogetherIn, IsWantOf, LockStep, LockstepsKeepPace, OfRoom, OfWords, OpenAtEnd, OpeningsGoTogether, OpensTogether, OpenTogether, OpenWanting, StaysTogether, StepsGoTogether}
 use Rattle.fm_law_no_fault.specs.Whole.{HasNoFault}
 use Rattle.fm_law_same_runs.proofs.Openings.{runs_go}
-use Rattle.fm_law_same_runs.specs.Beside.{AreAtInserted, Beside, FirstReaches, HasWords, is_at_kept, IsAtInserted, IsWant, runs_of}
+use Rattle.fm_law_same_runs.specs.Beside.{AreAtInserted, Beside, HasWords, is_at_kept, IsAtInserted, IsWant, runs_of}
 use Rattle.fm_law_same_runs.specs.Beside as beside
 use Rattle.fm_law_same_runs.specs.Paces.{CatchesUp, EndsAlike, EndsInWant, GoesAlong, KeepPaces, KeepsPace, Opens, OpensAtEnd, OpensInPace, OpensInWant, StaysInPace}
 use Rattle.fm_law_sound.specs.Making.{ArgumentsFit}

@@ -1,5 +1,5 @@
 -- A step of both programs, and what is inserted then: what was freed by then was retired, and holders hold what they got.
-use Rattle.std.proofs.Common.{◌≡◌, ◌≢◌, ◌⊎◌, inl, inr, ℕ, zero, suc, ◌+◌, ◌-◌, ◌<◌, ◌≤◌, true, false, List, [], ◌∷◌, ◌++◌, length, map, Some, None, Contains, slice_get, slice_set, unwrap_or, refl, sym, ap, subst, ◌∙◌, arith, ⊎_elim}
+use Rattle.std.proofs.Common.{◌≡◌, ◌≢◌, ◌⊎◌, inl, inr, ℕ, zero, suc, ◌+◌, ◌-◌, ◌<◌, true, false, List, [], ◌∷◌, ◌++◌, length, map, Some, Contains, slice_get, slice_set, unwrap_or, refl, sym, ap, subst, ◌∙◌, arith, ⊎_elim}
 use Rattle.std.specs.List.{AllByRecursion, AllZip}
 use Rattle.std.proofs.lemmas.Bool.{cases_Bool, cases_eq, false≢true}
 use Rattle.std.proofs.lemmas.List.{get_or-set_other, get_or-set_same, length-map}
@@ -33,7 +33,7 @@ use Rattle.fm_law_lockstep.specs.Known.{IsLinked}
 use Rattle.fm_law_lockstep.specs.Together.{GoTogetherAt}
 use Rattle.fm_law_same_runs.specs.Beside.{kept_item}
 use Rattle.fm_law_two_memories.proofs.Twins.{not_null}
-use Rattle.fm_law_two_memories.specs.Pairing.{FramesPaired, SameValue, StatesPaired}
+use Rattle.fm_law_two_memories.specs.Pairing.{FramesPaired, StatesPaired}
 use Rattle.fm_law_unwoven.proofs.HoldersGo.{started_null}
 use Rattle.fm_law_unwoven.proofs.KeptSites.{safe_at}
 use Rattle.fm_law_unwoven.proofs.TodoLocals.{after_both}

@@ -1,6 +1,5 @@
 -- What frees take away, and what they leave in holders.
-use Rattle.std.proofs.Common.{◌≡◌, ◌≢◌, ◌⊎◌, inl, inr, ℕ, zero, suc, ◌+◌, ◌<◌, Bool, true, false, cond, List, [], ◌∷◌, map, Option, Some, None, Contains, slice_set, refl, sym, ap, subst, ◌∙◌, arith, ⊎_elim}
-use Rattle.std.specs.Prelude.{nat_eq}
+use Rattle.std.proofs.Common.{◌≡◌, ◌≢◌, ◌⊎◌, inl, inr, ℕ, zero, suc, ◌+◌, ◌<◌, Bool, true, false, cond, List, [], ◌∷◌, map, Option, Some, None, Contains, slice_set, refl, sym, ap, ◌∙◌, arith, ⊎_elim}
 use Rattle.std.proofs.lemmas.Bool.{cases_eq, eq-eqb}
 use Rattle.std.proofs.lemmas.Option.{none-some, same_Some}
 use Rattle.fm_cells.proofs.Calls.{object_at-freed_by_other}
@@ -11,7 +10,7 @@ use Rattle.fm_cells.specs.Objects.{Object, object_words}
 use Rattle.fm_cells.specs.Stores.{object_at, Store}
 use Rattle.fm_code.proofs.EdgesLemmas.{Contains-first, Contains-later}
 use Rattle.fm_code.specs.declared.code_array.Code.{Code}
-use Rattle.fm_frames.specs.Acts.{cell_of, freed, freed_object}
+use Rattle.fm_frames.specs.Acts.{cell_of, freed_object}
 use Rattle.fm_frames.specs.States.{Areas, null, word_at}
 use Rattle.fm_frames.specs.declared.values.Value.{Value}
 use Rattle.fm_frames.specs.declared.values.Value.TheVariants as value
