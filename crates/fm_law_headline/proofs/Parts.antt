@@ -11,7 +11,6 @@ use Rattle.fm_law_can_step.specs.Ready.{CanRun}
 use Rattle.fm_law_cells_made.specs.MostHeld.{MadeIsMostHeld}
 use Rattle.fm_law_headline.specs.Alike.{SafeClassesDoAlike}
 use Rattle.fm_law_headline.specs.Headline.{ClassesDoTheSame}
-use Rattle.fm_law_headline.specs.Parts.{ClassesDoTheSameRenamed}
 use Rattle.fm_law_headline.specs.Renamed.{SafeClassesAreRenamed}
 use Rattle.fm_law_headline.specs.WholeRuns.{MatchedStepsGiveEnds}
 use Rattle.fm_law_linked.specs.Laws.{ProgramsCanRun}
@@ -27,7 +26,7 @@ as_many plans first [] = refl
 as_many plans first (c ∷ given) = ap suc (as_many plans (first + length c.methods) given)
 
 module _ (links : SafeClassesLink) (can_run : ProgramsCanRun) (made : MadeIsMostHeld) (ends : MatchedStepsGiveEnds) (cleared : HoldersAreCleared)
-    (alike : SafeClassesDoAlike) (rename : SafeClassesAreRenamed) where
+    (alike : SafeClassesDoAlike) (reach : SafeClassesAreRenamed) (rename : ObjectsAreRenamed) where
   written_can_run : (given : List ClassDef) (main : List ℕ) → AreTaken given main → (written : List ClassDef) (marks : Marks)
       → Safe given main written marks → AllByRecursion HasSpelling written → AllByRecursion IsSupported written → CanRun (program_of written main)
   written_can_run given main taken written marks safe spelled supported =
@@ -47,16 +46,9 @@ module _ (links : SafeClassesLink) (can_run : ProgramsCanRun) (made : MadeIsMost
         same = both.same;
         faultless = both.faultless;
         renamed = rename given main taken written marks safe;
+        reached = reach given main taken written marks safe;
         balanced = both.balanced;
         cleared = cleared given main taken written marks full;
         most_held = made (program_of written main) (written_can_run given main taken written marks safe spelled supported);
         ends = ends matched given main taken written marks safe;
       }
-
--- with the renaming, which safe insertions have by the same facts
-pub whole : ClassesDoTheSame → ObjectsAreRenamed → ClassesDoTheSameRenamed
-unfolding safe_of
-whole same renamed given main taken written marks full spelled supported = record {
-  does = same given main taken written marks full spelled supported;
-  renamed = renamed given main taken written marks (safe_of given main written marks full);
-}

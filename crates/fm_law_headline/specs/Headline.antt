@@ -45,11 +45,14 @@ pub record DoesTheSame (given : List ClassDef) (main : List ℕ) (written : List
   pub same : Same (program_of given main) (program_of written main) marks
   -- no freed cell is read, written or freed again
   pub faultless : InAllRuns (program_of given main) (program_of written main) marks IsWithoutFault
-  -- at matched states live locals, stacks and static fields lead to the same, so nothing is read from a cell that has another object now
-  pub renamed : AreRenamedInRuns (program_of given main) (program_of written main) full.facts marks
+  -- at matched states what isn't retired is the same under other cells
+  pub renamed : InAllRuns (program_of given main) (program_of written main) marks
+      (λ b. (k l : ℕ) → AreMatched b k l → StatesAreRenamed full.facts b k l)
+  -- and live locals, stacks and static fields lead to nothing else, so nothing is read from a cell that has another object now
+  pub reached : AreRenamedInRuns (program_of given main) (program_of written main) full.facts marks
   -- at matched states the words that live, with those that were freed, are the words that live in the first run
   pub balanced : InAllRuns (program_of given main) (program_of written main) marks (λ b. (k l : ℕ) → AreMatched b k l → WordsAreBalanced b k l)
-  -- what isn't busy is freed at once
+  -- holders of what isn't busy are null
   pub cleared : HoldersStayClear (program_of given main) (program_of written main) full.facts marks
   -- and its cells serve again
   pub most_held : MakesAsHeld (program_of written main)
@@ -62,11 +65,3 @@ ClassesDoTheSame =
     (given : List ClassDef) (main : List ℕ) → AreTaken given main → (written : List ClassDef) (marks : Marks)
     → (full : Full given main written marks) → AllByRecursion HasSpelling written → AllByRecursion IsSupported written
     → DoesTheSame given main written marks full
-
--- ---- and what else keeps its cells
-
--- they do the same, and at matched states what isn't retired is the same under other cells, also where nothing leads to it any longer
-pub record DoesTheSameRenamed (given : List ClassDef) (main : List ℕ) (written : List ClassDef) (marks : Marks) (full : Full given main written marks) : Type 0 where
-  pub does : DoesTheSame given main written marks full
-  pub renamed : InAllRuns (program_of given main) (program_of written main) marks
-      (λ b. (k l : ℕ) → AreMatched b k l → StatesAreRenamed full.facts b k l)

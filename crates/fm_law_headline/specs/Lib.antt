@@ -4,4 +4,3 @@ pub mod WholeRuns
 pub mod InStep
 pub mod Alike
 pub mod Renamed
-pub mod Parts

@@ -3,7 +3,6 @@
 ghost use Rattle.fm_law_headline.specs.Alike.{SafeClassesDoAlike};
 ghost use Rattle.fm_law_headline.specs.Headline.{ClassesDoTheSame};
 ghost use Rattle.fm_law_headline.specs.InStep.{RunsInStepDoAlike};
-ghost use Rattle.fm_law_headline.specs.Parts.{ClassesDoTheSameRenamed};
 ghost use Rattle.fm_law_headline.specs.Renamed.{SafeClassesAreRenamed};
 ghost use Rattle.fm_law_headline.specs.Taken.{CheckedAreTaken, FirstCallIsFound};
 ghost use Rattle.fm_law_headline.specs.WholeRuns.{MatchedStepsGiveEnds, SameProgramsEndTheSame};
@@ -81,21 +80,6 @@ pub fn law_cells_renamed()
     law_renamed();
 }
 
-/// So do classes with all held sites and all places; what isn't busy is freed at once, its cells serve
-/// again, and whole runs end the same.
-pub fn law_headline()
-    ensures { ClassesDoTheSame }
-{
-    // By these laws.
-    law_alike();
-    law_cells_renamed();
-    law_cleared();
-    law_links();
-    law_can_run();
-    law_most_held();
-    law_two_programs();
-}
-
 /// In matched states each object of the first run is one of the second one under another cell, but for what was
 /// retired by the facts of the insertions.
 pub fn law_objects_renamed()
@@ -109,11 +93,18 @@ pub fn law_objects_renamed()
     law_retired();
 }
 
-/// So the classes written do the same under other cells.
-pub fn law_parts()
-    ensures { ClassesDoTheSameRenamed }
+/// So do classes with all held sites and all places, and what isn't retired is the same under other cells;
+/// holders of what isn't busy are null, cells serve again, and whole runs end the same.
+pub fn law_headline()
+    ensures { ClassesDoTheSame }
 {
     // By these laws.
-    law_headline();
+    law_alike();
+    law_cells_renamed();
     law_objects_renamed();
+    law_cleared();
+    law_links();
+    law_can_run();
+    law_most_held();
+    law_two_programs();
 }
