@@ -12,7 +12,7 @@ use Rattle.freeme.specs.Jobs.{given_of, main_name}
 use Rattle.freeme.specs.Writing.{AllWritten}
 
 -- The classes of the files that the words ask for, and those that are written for them, which do the same (JVMS 2.6, 2.10, 2.11): step for matched step on
--- memory that reuses cells in any way, no freed cell is used, and what isn't needed is freed at once.
+-- memory that reuses cells in any way, no freed cell is used, and holders of what isn't needed are null.
 pub record HasKeptMeaning (words : List Bytes) (old new : Disk) : Type 0 where
   pub job : FreemeJob
   pub asked : Asks words job
