@@ -63,8 +63,9 @@ pub fn law_alike()
     law_costs();
 }
 
-/// In matched states each object that a live local, a word of a stack or a static field leads to is the same
-/// under another cell, and so are these values: what is read is never what was freed.
+/// Matched states are at one item of the classes given, and each object that a live local, a word of a stack or
+/// a static field leads to is the same under another cell, and so are these values: what is read is never what
+/// was freed.
 pub fn law_cells_renamed()
     ensures { SafeClassesAreRenamed }
 {

@@ -1,5 +1,5 @@
 -- What is gone is retired, so no root leads to it: what is reached has a twin.
-use Rattle.std.proofs.Common.{◌≡◌, ℕ, zero, suc, ◌⊎◌, inl, inr, true, List, [], ◌∷◌, map, take, Option, Some, refl, sym, ap, subst, ◌∙◌, ⊎_elim}
+use Rattle.std.proofs.Common.{◌≡◌, ℕ, zero, suc, ◌<◌, ◌⊎◌, inl, inr, true, List, [], ◌∷◌, length, map, take, Option, Some, unwrap_or, refl, sym, ap, subst, ◌∙◌, arith, ⊎_elim}
 use Rattle.std.specs.Prelude.{slice_get}
 use Rattle.std.specs.List.{AllZip, slice_index_or}
 use Rattle.std.proofs.lemmas.Bool.{cases_Bool, false≢true}
@@ -16,16 +16,17 @@ use Rattle.fm_frames.specs.declared.values.Value.TheVariants as value
 use Rattle.fm_law_lockstep.proofs.Seen.{itself}
 use Rattle.fm_law_lockstep.proofs.SinceStep.{MissingIs}
 use Rattle.fm_law_lockstep.specs.Both.{Both}
-use Rattle.fm_law_lockstep.specs.Reaching.{IsUnreached}
+use Rattle.fm_law_lockstep.specs.Reaching.{AreAtOneItem, IsUnreached}
 use Rattle.fm_law_lockstep.specs.Renamed.{TogetherIsRenamed}
 use Rattle.fm_law_lockstep.specs.Together.{GoTogetherAt}
 use Rattle.fm_law_same_runs.specs.Beside.{Marks}
 use Rattle.fm_law_same_runs.specs.Renaming.{AreRenamed, HasName, IsFrameRenamed, SameOrRetired}
 use Rattle.fm_law_sound.specs.Placing.{kind_in}
 use Rattle.fm_law_two_memories.specs.Pairing.{ArePaired, AreTwins, FramesPaired, Gone, none_gone, SameElement, SameValue}
-use Rattle.fm_law_unwoven.specs.Kept.{old_frame}
+use Rattle.fm_law_unwoven.specs.Kept.{old_frame, StandKept}
 use Rattle.fm_same.proofs.Retiring.{dead_if_retired}
 use Rattle.fm_same.specs.DeadRegions.{InLocal, InWord, IsDead, IsRoot, LeadsTo}
+use Rattle.fm_place.specs.Rewriting.{Plans}
 use Rattle.fm_world.specs.Programs.{Outline, Program}
 
 module _ (o : Outline) (gone : Gone) (one other : Store) (paired : ArePaired gone o one other) where
@@ -85,6 +86,14 @@ module _ (o : Outline) (gone : Gone) (one other : Store) (paired : ArePaired gon
         },
         frames_there p facts marks fs gs same.1 (λ v root. there v (inr root)),
       )
+
+  -- the topmost frames are at one item
+  one_item : (p q : Program) (facts : Facts) (plans : Plans) (marks : Marks) (fs gs : List Frame) → 0 < length fs
+      → AllZip (FramesPaired gone one other) fs (map (old_frame p marks) gs) → StandKept p q facts plans marks gs → AreAtOneItem marks fs gs
+  one_item p q facts plans marks [] gs some same stand = absurd (omega (arith, some))
+  one_item p q facts plans marks (f ∷ fs) [] some same stand = absurd same
+  one_item p q facts plans marks (f ∷ fs) (g ∷ gs) some same stand =
+      stand.0.item_is ∙ ap Some (sym (ap (λ o. unwrap_or o 0) stand.0.item_is) ∙ same.0.item)
 
   -- ---- objects
 
@@ -173,15 +182,18 @@ gone_renamed b x y t = record {
 }
 
 pub together_is_renamed : TogetherIsRenamed
-together_is_renamed b x y t =
-    renamed_weaker b.one.outline b.facts x y (λ birth. t.gone.births birth ≡ true) (IsUnreached b.one.outline b.facts x)
-    (λ cell object held lost.
-    record {
-      not_fixed = λ c second there born. t.paired.areas.store.loose c second there (ap t.gone.births born ∙ lost);
-      no_root = (dead b x y t object.birth lost).no_root;
-      no_static = (dead b x y t object.birth lost).no_static;
-    })
-    (gone_renamed b x y t)
+together_is_renamed b x y t = (
+  one_item b.one.outline t.gone x.areas.store y.areas.store t.paired.areas.store b.one b.other b.facts b.plans b.marks x.frames y.frames
+      (t.known.whole.sound.running t.goes_on) t.paired.frames t.kept.frames,
+  renamed_weaker b.one.outline b.facts x y (λ birth. t.gone.births birth ≡ true) (IsUnreached b.one.outline b.facts x)
+      (λ cell object held lost.
+      record {
+        not_fixed = λ c second there born. t.paired.areas.store.loose c second there (ap t.gone.births born ∙ lost);
+        no_root = (dead b x y t object.birth lost).no_root;
+        no_static = (dead b x y t object.birth lost).no_static;
+      })
+      (gone_renamed b x y t),
+)
 
 -- what is gone is missing in the second state
 pub missing_renamed : (b : Both) (x y : State) → GoTogetherAt b x y → (S : ℕ → Type 0) → MissingIs S x.areas.store y.areas.store

@@ -6,17 +6,18 @@ use Rattle.fm_frames.specs.Runs.{Job}
 use Rattle.fm_frames.specs.States.{State}
 use Rattle.fm_law_lockstep.specs.Both.{Both}
 use Rattle.fm_law_lockstep.specs.Known.{IsLinked}
-use Rattle.fm_law_lockstep.specs.Reaching.{IsUnreached}
+use Rattle.fm_law_lockstep.specs.Reaching.{AreAtOneItem, IsUnreached}
 use Rattle.fm_law_lockstep.specs.Together.{GoTogetherAt}
 use Rattle.fm_law_same_runs.specs.Beside.{AreMatched, HasWords, most_original_words, runs_of}
 use Rattle.fm_law_same_runs.specs.Renaming.{AreRenamed, StatesAreRenamed}
 use Rattle.fm_law_sound.specs.Making.{ArgumentsFit}
 use Rattle.fm_law_unwoven.specs.WovenFrom.{IsWovenFrom}
 
--- at states that go together each object has another cell, but for what nothing leads to
+-- at states that go together the next item is the same one, and each object has another cell, but for what nothing leads to
 abbrev pub TogetherIsRenamed : Type 0
 TogetherIsRenamed =
-    (b : Both) (x y : State) → GoTogetherAt b x y → AreRenamed b.one.outline b.facts (IsUnreached b.one.outline b.facts x) x y
+    (b : Both) (x y : State) → GoTogetherAt b x y
+    → AreAtOneItem b.marks x.frames y.frames × AreRenamed b.one.outline b.facts (IsUnreached b.one.outline b.facts x) x y
 
 -- at matched states of the runs of one job each object has, but for what was retired before
 abbrev pub MatchedAreRenamed : Type 0

@@ -129,8 +129,8 @@ pub fn law_opens()
     law_reached();
 }
 
-/// At states that go together each object that a live local, a word of a stack or a static field leads to is
-/// the same in both, under other cells, and so are these values.
+/// States that go together are at one item of the first program, and each object that a live local, a word of
+/// a stack or a static field leads to is the same in both, under other cells, and so are these values.
 pub fn law_renamed()
     ensures { TogetherIsRenamed }
 {}
