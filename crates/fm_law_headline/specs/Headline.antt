@@ -34,7 +34,7 @@ MakesAsHeld p =
 abbrev pub EndTheSame : (one other : Program) → Type 0
 EndTheSame one other = (r : WholeRuns) → r.one ≡ one → r.other ≡ other → AreWholeRuns r → IsAsFar r
 
--- at matched states what the first run reaches is the same in the second one, under other cells
+-- matched states are at one item, and what the first run reaches is the same in the second one, under other cells
 abbrev pub AreRenamedInRuns : (one other : Program) → Facts → Marks → Type 0
 AreRenamedInRuns one other facts marks = InAllRuns one other marks (λ b. (k l : ℕ) → AreMatched b k l → ReachedIsRenamed facts b k l)
 
@@ -48,7 +48,7 @@ pub record DoesTheSame (given : List ClassDef) (main : List ℕ) (written : List
   -- at matched states what isn't retired is the same under other cells
   pub renamed : InAllRuns (program_of given main) (program_of written main) marks
       (λ b. (k l : ℕ) → AreMatched b k l → StatesAreRenamed full.facts b k l)
-  -- and live locals, stacks and static fields lead to nothing else, so nothing is read from a cell that has another object now
+  -- they are at one item, and live locals, stacks and static fields lead to the same, so nothing is read from a cell that has another object now
   pub reached : AreRenamedInRuns (program_of given main) (program_of written main) full.facts marks
   -- at matched states the words that live, with those that were freed, are the words that live in the first run
   pub balanced : InAllRuns (program_of given main) (program_of written main) marks (λ b. (k l : ℕ) → AreMatched b k l → WordsAreBalanced b k l)

@@ -321,8 +321,8 @@ module _ (b : Both) (from : IsWovenFrom b.one b.other b.facts b.plans b.marks) (
 
   some_word : (code : Code) (stack : List Value) (hs : List ℕ) (rest : List Todo) (locals : List Value) → MayDoAll code stack locals (map ToKeep hs ++ rest)
       → (h : ℕ) → Contains hs h → 0 < length stack
-  some_word code stack [] rest locals may h among = absurd (Contains-none h among)
-  some_word code stack (k ∷ hs) rest locals may h among = may.0.0
+  some_word code stack [] rest _ may h among = absurd (Contains-none h among)
+  some_word code stack (k ∷ hs) rest _ may h among = may.0.0
 
   may_free : (code : Code) (code_is : code_at b.one g.method ≡ Some code) (n : ℕ) → kept_item b.marks g.method n ≡ Some f.item → (number : ℕ)
       → Contains (before_at (inserted_by (b.plans g.method)) f.item) number

@@ -1,5 +1,5 @@
 -- Both runs are at one item, and what the first run reaches is the same in the second one, under other cells (JVMS 2.7).
-use Rattle.std.specs.Prelude.{◌≡◌, ℕ, false, List, [], ◌∷◌, Some, slice_get}
+use Rattle.std.specs.Prelude.{◌≡◌, ℕ, false, List, ◌∷◌, Some, slice_get}
 use Rattle.fm_cells.specs.Objects.{Object}
 use Rattle.fm_cells.specs.Stores.{object_at}
 use Rattle.fm_conn.specs.Facts.{Facts}
