@@ -8,7 +8,7 @@ final class Digits {
     /** Reads a number in a radix that lies between two. */
     static long parse(String text, int radix, long least, long greatest) {
         if (text == null) {
-            throw new NumberFormatException("Cannot parse null string: null");
+            throw new NumberFormatException("Cannot parse null string");
         }
         if (radix < Character.MIN_RADIX) {
             throw new NumberFormatException(new StringBuilder().append("radix ").append(radix).append(" less than Character.MIN_RADIX").toString());

@@ -19,8 +19,15 @@ public abstract class AbstractMap<K, V> implements Map<K, V> {
         return size() == 0;
     }
 
+    /** Makes an iterator over the entries that shows them to nobody else: HashMap then may use them again. */
+    Iterator<Map.Entry<K, V>> entries() {
+        return entrySet().iterator();
+    }
+
     private Map.Entry<K, V> find(Object key) {
-        for (Map.Entry<K, V> each : entrySet()) {
+        Iterator<Map.Entry<K, V>> entries = entries();
+        while (entries.hasNext()) {
+            Map.Entry<K, V> each = entries.next();
             if (Objects.equals(key, each.getKey())) {
                 return each;
             }
@@ -35,8 +42,9 @@ public abstract class AbstractMap<K, V> implements Map<K, V> {
 
     /** Looks for an equal value, in linear time. */
     public boolean containsValue(Object value) {
-        for (Map.Entry<K, V> each : entrySet()) {
-            if (Objects.equals(value, each.getValue())) {
+        Iterator<Map.Entry<K, V>> entries = entries();
+        while (entries.hasNext()) {
+            if (Objects.equals(value, entries.next().getValue())) {
                 return true;
             }
         }
@@ -82,7 +90,10 @@ public abstract class AbstractMap<K, V> implements Map<K, V> {
 
     /** Calls {@code put} for each entry of the other map. */
     public void putAll(Map<? extends K, ? extends V> others) {
-        for (Map.Entry<? extends K, ? extends V> each : others.entrySet()) {
+        Map<K, V> map = (Map<K, V>) others;
+        Iterator<Map.Entry<K, V>> entries = map instanceof AbstractMap ? ((AbstractMap<K, V>) map).entries() : map.entrySet().iterator();
+        while (entries.hasNext()) {
+            Map.Entry<K, V> each = entries.next();
             put(each.getKey(), each.getValue());
         }
     }
@@ -111,7 +122,9 @@ public abstract class AbstractMap<K, V> implements Map<K, V> {
             return false;
         }
         Map<?, ?> map = (Map<?, ?>) other;
-        for (Map.Entry<K, V> each : entrySet()) {
+        Iterator<Map.Entry<K, V>> entries = entries();
+        while (entries.hasNext()) {
+            Map.Entry<K, V> each = entries.next();
             K key = each.getKey();
             V value = each.getValue();
             if (!Objects.equals(value, map.get(key)) || value == null && !map.containsKey(key)) {
@@ -124,8 +137,9 @@ public abstract class AbstractMap<K, V> implements Map<K, V> {
     /** Adds the entries' hashes, in their time. */
     public int hashCode() {
         int hash = 0;
-        for (Map.Entry<K, V> each : entrySet()) {
-            hash += each.hashCode();
+        Iterator<Map.Entry<K, V>> entries = entries();
+        while (entries.hasNext()) {
+            hash += entries.next().hashCode();
         }
         return hash;
     }
@@ -133,16 +147,13 @@ public abstract class AbstractMap<K, V> implements Map<K, V> {
     /** Returns keys and values in braces, with commas between them: the time of a text that grows by each of them. */
     public String toString() {
         StringBuilder text = new StringBuilder().append('{');
-        boolean isFirst = true;
-        for (Map.Entry<K, V> each : entrySet()) {
-            if (!isFirst) {
-                text.append(", ");
-            }
-            isFirst = false;
+        Iterator<Map.Entry<K, V>> entries = entries();
+        while (entries.hasNext()) {
+            Map.Entry<K, V> each = entries.next();
             K key = each.getKey();
             V value = each.getValue();
             text.append(key == this ? "(this Map)" : Objects.toString(key)).append('=');
-            text.append(value == this ? "(this Map)" : Objects.toString(value));
+            text.append(value == this ? "(this Map)" : Objects.toString(value)).append(entries.hasNext() ? ", " : "");
         }
         return text.append('}').toString();
     }
