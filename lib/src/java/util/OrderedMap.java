@@ -212,10 +212,6 @@ abstract class OrderedMap<K, V> extends AbstractMap<K, V> implements NavigableMa
             return isThere;
         }
 
-        public void clear() {
-            map.clear();
-        }
-
         public Iterator<Map.Entry<K, V>> iterator() {
             return new EntryWalk<K, V>(map);
         }
