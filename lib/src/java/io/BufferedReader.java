@@ -28,6 +28,7 @@ public class BufferedReader extends Reader {
         }
     }
 
+    /** Reads a char, or returns -1 at the end, in constant time. */
     public int read() throws IOException {
         if (reader == null) {
             throw new IOException("Stream closed");
@@ -37,6 +38,7 @@ public class BufferedReader extends Reader {
         return taken;
     }
 
+    /** Reads chars into a part of an array, and returns how many, or -1 at the end, in their time. */
     public int read(char[] chars, int start, int count) throws IOException {
         for (int index = 0; index < count; index++) {
             int value = read();

@@ -36,6 +36,7 @@ public class InputStreamReader extends Reader {
         return taken;
     }
 
+    /** Reads a char, or returns -1 at the end, in constant time. */
     public int read() throws IOException {
         if (half != NONE) {
             int second = half;
@@ -73,6 +74,7 @@ public class InputStreamReader extends Reader {
         return least <= next && next <= greatest;
     }
 
+    /** Reads chars into a part of an array, and returns how many, or -1 at the end, in their time. */
     public int read(char[] chars, int start, int count) throws IOException {
         for (int index = 0; index < count; index++) {
             int value = read();

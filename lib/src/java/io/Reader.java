@@ -2,12 +2,14 @@ package java.io;
 
 /** A source of chars: a class adds {@code read} of a part and {@code close}. */
 public abstract class Reader implements Closeable {
+    /** Makes a reader, in constant time. */
     protected Reader() {
     }
 
     /** Reads chars into a part of an array, and returns how many, or -1 at the end. */
     public abstract int read(char[] chars, int start, int count) throws IOException;
 
+    /** Closes it, at the cost that the class has. */
     public abstract void close() throws IOException;
 
     /** Reads a char, or returns -1 at the end, through an array that is freed. */

@@ -19,11 +19,13 @@ public class StringReader extends Reader {
         }
     }
 
+    /** Reads a char, or returns -1 at the end, in constant time. */
     public int read() throws IOException {
         checkOpen();
         return at < text.length() ? text.charAt(at++) : -1;
     }
 
+    /** Reads chars into a part of an array, and returns how many, or -1 at the end, in their time. */
     public int read(char[] chars, int start, int count) throws IOException {
         checkOpen();
         int taken = 0;

@@ -11,10 +11,12 @@ final class Digits {
             throw new NumberFormatException("Cannot parse null string");
         }
         if (radix < Character.MIN_RADIX) {
-            throw new NumberFormatException(new StringBuilder().append("radix ").append(radix).append(" less than Character.MIN_RADIX").toString());
+            StringBuilder message = new StringBuilder().append("radix ").append(radix);
+            throw new NumberFormatException(message.append(" less than Character.MIN_RADIX").toString());
         }
         if (radix > Character.MAX_RADIX) {
-            throw new NumberFormatException(new StringBuilder().append("radix ").append(radix).append(" greater than Character.MAX_RADIX").toString());
+            StringBuilder message = new StringBuilder().append("radix ").append(radix);
+            throw new NumberFormatException(message.append(" greater than Character.MAX_RADIX").toString());
         }
         int length = text.length();
         int index = 0;

@@ -2,11 +2,14 @@ package java.util;
 
 /** What collections have in common: a class adds {@code size} and {@code iterator}, and {@code add} where it can grow. */
 public abstract class AbstractCollection<E> implements Collection<E> {
+    /** Makes a collection, in constant time. */
     protected AbstractCollection() {
     }
 
+    /** Returns how many elements there are, at the cost that the class has. */
     public abstract int size();
 
+    /** Makes an iterator, at the cost that the class has. */
     public abstract Iterator<E> iterator();
 
     /** Reports whether there are no elements, in the time of {@code size}. */

@@ -4,9 +4,11 @@ import java.io.Serializable;
 
 /** What maps have in common: a class adds {@code entrySet}, and {@code put} where it can grow. */
 public abstract class AbstractMap<K, V> implements Map<K, V> {
+    /** Makes a map, in constant time. */
     protected AbstractMap() {
     }
 
+    /** Makes a view of the keys with their values, at the cost that the class has. */
     public abstract Set<Map.Entry<K, V>> entrySet();
 
     /** Returns the size of {@code entrySet}. */
@@ -158,30 +160,33 @@ public abstract class AbstractMap<K, V> implements Map<K, V> {
         return text.append('}').toString();
     }
 
-    /** A key with a value, for itself. Each method takes constant time but for those of key and value. */
+    /** A key with a value, for itself. */
     public static class SimpleEntry<K, V> extends AnyEntry<K, V> implements Serializable {
         private final K key;
         private V value;
 
-        /** Makes an entry. */
+        /** Makes an entry, in constant time. */
         public SimpleEntry(K key, V value) {
             this.key = key;
             this.value = value;
         }
 
-        /** Makes an entry like another one. */
+        /** Makes an entry like another one, in constant time. */
         public SimpleEntry(Map.Entry<? extends K, ? extends V> other) {
             this(other.getKey(), other.getValue());
         }
 
+        /** Returns the key, in constant time. */
         public K getKey() {
             return key;
         }
 
+        /** Returns the value, in constant time. */
         public V getValue() {
             return value;
         }
 
+        /** Replaces the value, and returns the old one, in constant time. */
         public V setValue(V value) {
             V old = this.value;
             this.value = value;
@@ -189,31 +194,33 @@ public abstract class AbstractMap<K, V> implements Map<K, V> {
         }
     }
 
-    /** A key with a value that can't be replaced. Each method takes constant time but for those of key and value. */
+    /** A key with a value that can't be replaced. */
     public static class SimpleImmutableEntry<K, V> extends AnyEntry<K, V> implements Serializable {
         private final K key;
         private final V value;
 
-        /** Makes an entry. */
+        /** Makes an entry, in constant time. */
         public SimpleImmutableEntry(K key, V value) {
             this.key = key;
             this.value = value;
         }
 
-        /** Makes an entry like another one. */
+        /** Makes an entry like another one, in constant time. */
         public SimpleImmutableEntry(Map.Entry<? extends K, ? extends V> other) {
             this(other.getKey(), other.getValue());
         }
 
+        /** Returns the key, in constant time. */
         public K getKey() {
             return key;
         }
 
+        /** Returns the value, in constant time. */
         public V getValue() {
             return value;
         }
 
-        /** Throws UnsupportedOperationException. */
+        /** Throws UnsupportedOperationException, in constant time. */
         public V setValue(V value) {
             throw new UnsupportedOperationException();
         }

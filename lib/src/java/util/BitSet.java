@@ -35,7 +35,8 @@ public class BitSet implements Cloneable, Serializable {
         checkIndex("fromIndex", start);
         checkIndex("toIndex", end);
         if (start > end) {
-            throw new IndexOutOfBoundsException(new StringBuilder().append("fromIndex: ").append(start).append(" > toIndex: ").append(end).toString());
+            StringBuilder message = new StringBuilder().append("fromIndex: ").append(start);
+            throw new IndexOutOfBoundsException(message.append(" > toIndex: ").append(end).toString());
         }
     }
 
