@@ -1,16 +1,20 @@
 package java.io;
 
+import zuqelash.Texts;
+
 /**
- * Lines of another reader. There is no buffer but one char, as reading has no cost that a buffer would save.
+ * Lines of another reader. Nothing is read ahead but a char, as reading has no cost that it would save.
  *
- * <p>What stays: nothing. A line is the caller's; the builder that it was made in is freed.
+ * <p>What stays: the array of the longest line, and each array that it grew out of. A line is the caller's, who frees it.
  */
 public class BufferedReader extends Reader {
     private static final int NONE = -2;
+    private static final int FIRST_CAPACITY = 32;
 
     private Reader reader;
     /** A char that was read ahead, or none. */
     private int ahead = NONE;
+    private char[] line = new char[FIRST_CAPACITY];
 
     /** Makes one over a reader, in constant time. */
     public BufferedReader(Reader reader) {
@@ -50,15 +54,16 @@ public class BufferedReader extends Reader {
         return count;
     }
 
-    /** Reads a line without its end, or returns null behind the last one: the time of a text that grows by each char. */
+    /** Reads a line without its end, or returns null behind the last one, in {@code n log n} time. */
     public String readLine() throws IOException {
         int value = read();
         if (value < 0) {
             return null;
         }
-        StringBuilder line = new StringBuilder();
+        int count = 0;
         while (value >= 0 && value != '\n' && value != '\r') {
-            line.append((char) value);
+            makeRoom(count);
+            line[count++] = (char) value;
             value = read();
         }
         if (value == '\r') {
@@ -67,7 +72,17 @@ public class BufferedReader extends Reader {
                 ahead = NONE;
             }
         }
-        return line.toString();
+        return Texts.of(line, 0, count);
+    }
+
+    private void makeRoom(int count) {
+        if (count == line.length) {
+            char[] longer = new char[count + (count >> 1)];
+            for (int index = 0; index < count; index++) {
+                longer[index] = line[index];
+            }
+            line = longer;
+        }
     }
 
     /** Reports whether there is more to read without waiting, in constant time. */

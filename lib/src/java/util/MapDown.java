@@ -28,6 +28,10 @@ final class MapDown<K, V> extends OrderedMap<K, V> {
         return map.changes();
     }
 
+    void show() {
+        map.show();
+    }
+
     public Comparator<? super K> comparator() {
         return Collections.reverseOrder((Comparator<K>) map.comparator());
     }

@@ -44,6 +44,10 @@ final class MapPart<K, V> extends OrderedMap<K, V> {
         return map.changes();
     }
 
+    void show() {
+        map.show();
+    }
+
     public Comparator<? super K> comparator() {
         return map.comparator();
     }

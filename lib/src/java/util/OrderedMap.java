@@ -23,6 +23,13 @@ abstract class OrderedMap<K, V> extends AbstractMap<K, V> implements NavigableMa
     /** Returns how often keys were added or removed. */
     abstract int changes();
 
+    /** Is called before entries are shown to others, who may keep them. */
+    abstract void show();
+
+    Iterator<Map.Entry<K, V>> entries() {
+        return new EntryWalk<K, V>(this);
+    }
+
     final int compare(K one, K other) {
         return Natural.compare(one, other, comparator());
     }
@@ -132,7 +139,7 @@ abstract class OrderedMap<K, V> extends AbstractMap<K, V> implements NavigableMa
 
     /** Makes a view of the keys, in constant time; its iterator takes logarithmic time for each. */
     public NavigableSet<K> navigableKeySet() {
-        return new OrderedSet<K>((NavigableMap<K, Object>) this, false);
+        return new OrderedSet<K>((OrderedMap<K, Object>) this, false);
     }
 
     /** Makes a view of the keys in the opposite order, in constant time. */
@@ -213,6 +220,7 @@ abstract class OrderedMap<K, V> extends AbstractMap<K, V> implements NavigableMa
         }
 
         public Iterator<Map.Entry<K, V>> iterator() {
+            map.show();
             return new EntryWalk<K, V>(map);
         }
     }

@@ -2,30 +2,36 @@ package java.util;
 
 /** The keys of a map in an order, as a set: a view of them, or a set of its own, which may grow. */
 class OrderedSet<E> extends AbstractSet<E> implements NavigableSet<E> {
-    private final NavigableMap<E, Object> map;
+    private final OrderedMap<E, Object> map;
     private final boolean mayGrow;
 
-    OrderedSet(NavigableMap<E, Object> map, boolean mayGrow) {
+    OrderedSet(OrderedMap<E, Object> map, boolean mayGrow) {
         this.map = map;
         this.mayGrow = mayGrow;
     }
 
     private OrderedSet<E> part(NavigableMap<E, Object> keys) {
-        return new OrderedSet<E>(keys, mayGrow);
+        return new OrderedSet<E>((OrderedMap<E, Object>) keys, mayGrow);
     }
 
-    private static <E> E keyOf(Map.Entry<E, Object> entry) {
-        return entry == null ? null : entry.getKey();
+    /** Removes the element of an entry, and returns it, or returns null where there is no entry. */
+    private E taken(Map.Entry<E, Object> entry) {
+        if (entry == null) {
+            return null;
+        }
+        E element = entry.getKey();
+        map.remove(element);
+        return element;
     }
 
     /** Makes an iterator, in logarithmic time; each element takes that too. */
     public Iterator<E> iterator() {
-        return new AbstractMap.KeyWalk<E, Object>(map.entrySet().iterator());
+        return new AbstractMap.KeyWalk<E, Object>(map.entries());
     }
 
     /** Makes an iterator from the greatest element to the least, as above. */
     public Iterator<E> descendingIterator() {
-        return new AbstractMap.KeyWalk<E, Object>(map.descendingMap().entrySet().iterator());
+        return new AbstractMap.KeyWalk<E, Object>(new MapDown<E, Object>(map).entries());
     }
 
     /** Returns the number of elements: in constant time of a whole set, else they are counted. */
@@ -64,7 +70,7 @@ class OrderedSet<E> extends AbstractSet<E> implements NavigableSet<E> {
         return isThere;
     }
 
-    /** Removes all elements: in constant time of a whole set, else one by one. */
+    /** Removes all elements, one by one. */
     public void clear() {
         map.clear();
     }
@@ -106,12 +112,12 @@ class OrderedSet<E> extends AbstractSet<E> implements NavigableSet<E> {
 
     /** Removes the least element, or returns null, in logarithmic time. */
     public E pollFirst() {
-        return keyOf(map.pollFirstEntry());
+        return taken(map.least());
     }
 
     /** Removes the greatest element, or returns null, in logarithmic time. */
     public E pollLast() {
-        return keyOf(map.pollLastEntry());
+        return taken(map.greatest());
     }
 
     /** Makes a view in the opposite order, in constant time. */

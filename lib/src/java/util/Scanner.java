@@ -5,6 +5,7 @@ import java.io.InputStream;
 import java.io.InputStreamReader;
 import java.io.Reader;
 import java.io.StringReader;
+import zuqelash.Texts;
 
 /**
  * The words, numbers and lines of a source. Words are between white space; there are no patterns and no other separators, and a number
@@ -79,12 +80,9 @@ public final class Scanner implements Iterator<String> {
         count -= distance;
     }
 
+    /** Returns what was read ahead, from one distance to before another. */
     private String text(int from, int to) {
-        StringBuilder text = new StringBuilder();
-        for (int distance = from; distance < to; distance++) {
-            text.append((char) at(distance));
-        }
-        return text.toString();
+        return Texts.of(ahead, start + from, start + to);
     }
 
     /** Returns the distance of the next word. */
@@ -119,7 +117,7 @@ public final class Scanner implements Iterator<String> {
         return text(from, wordEnd(from));
     }
 
-    /** Returns the next word, or throws NoSuchElementException: the time of a text that grows by each char. */
+    /** Returns the next word, or throws NoSuchElementException, in {@code n log n} time. */
     public String next() {
         String word = word();
         pass(wordEnd(wordStart()));
@@ -243,7 +241,7 @@ public final class Scanner implements Iterator<String> {
         return at(0) >= 0;
     }
 
-    /** Returns the rest of the line, or throws NoSuchElementException: the time of a text that grows by each char. */
+    /** Returns the rest of the line, or throws NoSuchElementException, in {@code n log n} time. */
     public String nextLine() {
         checkOpen();
         if (at(0) < 0) {

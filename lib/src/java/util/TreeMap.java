@@ -6,26 +6,28 @@ import java.io.Serializable;
  * A map in the order of its keys: a balanced tree, whose nodes have levels (an AA tree). Its views are in that order too. Texts are
  * compared by {@code String.compareTo}.
  *
- * <p>What stays: the nodes, also removed ones.
+ * <p>What stays: the nodes. Those of removed keys serve again in the same map, until its {@code entrySet} or that of a view is gone
+ * through, since from then on somebody may have them.
  */
 public class TreeMap<K, V> extends OrderedMap<K, V> implements Cloneable, Serializable {
     private final Comparator<? super K> order;
     private Node<K, V> root;
     private int size;
     private int changes;
+    /** The nodes that are to serve again, the next one on the right of each. */
+    private Node<K, V> spare;
+    private boolean areShown;
 
     /** A key with its value: what is before it is on the left, what is behind it on the right. */
     static final class Node<K, V> extends AnyEntry<K, V> {
-        final K key;
+        K key;
         V value;
         Node<K, V> left;
         Node<K, V> right;
         /** One more than that of the left node; a right node may have the same, but not two in a row. A node without others has 1. */
-        int level = 1;
+        int level;
 
-        Node(K key, V value) {
-            this.key = key;
-            this.value = value;
+        Node() {
         }
 
         public K getKey() {
@@ -137,6 +139,28 @@ public class TreeMap<K, V> extends OrderedMap<K, V> implements Cloneable, Serial
         return changes;
     }
 
+    void show() {
+        areShown = true;
+    }
+
+    private Node<K, V> takeNode() {
+        Node<K, V> taken = spare;
+        if (taken == null) {
+            return new Node<K, V>();
+        }
+        spare = taken.right;
+        taken.right = null;
+        return taken;
+    }
+
+    private void giveNode(Node<K, V> node) {
+        if (!areShown) {
+            node.left = null;
+            node.right = spare;
+            spare = node;
+        }
+    }
+
     /** Returns the order, or null where it is the natural one, in constant time. */
     public Comparator<? super K> comparator() {
         return order;
@@ -177,7 +201,11 @@ public class TreeMap<K, V> extends OrderedMap<K, V> implements Cloneable, Serial
     /** Returns a tree with a further key. */
     private Node<K, V> inserted(Node<K, V> node, K key, V value) {
         if (node == null) {
-            return new Node<K, V>(key, value);
+            Node<K, V> made = takeNode();
+            made.key = key;
+            made.value = value;
+            made.level = 1;
+            return made;
         }
         if (compared(key, node) < 0) {
             node.left = inserted(node.left, key, value);
@@ -246,6 +274,7 @@ public class TreeMap<K, V> extends OrderedMap<K, V> implements Cloneable, Serial
         root = removed(root, key);
         size--;
         changes++;
+        giveNode(node);
         return node.value;
     }
 
@@ -278,11 +307,20 @@ public class TreeMap<K, V> extends OrderedMap<K, V> implements Cloneable, Serial
         return balanced(node);
     }
 
-    /** Removes all keys, in constant time. */
+    /** Removes all keys, in linear time. */
     public void clear() {
+        giveAll(root);
         root = null;
         size = 0;
         changes++;
+    }
+
+    private void giveAll(Node<K, V> node) {
+        if (node != null && !areShown) {
+            giveAll(node.left);
+            giveAll(node.right);
+            giveNode(node);
+        }
     }
 
     /** Makes a map of the same keys and values in the same order, in {@code n log n} time. */
