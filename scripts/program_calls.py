@@ -2,7 +2,8 @@
 
 A program is a folder with a file expect.txt: classes/, there or one folder up, has its class files, expected.out what `java` printed. expect.txt gives the
 main class, the words of fmrun (for `--input input` it is the file of the folder, for `--args` the text in the file args), and the status and, where
-it is known, the report line of fmrun on the files read; where they are known, the lines of freeme and what fmrun reports of the files written.
+it is known, the report line of fmrun on the files read; where they are known, the lines of freeme and what fmrun reports of the files written. With the
+line `class library: used` those class files of lib/classes that the program names are given too.
 """
 
 import resource
@@ -11,6 +12,8 @@ import subprocess
 import tempfile
 from contextlib import suppress
 from pathlib import Path
+
+from class_library import needed
 
 NO_WORDS = "none"
 
@@ -109,6 +112,8 @@ def differences(programs, folder):
     printed = (folder / "expected.out").read_bytes()
     status, lines = due["fmrun on the files read"]
     files = files_of(classes_of(folder))
+    if "class library" in due:
+        files += needed(files)
     wrong = []
 
     def compare(what, found, wanted):

@@ -8,7 +8,9 @@ import java.io.Serializable;
  * <p>What stays: the two boxes that {@code valueOf} returns.
  */
 public final class Boolean implements Serializable, Comparable<Boolean> {
+    /** The box of true. */
     public static final Boolean TRUE = new Boolean(true);
+    /** The box of false. */
     public static final Boolean FALSE = new Boolean(false);
 
     private final boolean value;
@@ -46,6 +48,7 @@ public final class Boolean implements Serializable, Comparable<Boolean> {
         return true;
     }
 
+    /** Returns the value, in constant time. */
     public boolean booleanValue() {
         return value;
     }

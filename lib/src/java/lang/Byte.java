@@ -80,18 +80,22 @@ public final class Byte extends Number implements Comparable<Byte> {
         return valueOf((byte) value);
     }
 
+    /** Returns the lowest 8 bits, in constant time. */
     public byte byteValue() {
         return (byte) value;
     }
 
+    /** Returns the lowest 16 bits, in constant time. */
     public short shortValue() {
         return (short) value;
     }
 
+    /** Returns the number, in constant time. */
     public int intValue() {
         return value;
     }
 
+    /** Returns the number, in constant time. */
     public long longValue() {
         return value;
     }

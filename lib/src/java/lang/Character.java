@@ -57,6 +57,7 @@ public final class Character implements Serializable, Comparable<Character> {
         return value < 128 ? Cache.box(value) : new Character(value);
     }
 
+    /** Returns the char, in constant time. */
     public char charValue() {
         return value;
     }

@@ -1,20 +1,27 @@
 package java.lang;
 
+import zuqelash.Texts;
+
 /** The digits of numbers: what the boxes share. */
 final class Digits {
+    /** The most digits that a number has. */
+    private static final int MOST = 65;
+
     Digits() {
     }
 
     /** Reads a number in a radix that lies between two. */
     static long parse(String text, int radix, long least, long greatest) {
         if (text == null) {
-            throw new NumberFormatException("Cannot parse null string: null");
+            throw new NumberFormatException("Cannot parse null string");
         }
         if (radix < Character.MIN_RADIX) {
-            throw new NumberFormatException(new StringBuilder().append("radix ").append(radix).append(" less than Character.MIN_RADIX").toString());
+            StringBuilder message = new StringBuilder().append("radix ").append(radix);
+            throw new NumberFormatException(message.append(" less than Character.MIN_RADIX").toString());
         }
         if (radix > Character.MAX_RADIX) {
-            throw new NumberFormatException(new StringBuilder().append("radix ").append(radix).append(" greater than Character.MAX_RADIX").toString());
+            StringBuilder message = new StringBuilder().append("radix ").append(radix);
+            throw new NumberFormatException(message.append(" greater than Character.MAX_RADIX").toString());
         }
         int length = text.length();
         int index = 0;
@@ -82,36 +89,28 @@ final class Digits {
         if (radix < Character.MIN_RADIX || radix > Character.MAX_RADIX || radix == 10) {
             return String.valueOf(value);
         }
-        char[] digits = new char[64];
-        int count = 0;
+        char[] digits = new char[MOST];
+        int start = MOST;
         // (below zero, where there is one more)
         long rest = value < 0 ? value : -value;
         do {
-            digits[count++] = Character.forDigit((int) -(rest % radix), radix);
+            digits[--start] = Character.forDigit((int) -(rest % radix), radix);
             rest /= radix;
         } while (rest != 0);
-        StringBuilder text = new StringBuilder();
         if (value < 0) {
-            text.append('-');
+            digits[--start] = '-';
         }
-        return reversed(text, digits, count);
+        return Texts.of(digits, start, MOST);
     }
 
     /** Returns the bits of a number, that many in a digit. */
     static String toBits(long value, int bits) {
-        char[] digits = new char[64];
-        int count = 0;
+        char[] digits = new char[MOST];
+        int start = MOST;
         do {
-            digits[count++] = Character.forDigit((int) value & (1 << bits) - 1, 16);
+            digits[--start] = Character.forDigit((int) value & (1 << bits) - 1, 16);
             value >>>= bits;
         } while (value != 0);
-        return reversed(new StringBuilder(), digits, count);
-    }
-
-    private static String reversed(StringBuilder text, char[] digits, int count) {
-        while (count > 0) {
-            text.append(digits[--count]);
-        }
-        return text.toString();
+        return Texts.of(digits, start, MOST);
     }
 }

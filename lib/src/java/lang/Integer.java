@@ -71,18 +71,22 @@ public final class Integer extends Number implements Comparable<Integer> {
         return valueOf((int) Digits.decode(text, MIN_VALUE, MAX_VALUE));
     }
 
+    /** Returns the lowest 8 bits, in constant time. */
     public byte byteValue() {
         return (byte) value;
     }
 
+    /** Returns the lowest 16 bits, in constant time. */
     public short shortValue() {
         return (short) value;
     }
 
+    /** Returns the number, in constant time. */
     public int intValue() {
         return value;
     }
 
+    /** Returns the number, in constant time. */
     public long longValue() {
         return value;
     }

@@ -71,18 +71,22 @@ public final class Long extends Number implements Comparable<Long> {
         return valueOf(Digits.decode(text, MIN_VALUE, MAX_VALUE));
     }
 
+    /** Returns the lowest 8 bits, in constant time. */
     public byte byteValue() {
         return (byte) value;
     }
 
+    /** Returns the lowest 16 bits, in constant time. */
     public short shortValue() {
         return (short) value;
     }
 
+    /** Returns the number or its lowest 32 bits, in constant time. */
     public int intValue() {
         return (int) value;
     }
 
+    /** Returns the number, in constant time. */
     public long longValue() {
         return value;
     }

@@ -4,6 +4,7 @@ import java.io.Serializable;
 
 /** A number as an object. There are no floats and doubles, so neither are {@code floatValue} and {@code doubleValue}. */
 public abstract class Number implements Serializable {
+    /** Makes a number, in constant time. */
     public Number() {
     }
 

@@ -2,11 +2,16 @@ package java.util;
 
 /** What collections have in common: a class adds {@code size} and {@code iterator}, and {@code add} where it can grow. */
 public abstract class AbstractCollection<E> implements Collection<E> {
+    private static final int FEW = 8;
+
+    /** Makes a collection, in constant time. */
     protected AbstractCollection() {
     }
 
+    /** Returns how many elements there are, at the cost that the class has. */
     public abstract int size();
 
+    /** Makes an iterator, at the cost that the class has. */
     public abstract Iterator<E> iterator();
 
     /** Reports whether there are no elements, in the time of {@code size}. */
@@ -120,17 +125,21 @@ public abstract class AbstractCollection<E> implements Collection<E> {
         }
     }
 
-    /** Returns the elements in brackets, with commas between them: the time of a text that grows by each element. */
+    /** Returns the elements in brackets, with commas between them, in {@code n log n} time. */
     public String toString() {
-        StringBuilder text = new StringBuilder().append('[');
-        boolean isFirst = true;
-        for (E each : this) {
-            if (!isFirst) {
-                text.append(", ");
-            }
-            isFirst = false;
-            text.append(each == this ? "(this Collection)" : Objects.toString(each));
+        return append(new StringBuilder().append('['), iterator(), size()).append(']').toString();
+    }
+
+    /** Appends further elements, with commas between them: of many, two halves, since a builder leaves each text that it dropped. */
+    private StringBuilder append(StringBuilder text, Iterator<E> elements, int count) {
+        if (count > FEW) {
+            text.append(append(new StringBuilder(), elements, count / 2).toString()).append(elements.hasNext() ? ", " : "");
+            return text.append(append(new StringBuilder(), elements, count - count / 2).toString());
         }
-        return text.append(']').toString();
+        for (int index = 0; index < count && elements.hasNext(); index++) {
+            E each = elements.next();
+            text.append(index == 0 ? "" : ", ").append(each == this ? "(this Collection)" : Objects.toString(each));
+        }
+        return text;
     }
 }

@@ -5,9 +5,11 @@ public abstract class AbstractList<E> extends AbstractCollection<E> implements L
     /** How often elements were added or removed: iterators throw ConcurrentModificationException where it isn't what they expect. */
     protected int modCount = 0;
 
+    /** Makes a list, in constant time. */
     protected AbstractList() {
     }
 
+    /** Returns the element at an index, at the cost that the class has. */
     public abstract E get(int index);
 
     /** Adds an element at the end, in the time of {@code add} at an index. */

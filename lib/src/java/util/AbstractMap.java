@@ -4,9 +4,13 @@ import java.io.Serializable;
 
 /** What maps have in common: a class adds {@code entrySet}, and {@code put} where it can grow. */
 public abstract class AbstractMap<K, V> implements Map<K, V> {
+    private static final int FEW = 4;
+
+    /** Makes a map, in constant time. */
     protected AbstractMap() {
     }
 
+    /** Makes a view of the keys with their values, at the cost that the class has. */
     public abstract Set<Map.Entry<K, V>> entrySet();
 
     /** Returns the size of {@code entrySet}. */
@@ -19,8 +23,15 @@ public abstract class AbstractMap<K, V> implements Map<K, V> {
         return size() == 0;
     }
 
+    /** Makes an iterator over the entries that shows them to nobody else: HashMap then may use them again. */
+    Iterator<Map.Entry<K, V>> entries() {
+        return entrySet().iterator();
+    }
+
     private Map.Entry<K, V> find(Object key) {
-        for (Map.Entry<K, V> each : entrySet()) {
+        Iterator<Map.Entry<K, V>> entries = entries();
+        while (entries.hasNext()) {
+            Map.Entry<K, V> each = entries.next();
             if (Objects.equals(key, each.getKey())) {
                 return each;
             }
@@ -35,8 +46,9 @@ public abstract class AbstractMap<K, V> implements Map<K, V> {
 
     /** Looks for an equal value, in linear time. */
     public boolean containsValue(Object value) {
-        for (Map.Entry<K, V> each : entrySet()) {
-            if (Objects.equals(value, each.getValue())) {
+        Iterator<Map.Entry<K, V>> entries = entries();
+        while (entries.hasNext()) {
+            if (Objects.equals(value, entries.next().getValue())) {
                 return true;
             }
         }
@@ -82,7 +94,10 @@ public abstract class AbstractMap<K, V> implements Map<K, V> {
 
     /** Calls {@code put} for each entry of the other map. */
     public void putAll(Map<? extends K, ? extends V> others) {
-        for (Map.Entry<? extends K, ? extends V> each : others.entrySet()) {
+        Map<K, V> map = (Map<K, V>) others;
+        Iterator<Map.Entry<K, V>> entries = map instanceof AbstractMap ? ((AbstractMap<K, V>) map).entries() : map.entrySet().iterator();
+        while (entries.hasNext()) {
+            Map.Entry<K, V> each = entries.next();
             put(each.getKey(), each.getValue());
         }
     }
@@ -111,7 +126,9 @@ public abstract class AbstractMap<K, V> implements Map<K, V> {
             return false;
         }
         Map<?, ?> map = (Map<?, ?>) other;
-        for (Map.Entry<K, V> each : entrySet()) {
+        Iterator<Map.Entry<K, V>> entries = entries();
+        while (entries.hasNext()) {
+            Map.Entry<K, V> each = entries.next();
             K key = each.getKey();
             V value = each.getValue();
             if (!Objects.equals(value, map.get(key)) || value == null && !map.containsKey(key)) {
@@ -124,53 +141,61 @@ public abstract class AbstractMap<K, V> implements Map<K, V> {
     /** Adds the entries' hashes, in their time. */
     public int hashCode() {
         int hash = 0;
-        for (Map.Entry<K, V> each : entrySet()) {
-            hash += each.hashCode();
+        Iterator<Map.Entry<K, V>> entries = entries();
+        while (entries.hasNext()) {
+            hash += entries.next().hashCode();
         }
         return hash;
     }
 
-    /** Returns keys and values in braces, with commas between them: the time of a text that grows by each of them. */
+    /** Returns keys and values in braces, with commas between them, in {@code n log n} time. */
     public String toString() {
-        StringBuilder text = new StringBuilder().append('{');
-        boolean isFirst = true;
-        for (Map.Entry<K, V> each : entrySet()) {
-            if (!isFirst) {
-                text.append(", ");
-            }
-            isFirst = false;
-            K key = each.getKey();
-            V value = each.getValue();
-            text.append(key == this ? "(this Map)" : Objects.toString(key)).append('=');
-            text.append(value == this ? "(this Map)" : Objects.toString(value));
-        }
-        return text.append('}').toString();
+        return append(new StringBuilder().append('{'), entries(), size()).append('}').toString();
     }
 
-    /** A key with a value, for itself. Each method takes constant time but for those of key and value. */
+    /** Appends further entries, with commas between them: of many, two halves, since a builder leaves each text that it dropped. */
+    private StringBuilder append(StringBuilder text, Iterator<Map.Entry<K, V>> entries, int count) {
+        if (count > FEW) {
+            text.append(append(new StringBuilder(), entries, count / 2).toString()).append(entries.hasNext() ? ", " : "");
+            return text.append(append(new StringBuilder(), entries, count - count / 2).toString());
+        }
+        for (int index = 0; index < count && entries.hasNext(); index++) {
+            Map.Entry<K, V> each = entries.next();
+            K key = each.getKey();
+            V value = each.getValue();
+            text.append(index == 0 ? "" : ", ").append(key == this ? "(this Map)" : Objects.toString(key)).append('=');
+            text.append(value == this ? "(this Map)" : Objects.toString(value));
+        }
+        return text;
+    }
+
+    /** A key with a value, for itself. */
     public static class SimpleEntry<K, V> extends AnyEntry<K, V> implements Serializable {
         private final K key;
         private V value;
 
-        /** Makes an entry. */
+        /** Makes an entry, in constant time. */
         public SimpleEntry(K key, V value) {
             this.key = key;
             this.value = value;
         }
 
-        /** Makes an entry like another one. */
+        /** Makes an entry like another one, in constant time. */
         public SimpleEntry(Map.Entry<? extends K, ? extends V> other) {
             this(other.getKey(), other.getValue());
         }
 
+        /** Returns the key, in constant time. */
         public K getKey() {
             return key;
         }
 
+        /** Returns the value, in constant time. */
         public V getValue() {
             return value;
         }
 
+        /** Replaces the value, and returns the old one, in constant time. */
         public V setValue(V value) {
             V old = this.value;
             this.value = value;
@@ -178,31 +203,33 @@ public abstract class AbstractMap<K, V> implements Map<K, V> {
         }
     }
 
-    /** A key with a value that can't be replaced. Each method takes constant time but for those of key and value. */
+    /** A key with a value that can't be replaced. */
     public static class SimpleImmutableEntry<K, V> extends AnyEntry<K, V> implements Serializable {
         private final K key;
         private final V value;
 
-        /** Makes an entry. */
+        /** Makes an entry, in constant time. */
         public SimpleImmutableEntry(K key, V value) {
             this.key = key;
             this.value = value;
         }
 
-        /** Makes an entry like another one. */
+        /** Makes an entry like another one, in constant time. */
         public SimpleImmutableEntry(Map.Entry<? extends K, ? extends V> other) {
             this(other.getKey(), other.getValue());
         }
 
+        /** Returns the key, in constant time. */
         public K getKey() {
             return key;
         }
 
+        /** Returns the value, in constant time. */
         public V getValue() {
             return value;
         }
 
-        /** Throws UnsupportedOperationException. */
+        /** Throws UnsupportedOperationException, in constant time. */
         public V setValue(V value) {
             throw new UnsupportedOperationException();
         }

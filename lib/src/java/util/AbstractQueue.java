@@ -2,6 +2,7 @@ package java.util;
 
 /** What queues have in common: a class adds {@code offer}, {@code poll}, {@code peek}, {@code size} and {@code iterator}. */
 public abstract class AbstractQueue<E> extends AbstractCollection<E> implements Queue<E> {
+    /** Makes a queue, in constant time. */
     protected AbstractQueue() {
     }
 

@@ -2,9 +2,11 @@ package java.util;
 
 /** What lists have in common that have to be gone through: a class adds {@code listIterator} and {@code size}. */
 public abstract class AbstractSequentialList<E> extends AbstractList<E> {
+    /** Makes a list, in constant time. */
     protected AbstractSequentialList() {
     }
 
+    /** Makes an iterator that begins before an index, at the cost that the class has. */
     public abstract ListIterator<E> listIterator(int index);
 
     /** Makes an iterator, in constant time. */

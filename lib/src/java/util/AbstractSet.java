@@ -2,6 +2,7 @@ package java.util;
 
 /** What sets have in common: a class adds {@code size} and {@code iterator}, and {@code add} where it can grow. */
 public abstract class AbstractSet<E> extends AbstractCollection<E> implements Set<E> {
+    /** Makes a set, in constant time. */
     protected AbstractSet() {
     }
 

@@ -10,7 +10,8 @@ public final class Arrays {
 
     private static void checkPart(int length, int start, int end) {
         if (start > end) {
-            throw new IllegalArgumentException(new StringBuilder().append("fromIndex(").append(start).append(") > toIndex(").append(end).append(')').toString());
+            StringBuilder message = new StringBuilder().append("fromIndex(").append(start).append(") > toIndex(").append(end);
+            throw new IllegalArgumentException(message.append(')').toString());
         }
         if (start < 0 || end > length) {
             int wrong = start < 0 ? start : end;

@@ -8,7 +8,8 @@ final class Bounds {
     /** Checks the index of an element. */
     static void checkElement(int index, int size) {
         if (index < 0 || index >= size) {
-            throw new IndexOutOfBoundsException(new StringBuilder().append("Index ").append(index).append(" out of bounds for length ").append(size).toString());
+            StringBuilder message = new StringBuilder().append("Index ").append(index);
+            throw new IndexOutOfBoundsException(message.append(" out of bounds for length ").append(size).toString());
         }
     }
 
@@ -39,7 +40,8 @@ final class Bounds {
             throw new IndexOutOfBoundsException(new StringBuilder().append("toIndex = ").append(end).toString());
         }
         if (start > end) {
-            throw new IllegalArgumentException(new StringBuilder().append("fromIndex(").append(start).append(") > toIndex(").append(end).append(')').toString());
+            StringBuilder message = new StringBuilder().append("fromIndex(").append(start).append(") > toIndex(").append(end);
+            throw new IllegalArgumentException(message.append(')').toString());
         }
     }
 }

@@ -1,8 +1,6 @@
 package java.util;
 
-/**
- * Operations on collections. Views and lists of one element are made at each call, so that they are freed.
- */
+/** Operations on collections. A view, or a list of one element, is made at each call, and stays as long as what it is of. */
 public class Collections {
     Collections() {
     }

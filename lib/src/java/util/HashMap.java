@@ -6,8 +6,9 @@ import java.io.Serializable;
  * A map by the keys' hashes. It is full at three quarters of its table, which then doubles. Keys come in the order of the table, as
  * Java has it; a place of the table keeps its keys in a list, however many they are.
  *
- * <p>What stays: the table, each table that it grew out of, and the entries, also removed ones. {@code new HashMap(n)} with enough
- * room makes one table only.
+ * <p>What stays: the table, each table that it grew out of, and the entries. Those of removed keys serve again in the same map, until
+ * its {@code entrySet} is gone through, since from then on somebody may have them. {@code new HashMap(n)} with enough room makes one
+ * table only.
  */
 public class HashMap<K, V> extends AbstractMap<K, V> implements Map<K, V>, Cloneable, Serializable {
     private static final int FIRST_CAPACITY = 16;
@@ -22,6 +23,9 @@ public class HashMap<K, V> extends AbstractMap<K, V> implements Map<K, V>, Clone
     private int capacity;
     private int size;
     int modCount;
+    /** The entries that are to serve again, the next one behind each. */
+    private Node<K, V> spare;
+    private boolean areShown;
 
     /** Makes an empty map with room for twelve keys, in constant time. */
     public HashMap() {
@@ -46,15 +50,12 @@ public class HashMap<K, V> extends AbstractMap<K, V> implements Map<K, V>, Clone
 
     /** A key with its value, and the next one at the same place. */
     static class Node<K, V> extends AnyEntry<K, V> {
-        final int hash;
-        final K key;
+        int hash;
+        K key;
         V value;
         Node<K, V> next;
 
-        Node(int hash, K key, V value) {
-            this.hash = hash;
-            this.key = key;
-            this.value = value;
+        Node() {
         }
 
         public K getKey() {
@@ -113,6 +114,10 @@ public class HashMap<K, V> extends AbstractMap<K, V> implements Map<K, V>, Clone
             }
         }
         return null;
+    }
+
+    Iterator<Map.Entry<K, V>> entries() {
+        return new HashEntryWalk<K, V>(this);
     }
 
     /** Returns the number of keys, in constant time. */
@@ -177,8 +182,10 @@ public class HashMap<K, V> extends AbstractMap<K, V> implements Map<K, V>, Clone
         if (table == null) {
             resize(capacity == 0 ? FIRST_CAPACITY : capacity);
         }
-        int hash = hash(key);
-        Node<K, V> made = node(hash, key, value);
+        Node<K, V> made = takeNode();
+        made.hash = hash(key);
+        made.key = key;
+        made.value = value;
         int before = append(table, made);
         if (before >= CROWD && table.length < CROWDED_CAPACITY) {
             resize(2 * table.length);
@@ -191,12 +198,22 @@ public class HashMap<K, V> extends AbstractMap<K, V> implements Map<K, V>, Clone
         added(made);
     }
 
-    /** Makes an entry: LinkedHashMap makes its own. */
-    Node<K, V> node(int hash, K key, V value) {
-        return new Node<K, V>(hash, key, value);
+    private Node<K, V> takeNode() {
+        Node<K, V> taken = spare;
+        if (taken == null) {
+            return makeNode();
+        }
+        spare = taken.next;
+        taken.next = null;
+        return taken;
     }
 
-    /** Is called when a key was added: LinkedHashMap may remove another one. */
+    /** Makes an entry: LinkedHashMap makes its own. */
+    Node<K, V> makeNode() {
+        return new Node<K, V>();
+    }
+
+    /** Is called when a key was added: LinkedHashMap links its entry, and may remove another one. */
     void added(Node<K, V> node) {
     }
 
@@ -262,8 +279,9 @@ public class HashMap<K, V> extends AbstractMap<K, V> implements Map<K, V>, Clone
         if (node == null) {
             return null;
         }
+        V value = node.value;
         unlink(node);
-        return node.value;
+        return value;
     }
 
     /** Removes an entry of this map. */
@@ -281,14 +299,25 @@ public class HashMap<K, V> extends AbstractMap<K, V> implements Map<K, V>, Clone
         size--;
         modCount++;
         removed(node);
+        if (!areShown) {
+            node.next = spare;
+            spare = node;
+        }
     }
 
-    /** Removes all keys, in the time of the table, which keeps its length. */
+    /** Removes all keys, in the time of the table, which keeps its length, and of the keys. */
     public void clear() {
         modCount++;
         size = 0;
-        if (table != null) {
-            Arrays.fill(table, null);
+        for (int index = 0; table != null && index < table.length; index++) {
+            Node<K, V> node = table[index];
+            table[index] = null;
+            while (node != null && !areShown) {
+                Node<K, V> following = node.next;
+                node.next = spare;
+                spare = node;
+                node = following;
+            }
         }
     }
 
@@ -407,6 +436,7 @@ public class HashMap<K, V> extends AbstractMap<K, V> implements Map<K, V>, Clone
         }
 
         public Iterator<Map.Entry<K, V>> iterator() {
+            map.areShown = true;
             return new HashEntryWalk<K, V>(map);
         }
     }

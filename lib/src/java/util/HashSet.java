@@ -75,6 +75,6 @@ public class HashSet<E> extends AbstractSet<E> implements Set<E>, Cloneable, Ser
 
     /** Makes a set of the same elements, in linear time. */
     public Object clone() {
-        return new HashSet<E>(this);
+        return new HashSet<E>((HashMap<E, Object>) map.clone());
     }
 }

@@ -28,24 +28,24 @@ public class LinkedHashMap<K, V> extends HashMap<K, V> {
         Linked<K, V> before;
         Linked<K, V> behind;
 
-        Linked(int hash, K key, V value) {
-            super(hash, key, value);
+        Linked() {
         }
     }
 
-    HashMap.Node<K, V> node(int hash, K key, V value) {
-        Linked<K, V> made = new Linked<K, V>(hash, key, value);
-        made.before = youngest;
-        if (youngest == null) {
-            eldest = made;
-        } else {
-            youngest.behind = made;
-        }
-        youngest = made;
-        return made;
+    HashMap.Node<K, V> makeNode() {
+        return new Linked<K, V>();
     }
 
     void added(HashMap.Node<K, V> node) {
+        Linked<K, V> linked = (Linked<K, V>) node;
+        linked.before = youngest;
+        linked.behind = null;
+        if (youngest == null) {
+            eldest = linked;
+        } else {
+            youngest.behind = linked;
+        }
+        youngest = linked;
         if (removeEldestEntry(eldest)) {
             unlink(eldest);
         }

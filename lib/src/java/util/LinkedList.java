@@ -3,14 +3,17 @@ package java.util;
 import java.io.Serializable;
 
 /**
- * A list of entries, each linked with the next and the previous one.
+ * A list of entries, each linked with the next and the previous one. Entries of removed elements serve again in the same list, so a
+ * queue takes no more than the most that wait at once.
  *
- * <p>What stays: the entries, also removed ones.
+ * <p>What stays: the entries of each list, as many as it had elements at once.
  */
 public class LinkedList<E> extends AbstractSequentialList<E> implements List<E>, Deque<E>, Cloneable, Serializable {
     private Link<E> first;
     private Link<E> last;
     private int size;
+    /** The entries that are to serve again, the next one behind each. */
+    private Link<E> spare;
 
     /** An element between its neighbours. */
     static final class Link<E> {
@@ -18,8 +21,7 @@ public class LinkedList<E> extends AbstractSequentialList<E> implements List<E>,
         Link<E> before;
         Link<E> behind;
 
-        Link(E element) {
-            this.element = element;
+        Link() {
         }
     }
 
@@ -49,10 +51,20 @@ public class LinkedList<E> extends AbstractSequentialList<E> implements List<E>,
         return link;
     }
 
+    private Link<E> takeLink() {
+        Link<E> taken = spare;
+        if (taken == null) {
+            return new Link<E>();
+        }
+        spare = taken.behind;
+        return taken;
+    }
+
     /** Inserts an element before a link, or at the end where that is null. */
     private void insert(E element, Link<E> behind) {
-        Link<E> made = new Link<E>(element);
+        Link<E> made = takeLink();
         Link<E> before = behind == null ? last : behind.before;
+        made.element = element;
         made.before = before;
         made.behind = behind;
         if (before == null) {
@@ -82,7 +94,11 @@ public class LinkedList<E> extends AbstractSequentialList<E> implements List<E>,
         }
         size--;
         modCount++;
-        return link.element;
+        E removed = link.element;
+        link.element = null;
+        link.behind = spare;
+        spare = link;
+        return removed;
     }
 
     private static <E> Link<E> present(Link<E> link) {
@@ -278,6 +294,10 @@ public class LinkedList<E> extends AbstractSequentialList<E> implements List<E>,
 
     /** Removes all elements, in constant time. */
     public void clear() {
+        if (last != null) {
+            last.behind = spare;
+            spare = first;
+        }
         first = null;
         last = null;
         size = 0;

@@ -43,9 +43,13 @@ public class Vector<E> extends AbstractList<E> implements List<E>, RandomAccess,
         return new ArrayIndexOutOfBoundsException(new StringBuilder().append(index).append(relation).append(size).toString());
     }
 
+    private static ArrayIndexOutOfBoundsException outside(int index) {
+        return new ArrayIndexOutOfBoundsException(new StringBuilder().append("Array index out of range: ").append(index).toString());
+    }
+
     private void checkElement(int index) {
         if (index < 0) {
-            throw new ArrayIndexOutOfBoundsException(new StringBuilder().append("Index ").append(index).append(" out of bounds for length ").append(elementData.length).toString());
+            throw outside(index);
         }
         if (index >= elementCount) {
             throw outside(index, " >= ", elementCount);
@@ -203,10 +207,9 @@ public class Vector<E> extends AbstractList<E> implements List<E>, RandomAccess,
 
     /** Returns the element at an index, in constant time. */
     public E get(int index) {
-        if (index >= elementCount) {
-            throw new ArrayIndexOutOfBoundsException(new StringBuilder().append("Array index out of range: ").append(index).toString());
+        if (index < 0 || index >= elementCount) {
+            throw outside(index);
         }
-        checkElement(index);
         return (E) elementData[index];
     }
 
@@ -231,6 +234,9 @@ public class Vector<E> extends AbstractList<E> implements List<E>, RandomAccess,
 
     /** Inserts an element, in the time of those behind it. */
     public void insertElementAt(E element, int index) {
+        if (index < 0) {
+            throw outside(index);
+        }
         if (index > elementCount) {
             throw outside(index, " > ", elementCount);
         }
@@ -292,7 +298,7 @@ public class Vector<E> extends AbstractList<E> implements List<E>, RandomAccess,
     /** Inserts all elements of a collection, in the time of these and of those behind them. */
     public boolean addAll(int index, Collection<? extends E> others) {
         if (index < 0 || index > elementCount) {
-            throw new ArrayIndexOutOfBoundsException(new StringBuilder().append("Array index out of range: ").append(index).toString());
+            throw outside(index);
         }
         Object[] added = others.toArray();
         modCount++;
@@ -339,6 +345,14 @@ public class Vector<E> extends AbstractList<E> implements List<E>, RandomAccess,
             elementData[index] = null;
         }
         elementCount -= removed;
+    }
+
+    /** Makes an iterator, in constant time. */
+    public ListIterator<E> listIterator(int index) {
+        if (index < 0 || index > elementCount) {
+            throw new IndexOutOfBoundsException(new StringBuilder().append("Index: ").append(index).toString());
+        }
+        return new ListWalk<E>(this, index);
     }
 
     /** Sorts by merging, in {@code n log n} steps of the order; what it needs besides is freed. */
