@@ -1,5 +1,5 @@
 -- A call that is done keeps the meaning of the classes.
-use Rattle.std.proofs.Common.{◌≡◌, ◌⊎◌, inl, inr, ℕ, List}
+use Rattle.std.proofs.Common.{◌⊎◌, inl, inr, ℕ, List}
 use Rattle.fm_files.specs.Files.{Bytes, Disk}
 use Rattle.fm_files.specs.Sink.{Output}
 use Rattle.fm_cli_requests.specs.FreemeRequest.{AskOnlyForText}
