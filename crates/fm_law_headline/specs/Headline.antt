@@ -54,7 +54,7 @@ pub record DoesTheSame (given : List ClassDef) (main : List ℕ) (written : List
   pub balanced : InAllRuns (program_of given main) (program_of written main) marks (λ b. (k l : ℕ) → AreMatched b k l → WordsAreBalanced b k l)
   -- holders of what isn't busy are null
   pub cleared : HoldersStayClear (program_of given main) (program_of written main) full.facts marks
-  -- and its cells serve again
+  -- freed cells serve again
   pub most_held : MakesAsHeld (program_of written main)
   -- in whole runs over cells that serve again in both programs
   pub ends : EndTheSame (program_of given main) (program_of written main)
