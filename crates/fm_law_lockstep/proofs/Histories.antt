@@ -49,7 +49,7 @@ use Rattle.fm_same.specs.Laws.{SitesMakeBusy}
 use Rattle.fm_same.specs.DeadRegions.{IsHeldAt, IsMethodAt, IsOver, LeadsTo}
 use Rattle.fm_world.specs.Programs.{code_at}
 
--- ---- what is told of holders
+-- ---- what holds of holders
 
 -- the frame was there since some state in which a word or a live local of this class led to the object
 pub record HeldSince (facts : Facts) (r : Beside) (k method depth class birth : ℕ) : Type 0 where
@@ -327,7 +327,7 @@ module _ (b : Both) (from : IsWovenFrom b.one b.other b.facts b.plans b.marks) (
 
   -- ---- the opening
 
-  -- where nothing is gone and no holder holds anything, nothing is told
+  -- where nothing is gone and no holder holds anything, it holds of nothing
   fresh_frames : (S : ℕ → ℕ → ℕ → ℕ → Type 0) (store : Store) → IsOrderly store → (frames : List Frame) → AllByRecursion (HoldsNothing b) frames
       → FramesSince b.one b.facts b.plans b.marks S store frames
   fresh_frames S store orderly [] empty = tt

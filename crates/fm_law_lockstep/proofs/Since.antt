@@ -23,7 +23,7 @@ use Rattle.fm_same.specs.DeadRegions.{IsMethodAt}
 use Rattle.fm_world.specs.Programs.{code_at, Program}
 
 module _ (p : Program) (facts : Facts) (plans : Plans) (marks : Marks) where
-  -- what each holder of a frame holds, if it may be freed: of a birth of which this is told by method, depth and class
+  -- this holds of the method, the depth, the class and the birth of what each holder of a frame holds, if it may be freed
   abbrev pub HoldersSince : (ℕ → ℕ → ℕ → ℕ → Type 0) → Store → (method depth : ℕ) → Code → List Value → Type 0
   HoldersSince S store method depth code values =
       (h : ℕ) (holder : Holder) → slice_get (inserted_by (plans method)).holders h ≡ Some holder → (birth : ℕ) → MayFree store (holder_value code values h) birth

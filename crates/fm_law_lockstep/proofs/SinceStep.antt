@@ -57,11 +57,11 @@ use Rattle.fm_world.specs.Programs.{code_at}
 abbrev pub IsMissing : Store → ℕ → Type 0
 IsMissing store birth = (cell : ℕ) (object : Object) → object_at store cell ≡ Some object → object.birth ≢ birth
 
--- of what is held in the first store, and not in the second one, this is told
+-- this holds of the birth of what is held in the first store, and not in the second one
 abbrev pub MissingIs : (ℕ → Type 0) → (one other : Store) → Type 0
 MissingIs R one other = (cell : ℕ) (object : Object) → object_at one cell ≡ Some object → IsMissing other object.birth → R object.birth
 
--- What is told of holders by method, depth, class and birth, and of what is missing by birth, goes on from one state of the first program to the next.
+-- What holds of holders by method, depth, class and birth, and of what is missing by birth, goes on from one state of the first program to the next.
 pub record TellsOn (b : Both) (next : State) (S T : ℕ → ℕ → ℕ → ℕ → Type 0) (R Q : ℕ → Type 0) : Type 0 where
   pub extends : (method depth class birth : ℕ) → S method depth class birth → IsMethodAt method depth next.frames → T method depth class birth
   pub begins : (method depth class birth : ℕ) (v : Value) → IsMethodAt method depth next.frames → IsHeldAt b.facts depth class next.frames v
