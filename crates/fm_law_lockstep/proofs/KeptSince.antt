@@ -1,9 +1,10 @@
 -- Of what a holder holds at the next kept item: null, what it held before, or the object that the site of its class gave.
-use Rattle.std.proofs.Common.{◌≡◌, inl, ℕ, suc, ◌+◌, ◌-◌, ◌<◌, true, List, [], ◌∷◌, length, Option, Some, None, Contains, slice_get, refl, sym, ap, subst, ◌∙◌, arith, ⊎_elim}
+use Rattle.std.proofs.Common.{◌≡◌, inl, ℕ, ◌+◌, ◌-◌, ◌<◌, true, List, [], ◌∷◌, length, Some, Contains, slice_get, refl, sym, ap, subst, ◌∙◌, arith, ⊎_elim}
 use Rattle.std.specs.Prelude.{is_some, nat_eq}
 use Rattle.std.specs.List.{AllByRecursion, AllZip}
 use Rattle.std.proofs.lemmas.Bool.{and_parts, cases_Bool, eqb-true}
 use Rattle.std.proofs.lemmas.Option.{same_Some}
+use Rattle.std.proofs.lemmas.Slice.Zip.{AllZip-long}
 use Rattle.fm_base.proofs.ListFacts.{AllByRecursion-at}
 use Rattle.fm_code.specs.declared.code_array.Code.{Code}
 use Rattle.fm_conn.specs.Facts.{Facts}
@@ -19,9 +20,10 @@ use Rattle.fm_law_lockstep.specs.Both.{Both}
 use Rattle.fm_law_lockstep.specs.Known.{IsLinked}
 use Rattle.fm_law_lockstep.specs.Together.{GoTogetherAt}
 use Rattle.fm_law_sound.proofs.FramesStand.{typing_of}
-use Rattle.fm_law_sound.specs.Sound.{AreTyped, HaveKinds, Stand, StandsWithout}
+use Rattle.fm_law_sound.specs.Sound.{AreTyped, HasKind, Stand, StandsWithout}
 use Rattle.fm_law_two_memories.specs.Pairing.{SameValue}
 use Rattle.fm_law_two_memories.specs.Seeing.{IsThere}
+use Rattle.fm_place.proofs.BusyLemmas.{depth_of}
 use Rattle.fm_place.proofs.FullLemmas.{Numbered, numbers-found}
 use Rattle.fm_place.specs.Insertions.{after_at, Holder, Insertions}
 use Rattle.fm_place.specs.Places.{is_busy}
@@ -31,9 +33,7 @@ use Rattle.fm_same.proofs.Retiring.{dead_if_retired}
 use Rattle.fm_same.specs.Colours.{node_of_word}
 use Rattle.fm_same.specs.DeadRegions.{InWord, InWordOf, IsHeldAt, IsRoot, LeadsTo}
 use Rattle.fm_same.specs.Laws.{SitesMakeBusy}
-use Rattle.fm_types.specs.States.{TypeState}
 use Rattle.fm_types.specs.Typed.{state_at}
-use Rattle.fm_types.specs.declared.slots.Slot as slots
 use Rattle.fm_world.specs.Programs.{code_at, Program}
 
 -- ---- the class of what a site gives
@@ -79,16 +79,6 @@ module _ (p : Program) (facts : Facts) (linked : IsLinked p facts) (busy : Sites
 
 -- ---- on top of the stack
 
-as_many : (known : List slots.Slot) (words : List Value) → HaveKinds known words → length known ≡ length words
-as_many [] [] kinds = refl
-as_many [] (v ∷ words) kinds = absurd kinds
-as_many (s ∷ known) [] kinds = absurd kinds
-as_many (s ∷ known) (v ∷ words) kinds = ap suc (as_many known words kinds.1)
-
-abbrev depth_in : Option TypeState → ℕ
-depth_in None = 0
-depth_in (Some s) = length s.stack
-
 module _ (b : Both) (next z : State) (u : GoTogetherAt b next z) (fx : Frame) (cx : List Frame) (are : next.frames ≡ fx ∷ cx) where
   stands : StandsWithout b.one b.facts.typing 0 fx
   stands = (subst (Stand b.one b.facts.typing) are u.known.whole.sound.frames).0
@@ -99,8 +89,8 @@ module _ (b : Both) (next z : State) (u : GoTogetherAt b next z) (fx : Frame) (c
   top_node method code item method_is item_is =
       let at : state_at (b.facts.typing method) item ≡ Some stands.known =
       (λ k. state_at (b.facts.typing (sym method_is k)) (sym item_is k)) ∙ stands.at in
-      let depth : depth_at (typed_method b.one b.facts.typing method code) item ≡ length stands.known.stack = ap depth_in at in
-      let words : length stands.known.stack ≡ length fx.stack = as_many stands.known.stack fx.stack stands.stack in
+      let depth : depth_at (typed_method b.one b.facts.typing method code) item ≡ length stands.known.stack = ap depth_of at in
+      let words : length stands.known.stack ≡ length fx.stack = sym (AllZip-long HasKind stands.known.stack fx.stack stands.stack) in
       let same : length fx.stack - 1 - 0 ≡ depth_at (typed_method b.one b.facts.typing method code) item - 1 = omega (arith, depth, words) in
       (λ k. Slot (item_is k) (same k))
 

@@ -1,4 +1,4 @@
--- The opening of a run is that of the first program, and comes to a kept item: main's frame begins, or that of a method that starts its class.
+-- The opening of a run is that of the first program, and reaches a kept item: main's frame begins, or that of a method that starts its class.
 use Rattle.std.proofs.Common.{◌≡◌, ℕ, ◌+◌, ◌≤◌, List, [], ◌∷◌, ◌++◌, append-nil, length, map, inr, true, Some, None, refl, sym, ap, subst, ◌∙◌, arith}
 use Rattle.std.specs.List.{AllByRecursion}
 use Rattle.std.proofs.lemmas.Option.{none-some}

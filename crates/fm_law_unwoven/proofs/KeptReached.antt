@@ -153,7 +153,7 @@ module _ (p q : Program) (facts : Facts) (plans : Plans) (marks : Marks) (from :
             by_done (OneLost steps method offset cell lost_at lost fewer passed inserted ended printed) =
                 OneMissed lost steps lost_at (end.Fault (record { 0 = method }) offset cell) (omega (arith, fewer)) passed inserted printed ended
 
-  -- so the state comes to a kept item, or the run ends
+  -- so the state reaches a kept item, or the run ends
   pub reached_comes : (z : State) (f g : Frame) (below : List Frame) (todos : List Todo) (jumps : ℕ)
       → Reached p q facts plans marks (lawful choose) z f g below todos jumps → StandBelow p q facts plans marks g below
       → ComesToKept p q facts plans marks (lawful choose) (with_frame z g below)

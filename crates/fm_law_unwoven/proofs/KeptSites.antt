@@ -22,6 +22,7 @@ use Rattle.fm_law_sound.proofs.FramesStand.{typing_of}
 use Rattle.fm_law_sound.specs.Resolved.{StepsAreResolved}
 use Rattle.fm_law_sound.specs.Sound.{AreTyped, HasKind, HaveKinds, IsReference, StandsWithout}
 use Rattle.fm_law_unwoven.specs.WovenFrom.{inserted_by, IsWovenFrom}
+use Rattle.fm_place.proofs.BusyLemmas.{depth_of}
 use Rattle.fm_place.proofs.FullLemmas.{numbers-found}
 use Rattle.fm_place.specs.Insertions.{after_at, Insertions}
 use Rattle.fm_place.specs.Rewriting.{Plans}
@@ -57,12 +58,8 @@ on_top (s ∷ known) (v ∷ stack) node kinds =
     ap (slice_get (reverse (s ∷ known))) same ∙ slot_from_below (s ∷ known) 0 (omega arith) in
     (omega arith, refers s v (subst (λ (o : Option slots.Slot). IsSomeAnd o (λ t. is_reference t ≡ true)) there node) kinds.0)
 
-abbrev depth_in : Option TypeState → ℕ
-depth_in None = 0
-depth_in (Some s) = length s.stack
-
 abbrev top_in : Option TypeState → Option slots.Slot
-top_in o = option_and_then (λ (s : TypeState). slice_get (reverse s.stack) (depth_in o - 1)) o
+top_in o = option_and_then (λ (s : TypeState). slice_get (reverse s.stack) (depth_of o - 1)) o
 
 -- ---- sites
 

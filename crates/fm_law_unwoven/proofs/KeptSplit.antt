@@ -97,10 +97,6 @@ module _ (p q : Program) (facts : Facts) (plans : Plans) (marks : Marks) (from :
   abbrev from_new : Sources
   from_new = new_source p q facts plans marks from z g callers code code_is j j_is i found below stand coded e uses areas made price printed
 
-  -- the states before the step
-  abbrev before : State
-  before = record z { frames = g ∷ callers }
-
   abbrev Go : ℕ → ℕ → Type 0
   Go m n =
       StatesGo p q facts plans marks (record z { frames = g ∷ callers })
@@ -130,13 +126,13 @@ module _ (p q : Program) (facts : Facts) (plans : Plans) (marks : Marks) (from :
     not_taken : GoesPast p marks (record z { frames = g ∷ callers }) [] (inserted_by (plans g.method)) j → j + 1 < length code.items → IsEdge code j (f.item + 1)
         → Go (f.item + 1) (target_at q g 0)
     not_taken past inside edge =
-        goes p q facts plans marks from g callers code code_is j below stand (length (targets_of i)) e uses areas made before refl j_is (f.item + 1) (target_at q g 0)
+        goes p q facts plans marks from g callers code code_is j below stand (length (targets_of i)) e uses areas made (record z { frames = g ∷ callers }) refl j_is (f.item + 1) (target_at q g 0)
         (GoesBehind past (ap (λ k. k + 1) old_at) (new_target ∙ follows inside)) edge
 
     -- taken: the goto_w comes next
     taken : IsEdge code j (target_at p f 0) → Go (target_at p f 0) (g.item + 1)
     taken edge =
-        goes p q facts plans marks from g callers code code_is j below stand (length (targets_of i)) e uses areas made before refl j_is (target_at p f 0) (g.item + 1)
+        goes p q facts plans marks from g callers code code_is j below stand (length (targets_of i)) e uses areas made (record z { frames = g ∷ callers }) refl j_is (target_at p f 0) (g.item + 1)
         (GoesByJump
         (ap (λ k. insn_of w.new (k + 1)) new_at ∙ jump ∙ ap (λ t. Some (insn.Goto (w.laid.entries t))) (sym old_target))
         (ap (λ k. mark_at (own_marks marks g.method) (k + 1)) new_at ∙ mark)) edge

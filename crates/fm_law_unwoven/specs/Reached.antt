@@ -1,4 +1,4 @@
--- What is inserted where a frame goes on is done: so the frame comes to the kept item of the frame that it holds.
+-- What is inserted where a frame goes on is done: so the frame reaches the kept item of the frame that it holds.
 use Rattle.std.specs.Prelude.{◌≡◌, ℕ, ◌+◌, ◌<◌, ◌≤◌, List, [], ◌++◌, length, Some}
 use Rattle.fm_base.specs.declared.limits.TheConstants.{MAX_LIVE_WORDS}
 use Rattle.fm_cells.specs.Choices.{lawful}
