@@ -48,9 +48,9 @@ def descriptors_of_members(data, at):
 
 
 def names_in(file):
-    """The classes that a class file names, its own too, or none where it isn't one: freeme says what is wrong with it."""
-    data = file.read_bytes()
+    """The classes that a class file names, its own too, or none where it isn't one or can't be read: freeme says what is wrong with it."""
     try:
+        data = file.read_bytes()
         if struct.unpack_from(">I", data)[0] != MAGIC:
             return set()
         pool, end = read_pool(data)
@@ -59,19 +59,19 @@ def names_in(file):
         found = {name for name in types if not name.startswith("[")}
         types += [texts[struct.unpack(">HH", body)[1]] for tag, body in pool.values() if tag == NAME_AND_TYPE]
         types += [texts[index] for index in descriptors_of_members(data, end)]
-    except (struct.error, IndexError, KeyError):
+    except (OSError, struct.error, IndexError, KeyError):
         return set()
     return found.union(*(re.findall(r"L([^;]+);", text) for text in types))
 
 
 def own_name(file):
-    """The name of the class of a class file, or none where it isn't one."""
-    data = file.read_bytes()
+    """The name of the class of a class file, or none where it isn't one or can't be read."""
     try:
+        data = file.read_bytes()
         pool, end = read_pool(data)
         name = struct.unpack(">H", pool[struct.unpack_from(">H", data, end + 2)[0]][1])[0]
         return pool[name][1][2:].decode(errors="replace")
-    except (struct.error, IndexError, KeyError):
+    except (OSError, struct.error, IndexError, KeyError):
         return None
 
 

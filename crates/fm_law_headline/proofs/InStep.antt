@@ -17,7 +17,7 @@ module _ (b : Beside) (first second : Choose) (by_steps : GoBySteps b first seco
   step_together = go_together b first second by_steps has_words IsPace step.paces step.few_inserted
 
   pub step_faultless : IsWithoutFault b
-  step_faultless = no_fault b first second by_steps has_words IsPace step.paces step.faultless
+  step_faultless = no_fault b first second by_steps has_words IsPace step.paces
 
   -- what holds of all that keep pace holds of matched states
   pub step_matched : (Holds : ℕ → ℕ → Type 0) → ((k l : ℕ) → IsPace k l → Holds k l) → (k l : ℕ) → AreMatched b k l → Holds k l

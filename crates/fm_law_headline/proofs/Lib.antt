@@ -6,4 +6,6 @@ pub mod DeepCosts
 pub mod WholeRuns
 pub mod TwoPrograms
 pub mod InStep
+pub mod Alike
 pub mod Parts
+pub mod Renamed

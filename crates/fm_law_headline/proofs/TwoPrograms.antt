@@ -1,10 +1,8 @@
 -- Whole runs of a linked program and of another one that does the same.
 use Rattle.std.proofs.Common.{sym, subst, ℕ, List, []}
-use Rattle.std.specs.Prelude.{IsSomeAnd, None}
+use Rattle.std.specs.Prelude.{None}
 use Rattle.fm_cells.specs.Choices.{never_choice}
 use Rattle.fm_code.specs.declared.class_file.ClassDef.{ClassDef}
-use Rattle.fm_code.specs.declared.code_array.Code.{Code}
-use Rattle.fm_conn.specs.Facts.{AreFacts, Facts}
 use Rattle.fm_law_headline.proofs.WholeRuns.{IsKnown, whole_runs}
 use Rattle.fm_law_headline.specs.WholeRuns.{MatchedStepsGiveEnds, SameProgramsEndTheSame}
 use Rattle.fm_law_linked.specs.Laws.{ProgramsAreResolved}
@@ -13,13 +11,8 @@ use Rattle.fm_law_no_fault.specs.NoFault.{LinkedProgramsNeverFault}
 use Rattle.fm_law_same_runs.specs.Beside.{Same}
 use Rattle.fm_law_same_runs.specs.Programs.{AreTaken}
 use Rattle.fm_law_sound.specs.Sound.{AreTyped, Typings}
-use Rattle.fm_types.specs.Typed.{IsTypingOf}
-use Rattle.fm_world.specs.Programs.{Program, program_of}
-
--- the states of facts are typings
-facts_typed : (p : Program) (facts : Facts) → AreFacts p facts → AreTyped p facts.typing
-facts_typed p facts exact method code code_is =
-    subst (λ o. IsSomeAnd o (λ (c : Code). IsTypingOf p method c (facts.typing method))) (sym code_is) (exact.methods method code code_is).typing
+use Rattle.fm_law_unwoven.proofs.ClearedPrograms.{facts_typed}
+use Rattle.fm_world.specs.Programs.{program_of}
 
 module _ (resolved : ProgramsAreResolved) (alike : LinkedDoesTheSame) (faultless : LinkedProgramsNeverFault) where
   known_of : (given : List ClassDef) (main : List ℕ) → AreTaken given main → (typings : Typings) → AreTyped (program_of given main) typings

@@ -1,8 +1,10 @@
--- What is to be proved of the classes that are written, as one record: with all held sites and all places, on memory that reuses cells in any way, they do
+-- What the classes that are written do, as one record: with all held sites and all places, on memory that reuses cells in any way, they do
 -- what the classes read do (JVMS 2.6, 2.10, 2.11).
 use Rattle.std.specs.Prelude.{◌≡◌, ℕ, ◌≤◌, List, None, Option}
 use Rattle.std.specs.List.{AllByRecursion}
 use Rattle.fm_base.specs.declared.limits.TheConstants.{MAX_LIVE_WORDS}
+use Rattle.fm_code.specs.Profile.{IsSupported}
+use Rattle.fm_code.specs.Spells.{HasSpelling}
 use Rattle.fm_code.specs.declared.class_file.ClassDef.{ClassDef}
 use Rattle.fm_conn.specs.Facts.{Facts}
 use Rattle.fm_world.specs.Programs.{Program, program_of}
@@ -10,8 +12,9 @@ use Rattle.fm_frames.specs.Acts.{Choose}
 use Rattle.fm_frames.specs.Runs.{Job}
 use Rattle.fm_place.specs.Safe.{Full}
 use Rattle.fm_law_cells_made.specs.MostHeld.{all_most_held, first_state, store_after}
+use Rattle.fm_law_lockstep.specs.Reaching.{ReachedIsRenamed}
 use Rattle.fm_law_same_runs.specs.Beside.{AreMatched, InAllRuns, IsGiven, IsWithoutFault, Marks, reuse_run, Same}
-use Rattle.fm_law_same_runs.specs.Programs.{AreWholeRuns, IsAsFar, IsClear, WholeRuns, WordsAreBalanced}
+use Rattle.fm_law_same_runs.specs.Programs.{AreTaken, AreWholeRuns, IsAsFar, IsClear, WholeRuns, WordsAreBalanced}
 use Rattle.fm_law_same_runs.specs.Renaming.{StatesAreRenamed}
 
 -- in each run of the second program, in all frames, each holder whose class isn't busy is null
@@ -31,7 +34,12 @@ MakesAsHeld p =
 abbrev pub EndTheSame : (one other : Program) → Type 0
 EndTheSame one other = (r : WholeRuns) → r.one ≡ one → r.other ≡ other → AreWholeRuns r → IsAsFar r
 
--- what the classes written do, beside those that were given
+-- matched states are at one item, and what the first run reaches is the same in the second one, under other cells
+abbrev pub AreRenamedInRuns : (one other : Program) → Facts → Marks → Type 0
+AreRenamedInRuns one other facts marks = InAllRuns one other marks (λ b. (k l : ℕ) → AreMatched b k l → ReachedIsRenamed facts b k l)
+
+-- What the classes written do, beside those that were given. Where no cell is taken twice, and that is one of the ways in which memory may choose, each use
+-- of a freed cell is a fault: so none is read, written or freed again on such memory.
 pub record DoesTheSame (given : List ClassDef) (main : List ℕ) (written : List ClassDef) (marks : Marks) (full : Full given main written marks) : Type 0 where
   -- step for matched step they print and read the same, no more words live, few inserted steps follow one another, and they end alike
   pub same : Same (program_of given main) (program_of written main) marks
@@ -40,11 +48,20 @@ pub record DoesTheSame (given : List ClassDef) (main : List ℕ) (written : List
   -- at matched states what isn't retired is the same under other cells
   pub renamed : InAllRuns (program_of given main) (program_of written main) marks
       (λ b. (k l : ℕ) → AreMatched b k l → StatesAreRenamed full.facts b k l)
+  -- they are at one item, and live locals, stacks and static fields lead to the same, so nothing is read from a cell that has another object now
+  pub reached : AreRenamedInRuns (program_of given main) (program_of written main) full.facts marks
   -- at matched states the words that live, with those that were freed, are the words that live in the first run
   pub balanced : InAllRuns (program_of given main) (program_of written main) marks (λ b. (k l : ℕ) → AreMatched b k l → WordsAreBalanced b k l)
-  -- what isn't busy is freed at once
+  -- holders of what isn't busy are null
   pub cleared : HoldersStayClear (program_of given main) (program_of written main) full.facts marks
-  -- and its cells serve again
+  -- freed cells serve again
   pub most_held : MakesAsHeld (program_of written main)
   -- in whole runs over cells that serve again in both programs
   pub ends : EndTheSame (program_of given main) (program_of written main)
+
+-- so do classes with all held sites and all places, where they have spellings and are supported like those that were given
+abbrev pub ClassesDoTheSame : Type 0
+ClassesDoTheSame =
+    (given : List ClassDef) (main : List ℕ) → AreTaken given main → (written : List ClassDef) (marks : Marks)
+    → (full : Full given main written marks) → AllByRecursion HasSpelling written → AllByRecursion IsSupported written
+    → DoesTheSame given main written marks full

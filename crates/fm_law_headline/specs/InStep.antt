@@ -1,18 +1,15 @@
 -- What follows of runs that keep pace: they do the same, words are balanced, and the second one has no fault.
 use Rattle.std.specs.Prelude.{◌≡◌, ℕ, Option, Some}
 use Rattle.fm_world.specs.Programs.{Program}
-use Rattle.fm_law_no_fault.specs.Whole.{HasNoFault}
-use Rattle.fm_law_same_runs.specs.Beside.{AreMatched, Beside, FewAreInserted, FirstReaches, InAllRuns, IsWithoutFault, Marks, Same}
+use Rattle.fm_law_same_runs.specs.Beside.{AreMatched, Beside, FewAreInserted, InAllRuns, IsWithoutFault, Marks, Same}
 use Rattle.fm_law_same_runs.specs.Paces.{KeepPaces}
 use Rattle.fm_law_same_runs.specs.Programs.{WordsAreBalanced}
 
--- The runs keep pace by a relation on the numbers of states, by which words are balanced; few inserted steps follow one another; and the first run, as far as it
--- goes, has no fault.
+-- the runs keep pace by a relation on the numbers of states, by which words are balanced, and few inserted steps follow one another
 pub record AreInStep (b : Beside) (IsPace : ℕ → ℕ → Type 0) : Type 0 where
   pub paces : KeepPaces b IsPace
   pub few_inserted : FewAreInserted b
   pub balanced : (k l : ℕ) → IsPace k l → WordsAreBalanced b k l
-  pub faultless : (k : ℕ) → FirstReaches b k → HasNoFault (b.xs k).state
 
 -- what two programs then do beside one another
 pub record DoAlike (one other : Program) (marks : Marks) : Type 0 where

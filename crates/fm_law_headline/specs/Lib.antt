@@ -2,4 +2,5 @@ pub mod Headline
 pub mod Taken
 pub mod WholeRuns
 pub mod InStep
-pub mod Parts
+pub mod Alike
+pub mod Renamed

@@ -4,4 +4,7 @@
 
 mod laws;
 
-pub use laws::{law_in_step, law_parts, law_taken, law_two_programs};
+pub use laws::{
+    law_alike, law_cells_renamed, law_headline, law_in_step, law_objects_renamed, law_taken,
+    law_two_programs,
+};

@@ -1,5 +1,5 @@
 -- What a step makes was born in it, and what was held before stays where it is, as long as nothing is freed or chained.
-use Rattle.std.proofs.Common.{◌≡◌, ℕ, zero, suc, ◌≤◌, ◌⊎◌, Bool, true, false, cond, List, [], ◌∷◌, ◌++◌, length, Option, Some, None, refl, sym, subst, inl, inr, slice_set, slice_index_or, arith, ⊎_elim}
+use Rattle.std.proofs.Common.{◌≡◌, ℕ, zero, suc, ◌<◌, ◌≤◌, ◌⊎◌, Bool, true, false, cond, List, [], ◌∷◌, ◌++◌, length, Option, Some, None, refl, sym, ap, subst, ◌∙◌, inl, inr, slice_set, slice_index_or, arith, ⊎_elim}
 use Rattle.std.specs.List.{AllByRecursion}
 use Rattle.fm_cells.specs.Changes.{Choice, put_by, RefuseStore, Take, with_element, with_object}
 use Rattle.fm_cells.specs.Choices.{MayReuse}
@@ -16,7 +16,7 @@ use Rattle.fm_frames.specs.States.{Areas}
 use Rattle.fm_frames.specs.declared.values.Value.{Value}
 use Rattle.fm_law_sound.proofs.Opening.{IsMade as IsFreeless}
 use Rattle.fm_same.proofs.ActsKeep.{made_as, make_is, stored_as}
-use Rattle.fm_same.proofs.StoreChanges.{changed-extends, Extends, extends-refl, extends-then, IsChanged, IsKept, IsMade, made-extends, put_here}
+use Rattle.fm_same.proofs.StoreChanges.{changed-extends, Extends, extends-refl, extends-then, held_later, IsChanged, IsKept, IsMade, made-extends, put_here}
 use Rattle.fm_same.specs.Evenness.{ActsEvenly, Point}
 
 -- ---- actions that free nothing
@@ -56,6 +56,33 @@ born-later births store later cell more h =
 abbrev pub IsNullOrBorn : ℕ → Store → ℕ → Type 0
 IsNullOrBorn births store cell = (cell ≡ 0) ⊎ IsBornSince births store cell
 
+-- what isn't born later was there already
+abbrev pub OldWereThere : (store later : Store) → Type 0
+OldWereThere store later =
+    (cell : ℕ) (object : Object) → object_at later cell ≡ Some object → object.birth < store.births
+    → (before : Object) × (object_at store cell ≡ Some before) × (before.birth ≡ object.birth)
+
+old_same : (store : Store) → OldWereThere store store
+old_same store cell object held old = (object, held, refl)
+
+old_then : (store middle later : Store) → store.births ≤ middle.births → OldWereThere store middle → OldWereThere middle later → OldWereThere store later
+old_then store middle later rise first second cell object held old =
+    let there = second cell object held (omega (arith, old, rise)) in
+    let same = there.2 in
+    let before = first cell there.0 there.1 (omega (arith, old, same)) in (before.0, before.1, before.2 ∙ there.2)
+
+old_made : (store later : Store) (cell : ℕ) (object : Object) → IsMade store later cell object → OldWereThere store later
+old_made store later cell object is q found held old =
+    ⊎_elim
+    (λ here. let same = ap (λ (o : Object). o.birth) here.1 in let birth = is.birth in absurd (omega (arith, old, same, birth)))
+    (λ there. (found, there.1, refl)) (held_later store later cell object q found is.puts held)
+
+old_changed : (store later : Store) (cell : ℕ) (was object : Object) → IsChanged store later cell was object → OldWereThere store later
+old_changed store later cell was object is q found held old =
+    ⊎_elim
+    (λ here. (was, ap (object_at store) here.0 ∙ is.held, sym is.birth ∙ ap (λ (o : Object). o.birth) here.1))
+    (λ there. (found, there.1, refl)) (held_later store later cell object q found is.puts held)
+
 -- ---- along the actions
 
 -- the cell of what was made as this one
@@ -64,6 +91,7 @@ cell_among cells n = slice_index_or cells n 0
 
 pub record Went (store : Store) (x : Areas) (cells : List ℕ) : Type 0 where
   pub extends : Extends store x.store
+  pub old : OldWereThere store x.store
   pub made : (n : ℕ) → IsNullOrBorn store.births x.store (slice_index_or cells n 0)
 
 abbrev pub WentTo : Store → Performed → Type 0
@@ -71,9 +99,10 @@ WentTo store (Did x made) = Went store x made
 WentTo store (FullAt x needed) = Unit {0}
 WentTo store (LostAt v) = Unit {0}
 
-went_stored : (store : Store) (x y : Areas) (made : List ℕ) → Went store x made → Extends x.store y.store → Went store y made
-went_stored store x y made went more = record {
+went_stored : (store : Store) (x y : Areas) (made : List ℕ) → Went store x made → Extends x.store y.store → OldWereThere x.store y.store → Went store y made
+went_stored store x y made went more there = record {
   extends = extends-then store x.store y.store went.extends more;
+  old = old_then store x.store y.store went.extends.births went.old there;
   made = λ n. ⊎_elim (λ null. inl null) (λ born. inr (born-later store.births x.store y.store (slice_index_or made n 0) more born)) (went.made n);
 }
 
@@ -88,6 +117,7 @@ went_pushed : (store : Store) (x : Areas) (made : List ℕ) (cell : ℕ) → Wen
     → Went store x (made ++ cell ∷ [])
 went_pushed store x made cell went new = record {
   extends = went.extends;
+  old = went.old;
   made = λ n. ⊎_elim
       (λ last. subst (IsNullOrBorn store.births x.store) (sym last) (inr new))
       (λ before. subst (IsNullOrBorn store.births x.store) (sym before) (went.made n))
@@ -106,14 +136,14 @@ made_goes store x made request content (Take cell grows) follows went may then =
     let more : Extends x.store later = made-extends x.store later cell object is in
     let risen = went.extends.births in
     let birth = is.birth in
-    then (record x { store = later }) cell (went_stored store x (record x { store = later }) made went more)
+    then (record x { store = later }) cell (went_stored store x (record x { store = later }) made went more (old_made x.store later cell object is))
     (record { object = object; held = put_here x.store later cell object is.puts; since = omega (arith, risen, birth) })
 
 put_goes : (store : Store) (x : Areas) (made : List ℕ) (cell place element : ℕ) (found : Option Object) → object_at x.store cell ≡ found
     → Went store x made → Went store (record x { store = put_by x.store cell place element }) made
 put_goes store x made cell place element None none went =
     subst (λ later. Went store (record x { store = later }) made) (sym (put_by-none x.store cell place element none))
-    (went_stored store x x made went (extends-refl x.store))
+    (went_stored store x x made went (extends-refl x.store) (old_same x.store))
 put_goes store x made cell place element (Some old) held went =
     let now : Object = with_element old place element in
     let later : Store = with_object x.store cell now in
@@ -126,11 +156,12 @@ put_goes store x made cell place element (Some old) held went =
       births = refl;
     } in
     subst (λ s. Went store (record x { store = s }) made) (sym (put_by-some x.store cell place element old held))
-    (went_stored store x (record x { store = later }) made went (changed-extends x.store later cell old now change))
+    (went_stored store x (record x { store = later }) made went (changed-extends x.store later cell old now change)
+    (old_changed x.store later cell old now change))
 
 same_goes : (store : Store) (x y : Areas) (made : List ℕ) → y.store ≡ x.store → Went store x made → Went store y made
 same_goes store x y made same went =
-    went_stored store x y made went (subst (Extends x.store) (sym same) (extends-refl x.store))
+    went_stored store x y made went (subst (Extends x.store) (sym same) (extends-refl x.store)) (subst (OldWereThere x.store) (sym same) (old_same x.store))
 
 either_goes : (store : Store) (b : Bool) (one other : Performed) → WentTo store one → WentTo store other → WentTo store (cond b one other)
 either_goes store true one other first second = first
@@ -180,6 +211,10 @@ module _ (o : Outline) (choose : Choose) (may : (s : Store) (request : Request) 
       → WentTo store (performed o choose locals stack actions x [])
   acts_made actions x same h =
       acts_go actions x [] h
-      (record { extends = subst (Extends store) (sym same) (extends-refl store); made = λ n. inl (nothing_made n) }) where
+      (record {
+        extends = subst (Extends store) (sym same) (extends-refl store);
+        old = subst (OldWereThere store) (sym same) (old_same store);
+        made = λ n. inl (nothing_made n);
+      }) where
         nothing_made : (n : ℕ) → cell_among [] n ≡ 0
         nothing_made n = refl

@@ -19,6 +19,7 @@ pub mod ApartPlaces
 pub mod OldResults
 pub mod SiteCalls
 pub mod StepsBehind
+pub mod StepsWent
 pub mod UnsharedObjects
 pub mod SitesGive
 pub mod ResultsNew

@@ -5,7 +5,6 @@ use Rattle.std.specs.List.{AllZip}
 use Rattle.std.proofs.lemmas.Bool.{false≢true}
 use Rattle.std.proofs.lemmas.List.{length-drop, nil_from_length}
 use Rattle.std.proofs.lemmas.Option.{none-some, same_Some}
-use Rattle.fm_cells.proofs.Choices.{lawful_choice-may}
 use Rattle.fm_cells.specs.Choices.{lawful}
 use Rattle.fm_cells.specs.Soundness.{IsOrderly}
 use Rattle.fm_cells.specs.Stores.{Store}
@@ -43,8 +42,7 @@ use Rattle.fm_same.proofs.ItemFacts.{depth_is}
 use Rattle.fm_same.proofs.ProgramNumbers.{holds_numbers}
 use Rattle.fm_same.proofs.RegionLemmas.{region_within}
 use Rattle.fm_same.proofs.StoreChanges.{Extends}
-use Rattle.fm_same.proofs.Starting.{state_owes}
-use Rattle.fm_same.specs.Advances.{OwesAt, point_of}
+use Rattle.fm_same.specs.Advances.{point_of}
 use Rattle.fm_same.specs.Colours.{Colour, Coloured, HasColour, IsFrameColoured, IsOf, node_of_word, OfNull, region_of}
 use Rattle.fm_same.specs.Covering.{CoversAt, CoversTargets}
 use Rattle.fm_same.specs.Evenness.{EndsEvenly, HoldsNumbers, Obeys}
@@ -52,16 +50,17 @@ use Rattle.fm_same.specs.Regions.{Own, region}
 use Rattle.fm_same.specs.Resolved.{IsResolved}
 use Rattle.fm_same.specs.Standing.{Called, method_of, Stand, StandsAt}
 use Rattle.fm_law_holders.proofs.ApartPlaces.{zip_by_places, zip_found}
-use Rattle.fm_law_holders.proofs.BornObjects.{acts_made, even_are_freeless, Went, WentTo}
+use Rattle.fm_law_holders.proofs.BornObjects.{Went}
+use Rattle.fm_law_holders.proofs.StepsWent.{step_obeys, step_went}
 use Rattle.fm_law_holders.proofs.UnsharedObjects.{built_new, callees_new, coloured_below, Holds, IsNewAnd, made_new}
 use Rattle.fm_law_holders.proofs.OldResults.{result_is_own}
 use Rattle.fm_law_holders.proofs.SiteCalls.{constructor_gives, IsReceived, received, received_gives}
 use Rattle.fm_law_holders.proofs.SiteEffects.{array_site_gives, first_made, GivesJust}
 use Rattle.fm_law_holders.proofs.SiteStates.{Any, LeavesBuilt, LeavesOne, Others}
-use Rattle.fm_law_holders.proofs.SitesGive.{ArrayLeaves, behind_apart, ConstructorLeaves, count_of, FactoryLeaves, next_length, site_facts, SiteFacts, SiteLeaves}
+use Rattle.fm_law_holders.proofs.SitesGive.{ArrayLeaves, behind_apart, ConstructorLeaves, count_of, FactoryLeaves, locals_apart, next_length, site_facts, SiteFacts, SiteLeaves}
 use Rattle.fm_law_holders.proofs.StepsBehind.{Begins, done_areas, EntersFirst, falls_frames, IsDoneTo, IsSame, own_begins, returns_frames, step_done}
 use Rattle.fm_law_holders.specs.Laws.{SitesGiveNew}
-use Rattle.fm_law_holders.specs.NewResults.{GoesOnBehind, HasNewResult, IsApart, IsDone, IsNew, IsReturnedTo, IsUnbuilt, KeepsObjects}
+use Rattle.fm_law_holders.specs.NewResults.{GoesOnBehind, HasNewResult, IsApart, IsDone, IsNew, IsReturnedTo, IsUnbuilt, KeepsObjects, LocalsAreApart, LocalsAreNoCallees}
 use Rattle.fm_law_holders.specs.Uninitialised.{AreMadeIn, IsMadeAt, Made, ValueIsMade}
 
 -- ---- lists
@@ -137,10 +136,19 @@ module _ (p : Program) (facts : Facts) (exact : AreFacts p facts) (numbers : Hol
   Holding store s v = Holds store made colour depth s v
 
   -- what is known of the live locals that aren't initialised
-  abbrev LocalsHold : Store → Type 0
-  LocalsHold store =
+  abbrev LiveHold : Store → Type 0
+  LiveHold store =
       (k item : ℕ) (v : Value) → slice_get known.locals k ≡ Some (slot.Uninit item) → slice_get f.locals k ≡ Some v
       → facts.live f.method k f.item ≡ true → Holds store made colour depth (slot.Uninit item) v
+
+  -- and of those that aren't live, where they lead to nothing of a frame right above
+  abbrev DeadHold : Store → Type 0
+  DeadHold store =
+      LocalsAreNoCallees known f store colour depth → (k item : ℕ) (v : Value) → slice_get known.locals k ≡ Some (slot.Uninit item)
+      → slice_get f.locals k ≡ Some v → Holds store made colour depth (slot.Uninit item) v
+
+  abbrev LocalsHold : Store → Type 0
+  LocalsHold store = LiveHold store × DeadHold store
 
   -- the frame behind its site
   abbrev behind : List Value → Frame
@@ -173,8 +181,9 @@ module _ (p : Program) (facts : Facts) (exact : AreFacts p facts) (numbers : Hol
       -- the result with what lies below it
       has_result : (IsOne : ℕ → Type 0) (result : Value) (below : List Value) → NewAnd IsOne (cell_of result) → s.frames ≡ behind (result ∷ below) ∷ callers
           → IsApart facts here.next (behind (result ∷ below)) (cell_of result)
+          → (LocalsAreNoCallees known f store colour depth → LocalsAreApart here.next (behind (result ∷ below)) (cell_of result))
           → HasNewResult facts y s colour known f callers
-      has_result IsOne result below new frames_are apart = record {
+      has_result IsOne result below new frames_are apart dead = record {
         result = result;
         below = below;
         frames_are = frames_are;
@@ -183,6 +192,8 @@ module _ (p : Program) (facts : Facts) (exact : AreFacts p facts) (numbers : Hol
         new = subst (λ (a : Areas). IsNew y colour known f depth a.store (cell_of result)) (sym areas_are) new.new;
         apart = λ after after_is.
             subst (λ t. IsApart facts t (behind (result ∷ below)) (cell_of result)) (same_Some here.next after (sym here.next_is ∙ after_is)) apart;
+        dead_apart = λ none after after_is.
+            subst (λ t. LocalsAreApart t (behind (result ∷ below)) (cell_of result)) (same_Some here.next after (sym here.next_is ∙ after_is)) (dead none);
       }
 
       -- one word is given
@@ -191,8 +202,10 @@ module _ (p : Program) (facts : Facts) (exact : AreFacts p facts) (numbers : Hol
           → AllZip (Holding store) (drop count known.stack) below → HasNewResult facts y s colour known f callers
       one_given l result below new frames_are locals rest =
           has_result Any result below new frames_are
-          (behind_apart p facts exact steps f code code_is known at here Any l.leaves (Holding store) (cell_of result) new.avoids locals
+          (behind_apart p facts exact steps f code code_is known at here Any l.leaves (Holding store) (cell_of result) new.avoids locals.0
           (result ∷ []) below l.one rest (result ∷ below) refl)
+          (λ none. locals_apart p facts exact steps f code code_is known at here Any l.leaves (Holding store) (cell_of result) new.avoids
+          (locals.1 none) (result ∷ below))
 
       -- none is, and the object on top is initialised
       built_given : (l : LeavesBuilt known here.after count) (result : Value) (below : List Value) → NewAnd (Others l.item) (cell_of result)
@@ -200,21 +213,31 @@ module _ (p : Program) (facts : Facts) (exact : AreFacts p facts) (numbers : Hol
           → AllZip (Holding store) (drop count known.stack) (result ∷ below) → HasNewResult facts y s colour known f callers
       built_given l result below new frames_are locals rest =
           has_result (Others l.item) result below new frames_are
-          (behind_apart p facts exact steps f code code_is known at here (Others l.item) l.leaves (Holding store) (cell_of result) new.avoids locals
+          (behind_apart p facts exact steps f code code_is known at here (Others l.item) l.leaves (Holding store) (cell_of result) new.avoids locals.0
           [] (result ∷ below) (ap length l.none) rest (result ∷ below) refl)
+          (λ none. locals_apart p facts exact steps f code code_is known at here (Others l.item) l.leaves (Holding store) (cell_of result) new.avoids
+          (locals.1 none) (result ∷ below))
+
+    -- where a local leads
+    made_local : AreMadeIn store made known f → (k item : ℕ) (v : Value) → slice_get known.locals k ≡ Some (slot.Uninit item)
+        → slice_get f.locals k ≡ Some v → IsMadeAt store made item (cell_of v)
+    made_local are k item v there found =
+        let is = zip_found (ValueIsMade store made) known.locals f.locals k (slot.Uninit item) are.in_locals there in
+        subst (λ w. IsMadeAt store made item (cell_of w)) (same_Some is.0 v (sym is.1 ∙ found)) is.2
 
     -- by the colours of the frame
     both_hold : IsOrderly store → IsFrameColoured p.outline facts store colour f callers → AreMadeIn store made known f
         → LocalsHold store × AllZip (Holding store) (lowest (length f.stack) known.stack) f.stack
     both_hold orderly frame are = (
-      λ k item v there found live.
-          let is = zip_found (ValueIsMade store made) known.locals f.locals k (slot.Uninit item) are.in_locals there in
-          let made_there : IsMadeAt store made item (cell_of v) =
-          subst (λ w. IsMadeAt store made item (cell_of w)) (same_Some is.0 v (sym is.1 ∙ found)) is.2 in (
-            made_there,
-            coloured_below store colour made depth (facts.class f.method (Local k)) (region_of p.outline facts f callers (Local k)) (slot.Uninit item) v
-                orderly (region_within p.outline facts f.method callers (facts.class f.method (Local k))) (frame.locals k v found live) made_there,
-          ),
+      (
+        λ k item v there found live.
+            let made_there : IsMadeAt store made item (cell_of v) = made_local are k item v there found in (
+              made_there,
+              coloured_below store colour made depth (facts.class f.method (Local k)) (region_of p.outline facts f callers (Local k)) (slot.Uninit item) v
+                  orderly (region_within p.outline facts f.method callers (facts.class f.method (Local k))) (frame.locals k v found live) made_there,
+            ),
+        λ none k item v there found. (made_local are k item v there found, none k item v there found),
+      ),
       zip_by_places (ValueIsMade store made) (Holding store) (lowest (length f.stack) known.stack) f.stack are.in_stack
           (λ n a v there found is. (
             is,
@@ -236,17 +259,8 @@ module _ (p : Program) (facts : Facts) (exact : AreFacts p facts) (numbers : Hol
     abbrev own_effect : Effect
     own_effect = effect_of p.outline f.method (use_by p f.method i) i (slice_get z.input 0) (sights p.outline z.areas.store f.stack)
 
-    owes : OwesAt p facts z.areas.store e (f ∷ callers)
-    owes = state_owes p facts exact numbers yf stand covers
-
-    obeys : Obeys p.outline (point_of p facts f stand.0.at.code) stand.0.at.insn e
-    obeys = (owes stand.0.at).0
-
     went_on : Went z.areas.store d.areas d.made
-    went_on =
-        subst (WentTo z.areas.store) d.did
-        (acts_made p.outline ch (λ store request. lawful_choice-may store request (choose store request)) z.areas.store f.locals f.stack e.actions z.areas refl
-        (even_are_freeless p.outline (point_of p facts f stand.0.at.code) obeys.home e.actions obeys.acts))
+    went_on = step_went p facts exact numbers choose z f callers stand covers s d
 
     same_code : stand.0.at.code ≡ code
     same_code = same_Some stand.0.at.code code (sym stand.0.at.code_is ∙ code_is)
@@ -366,13 +380,10 @@ module _ (p : Program) (facts : Facts) (exact : AreFacts p facts) (numbers : Hol
     er = next_effect p yr
 
     returning : Obeys p.outline (point_of p facts above stand.0.at.code) stand.0.at.insn er
-    returning = (state_owes p facts exact numbers yr stand covers stand.0.at).0
+    returning = step_obeys p facts exact numbers choose z above (f ∷ callers) stand covers
 
     went_off : Went z.areas.store d.areas d.made
-    went_off =
-        subst (WentTo z.areas.store) d.did
-        (acts_made p.outline ch (λ store request. lawful_choice-may store request (choose store request)) z.areas.store above.locals above.stack er.actions
-        z.areas refl (even_are_freeless p.outline (point_of p facts above stand.0.at.code) returning.home er.actions returning.acts))
+    went_off = step_went p facts exact numbers choose z above (f ∷ callers) stand covers s d
 
     -- it was called, and starts no class
     called : Called p facts above f

@@ -45,7 +45,7 @@ use Rattle.fm_place.specs.Sites.{constructs, Constructs, kind_of_site, makes_arr
 use Rattle.fm_same.proofs.EdgesKeep.{call_falls, call_keeps, live_before}
 use Rattle.fm_law_holders.proofs.ApartPlaces.{along_elsewhere, LeadsElsewhere, stays_along, words_elsewhere, zip_back, zip_found}
 use Rattle.fm_law_holders.proofs.SiteStates.{array_leaves, constructor_leaves, Leaves, LeavesBuilt, LeavesOne, received_leaves, Stays}
-use Rattle.fm_law_holders.specs.NewResults.{IsApart}
+use Rattle.fm_law_holders.specs.NewResults.{IsApart, LocalsAreApart}
 
 -- ---- what a site is
 
@@ -224,17 +224,19 @@ module _ (p : Program) (facts : Facts) (exact : AreFacts p facts) (steps : Steps
         let left = length-drop (count_of h.insn) known.stack in
         omega (arith, next, after, rest, left)
 
-    -- a live local that isn't initialised behind the site was live before, and the same
-    local_before : (k item : ℕ) → slice_get h.next.locals k ≡ Some (slot.Uninit item) → facts.live f.method k (f.item + 1) ≡ true
-        → (slice_get known.locals k ≡ Some (slot.Uninit item)) × IsOne item × (facts.live f.method k f.item ≡ true)
-    local_before k item there live =
+    -- a local that isn't initialised behind the site was the same before
+    local_before : (k item : ℕ) → slice_get h.next.locals k ≡ Some (slot.Uninit item)
+        → (slice_get known.locals k ≡ Some (slot.Uninit item)) × IsOne item
+    local_before k item there =
         let after = zip_back (Fitting p.outline) h.after.locals h.next.locals k (slot.Uninit item) h.locals_fit there in
         let before = zip_back (Stays IsOne) known.locals h.after.locals k after.0 l.locals after.1 in
-        let stays = stays_along p.outline IsOne before.0 after.0 (slot.Uninit item) before.2 after.2 item refl in (
-          before.1 ∙ ap Some stays.0,
-          stays.1,
-          live_before p facts exact f.method code code_is f.item (f.item + 1) k h.insn h.insn_is (inl h.edge) (h.stores k) live,
-        )
+        let stays = stays_along p.outline IsOne before.0 after.0 (slot.Uninit item) before.2 after.2 item refl in
+        (before.1 ∙ ap Some stays.0, stays.1)
+
+    -- and live, if it is
+    was_live : (k : ℕ) → facts.live f.method k (f.item + 1) ≡ true → facts.live f.method k f.item ≡ true
+    was_live k live =
+        live_before p facts exact f.method code code_is f.item (f.item + 1) k h.insn h.insn_is (inl h.edge) (h.stores k) live
 
     -- places that lead elsewhere before the site do behind it
     pub behind_apart : (Holds : Slot → Value → Type 0) (cell : ℕ)
@@ -255,9 +257,18 @@ module _ (p : Program) (facts : Facts) (exact : AreFacts p facts) (steps : Steps
         lowest_all h.next.stack (length stack) (sym (AllZip-long Elsewhere h.next.stack stack next)) in
         record {
           in_locals = λ k item v there found live.
-              let before = local_before k item there live in
-              avoids item v before.1 (locals k item v before.0 found before.2);
+              let before = local_before k item there in
+              avoids item v before.1 (locals k item v before.0 found (was_live k live));
           in_stack = λ n item v there found.
               let word = zip_found Elsewhere h.next.stack stack n (slot.Uninit item) next (ap (λ xs. slice_get xs n) (sym all) ∙ there) in
               subst (λ w. cell_of w ≢ cell) (same_Some word.0 v (sym word.1 ∙ found)) word.2;
         }
+
+    -- so do locals, live or not
+    pub locals_apart : (Holds : Slot → Value → Type 0) (cell : ℕ)
+        → ((item : ℕ) (v : Value) → IsOne item → Holds (slot.Uninit item) v → cell_of v ≢ cell)
+        → ((k item : ℕ) (v : Value) → slice_get known.locals k ≡ Some (slot.Uninit item) → slice_get f.locals k ≡ Some v
+        → Holds (slot.Uninit item) v)
+        → (stack : List Value) → LocalsAreApart h.next (record f { item = f.item + 1; stack = stack }) cell
+    locals_apart Holds cell avoids locals stack k item v there found =
+        let before = local_before k item there in avoids item v before.1 (locals k item v before.0 found)

@@ -107,7 +107,7 @@ module _ (p : Program) (choose : Choose) (z : State) (f : Frame) (callers : List
     abbrev before : State
     before = record y { areas = d.areas; input = d.input; steps = d.steps }
 
-    follows : s ≡ followed p (sources_of f d.areas d.made) e f callers before e.next
+    pub follows : s ≡ followed p (sources_of f d.areas d.made) e f callers before e.next
     follows = d.after ∙ continued_is p (sources_of f d.areas d.made) e f callers before
 
     pub done_areas : s.areas ≡ d.areas

@@ -1,5 +1,5 @@
 -- What is new: no place that isn't initialised leads to it, whichever way it is new.
-use Rattle.std.proofs.Common.{◌≡◌, ◌≢◌, ℕ, suc, ◌≤◌, false, Some, sym, ◌∙◌, ap, inl, inr, arith}
+use Rattle.std.proofs.Common.{◌≡◌, ◌≢◌, ℕ, suc, ◌≤◌, false, sym, ◌∙◌, ap, inl, inr, arith}
 use Rattle.std.proofs.lemmas.Bool.{false≢true}
 use Rattle.std.proofs.lemmas.Option.{none-some, same_Some}
 use Rattle.fm_cells.specs.Objects.{Object}
@@ -19,13 +19,12 @@ use Rattle.fm_same.specs.Regions.{Own, Region}
 use Rattle.fm_law_holders.proofs.Apart.{items_same}
 use Rattle.fm_law_holders.proofs.BornObjects.{IsBornSince, IsNullOrBorn}
 use Rattle.fm_law_holders.proofs.SiteStates.{Any, Others}
-use Rattle.fm_law_holders.specs.NewResults.{IsBorn, IsBuilt, IsCallees, IsHeldByAll, IsNew, IsUnbuilt}
+use Rattle.fm_law_holders.specs.NewResults.{IsBorn, IsBuilt, IsCallees, IsHeldByAll, IsNew, IsNoCallees, IsUnbuilt}
 use Rattle.fm_law_holders.specs.Uninitialised.{IsMadeAt, Made, ValueIsMade}
 
 -- where the checker has the object of a `new`, it isn't of a region of a frame right above the one with this many below it
 abbrev pub ValueIsBelow : Store → Colour → (depth : ℕ) → Slot → Value → Type 0
-ValueIsBelow store colour depth (slot.Uninit item) v =
-    (object : Object) → object_at store (cell_of v) ≡ Some object → (class : ℕ) → colour object.birth ≢ Own (suc depth) class
+ValueIsBelow store colour depth (slot.Uninit item) v = IsNoCallees store colour depth (cell_of v)
 ValueIsBelow store colour depth s v = Unit {0}
 
 -- what has a region of the frame's own classes isn't

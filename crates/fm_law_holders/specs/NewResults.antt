@@ -35,6 +35,22 @@ pub record IsApart (facts : Facts) (known : TypeState) (f : Frame) (cell : ℕ) 
   pub in_stack : (n item : ℕ) (v : Value) → slice_get (lowest (length f.stack) known.stack) n ≡ Some (slot.Uninit item)
       → slice_get f.stack n ≡ Some v → cell_of v ≢ cell
 
+-- no local of the frame, live or not, that the checker has for the object of a `new` leads to the cell
+abbrev pub LocalsAreApart : (known : TypeState) (f : Frame) (cell : ℕ) → Type 0
+LocalsAreApart known f cell =
+    (k item : ℕ) (v : Value) → slice_get known.locals k ≡ Some (slot.Uninit item) → slice_get f.locals k ≡ Some v → cell_of v ≢ cell
+
+-- the object in the cell, if there is one, has no region of a frame right above the one with this many below it
+abbrev pub IsNoCallees : Store → Colour → (depth cell : ℕ) → Type 0
+IsNoCallees store colour depth cell =
+    (object : Object) → object_at store cell ≡ Some object → (class : ℕ) → colour object.birth ≢ Own (suc depth) class
+
+-- to such cells leads each local of the frame, live or not, that the checker has for the object of a `new`
+abbrev pub LocalsAreNoCallees : (known : TypeState) (f : Frame) → Store → Colour → (depth : ℕ) → Type 0
+LocalsAreNoCallees known f store colour depth =
+    (k item : ℕ) (v : Value) → slice_get known.locals k ≡ Some (slot.Uninit item) → slice_get f.locals k ≡ Some v
+    → IsNoCallees store colour depth (cell_of v)
+
 -- a word of the frame that isn't initialised leads to the cell
 pub record IsUnbuilt (known : TypeState) (f : Frame) (cell : ℕ) : Type 0 where
   pub place : ℕ
@@ -65,7 +81,8 @@ KeepsObjects store later =
 abbrev pub frame_behind : Frame → List Value → Frame
 frame_behind f stack = record f { item = f.item + 1; stack = stack }
 
--- the next state has the frame behind its item, with a new result on top, and nothing live of the frame that isn't initialised leads to that
+-- the next state has the frame behind its item, with a new result on top, and nothing live of the frame that isn't initialised leads to that, nor does what
+-- isn't live, where that led to nothing of the frame that returns
 pub record HasNewResult (facts : Facts) (x next : State) (colour : Colour) (known : TypeState) (f : Frame) (callers : List Frame) : Type 0 where
   pub result : Value
   pub below : List Value
@@ -74,3 +91,5 @@ pub record HasNewResult (facts : Facts) (x next : State) (colour : Colour) (know
   pub new : IsNew x colour known f (length callers) next.areas.store (cell_of result)
   pub apart : (after : TypeState) → state_at (facts.typing f.method) (f.item + 1) ≡ Some after
       → IsApart facts after (frame_behind f (result ∷ below)) (cell_of result)
+  pub dead_apart : LocalsAreNoCallees known f x.areas.store colour (length callers) → (after : TypeState)
+      → state_at (facts.typing f.method) (f.item + 1) ≡ Some after → LocalsAreApart after (frame_behind f (result ∷ below)) (cell_of result)

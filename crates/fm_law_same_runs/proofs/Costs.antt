@@ -29,7 +29,7 @@ thrown-keeps : (y : State) (c : Caught) → (thrown_by y c).steps ≡ y.steps
 thrown-keeps y (InFrames frames) = refl
 thrown-keeps y (Leaves e) = refl
 
-continued-keeps : (p : Program) (from : Sources) (e : Effect) (f : Frame) (callers : List Frame) (y : State) (next : Next)
+pub continued-keeps : (p : Program) (from : Sources) (e : Effect) (f : Frame) (callers : List Frame) (y : State) (next : Next)
     → (continued p from (record e { next = next }) f callers y).steps ≡ y.steps
 unfolding continued
 continued-keeps p from e f callers y Falls = refl

@@ -200,11 +200,11 @@ module _ (b : Beside) (first second : Choose) (first_goes : FirstGoesOn b first)
 
 -- ---- how far both runs have come
 
--- they keep pace, or the second one ended before, or both have ended alike
+-- they keep pace, or the second one ended before, or both have ended alike and in no fault
 data Stage (b : Beside) (IsPace : ℕ → ℕ → Type 0) (k : ℕ) : Type 0 where
   InPace : (l : ℕ) → IsPace k l → IsAbreast b k l → Stage b IsPace k
   InWant : EndedBefore b k → Stage b IsPace k
-  AtEnd : (e : Ended) → (b.xs k).state.ended ≡ Some e → EndsAs b k e → Stage b IsPace k
+  AtEnd : (e : Ended) → (b.xs k).state.ended ≡ Some e → HasNoFault (b.xs k).state → EndsAs b k e → Stage b IsPace k
 
 module _ (b : Beside) (first second : Choose) (by_steps : GoBySteps b first second) (has_words : HasWords b) (IsPace : ℕ → ℕ → Type 0) (paces : KeepPaces b IsPace) where
   first_goes : FirstGoesOn b first
@@ -219,9 +219,16 @@ module _ (b : Beside) (first second : Choose) (by_steps : GoBySteps b first seco
   opening_stage (OpensInPace c) =
       InPace (0 + c.count) c.pace
       (abreast_first b first second first_goes second_goes IsPace paces.paces by_steps.first_steps by_steps.second_steps c)
-  opening_stage (OpensAtEnd e ended other_ended printed) =
-      AtEnd e ended
-      (record { l = 0; reached = λ j less. absurd (omega (arith, less)); ended = other_ended; printed = printed; cost = sym by_steps.first_steps })
+  opening_stage (OpensAtEnd e ended other_ended printed faultless) =
+      AtEnd e ended faultless
+      (record {
+        l = 0;
+        reached = λ j less. absurd (omega (arith, less));
+        ended = other_ended;
+        printed = printed;
+        number = refl;
+        cost = sym by_steps.first_steps;
+      })
   opening_stage (OpensInWant e ended want printed) = InWant
       (record {
         l = 0;
@@ -257,12 +264,13 @@ module _ (b : Beside) (first second : Choose) (by_steps : GoBySteps b first seco
   along k l pace abreast reaches (StaysInPace c) =
       InPace (suc l + c.count) c.pace
       (abreast_next b first second first_goes second_goes IsPace paces.paces k l (paces.paces k l pace) abreast reaches c)
-  along k l pace abreast reaches (EndsAlike e ended other_ended printed same) = AtEnd e ended
+  along k l pace abreast reaches (EndsAlike e ended other_ended printed same faultless) = AtEnd e ended faultless
       (record {
         l = suc l;
         reached = reached_next b first second first_goes second_goes k l (paces.paces k l pace) abreast reaches;
         ended = other_ended;
         printed = printed;
+        number = number_next b.marks b.ys l true (paces.paces k l pace).kept ∙ (let here = abreast.number in omega (arith, here));
         cost =
             kept_next b.marks b.ys l true (paces.paces k l pace).kept
             ∙ ap (λ n. n + ((b.ys (suc l)).state.steps - (b.ys l).state.steps)) abreast.done
@@ -296,7 +304,7 @@ module _ (b : Beside) (first second : Choose) (by_steps : GoBySteps b first seco
     from : Stage b IsPace k → Stage b IsPace (suc k)
     from (InPace l pace abreast) = along k l pace abreast reaches (paces.next k l pace reaches (has_words (suc k) reaches))
     from (InWant before) = InWant (before_next k before)
-    from (AtEnd e ended alike) = absurd (none-some e (sym (reaches k (omega arith)).not_ended ∙ ended))
+    from (AtEnd e ended faultless alike) = absurd (none-some e (sym (reaches k (omega arith)).not_ended ∙ ended))
 
   -- ---- the laws
 
@@ -307,21 +315,23 @@ module _ (b : Beside) (first second : Choose) (by_steps : GoBySteps b first seco
       from : Stage b IsPace k → EndedBefore b k ⊎ HasMatch b k
       from (InPace l pace abreast) =
           let matched : AreMatched b k l = as_matched b first second first_goes second_goes k l reaches (paces.paces k l pace) abreast in
-          inr (record { l = l; matched = matched; once = λ m stands. matches_are_one b second second_goes k m l stands matched.stands })
+          inr
+          (record { l = l; matched = matched; number = abreast.number; once = λ m stands. matches_are_one b second second_goes k m l stands matched.stands })
       from (InWant before) = inl before
-      from (AtEnd e ended alike) = absurd (none-some e (sym going ∙ ended))
+      from (AtEnd e ended faultless alike) = absurd (none-some e (sym going ∙ ended))
 
     ends : (k : ℕ) (e : Ended) → FirstReaches b k → (b.xs k).state.ended ≡ Some e → EndedBefore b k ⊎ EndsAs b k e
     ends k e reaches ended = from (stage k reaches) where
       from : Stage b IsPace k → EndedBefore b k ⊎ EndsAs b k e
       from (InPace l pace abreast) = absurd (none-some e (sym (paces.paces k l pace).first_goes_on ∙ ended))
       from (InWant before) = inl before
-      from (AtEnd d is alike) = inr
+      from (AtEnd d is faultless alike) = inr
           (record {
             l = alike.l;
             reached = alike.reached;
             ended = alike.ended ∙ sym is ∙ ended;
             printed = alike.printed;
+            number = alike.number;
             cost = alike.cost;
           })
 
@@ -333,11 +343,11 @@ module _ (b : Beside) (first second : Choose) (by_steps : GoBySteps b first seco
         let other : AreMatched b k m = as_matched b first second first_goes second_goes k m matched.reached (paces.paces k m pace) abreast in
         subst (λ n. IsPace k n) (matches_are_one b second second_goes k m l other.stands matched.stands) pace
     from (InWant before) = absurd (ended_no_match b second second_goes k l before matched.stands)
-    from (AtEnd e ended alike) = absurd (none-some e (sym matched.goes_on ∙ ended))
+    from (AtEnd e ended faultless alike) = absurd (none-some e (sym matched.goes_on ∙ ended))
 
-  -- the second run has no fault where the first one has none
-  pub no_fault : ((k : ℕ) → FirstReaches b k → HasNoFault (b.xs k).state) → IsWithoutFault b
-  no_fault faultless k l reaches other_reaches few method offset cell ended = from (stage k reaches) where
+  -- the second run has no fault
+  pub no_fault : IsWithoutFault b
+  no_fault k l reaches other_reaches few method offset cell ended = from (stage k reaches) where
     from : Stage b IsPace k → ⊥
     from (InPace m pace abreast) =
         let less = goes_before b.other second b.ys second_goes m l (end.Fault method offset cell) (paces.paces k m pace).second_goes_on ended in
@@ -349,9 +359,9 @@ module _ (b : Beside) (first second : Choose) (by_steps : GoBySteps b first seco
           by_want : IsWant b h.end → Some h.end ≡ Some (end.Fault method offset cell) → ⊥
           by_want (OfWords live needed is less) one = absurd (cc)
           by_want (OfRoom made needed is less) one = absurd (cc)
-    from (AtEnd e is alike) =
+    from (AtEnd e is faultless alike) =
         let one = ends_once b.other second b.ys second_goes alike.l l e (end.Fault method offset cell) alike.ended ended in
-        faultless k reaches method offset cell (is ∙ one)
+        faultless method offset cell (is ∙ one)
 
 -- ---- runs that keep pace by a table
 
@@ -364,7 +374,7 @@ module _ (b : Beside) (paced : ArePaced b) where
   keep_pace_by =
       matches_keep_pace b paced.first paced.second paced.by_steps paced.has_words (λ k l. paced.places k ≡ Some l) paced.paces
 
-  no_fault_by : ((k : ℕ) → FirstReaches b k → HasNoFault (b.xs k).state) → IsWithoutFault b
+  no_fault_by : IsWithoutFault b
   no_fault_by =
       no_fault b paced.first paced.second paced.by_steps paced.has_words (λ k l. paced.places k ≡ Some l) paced.paces
 
@@ -375,4 +385,4 @@ pub matches_paced : MatchesKeepPace
 matches_paced b paced k l matched = keep_pace_by b paced k l matched
 
 pub paced_no_fault : PacedRunsHaveNoFault
-paced_no_fault b paced faultless = no_fault_by b paced faultless
+paced_no_fault b paced = no_fault_by b paced

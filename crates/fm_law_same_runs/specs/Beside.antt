@@ -116,10 +116,10 @@ pub record AreMatched (b : Beside) (k l : ℕ) : Type 0 where
 
 -- ---- the second run ends before the first one
 
--- the end is want of memory: of words only where the second budget of them is less, and of room only where the first one may have more than fit twice
+-- the end is want of memory: of words only where the second budget of them is less, and of room only where not all words of the first budget fit twice
 pub data IsWant (b : Beside) (e : Ended) : Type 0 where
   OfWords : (live needed : ℕ) → e ≡ end.Exhausted live needed → b.other_words < b.words → IsWant b e
-  OfRoom : (made needed : ℕ) → e ≡ end.StoreFull made needed → MAX_LIVE_WORDS < b.words → IsWant b e
+  OfRoom : (made needed : ℕ) → e ≡ end.StoreFull made needed → MAX_MADE_WORDS < 2 * b.words → IsWant b e
 
 -- it printed what the last matched states did, and nothing where there are none
 pub data PrintedAsMatched (b : Beside) (printed : List ℕ) : Type 0 where
@@ -138,18 +138,20 @@ pub record EndedBefore (b : Beside) (k : ℕ) : Type 0 where
 
 -- ---- the runs go together
 
--- exactly one state of the second run belongs to the k-th of the first one, and they are matched
+-- exactly one state of the second run belongs to the k-th of the first one, they are matched, and as many steps at kept items lead to it
 pub record HasMatch (b : Beside) (k : ℕ) : Type 0 where
   pub l : ℕ
   pub matched : AreMatched b k l
+  pub number : kept_steps b.marks b.ys l ≡ k
   pub once : (m : ℕ) → StandsFor b k m → m ≡ l
 
--- the second run ends as the first one does in its k-th state: the same was printed, and at kept items the second one did what costs as much
+-- the second run ends as the first one does in its k-th state: the same was printed, and at kept items the second one did as many steps, which cost as much
 pub record EndsAs (b : Beside) (k : ℕ) (e : Ended) : Type 0 where
   pub l : ℕ
   pub reached : SecondReaches b l
   pub ended : (b.ys l).state.ended ≡ Some e
   pub printed : (b.ys l).printed ≡ (b.xs k).printed
+  pub number : kept_steps b.marks b.ys l ≡ k
   pub cost : kept_cost b.marks b.ys l ≡ (b.xs k).state.steps
 
 -- the state goes on at an inserted item

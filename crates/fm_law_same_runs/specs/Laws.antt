@@ -5,8 +5,7 @@ use Rattle.fm_world.specs.Programs.{Program}
 use Rattle.fm_frames.specs.Acts.{Choose}
 use Rattle.fm_frames.specs.Runs.{Job}
 use Rattle.fm_frames.specs.Steps.{step}
-use Rattle.fm_law_no_fault.specs.Whole.{HasNoFault}
-use Rattle.fm_law_same_runs.specs.Beside.{AreMatched, Beside, EndedBefore, FewAreInserted, FirstReaches, GoTogether, HasWords, IsWithoutFault, Marks, runs_of, StandsFor}
+use Rattle.fm_law_same_runs.specs.Beside.{AreMatched, Beside, EndedBefore, FewAreInserted, GoTogether, HasWords, IsWithoutFault, Marks, runs_of, StandsFor}
 use Rattle.fm_law_same_runs.specs.Paces.{KeepPaces}
 
 -- each state of the first run is the step of the one before
@@ -61,6 +60,6 @@ PacedRunsGoTogether = (b : Beside) → ArePaced b → FewAreInserted b → GoTog
 abbrev pub MatchesKeepPace : Type 0
 MatchesKeepPace = (b : Beside) (paced : ArePaced b) (k l : ℕ) → AreMatched b k l → paced.places k ≡ Some l
 
--- where the first run has no fault, the second one has none
+-- of runs that keep pace the second one has no fault before it does more kept steps than the first one
 abbrev pub PacedRunsHaveNoFault : Type 0
-PacedRunsHaveNoFault = (b : Beside) → ArePaced b → ((k : ℕ) → FirstReaches b k → HasNoFault (b.xs k).state) → IsWithoutFault b
+PacedRunsHaveNoFault = (b : Beside) → ArePaced b → IsWithoutFault b

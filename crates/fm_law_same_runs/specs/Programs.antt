@@ -22,7 +22,7 @@ use Rattle.fm_place.specs.Places.{is_busy}
 use Rattle.fm_place.specs.Safe.{Full, method_in_facts, Safe}
 use Rattle.fm_place.specs.Woven.{local_of}
 use Rattle.fm_same.specs.Resolved.{CallsNoFreeMe}
-use Rattle.fm_law_same_runs.specs.Beside.{AreMatched, Beside, InAllRuns, IsGiven, IsWithoutFault, kept_item, Marks, reuse_run, Same, steps_allowed}
+use Rattle.fm_law_same_runs.specs.Beside.{AreMatched, Beside, InAllRuns, IsGiven, kept_item, Marks, reuse_run, Same, steps_allowed}
 use Rattle.fm_law_same_runs.specs.Renaming.{StatesAreRenamed}
 
 -- class files that are accepted and link, and whose program calls no FreeMe
@@ -40,14 +40,6 @@ abbrev pub StepsAreMatched : Type 0
 StepsAreMatched =
     (given : List ClassDef) (main : List ℕ) → AreTaken given main → (written : List ClassDef) (marks : Marks) → Safe given main written marks
     → Same (program_of given main) (program_of written main) marks
-
--- ---- no fault
-
--- whatever is inserted safely, the classes written read, write and free no freed cell
-abbrev pub RunsAreFaultless : Type 0
-RunsAreFaultless =
-    (given : List ClassDef) (main : List ℕ) → AreTaken given main → (written : List ClassDef) (marks : Marks) → Safe given main written marks
-    → InAllRuns (program_of given main) (program_of written main) marks IsWithoutFault
 
 -- ---- the renaming
 
@@ -139,9 +131,3 @@ HoldersAreCleared =
 abbrev pub WordsAreBalanced : Beside → (k l : ℕ) → Type 0
 WordsAreBalanced b k l =
     live_words (b.ys l).state.areas.store + (b.ys l).state.areas.freed_words ≡ live_words (b.xs k).state.areas.store
-
--- this holds at matched states
-abbrev pub WordsBalance : Type 0
-WordsBalance =
-    (given : List ClassDef) (main : List ℕ) → AreTaken given main → (written : List ClassDef) (marks : Marks) → Safe given main written marks
-    → InAllRuns (program_of given main) (program_of written main) marks (λ b. (k l : ℕ) → AreMatched b k l → WordsAreBalanced b k l)

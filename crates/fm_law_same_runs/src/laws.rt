@@ -14,8 +14,8 @@ pub fn law_runs()
     ensures { law.RunsGoBySteps }
 {}
 
-/// Two runs that keep pace go together, and only states that keep pace are matched. Where the first
-/// run has no fault, the second one has none before it does more kept steps.
+/// Two runs that keep pace go together, and only states that keep pace are matched. The second run has
+/// no fault before it does more kept steps than the first one.
 pub fn law_paces()
     ensures together { law.PacedRunsGoTogether }
     ensures matches { law.MatchesKeepPace }

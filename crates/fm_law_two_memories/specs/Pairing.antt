@@ -93,7 +93,7 @@ pub record HasTwin (gone : Gone) (o : Outline) (one other : Store) (object : Obj
   pub alike : AreAlike gone o one other object twin
 
 -- As many objects were made in each of the stores, each of the one is held in the other too unless it is gone, and as many words live, with those that are
--- gone. The words of cells that were made for the other are less than twice as many as live in the first.
+-- gone. The words of cells that were made for the other are at most twice as many as live in the first.
 pub record ArePaired (gone : Gone) (o : Outline) (one other : Store) : Type 0 where
   pub births : other.births ≡ one.births
   pub orderly : IsOrderly one

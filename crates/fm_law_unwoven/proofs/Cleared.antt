@@ -17,7 +17,7 @@ use Rattle.fm_place.specs.Insertions.{Holder, Insertions}
 use Rattle.fm_place.specs.Places.{is_busy, MayHold}
 use Rattle.fm_place.specs.Rewriting.{Plans}
 use Rattle.fm_place.specs.Woven.{local_of}
-use Rattle.fm_world.specs.Programs.{Program}
+use Rattle.fm_world.specs.Programs.{code_at, Program}
 
 -- where something has to start, the first item is inserted
 first_inserted : (new : Code) (own : List (Option ℕ)) (free : ℕ) (old : Code) (count : ℕ) (rest : List Todo) (next : ℕ) → 0 < count
@@ -48,15 +48,21 @@ module _ (p q : Program) (facts : Facts) (plans : Plans) (marks : Marks) (from :
     by_may (inr holds) =
         absurd (false≢true (sym quiet ∙ sym (ap (is_busy facts (typed_method p facts.typing g.method code) holder.class) same) ∙ holds.0))
 
-  -- a frame that hasn't begun is at an inserted item, if its method has holders
+  -- the first item of a method that has holders is inserted
+  pub none_at_first : (method : ℕ) (code : Code) → code_at p method ≡ Some code → (j : ℕ) → kept_item marks method 0 ≡ Some j
+      → (h : ℕ) (holder : Holder) → slice_get (inserted_by (plans method)).holders h ≡ Some holder → ⊥
+  none_at_first method code code_is j item_is h holder is =
+      let w : HasInserted q marks method code (inserted_by (plans method)) = from.methods method code code_is in
+      let plan : Insertions = inserted_by (plans method) in
+      let first : mark_at (own_marks marks method) 0 ≡ None =
+      first_inserted w.new (own_marks marks method) w.free code (length plan.holders) (frees_at plan 0) (w.laid.numbers 0) (has_some plan.holders h holder is)
+      w.laid.start in
+      none-some j (sym first ∙ item_is)
+
+  -- so a frame that hasn't begun has nothing to clear
   begun_cleared : (above g : Frame) → HasNotBegun q above g → IsCleared p facts plans marks g
   begun_cleared above g stands j code h holder item_is code_is is quiet =
-      let w : HasInserted q marks g.method code (inserted_by (plans g.method)) = from.methods g.method code code_is in
-      let plan : Insertions = inserted_by (plans g.method) in
-      let first : mark_at (own_marks marks g.method) 0 ≡ None =
-      first_inserted w.new (own_marks marks g.method) w.free code (length plan.holders) (frees_at plan 0) (w.laid.numbers 0) (has_some plan.holders h holder is)
-      w.laid.start in
-      absurd (none-some j (sym (ap (kept_item marks g.method) stands.first ∙ first) ∙ item_is))
+      absurd (none_at_first g.method code code_is j (sym (ap (kept_item marks g.method) stands.first) ∙ item_is) h holder is)
 
   -- all frames below another one
   pub below_cleared : (above : Frame) (callers : List Frame) → StandBelow p q facts plans marks above callers → AreCleared p facts plans marks callers

@@ -26,7 +26,7 @@ use Rattle.fm_types.specs.Typed.{IsTypingOf}
 use Rattle.fm_world.specs.Programs.{code_at, Program, program_of}
 
 -- the states of facts are a typing
-facts_typed : (p : Program) (facts : Facts) → AreFacts p facts → AreTyped p facts.typing
+pub facts_typed : (p : Program) (facts : Facts) → AreFacts p facts → AreTyped p facts.typing
 facts_typed p facts exact method code is =
     IsSomeAnd-from_some (code_at p method) (λ c. IsTypingOf p method c (facts.typing method)) code is (exact.methods method code is).typing
 
@@ -65,13 +65,13 @@ all_clear p facts marks [] all = tt
 all_clear p facts marks (f ∷ frames) all = (full_clear p facts marks f all.0, all_clear p facts marks frames all.1)
 
 -- each method that has them, by the facts that they were made with
-full_method : (p : Program) (facts : Facts) (method : ℕ) (plan : Insertions) → full_plans p facts method ≡ Some plan → IsSafeMethod p facts method plan
+pub full_method : (p : Program) (facts : Facts) (method : ℕ) (plan : Insertions) → full_plans p facts method ≡ Some plan → IsSafeMethod p facts method plan
 full_method p facts method plan found =
     let parts = option_and_then-some (full_insertions facts) (method_in_facts p facts method) plan found in
     record { x = parts.0; is = parts.1; safe = full-safe facts parts.0 plan parts.2 }
 
 -- they are safe, with these facts and plans
-safe_of : (given : List ClassDef) (main : List ℕ) (written : List ClassDef) (marks : Marks) → Full given main written marks → Safe given main written marks
+unfoldable pub safe_of : (given : List ClassDef) (main : List ℕ) (written : List ClassDef) (marks : Marks) → Full given main written marks → Safe given main written marks
 safe_of given main written marks full = record {
   facts = full.facts;
   exact = full.exact;

@@ -158,7 +158,7 @@ module _ (facts : Facts) (x : TypedMethod) (plan : Insertions) where
     started_wide : IsWide started
     started_wide = length_after x.code stack (starts_of plan) locals ∙ wide
 
-    started_null : (h : ℕ) → h < length plan.holders → word_at started (local_of x.code h) ≡ null
+    pub started_null : (h : ℕ) → h < length plan.holders → word_at started (local_of x.code h) ≡ null
     started_null h few =
         ap (λ ls. word_at ls (local_of x.code h)) (starts_as_frees stack (range_with_len 0 (length plan.holders)) locals)
         ∙ freed_after x.code stack h (range_with_len 0 (length plan.holders)) locals (omega (arith, wide, few))

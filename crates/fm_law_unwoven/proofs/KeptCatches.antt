@@ -1,5 +1,5 @@
 -- An exception is caught in both programs by one frame, at one handler.
-use Rattle.std.proofs.Common.{◌≡◌, ℕ, ◌<◌, ◌≤◌, ◌⊎◌, inl, inr, ◌==◌, ◌&&◌, Bool, true, false, cond, List, [], ◌∷◌, length, map, Option, Some, None, Contains, option_map, unwrap_or, refl, sym, ap, subst, ◌∙◌, arith, if◌then◌else◌, nat_lt}
+use Rattle.std.proofs.Common.{◌≡◌, ℕ, ◌<◌, ◌≤◌, ◌⊎◌, inl, inr, ◌==◌, ◌&&◌, Bool, true, false, cond, List, [], ◌∷◌, ◌++◌, append_assoc, length, map, Option, Some, None, Contains, option_map, unwrap_or, refl, sym, ap, subst, ◌∙◌, arith, if◌then◌else◌, nat_lt}
 use Rattle.std.specs.Prelude.{nat_le}
 use Rattle.std.specs.List.{AllByRecursion}
 use Rattle.std.proofs.lemmas.Bool.{cases_lt, false≢true, le-leb, le-ltb, lt-leb, lt-ltb}
@@ -11,7 +11,7 @@ use Rattle.fm_code.specs.declared.code_array.Code.{Code}
 use Rattle.fm_code.specs.declared.code_array.Handler.{Handler}
 use Rattle.fm_conn.specs.Facts.{Facts}
 use Rattle.fm_conn.specs.Links.{typed_method}
-use Rattle.fm_frames.specs.States.{Frame}
+use Rattle.fm_frames.specs.States.{Frame, State}
 use Rattle.fm_frames.specs.Steps.{catches, caught, caught_in, Caught, handler_among, handler_of, InFrames, is_start, Leaves}
 use Rattle.fm_frames.specs.declared.ends.Ended.TheVariants as end
 use Rattle.fm_frames.specs.declared.values.Value.{Value}
@@ -64,7 +64,7 @@ option_moved : (entries : ℕ → ℕ) (b : Bool) (handler : ℕ) (rest : Option
 option_moved entries true handler rest = refl
 option_moved entries false handler rest = refl
 
-module _ (p q : Program) (facts : Facts) (plans : Plans) (marks : Marks) (from : IsWovenFrom p q facts plans marks) (t : TypeRef) (v : Value) where
+module _ (p q : Program) (facts : Facts) (plans : Plans) (marks : Marks) (from : IsWovenFrom p q facts plans marks) (before : State) (t : TypeRef) (v : Value) where
   -- ---- in one frame
 
   module _ (g : Frame) (code : Code) (code_is : code_at p g.method ≡ Some code) (j : ℕ) (j_is : kept_item marks g.method g.item ≡ Some j) where
@@ -138,7 +138,7 @@ module _ (p q : Program) (facts : Facts) (plans : Plans) (marks : Marks) (from :
 
   -- the frames once it is caught are alike, or the run ends in one way
   abbrev pub CaughtAlike : Caught → Caught → Type 0
-  CaughtAlike (InFrames fs) (InFrames gs) = StatesGo p q facts plans marks fs gs
+  CaughtAlike (InFrames fs) (InFrames gs) = StatesGo p q facts plans marks before fs gs
   CaughtAlike (InFrames fs) (Leaves e) = ⊥
   CaughtAlike (Leaves e) (InFrames gs) = ⊥
   CaughtAlike (Leaves e) (Leaves other) = other ≡ e
@@ -148,12 +148,12 @@ module _ (p q : Program) (facts : Facts) (plans : Plans) (marks : Marks) (from :
   AreCoded gs = AllByRecursion (λ (g : Frame). (code : Code) × (code_at p g.method ≡ Some code)) gs
 
   -- in one frame, where it is so of those below
-  one_frame : (g : Frame) (callers : List Frame) (code : Code) (code_is : code_at p g.method ≡ Some code) → StandsAtKept p facts plans marks g
+  one_frame : (above : List Frame) (g : Frame) (callers : List Frame) → before.frames ≡ above ++ g ∷ callers → (code : Code) (code_is : code_at p g.method ≡ Some code) → StandsAtKept p facts plans marks g
       → StandBelow p q facts plans marks g callers
       → (is_start p.outline g.method ≡ false → CaughtAlike (caught p t v (map (old_frame p marks) callers)) (caught q t v callers))
       → CaughtAlike (caught p t v (old_frame p marks g ∷ map (old_frame p marks) callers)) (caught q t v (g ∷ callers))
   unfolding caught
-  one_frame g callers code code_is stands below rest =
+  one_frame above g callers are code code_is stands below rest =
       subst (λ h. CaughtAlike (caught_in p v f fs (handler_of p f t) cp) (caught_in q v g callers h cq)) (sym (handler_same g code code_is stands.item stands.item_is))
       (by_handler (handler_of p f t) refl) where
         f : Frame
@@ -182,7 +182,8 @@ module _ (p q : Program) (facts : Facts) (plans : Plans) (marks : Marks) (from :
           method = refl;
           locals = refl;
           stack = refl;
-          top = InMethod stands.item code code_is w (GoesBefore refl) (leads_caught g code code_is stands.item stands.item_is handler found)
+          top = InMethod stands.item code code_is w
+              (record { above = above; was = g; frames_are = are; method = refl; item_is = stands.item_is; holders = refl }) (GoesBefore refl) (leads_caught g code code_is stands.item stands.item_is handler found)
               (holders_other p q facts plans marks from (typed_method p facts.typing g.method code) (inserted_by (plans g.method)) g
               (record g { item = w.laid.entries handler; stack = v ∷ [] }) stands.item refl (λ m past. refl) (stands.holders code code_is));
           callers_are = refl;
@@ -193,13 +194,13 @@ module _ (p q : Program) (facts : Facts) (plans : Plans) (marks : Marks) (from :
             (cond (is_start o g.method) (Leaves (end.InitFailed (record { 0 = class_of_method o g.method }))) cq)) (sym from.outline)
             (by_start (is_start p.outline g.method) refl)
 
-  pub caught_alike : (g : Frame) (callers : List Frame) → AreCoded (g ∷ callers) → StandsAtKept p facts plans marks g → StandBelow p q facts plans marks g callers
+  pub caught_alike : (above : List Frame) (g : Frame) (callers : List Frame) → before.frames ≡ above ++ g ∷ callers → AreCoded (g ∷ callers) → StandsAtKept p facts plans marks g → StandBelow p q facts plans marks g callers
       → CaughtAlike (caught p t v (old_frame p marks g ∷ map (old_frame p marks) callers)) (caught q t v (g ∷ callers))
   unfolding caught
-  caught_alike g [] coded stands below = one_frame g [] coded.0.0 coded.0.1 stands below (λ none. refl)
-  caught_alike g (next ∷ rest) coded stands below =
-      one_frame g (next ∷ rest) coded.0.0 coded.0.1 stands below
-      (λ none. by_kind none below.0 (λ kept. caught_alike next rest coded.1 kept below.1)) where
+  caught_alike above g [] are coded stands below = one_frame above g [] are coded.0.0 coded.0.1 stands below (λ none. refl)
+  caught_alike above g (next ∷ rest) are coded stands below =
+      one_frame above g (next ∷ rest) are coded.0.0 coded.0.1 stands below
+      (λ none. by_kind none below.0 (λ kept. caught_alike (above ++ g ∷ []) next rest (are ∙ sym (append_assoc above (g ∷ []) (next ∷ rest))) coded.1 kept below.1)) where
         Below : Type 0
         Below = CaughtAlike (caught p t v (map (old_frame p marks) (next ∷ rest))) (caught q t v (next ∷ rest))
 

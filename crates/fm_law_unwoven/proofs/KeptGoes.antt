@@ -10,15 +10,15 @@ use Rattle.fm_conn.specs.Facts.{Facts}
 use Rattle.fm_conn.specs.Links.{typed_method}
 use Rattle.fm_conn.specs.Nodes.{TypedMethod}
 use Rattle.fm_frames.specs.Effects.{Effect}
-use Rattle.fm_frames.specs.States.{Areas, Frame, null, word_at}
+use Rattle.fm_frames.specs.States.{Areas, Frame, null, State, word_at}
 use Rattle.fm_frames.specs.Steps.{is_start, max_locals_of, new_frame, went}
 use Rattle.fm_frames.specs.declared.values.Value.{Value}
 use Rattle.fm_frames.specs.declared.values.Value.TheVariants as value
 use Rattle.fm_law_same_runs.specs.Beside.{kept_item, Marks}
 use Rattle.fm_law_sound.proofs.CallsStand.{max_locals_in}
 use Rattle.fm_law_sound.specs.Sound.{IsReference}
-use Rattle.fm_law_unwoven.proofs.OldFrames.{further_stay, new_from, old_from, same_gives, same_written, written_length}
-use Rattle.fm_law_unwoven.specs.Kept.{Begins, FramesGo, GoesOn, HasNotBegun, HoldersStand, InMethod, old_frame, StandBelow, StandsAtKept}
+use Rattle.fm_law_unwoven.proofs.OldFrames.{further_same, further_stay, new_from, old_from, same_gives, same_written, written_length}
+use Rattle.fm_law_unwoven.specs.Kept.{Begins, BeginsOn, FramesGo, GoesOn, HasNotBegun, HoldersStand, InMethod, old_frame, StandBelow, StandsAtKept}
 use Rattle.fm_law_unwoven.specs.Laid.{all_insns_to, frees_at, LieInserted, mark_at, starts_of}
 use Rattle.fm_law_unwoven.specs.UnseenCode.{UsesNamed}
 use Rattle.fm_law_unwoven.specs.WovenFrom.{HasInserted, inserted_by, IsWovenFrom, own_marks}
@@ -119,14 +119,14 @@ module _ (p q : Program) (facts : Facts) (plans : Plans) (marks : Marks) (from :
     })
 
   -- a frame that begins on top of others
-  pub begins : (method : ℕ) (arguments : List Value) (callers below : List Frame) → length arguments ≤ max_locals_of p method
-      → map (old_frame p marks) below ≡ callers → StandBelow p q facts plans marks (new_frame q method arguments) below
-      → FramesGo p q facts plans marks (new_frame p method arguments) (new_frame q method arguments) callers below
-  begins method arguments callers below few are stand = record {
+  pub begins : (before : State) (method : ℕ) (arguments : List Value) (callers below : List Frame) → BeginsOn before.frames (new_frame q method arguments) below
+      → length arguments ≤ max_locals_of p method → map (old_frame p marks) below ≡ callers → StandBelow p q facts plans marks (new_frame q method arguments) below
+      → FramesGo p q facts plans marks before (new_frame p method arguments) (new_frame q method arguments) callers below
+  begins before method arguments callers below on few are stand = record {
     method = refl;
     locals = new_locals method arguments few;
     stack = refl;
-    top = Begins refl refl refl (new_width method arguments few);
+    top = Begins refl refl refl (new_width method arguments few) on;
     callers_are = are;
     stands_below = stand;
   }
@@ -163,15 +163,25 @@ module _ (p q : Program) (facts : Facts) (plans : Plans) (marks : Marks) (from :
     abbrev pub old_went : ℕ → Frame
     old_went m = went (old_from (max_locals_of p g.method) g.locals g.stack areas made) e (old_frame p marks g) m
 
-    pub goes : (m n : ℕ) → GoesOn q marks (old_went m) (new_went n) code (inserted_by (plans g.method)) (from.methods g.method code code_is) j
-        → IsEdge code j m → FramesGo p q facts plans marks (old_went m) (new_went n) (map (old_frame p marks) callers) callers
-    goes m n on edge =
+    pub goes : (before : State) → before.frames ≡ g ∷ callers → kept_item marks g.method g.item ≡ Some j → (m n : ℕ)
+        → GoesOn p q marks before [] (old_went m) (new_went n) code (inserted_by (plans g.method)) (from.methods g.method code code_is) j
+        → IsEdge code j m → FramesGo p q facts plans marks before (old_went m) (new_went n) (map (old_frame p marks) callers) callers
+    goes before frames_are item_is m n on edge =
         let given = same_gives max g.locals g.stack areas made e.gives uses.gives in
         record {
           method = refl;
           locals = same_written max g.locals g.stack areas made e.writes g.locals uses.writes;
           stack = ap (λ words. words ++ drop e.takes g.stack) given;
-          top = InMethod j code code_is (from.methods g.method code code_is) on edge
+          top = InMethod j code code_is (from.methods g.method code code_is)
+              (record {
+                above = [];
+                was = g;
+                frames_are = frames_are;
+                method = refl;
+                item_is = item_is;
+                holders = further_same max g.locals g.stack areas made e.writes g.locals uses.writes;
+              })
+              on edge
               (holders_other (typed_method p facts.typing g.method code) (inserted_by (plans g.method)) g (new_went n) j
               (written_length max g.locals g.stack areas made e.writes g.locals)
               (λ k past. further_stay max g.locals g.stack areas made k (let is = max_is in omega (arith, is, past)) e.writes g.locals uses.writes) stand);

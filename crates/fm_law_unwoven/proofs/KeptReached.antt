@@ -1,5 +1,5 @@
 -- From inserted items on, all that is inserted is done, and a state at a kept item follows; or the run ends where something is freed that isn't held.
-use Rattle.std.proofs.Common.{◌≡◌, ℕ, zero, suc, ◌+◌, ◌*◌, ◌<◌, ◌≤◌, List, ◌∷◌, length, map, take, drop, Some, unwrap_or, refl, sym, ap, subst, ◌∙◌, arith}
+use Rattle.std.proofs.Common.{◌≡◌, ℕ, zero, suc, ◌+◌, ◌*◌, ◌<◌, ◌≤◌, List, ◌∷◌, length, map, take, Some, unwrap_or, refl, sym, ap, subst, ◌∙◌, arith}
 use Rattle.fm_base.proofs.OptionFacts.{same_value}
 use Rattle.fm_base.specs.declared.limits.TheConstants.{MAX_LIVE_WORDS}
 use Rattle.fm_cells.specs.Choices.{lawful}
@@ -21,12 +21,13 @@ use Rattle.fm_law_unwoven.proofs.KeptGoes.{below_other}
 use Rattle.fm_law_unwoven.proofs.KeptSound.{item_of}
 use Rattle.fm_law_unwoven.proofs.TodoAreas.{areas_sound}
 use Rattle.fm_law_unwoven.proofs.TodoCounts.{steps_few}
-use Rattle.fm_law_unwoven.proofs.TodoLocals.{old_after}
-use Rattle.fm_law_unwoven.proofs.TodosDone.{passed-append, todos_done}
+use Rattle.fm_law_unwoven.proofs.TodoLocals.{length_after, old_after}
+use Rattle.fm_law_unwoven.proofs.TodosDone.{todos_done}
 use Rattle.fm_law_unwoven.specs.Doing.{all_locals_after, all_steps_to, AllDone, IsDone, IsPassed, MayDoAll, OneLost, state_after, with_frame}
 use Rattle.fm_law_unwoven.specs.Kept.{HoldersStand, IsAtKept, old_frame, old_state, StandBelow, StandsAtKept}
 use Rattle.fm_law_unwoven.specs.Laid.{all_insns_to, LieInserted, Todo}
-use Rattle.fm_law_unwoven.specs.Runs.{AreCleared, ComesToKept, Ends, Kept}
+use Rattle.fm_law_unwoven.specs.Reached.{AllReached, IsReached, OneMissed, Reached, state_reached}
+use Rattle.fm_law_unwoven.specs.Runs.{ComesToKept, Ends, Kept}
 use Rattle.fm_law_unwoven.specs.WovenFrom.{HasInserted, inserted_by, IsWovenFrom, own_marks}
 use Rattle.fm_place.specs.Rewriting.{Plans}
 use Rattle.fm_world.specs.Programs.{code_at, Program}
@@ -93,7 +94,7 @@ module _ (p q : Program) (facts : Facts) (plans : Plans) (marks : Marks) (from :
         frames_are : old_frame p marks after ∷ map (old_frame p marks) below ≡ f ∷ callers
         frames_are = λ k. old_is k ∷ holds.callers_are k
 
-        last_sound : IsSoundBy p facts.typing (old_state p marks 0 last)
+        pub last_sound : IsSoundBy p facts.typing (old_state p marks 0 last)
         last_sound = record {
           typed = holds.sound.typed;
           areas = areas_sound p.outline ready.calls.runnable.sizes choose code g.stack todos g.locals z.areas holds.sound.areas;
@@ -103,7 +104,7 @@ module _ (p q : Program) (facts : Facts) (plans : Plans) (marks : Marks) (from :
         }
 
         module _ (stand : HoldersStand facts (typed_method p facts.typing g.method code) (inserted_by (plans g.method)) after j) where
-          stands_after : StandsAtKept p facts plans marks after
+          pub stands_after : StandsAtKept p facts plans marks after
           stands_after = record {
             item = j;
             item_is = marked;
@@ -112,30 +113,53 @@ module _ (p q : Program) (facts : Facts) (plans : Plans) (marks : Marks) (from :
                 (same_value (code_at p g.method) code other code_is other_is) stand;
           }
 
-          at_kept : IsPassed q marks (lawful choose) (all_steps_to todos) (with_frame z g below) last → IsAtKept p q facts plans marks last
+          pub at_kept : IsPassed q marks (lawful choose) (all_steps_to todos) (with_frame z g below) last → IsAtKept p q facts plans marks last
           at_kept passed = record {
             sound = last_sound;
             frames = (stands_after, below_other p q facts plans marks from g after refl below holds.stands_below);
             words = subst (λ n. n ≤ MAX_LIVE_WORDS) (sym (passed_budget (all_steps_to todos) (with_frame z g below) last passed)) holds.words;
           }
 
-          -- from a state that has come here by few steps
+          -- what is inserted from the frame's item on leads there
           pub reaches : LieInserted w.new (own_marks marks g.method) g.item (all_insns_to w.free code todos) (w.laid.numbers j)
-              → MayDoAll code g.stack g.locals todos → (s : State) (jumps : ℕ) → IsPassed q marks (lawful choose) jumps s (with_frame z g below)
-              → drop 1 s.frames ≡ below → jumps + all_steps_to todos ≤ 6 * length (inserted_by (plans g.method)).holders + 2
-              → ComesToKept p q facts plans marks (lawful choose) s
-          reaches lies may s jumps before under few =
-              by_done (todos_done q marks ch g code (inserted_by (plans g.method)) w todos (w.laid.numbers j) lies may z below) where
-                most : jumps + all_steps_to todos ≤ most_inserted_steps p q
-                most = steps_few p q marks g.method code code_is (inserted_by (plans g.method)) w (jumps + all_steps_to todos) few
+              → MayDoAll code g.stack g.locals todos → all_steps_to todos ≤ 6 * length (inserted_by (plans g.method)).holders + 2
+              → Reached p q facts plans marks (lawful choose) z f g below todos 0
+          reaches lies may few = record {
+            code = code;
+            code_is = code_is;
+            number = w.laid.numbers j;
+            number_is = marked ∙ ap Some (sym item_is);
+            width = sym (length_after code g.stack todos g.locals) ∙ stand.width;
+            may = may;
+            few = subst (λ n. n ≤ most_inserted_steps p q) count
+                (steps_few p q marks g.method code code_is (inserted_by (plans g.method)) w (all_steps_to todos) few);
+            done = by_done (todos_done q marks ch g code (inserted_by (plans g.method)) w todos (w.laid.numbers j) lies may z below);
+          } where
+            count : all_steps_to todos ≡ 0 + all_steps_to todos
+            count = omega arith
 
-                by_done : IsDone q marks (lawful choose) code z g below todos (w.laid.numbers j) → ComesToKept p q facts plans marks (lawful choose) s
-                by_done (AllDone passed) =
-                    Kept (jumps + all_steps_to todos) last most
-                    (passed-append q marks ch jumps (all_steps_to todos) (jumps + all_steps_to todos) s (with_frame z g below) last refl before passed)
-                    refl (at_kept passed)
-                by_done (OneLost count method offset cell lost_at lost fewer passed inserted ended printed) =
-                    Ends (jumps + count) lost_at (end.Fault (record { 0 = method }) offset cell) (omega (arith, most, fewer))
-                    (passed-append q marks ch jumps count (jumps + count) s (with_frame z g below) lost_at refl before passed)
-                    inserted printed ended
-                    (subst (AreCleared p facts plans marks) (sym under) (below_cleared p q facts plans marks from g below holds.stands_below))
+            there : last ≡ state_reached code z g below todos 0 (w.laid.numbers j)
+            there =
+                let same : z.steps ≡ z.steps + 0 = omega arith in
+                ap (λ n. state_after code (record z { steps = n }) g below todos (w.laid.numbers j)) same
+
+            by_done : IsDone q marks (lawful choose) code z g below todos (w.laid.numbers j)
+                → IsReached p q facts plans marks (lawful choose) code z g below todos 0 (w.laid.numbers j)
+            by_done (AllDone passed) =
+                AllReached
+                (subst (λ n. IsPassed q marks (lawful choose) n (with_frame z g below) (state_reached code z g below todos 0 (w.laid.numbers j))) count
+                (subst (IsPassed q marks (lawful choose) (all_steps_to todos) (with_frame z g below)) there passed))
+                (subst (IsAtKept p q facts plans marks) there (at_kept passed))
+            by_done (OneLost steps method offset cell lost_at lost fewer passed inserted ended printed) =
+                OneMissed lost steps lost_at (end.Fault (record { 0 = method }) offset cell) (omega (arith, fewer)) passed inserted printed ended
+
+  -- so the state comes to a kept item, or the run ends
+  pub reached_comes : (z : State) (f g : Frame) (below : List Frame) (todos : List Todo) (jumps : ℕ)
+      → Reached p q facts plans marks (lawful choose) z f g below todos jumps → StandBelow p q facts plans marks g below
+      → ComesToKept p q facts plans marks (lawful choose) (with_frame z g below)
+  reached_comes z f g below todos jumps r under = by_done r.done where
+    by_done : IsReached p q facts plans marks (lawful choose) r.code z g below todos jumps r.number → ComesToKept p q facts plans marks (lawful choose) (with_frame z g below)
+    by_done (AllReached passed kept) = Kept (jumps + all_steps_to todos) (state_reached r.code z g below todos jumps r.number) r.few passed refl kept
+    by_done (OneMissed lost count last e fewer passed inserted printed ended) =
+        let few = r.few in
+        Ends count last e (omega (arith, few, fewer)) passed inserted printed ended (below_cleared p q facts plans marks from g below under)

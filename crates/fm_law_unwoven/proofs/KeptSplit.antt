@@ -1,5 +1,5 @@
 -- What follows after a branch that is split: its opposite goes behind it where the branch isn't taken, and to its goto_w where it is.
-use Rattle.std.proofs.Common.{◌≡◌, ℕ, ◌+◌, ◌<◌, not, Bool, true, false, List, ◌∷◌, length, map, Option, Some, None, refl, sym, ap, subst, ◌∙◌, if◌then◌else◌}
+use Rattle.std.proofs.Common.{◌≡◌, ℕ, ◌+◌, ◌<◌, not, Bool, true, false, List, ◌∷◌, [], length, map, Option, Some, None, refl, sym, ap, subst, ◌∙◌, if◌then◌else◌}
 use Rattle.std.specs.List.{AllByRecursion, slice_index_or}
 use Rattle.std.proofs.Math.Bool.{not-not}
 use Rattle.fm_code.specs.Edges.{insn_of, IsEdge}
@@ -15,7 +15,7 @@ use Rattle.fm_frames.specs.JumpRows.{int_jump_effect, jumps_if, null_jump_effect
 use Rattle.fm_frames.specs.Rows.{effect_of}
 use Rattle.fm_frames.specs.Sights.{Sight}
 use Rattle.fm_frames.specs.States.{Areas, Frame, State, word_at}
-use Rattle.fm_frames.specs.Steps.{continued, max_locals_of, offset_at, target_at}
+use Rattle.fm_frames.specs.Steps.{continued, max_locals_of, next_effect, offset_at, target_at}
 use Rattle.fm_frames.specs.declared.ends.Ended.TheVariants as end
 use Rattle.fm_law_same_runs.specs.Beside.{kept_item, Marks}
 use Rattle.fm_law_sound.proofs.Cases.{by_int, by_reference}
@@ -24,7 +24,8 @@ use Rattle.fm_law_unwoven.proofs.KeptEdges.{LeadsOn}
 use Rattle.fm_law_unwoven.proofs.KeptEffects.{at_number, item_is, new_next, old_next}
 use Rattle.fm_law_unwoven.proofs.KeptGoes.{goes, new_went, old_went}
 use Rattle.fm_law_unwoven.proofs.KeptNext.{Alike, done_with, new_source, old_source, without_local}
-use Rattle.fm_law_unwoven.specs.Kept.{BothDo, BothFault, GoesBehind, GoesByJump, HoldersStand, old_frame, StandBelow, StatesGo}
+use Rattle.fm_law_unwoven.proofs.KeptSites.{none_behind}
+use Rattle.fm_law_unwoven.specs.Kept.{BothDo, BothFault, GoesBehind, GoesByJump, GoesPast, HoldersStand, old_frame, old_state, PastBranch, PastItem, StandBelow, StatesGo}
 use Rattle.fm_law_unwoven.specs.Laid.{mark_at}
 use Rattle.fm_law_unwoven.specs.UnseenCode.{exchanged, GoesWithin, UsesNamed}
 use Rattle.fm_law_unwoven.specs.WovenFrom.{HasInserted, inserted_by, IsWovenFrom, own_marks}
@@ -96,9 +97,13 @@ module _ (p q : Program) (facts : Facts) (plans : Plans) (marks : Marks) (from :
   abbrev from_new : Sources
   from_new = new_source p q facts plans marks from z g callers code code_is j j_is i found below stand coded e uses areas made price printed
 
+  -- the states before the step
+  abbrev before : State
+  before = record z { frames = g ∷ callers }
+
   abbrev Go : ℕ → ℕ → Type 0
   Go m n =
-      StatesGo p q facts plans marks
+      StatesGo p q facts plans marks (record z { frames = g ∷ callers })
       (old_went p q facts plans marks from g callers code code_is j below stand (length (targets_of i)) e uses areas made m ∷ fs)
       (new_went p q facts plans marks from g callers code code_is j below stand (length (targets_of i)) e uses areas made n ∷ callers)
 
@@ -122,23 +127,25 @@ module _ (p q : Program) (facts : Facts) (plans : Plans) (marks : Marks) (from :
         ∙ ap (λ ts. slice_index_or ts 0 g.item) (targets-conditional (opposite c) other)
 
     -- not taken: the opposite goes behind
-    not_taken : j + 1 < length code.items → IsEdge code j (f.item + 1) → Go (f.item + 1) (target_at q g 0)
-    not_taken inside edge =
-        goes p q facts plans marks from g callers code code_is j below stand (length (targets_of i)) e uses areas made (f.item + 1) (target_at q g 0)
-        (GoesBehind (ap (λ k. k + 1) old_at) (new_target ∙ follows inside)) edge
+    not_taken : GoesPast p marks (record z { frames = g ∷ callers }) [] (inserted_by (plans g.method)) j → j + 1 < length code.items → IsEdge code j (f.item + 1)
+        → Go (f.item + 1) (target_at q g 0)
+    not_taken past inside edge =
+        goes p q facts plans marks from g callers code code_is j below stand (length (targets_of i)) e uses areas made before refl j_is (f.item + 1) (target_at q g 0)
+        (GoesBehind past (ap (λ k. k + 1) old_at) (new_target ∙ follows inside)) edge
 
     -- taken: the goto_w comes next
     taken : IsEdge code j (target_at p f 0) → Go (target_at p f 0) (g.item + 1)
     taken edge =
-        goes p q facts plans marks from g callers code code_is j below stand (length (targets_of i)) e uses areas made (target_at p f 0) (g.item + 1)
+        goes p q facts plans marks from g callers code code_is j below stand (length (targets_of i)) e uses areas made before refl j_is (target_at p f 0) (g.item + 1)
         (GoesByJump
         (ap (λ k. insn_of w.new (k + 1)) new_at ∙ jump ∙ ap (λ t. Some (insn.Goto (w.laid.entries t))) (sym old_target))
         (ap (λ k. mark_at (own_marks marks g.method) (k + 1)) new_at ∙ mark)) edge
 
-    by_test : (b : Bool) → (b ≡ false → j + 1 < length code.items) → IsEdge code j (target_at p f 0) × IsEdge code j (f.item + 1)
+    by_test : 0 < length (targets_of i) → (b : Bool) → (b ≡ false → j + 1 < length code.items) → IsEdge code j (target_at p f 0) × IsEdge code j (f.item + 1)
         → Go (if b then target_at p f 0 else f.item + 1) (if not b then target_at q g 0 else g.item + 1)
-    by_test true inside edges = taken edges.0
-    by_test false inside edges = not_taken (inside refl) edges.1
+    by_test some true inside edges = taken edges.0
+    by_test some false inside edges =
+        not_taken (PastBranch refl (none_behind p q facts plans marks from g.method code code_is j i found some)) (inside refl) edges.1
 
     -- whether the references on top pass the test
     abbrev pub passes : Bool → Bool
@@ -150,26 +157,26 @@ module _ (p q : Program) (facts : Facts) (plans : Plans) (marks : Marks) (from :
     HasNext (JumpsIfSame same) = passes same ≡ false → j + 1 < length code.items
     HasNext next = Unit {0}
 
-    pub split_alike : (next : Next) → FollowsBranch next → GoesWithin p.outline (length (targets_of i)) next → LeadsOn p code f j next → HasNext next
+    pub split_alike : (next : Next) → (next_effect p (old_state p marks z.steps (record z { frames = g ∷ callers }))).next ≡ next → FollowsBranch next → GoesWithin p.outline (length (targets_of i)) next → LeadsOn p code f j next → HasNext next
         → Alike p q facts plans marks from z g callers code code_is j j_is i found below stand coded e uses areas made price printed
         (continued p from_old (record e { next = next }) f fs (xs next)) (continued q from_new (record e { next = exchanged next }) g callers (ys (exchanged next)))
     unfolding continued
-    split_alike Falls kind within leads inside = BothDo refl refl (λ going. not_taken inside leads)
-    split_alike (Jumps n) kind within leads inside =
+    split_alike Falls is kind within leads inside = BothDo refl refl (λ going. not_taken (PastItem refl is) inside leads)
+    split_alike (Jumps n) is kind within leads inside =
         BothDo refl refl
         (λ going. subst (λ k. Go (target_at p f k) (g.item + 1)) (sym kind) (taken (subst (λ k. IsEdge code j (target_at p f k)) kind leads)))
-    split_alike (JumpsIfSame same) kind within leads inside =
+    split_alike (JumpsIfSame same) is kind within leads inside =
         let is_same = same_cell (word_at g.stack 0) (word_at g.stack 1) in
         BothDo refl refl
         (λ going.
         subst (λ b. Go (if passes same then target_at p f 0 else f.item + 1) (if b then target_at q g 0 else g.item + 1))
-        (sym (test_opposite same is_same)) (by_test (passes same) inside leads))
-    split_alike (Calls m) kind within leads inside = absurd kind
-    split_alike (Returns n) kind within leads inside = absurd kind
-    split_alike (Throws source) kind within leads inside = absurd kind
-    split_alike (Enters methods) kind within leads inside = absurd kind
-    split_alike (Exits n) kind within leads inside = absurd kind
-    split_alike (Faults source) kind within leads inside =
+        (sym (test_opposite same is_same)) (by_test within (passes same) inside leads))
+    split_alike (Calls m) is kind within leads inside = absurd kind
+    split_alike (Returns n) is kind within leads inside = absurd kind
+    split_alike (Throws source) is kind within leads inside = absurd kind
+    split_alike (Enters methods) is kind within leads inside = absurd kind
+    split_alike (Exits n) is kind within leads inside = absurd kind
+    split_alike (Faults source) is kind within leads inside =
         BothFault g.method (offset_at p f) (offset_at q g) (cell_of (value_of from_old source)) refl
         (ap (λ v. Some (end.Fault (record { 0 = g.method }) (offset_at q g) (cell_of v)))
         (without_local p q facts plans marks from z g callers code code_is j j_is i found below stand coded e uses areas made price printed source within))

@@ -208,7 +208,7 @@ module _ (p q : Program) (facts : Facts) (plans : Plans) (marks : Marks) (from :
       (done_with p q facts plans marks from z g callers code code_is j j_is i found below stand coded e uses areas made price e.prints next (g ∷ callers)))
 
   moved_alike : (next : Next) → Follows next → (deep over : Bool) (r : Performed) → IsSoundBy p facts.typing (moved_old deep over r).state
-      → StepsAlike p q facts plans marks (moved_old deep over r) (moved_new next deep over r)
+      → StepsAlike p q facts plans marks y (moved_old deep over r) (moved_new next deep over r)
   moved_alike next follows true over r kept =
       BothDo refl (λ k. record (but_frames x) { ended = Some (end.TooDeep (count k)) }) (λ goes. absurd (none-some (end.TooDeep (length x.frames)) (sym goes)))
   moved_alike next follows false true r kept =
@@ -218,11 +218,11 @@ module _ (p q : Program) (facts : Facts) (plans : Plans) (marks : Marks) (from :
   moved_alike next follows false false (LostAt v) kept = BothFault g.method _ _ (cell_of v) refl refl
 
   steps_alike : (next : Next) → next_effect q y ≡ record e { next = next } → is_deep y next ≡ is_deep x e.next → Follows next
-      → StepsAlike p q facts plans marks (step p ch x) (step q ch y)
+      → StepsAlike p q facts plans marks y (step p ch x) (step q ch y)
   steps_alike next effect deep follows =
       let moved = (sound_steps p facts.typing ready makes choose x sound few).1 in
-      subst (λ m. StepsAlike p q facts plans marks (step p ch x) m) (sym (new_step next effect deep))
-      (subst (λ m. StepsAlike p q facts plans marks m (moved_new next (is_deep x e.next) (is_over p.outline z.areas e.actions) result)) (sym old_step)
+      subst (λ m. StepsAlike p q facts plans marks y (step p ch x) m) (sym (new_step next effect deep))
+      (subst (λ m. StepsAlike p q facts plans marks y m (moved_new next (is_deep x e.next) (is_over p.outline z.areas e.actions) result)) (sym old_step)
       (moved_alike next follows (is_deep x e.next) (is_over p.outline z.areas e.actions) result
       (subst (λ (m : Moved). IsSoundBy p facts.typing m.state) old_step moved)))
 
@@ -256,12 +256,12 @@ module _ (p q : Program) (facts : Facts) (plans : Plans) (marks : Marks) (from :
     given_by areas made (Exits n) kept = tt
     given_by areas made (Faults source) kept = tt
 
-    whole_alike : StepsAlike p q facts plans marks (step p ch x) (step q ch y)
+    whole_alike : StepsAlike p q facts plans marks y (step p ch x) (step q ch y)
     whole_alike =
         steps_alike e.next (whole_effect p q facts plans marks from z g callers code code_is j j_is i found is) (deep_same e.next)
         (λ areas made kept.
         next_alike p q facts plans marks from z g callers code code_is j j_is i found below stand coded e uses areas made price e.prints is behind whole_callers
-        e.next uses.next leads (given_by areas made e.next kept))
+        e.next refl uses.next leads (given_by areas made e.next kept))
 
   -- ---- a branch that is split
 
@@ -323,21 +323,21 @@ module _ (p q : Program) (facts : Facts) (plans : Plans) (marks : Marks) (from :
     given_split areas made (Exits n) kept = tt
     given_split areas made (Faults source) kept = tt
 
-    split_both : StepsAlike p q facts plans marks (step p ch x) (step q ch y)
+    split_both : StepsAlike p q facts plans marks y (step p ch x) (step q ch y)
     split_both =
         steps_alike (exchanged e.next) (split_effect p q facts plans marks from z g callers code code_is j j_is i found c target other branch test) (deep_split e.next kind)
         (λ areas made kept.
         split_alike p q facts plans marks from z g callers code code_is j j_is i found below stand coded e uses areas made price e.prints c target other branch test follows jump mark
-        e.next kind uses.next leads (given_split areas made e.next kept))
+        e.next refl kind uses.next leads (given_split areas made e.next kept))
 
   -- ---- both
 
   by_kept : IsKept code w.new (own_marks marks g.method) w.laid.entries j item.0.insn (w.laid.numbers j) (w.laid.behind j)
-      → StepsAlike p q facts plans marks (step p ch x) (step q ch y)
+      → StepsAlike p q facts plans marks y (step p ch x) (step q ch y)
   by_kept (IsWhole is behind) = whole_alike is behind
   by_kept (IsSplit c target other branch test follows jump mark behind) = split_both c target other branch test follows jump mark
 
-  pub kept_step : StepsAlike p q facts plans marks (step p ch x) (step q ch y)
+  pub kept_step : StepsAlike p q facts plans marks y (step p ch x) (step q ch y)
   kept_step = by_kept (w.laid.kept j item.0.insn found)
 
 -- a state that goes on has a frame
@@ -345,7 +345,7 @@ pub kept_steps : SoundStatesStep → KeptStepsAreSteps
 kept_steps sound_steps p q facts plans marks from ready makes choose y at going = by_frames y.frames refl where
   Wanted : List Frame → Type 0
   Wanted frames =
-      StepsAlike p q facts plans marks (step p (lawful choose) (old_state p marks y.steps (record y { frames = frames })))
+      StepsAlike p q facts plans marks (record y { frames = frames }) (step p (lawful choose) (old_state p marks y.steps (record y { frames = frames })))
       (step q (lawful choose) (record y { frames = frames }))
 
   by_frames : (frames : List Frame) → y.frames ≡ frames → Wanted y.frames

@@ -1,9 +1,9 @@
 -- A frame with more locals reads and writes what the frame without them does.
-use Rattle.std.proofs.Common.{◌≡◌, ℕ, ◌<◌, ◌≤◌, List, [], ◌∷◌, length, map, take, refl, sym, ap, ◌∙◌, arith}
+use Rattle.std.proofs.Common.{◌≡◌, ℕ, ◌<◌, ◌≤◌, List, [], ◌∷◌, length, map, take, drop, refl, sym, ap, ◌∙◌, arith}
 use Rattle.std.specs.Prelude.{slice_set}
 use Rattle.std.specs.List.{AllByRecursion}
 use Rattle.std.proofs.Math.Seq.{take-set-lt}
-use Rattle.std.proofs.lemmas.List.{get_or-set_other, get_or-take, length-set}
+use Rattle.std.proofs.lemmas.List.{drop-set-lt, get_or-set_other, get_or-take, length-set}
 use Rattle.fm_frames.specs.Acts.{sum_of, Sources, value_of}
 use Rattle.fm_frames.specs.Effects.{LocalPlus, OfLiteral, OfLocal, OfMade, OfOperand, OfPlace, OfStatic, Plain, SameOperands, Source}
 use Rattle.fm_frames.specs.States.{Areas, word_at}
@@ -56,6 +56,13 @@ module _ (max : ℕ) (locals stack : List Value) (areas : Areas) (made : List �
       let v = value_of new_from w.1 in
       let below = all.0.0 in
       further_stay m past writes (slice_set ls w.0 v) all.1 ∙ get_or-set_other ls w.0 m v value.Top (λ same. absurd (omega (arith, past, below, same)))
+
+  -- all of them
+  pub further_same : (writes : List (ℕ × Source)) (ls : List Value) → WritesWithin max writes → drop max (written new_from writes ls) ≡ drop max ls
+  further_same [] ls all = refl
+  further_same (w ∷ writes) ls all =
+      let v = value_of new_from w.1 in
+      further_same writes (slice_set ls w.0 v) all.1 ∙ drop-set-lt max ls w.0 v all.0.0
 
   pub written_length : (writes : List (ℕ × Source)) (ls : List Value) → length (written new_from writes ls) ≡ length ls
   written_length [] ls = refl

@@ -11,15 +11,16 @@ use Rattle.fm_frames.specs.States.{Frame, ref, State}
 use Rattle.fm_frames.specs.Steps.{is_over, new_frame, start_frames, stopped, words_made}
 use Rattle.fm_frames.specs.declared.ends.Ended.{Ended}
 use Rattle.fm_frames.specs.declared.ends.Ended.TheVariants as end
+use Rattle.fm_law_unwoven.specs.Kept.{but_frames}
 use Rattle.fm_world.specs.Programs.{Outline, Program}
 
 -- the frames at the opening, with main's number from the first program
 abbrev pub opened_frames : (p of : Program) → List ℕ → ℕ → List Frame
 opened_frames p of methods arguments = start_frames of methods ++ new_frame of p.outline.main (ref arguments ∷ []) ∷ []
 
--- The second run has ended; or both go on in main and the methods that start its class; or no frame was opened.
+-- Both runs have ended; or both go on in main and the methods that start its class; or no frame was opened.
 pub data Opened (p q : Program) (x y : State) : Type 0 where
-  SecondEnds : (e : Ended) → y.ended ≡ Some e → Opened p q x y
+  BothEnd : (e : Ended) → x.ended ≡ Some e → but_frames y ≡ but_frames x → Opened p q x y
   BothOpen : (classes : List ℕ) (arguments : ℕ) → x.ended ≡ None → x.frames ≡ opened_frames p p (start_methods p.outline classes) arguments
       → y ≡ record x { frames = opened_frames p q (start_methods p.outline classes) arguments } → Opened p q x y
   NoneOpens : x.frames ≡ [] → x.ended ≡ None → Opened p q x y
@@ -42,7 +43,7 @@ module _ (p q : Program) (outline : q.outline ≡ p.outline) (choose : Choose) w
   acted : (x : State) (result : Performed) (one other : State → List ℕ → State) → FollowAlike one other → x.frames ≡ [] → x.ended ≡ None
       → Opened p q (after_action x result one) (after_action x result other)
   acted x (Did areas made) one other follow none going = follow (record x { areas = areas }) made none going
-  acted x (FullAt areas needed) one other follow none going = SecondEnds (end.StoreFull areas.store.made_words (cell_words needed)) refl
+  acted x (FullAt areas needed) one other follow none going = BothEnd (end.StoreFull areas.store.made_words (cell_words needed)) refl refl
   acted x (LostAt v) one other follow none going = NoneOpens none going
 
   opened : (actions : List Action) (x : State) (made : List ℕ) (one other : State → List ℕ → State) → FollowAlike one other → x.frames ≡ [] → x.ended ≡ None
@@ -56,7 +57,7 @@ module _ (p q : Program) (outline : q.outline ≡ p.outline) (choose : Choose) w
       (after_action x (performed o choose [] [] (action ∷ []) x.areas made) (λ y cells. opened_by q choose more y cells other))))
       (sym outline)
       (either_opened (is_over p.outline x.areas (action ∷ [])) _ _ _ _
-      (SecondEnds (end.Exhausted (live_words x.areas.store) (words_made p.outline x.areas (action ∷ []))) refl)
+      (BothEnd (end.Exhausted (live_words x.areas.store) (words_made p.outline x.areas (action ∷ []))) refl refl)
       (acted x (performed p.outline choose [] [] (action ∷ []) x.areas made) _ _
       (λ y cells bare goes. opened more y cells one other follow bare goes) none going))
 
@@ -72,7 +73,7 @@ module _ (p q : Program) (outline : q.outline ≡ p.outline) (choose : Choose) w
       ∙ sym (starts_length q methods (new_frame q p.outline.main (ref arguments ∷ []) ∷ [])) in
       subst (λ n. Opened p q (framed x one)
       (cond (nat_lt x.depth n) (stopped (record x { frames = [] }) (end.TooDeep 1)) (record x { frames = other }))) same
-      (either_opened (nat_lt x.depth (length one)) _ _ _ _ (SecondEnds (end.TooDeep 1) refl)
+      (either_opened (nat_lt x.depth (length one)) _ _ _ _ (BothEnd (end.TooDeep 1) refl refl)
       (BothOpen classes arguments going refl refl))
 
   pub openings : (job : Job) (store : Store) → Opened p q (opening p choose job store).state (opening q choose job store).state

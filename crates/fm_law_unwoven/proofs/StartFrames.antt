@@ -1,5 +1,5 @@
 -- The frames that start classes, above others that wait for them.
-use Rattle.std.proofs.Common.{◌≡◌, ℕ, List, [], ◌∷◌, ◌++◌, map, Some, inr, true, ap, ◌∙◌, arith}
+use Rattle.std.proofs.Common.{◌≡◌, ℕ, List, [], ◌∷◌, ◌++◌, map, Some, inr, true, refl, ap, ◌∙◌, arith}
 use Rattle.std.specs.List.{AllByRecursion}
 use Rattle.fm_conn.specs.Facts.{Facts}
 use Rattle.fm_frames.specs.States.{Frame}
@@ -21,6 +21,11 @@ module _ (p q : Program) (facts : Facts) (plans : Plans) (marks : Marks) (from :
       let first = old_new p q facts plans marks from m coded.0.0 [] coded.0.1 (omega arith) in
       let rest = old_starts methods callers below coded.1 are in
       (λ t. first t ∷ rest t)
+
+  -- each is at its first item
+  pub starts_first : (methods : List ℕ) → AllByRecursion (λ (h : Frame). h.item ≡ 0) (start_frames q methods)
+  starts_first [] = tt
+  starts_first (m ∷ methods) = (refl, starts_first methods)
 
   -- each waits for the one above it, and so may those below them
   pub starts_below : (above : Frame) → is_start q.outline above.method ≡ true → (methods : List ℕ) → AllByRecursion (λ m. is_start p.outline m ≡ true) methods

@@ -3,4 +3,5 @@ pub mod Laid
 pub mod WovenFrom
 pub mod Doing
 pub mod Kept
+pub mod Reached
 pub mod Runs

@@ -1,7 +1,8 @@
 // Laws of the definitions, each as the contract of a function that does nothing.
 
 ghost use Rattle.fm_law_unwoven.specs.Doing.{TodosAreDone};
-ghost use Rattle.fm_law_unwoven.specs.Kept.{KeptStepsAreSteps};
+ghost use Rattle.fm_law_unwoven.specs.Kept.{KeptStepsAreSteps, OpeningsAreOpenings};
+ghost use Rattle.fm_law_unwoven.specs.Reached.{FramesReachKept};
 ghost use Rattle.fm_law_same_runs.specs.Programs.{HoldersAreCleared};
 ghost use Rattle.fm_law_unwoven.specs.Laid.{CodesAreLaid};
 ghost use Rattle.fm_law_unwoven.specs.Runs.{AllRunsAreCleared, FewAreInsertedInRuns, KeptStatesGoOn, OpeningsComeToKept, SafeRunsAreCleared};
@@ -46,12 +47,30 @@ pub fn law_todos()
 
 /// A step of the second program at an item that is kept is the step of the first one at the state that it
 /// holds, on the same memory: it does the same to what frames share, prints the same and ends alike, and its
-/// frames hold those of the first program.
+/// frames hold those of the first program. A frame that was there before keeps its holders.
 pub fn law_kept_steps()
     ensures { KeptStepsAreSteps }
 {
     // By this law.
     law_sound();
+}
+
+/// The opening of a run of the second program is that of the first one over the same store: it does the same,
+/// and its frames hold those of the first program.
+pub fn law_opened()
+    ensures { OpeningsAreOpenings }
+{
+    // By this law.
+    law_sound();
+}
+
+/// What is inserted where a frame goes on is done by few steps, which lead to the kept item of the frame that
+/// it holds; or the run ends in a fault where a cell that is to be freed isn't held.
+pub fn law_reached()
+    ensures { FramesReachKept }
+{
+    // By this law.
+    law_sites();
 }
 
 /// After a step at a kept item few inserted steps lead to the next kept item, with holders that are null or
@@ -62,15 +81,17 @@ pub fn law_kept_states()
     // By these laws.
     law_kept_steps();
     law_sound();
-    law_sites();
+    law_reached();
 }
 
 /// From the opening of a run of the second program few inserted steps lead to a kept item, or the run ends.
 pub fn law_openings()
     ensures { OpeningsComeToKept }
 {
-    // By this law.
+    // By these laws.
+    law_opened();
     law_sound();
+    law_reached();
 }
 
 /// In each state of each run of the second program that goes on, the holders of all frames are null where

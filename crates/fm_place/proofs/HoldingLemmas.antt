@@ -3,7 +3,6 @@ use Rattle.std.proofs.Common.{◌≡◌, ◌≢◌, ◌⊎◌, ◌↔◌, ℕ, �
 use Rattle.std.specs.Prelude.{nat_eq, nat_lt, slice_get}
 use Rattle.std.proofs.lemmas.Bool.{and_from, cases_eq, cases_lt, eqb-true, false≢true}
 use Rattle.std.proofs.lemmas.List.{get_or-replicate, get_or-set_other, get_or-set_same, get_or_past, length-replicate}
-use Rattle.std.proofs.lemmas.List.Elements.{Contains-append_left, Contains-push, Contains-push_cases}
 use Rattle.std.proofs.lemmas.Option.{slice_get-get_or, slice_get_within}
 use Rattle.fm_base.proofs.TestFacts.{and_left, and_right, same_test}
 use Rattle.fm_base.specs.Rows.{has}
@@ -11,7 +10,7 @@ use Rattle.fm_code.specs.Edges.{IsEdge}
 use Rattle.fm_code.specs.declared.code_array.Code.{Code}
 use Rattle.fm_conn.specs.Facts.{Facts}
 use Rattle.fm_conn.specs.Nodes.{TypedMethod}
-use Rattle.fm_flow.proofs.ReachLemmas.{edge_from_item, edge_inside}
+use Rattle.fm_flow.proofs.ReachLemmas.{edge_from_item}
 use Rattle.fm_flow.proofs.RowFacts.{has-replicate, has_inside}
 use Rattle.fm_flow.specs.Tables.{IsRisingListOf}
 use Rattle.fm_flow.specs.inner.LiveWalks.{HandsOver, row_of}
@@ -20,7 +19,7 @@ use Rattle.fm_place.proofs.GroupLemmas.{bits_more}
 use Rattle.fm_place.proofs.PathLemmas.{may_hold-from, may_hold-tells}
 use Rattle.fm_place.specs.Places.{is_busy, IsBusyPath, MayHold}
 use Rattle.fm_place.specs.declared.busy_rows.Seen.{Seen}
-use Rattle.fm_place.specs.inner.PlanRows.{AreRowsOf, AreStarted, busy_at, facts_seen, Holding, IsBoth, IsHandedOn, IsHolding, may_hold_at, SetsBit, typed_seen}
+use Rattle.fm_place.specs.inner.PlanRows.{AreRowsOf, AreStarted, AreWoken, busy_at, facts_seen, Holding, IsBoth, IsHandedOn, IsHolding, may_hold_at, SetsBit, typed_seen}
 
 -- ---- the bits of the items after sites
 
@@ -54,12 +53,34 @@ started_more held i count now rows after so_far is sets = record {
 
 -- ---- paths
 
-path-more : (facts : Facts) (x : TypedMethod) (class : ℕ) (path : List ℕ) (a j next : ℕ) → IsBusyPath facts x class a path j
+-- a path goes on along an edge from an item where the class is busy
+pub path-more : (facts : Facts) (x : TypedMethod) (class : ℕ) (path : List ℕ) (a j next : ℕ) → IsBusyPath facts x class a path j
     → is_busy facts x class j ≡ true → IsEdge x.code j next → IsBusyPath facts x class a (path ++ next ∷ []) next
 path-more facts x class [] a j next same busy edge =
     (subst (λ n. is_busy facts x class n ≡ true) (sym same) busy, (subst (λ n. IsEdge x.code n next) (sym same) edge, refl))
 path-more facts x class (b ∷ path) a j next (busy_here, (first, rest)) busy edge =
     (busy_here, (first, path-more facts x class path b j next rest busy edge))
+
+-- ---- a round
+
+-- item j, which waited, waits no longer but where it was woken
+pub woken_more : (edges : List ℕ) (rows new : List (List Bool)) (waits new_waits : List Bool) (woken new_woken : List ℕ) (j : ℕ) (row : List Bool)
+    → j < length waits → AreWoken j waits woken → HandsOver edges row rows new (set waits j false) new_waits woken new_woken
+    → AreWoken (j + 1) new_waits new_woken
+woken_more edges rows new waits new_waits woken new_woken j row inside so_far hands x below marked =
+    ⊎_elim
+    (λ was.
+    ⊎_elim (λ (same : x ≡ j). absurd (false≢true (sym (ap (has (set waits j false)) same ∙ get_or-set_same waits j false false inside) ∙ was)))
+    (λ (apart : x ≢ j). hands.still_waiting x (so_far x (omega (arith, below, apart)) (sym (get_or-set_other waits j x false false apart) ∙ was)))
+    (cases_eq x j))
+    (λ found. found)
+    (hands.waits_waiting x marked)
+
+-- item j doesn't wait
+pub woken_same : (waits : List Bool) (woken : List ℕ) (j : ℕ) → has waits j ≡ false → AreWoken j waits woken → AreWoken (j + 1) waits woken
+woken_same waits woken j rests so_far x below marked =
+    ⊎_elim (λ (same : x ≡ j). absurd (false≢true (sym rests ∙ subst (λ n. has waits n ≡ true) same marked)))
+    (λ (apart : x ≢ j). so_far x (omega (arith, below, apart)) marked) (cases_eq x j)
 
 -- ---- the walk
 
@@ -76,60 +97,47 @@ module _ (s : Seen) (held : List (ℕ × ℕ)) (count : ℕ) (all : count ≡ le
       (cases_lt j count)
 
   -- at first the bits of the items after sites are set, and all items wait
-  pub holding_first : (rows : List (List Bool)) (waiting : List ℕ) → AreStarted held (length held) count rows
-      → ((j : ℕ) → Contains waiting j ↔ (j < count)) → Holding s held count busy rows (replicate count true) waiting
-  holding_first rows waiting started listed =
-      let marks : length (replicate count true) ≡ count = length-replicate count true in
-      record {
-        one_each = started.one_each;
-        one_wait_each = marks;
-        widths = started.widths;
-        first = λ h pair there inside.
-            let within = slice_get_within held h pair there in
-            started.members (pair.0 + 1) h pair inside there
-            ∙ and_from (nat_lt h (length held)) (nat_eq (pair.0 + 1) (pair.0 + 1)) (lt-ltb h (length held) within) (eq-eqb (pair.0 + 1) (pair.0 + 1) refl);
-        sound = sound;
-        waiting_known = λ j is. (listed j).1 (let inside = has_inside (replicate count true) j is in omega (arith, inside, marks));
-        waiting_inside = λ j found. (listed j).0 found;
-        closed = λ j inside. inl (get_or-replicate count j true false inside);
-      } where
-        sound : (j h : ℕ) → has (row_of rows j) h ≡ true → IsHolding s held j h
-        sound j h is =
-            let inside : j < count = row-inside rows j h started.one_each is in
-            let width = started.widths j (omega (arith, inside, started.one_each)) in
-            let bit = has_inside (row_of rows j) h is in
-            let pair = get_or held h (0, 0) in
-            let there : slice_get held h ≡ Some pair = slice_get-get_or held h (0, 0) (omega (arith, bit, width)) in
-            let set_now : (nat_lt h (length held) && nat_eq (pair.0 + 1) j) ≡ true = sym (started.members j h pair inside there) ∙ is in
-            record {
-              pair = pair;
-              is = there;
-              may = ([], eqb-true (pair.0 + 1) j (and_right (nat_lt h (length held)) (nat_eq (pair.0 + 1) j) set_now));
-            }
+  pub holding_first : (rows : List (List Bool)) → AreStarted held (length held) count rows → Holding s held count busy rows (replicate count true)
+  holding_first rows started = record {
+    one_each = started.one_each;
+    one_wait_each = length-replicate count true;
+    widths = started.widths;
+    first = λ h pair there inside.
+        let within = slice_get_within held h pair there in
+        started.members (pair.0 + 1) h pair inside there
+        ∙ and_from (nat_lt h (length held)) (nat_eq (pair.0 + 1) (pair.0 + 1)) (lt-ltb h (length held) within) (eq-eqb (pair.0 + 1) (pair.0 + 1) refl);
+    sound = sound;
+    closed = λ j inside. inl (get_or-replicate count j true false inside);
+  } where
+    sound : (j h : ℕ) → has (row_of rows j) h ≡ true → IsHolding s held j h
+    sound j h is =
+        let inside : j < count = row-inside rows j h started.one_each is in
+        let width = started.widths j (omega (arith, inside, started.one_each)) in
+        let bit = has_inside (row_of rows j) h is in
+        let pair = get_or held h (0, 0) in
+        let there : slice_get held h ≡ Some pair = slice_get-get_or held h (0, 0) (omega (arith, bit, width)) in
+        let set_now : (nat_lt h (length held) && nat_eq (pair.0 + 1) j) ≡ true = sym (started.members j h pair inside there) ∙ is in
+        record {
+          pair = pair;
+          is = there;
+          may = ([], eqb-true (pair.0 + 1) j (and_right (nat_lt h (length held)) (nat_eq (pair.0 + 1) j) set_now));
+        }
 
   -- item j, which waits no longer, hands on what holders of busy classes may hold
-  pub holding_more : (edges : List ℕ) (rows new : List (List Bool)) (waits new_waits : List Bool) (rest waiting : List ℕ) (j : ℕ) (row : List Bool)
-      → IsRisingListOf (IsEdge s.method.code.now j) edges → Holding s held count busy rows waits (rest ++ j ∷ [])
-      → IsBoth (row_of rows j) (row_of busy j) row → HandsOver edges row rows new (set waits j false) new_waits rest waiting
-      → Holding s held count busy new new_waits waiting
-  holding_more edges rows new waits new_waits rest waiting j row listed so_far both hands = record {
+  pub holding_more : (edges : List ℕ) (rows new : List (List Bool)) (waits new_waits : List Bool) (woken new_woken : List ℕ) (j : ℕ) (row : List Bool)
+      → j < count → IsRisingListOf (IsEdge s.method.code.now j) edges → Holding s held count busy rows waits
+      → IsBoth (row_of rows j) (row_of busy j) row → HandsOver edges row rows new (set waits j false) new_waits woken new_woken
+      → Holding s held count busy new new_waits
+  holding_more edges rows new waits new_waits woken new_woken j row inside listed so_far both hands = record {
     one_each = hands.same_count ∙ so_far.one_each;
     one_wait_each = hands.same_waits ∙ length-set waits j false ∙ so_far.one_wait_each;
     widths = λ x below. hands.same_width x ∙ so_far.widths x (omega (arith, below, hands.same_count));
     first = λ h pair there within. hands.grown (pair.0 + 1) h (so_far.first h pair there within);
     sound = λ x h set_now. ⊎_elim (λ was. so_far.sound x h was) (λ handed. sound x h handed.0 handed.1) (hands.only_handed x h set_now);
-    waiting_known = λ x marked. ⊎_elim (waited x) (λ found. found) (hands.waits_waiting x marked);
-    waiting_inside = λ x found.
-        ⊎_elim (λ earlier. so_far.waiting_inside x (Contains-append_left rest (j ∷ []) x earlier))
-        (λ handed. let end = edge_inside code j x ((listed.members x).0 handed) in omega (arith, end, all))
-        (hands.waiting_listed x found);
     closed = λ x below. ⊎_elim (λ waits_now. inl waits_now) (λ same. closed x below same) (hands.unchanged x);
   } where
     code : Code
     code = s.method.code.now
-
-    inside : j < count
-    inside = so_far.waiting_inside j (Contains-push rest j)
 
     sound : (x h : ℕ) → Contains edges x → has row h ≡ true → IsHolding s held x h
     sound x h end is =
@@ -145,17 +153,6 @@ module _ (s : Seen) (held : List (ℕ × ℕ)) (count : ℕ) (all : count ≡ le
             path-more (facts_seen s) (typed_seen s) was.pair.1 was.may.0 (was.pair.0 + 1) j x was.may.1 busy_now ((listed.members x).0 end),
           );
         }
-
-    waited : (x : ℕ) → has (set waits j false) x ≡ true → Contains waiting x
-    waited x was =
-        ⊎_elim
-        (λ (same : x ≡ j).
-        let in_waits : j < length waits = omega (arith, inside, so_far.one_wait_each) in
-        absurd (false≢true (sym (ap (has (set waits j false)) same ∙ get_or-set_same waits j false false in_waits) ∙ was)))
-        (λ (apart : x ≢ j).
-        ⊎_elim (λ earlier. hands.still_waiting x earlier) (λ (same : j ≡ x). absurd (apart (sym same)))
-        (Contains-push_cases rest j x (so_far.waiting_known x (sym (get_or-set_other waits j x false false apart) ∙ was))))
-        (cases_eq x j)
 
     closed : (x : ℕ) → x < count → row_of new x ≡ row_of rows x → (has new_waits x ≡ true) ⊎ IsHandedOn s busy new x
     closed x below same_row =
@@ -175,16 +172,16 @@ module _ (s : Seen) (held : List (ℕ × ℕ)) (count : ℕ) (all : count ≡ le
 
   -- ---- at the end
 
-  holding-along : (rows : List (List Bool)) (waits : List Bool) → Holding s held count busy rows waits [] → (h : ℕ) (pair : ℕ × ℕ)
-      → slice_get held h ≡ Some pair → (path : List ℕ) (a j : ℕ) → has (row_of rows a) h ≡ true
+  holding-along : (rows : List (List Bool)) (waits : List Bool) → Holding s held count busy rows waits → ((x : ℕ) → has waits x ≢ true)
+      → (h : ℕ) (pair : ℕ × ℕ) → slice_get held h ≡ Some pair → (path : List ℕ) (a j : ℕ) → has (row_of rows a) h ≡ true
       → IsBusyPath (facts_seen s) (typed_seen s) pair.1 a path j → has (row_of rows j) h ≡ true
-  holding-along rows waits done h pair there [] a j is same = subst (λ n. has (row_of rows n) h ≡ true) same is
-  holding-along rows waits done h pair there (next ∷ path) a j is (busy_now, (edge, rest)) =
+  holding-along rows waits done none h pair there [] a j is same = subst (λ n. has (row_of rows n) h ≡ true) same is
+  holding-along rows waits done none h pair there (next ∷ path) a j is (busy_now, (edge, rest)) =
       let from = edge_from_item s.method.code.now a next edge in
       let inside : a < count = omega (arith, from, all) in
       let busy_bit : has (row_of busy a) h ≡ true = (busy_are.each a inside).each h pair there ∙ busy_now in
-      holding-along rows waits done h pair there path next j
-      (⊎_elim (λ waits_still. let none = (done.waiting_known a waits_still).1 in absurd (omega arith)) (λ (on : IsHandedOn s busy rows a). on next h edge is busy_bit)
+      holding-along rows waits done none h pair there path next j
+      (⊎_elim (λ waits_still. absurd (none a waits_still)) (λ (on : IsHandedOn s busy rows a). on next h edge is busy_bit)
       (done.closed a inside))
       rest
 
@@ -194,8 +191,9 @@ module _ (s : Seen) (held : List (ℕ × ℕ)) (count : ℕ) (all : count ≡ le
       let from = edge_from_item s.method.code.now (site + 1) next edge in omega (arith, from, all)
 
   -- where no item waits, the bits are those of the definition
-  pub holding_all : (rows : List (List Bool)) (waits : List Bool) → Holding s held count busy rows waits [] → AreRowsOf held count (may_hold_at s) rows
-  holding_all rows waits done = record {
+  pub holding_all : (rows : List (List Bool)) (waits : List Bool) → Holding s held count busy rows waits → ((x : ℕ) → has waits x ≢ true)
+      → AreRowsOf held count (may_hold_at s) rows
+  holding_all rows waits done none = record {
     one_each = done.one_each;
     each = λ j inside. record { wide = done.widths j (omega (arith, inside, done.one_each)); each = λ h pair there. each j inside h pair there };
   } where
@@ -210,5 +208,5 @@ module _ (s : Seen) (held : List (ℕ × ℕ)) (count : ℕ) (all : count ≡ le
       back : may_hold_at s j pair ≡ true → has (row_of rows j) h ≡ true
       back is =
           let may : MayHold (facts_seen s) (typed_seen s) pair.0 pair.1 j = may_hold-tells (facts_seen s) (typed_seen s) pair.1 pair.0 j is in
-          holding-along rows waits done h pair there may.0 (pair.0 + 1) j
+          holding-along rows waits done none h pair there may.0 (pair.0 + 1) j
           (done.first h pair there (first-inside pair.0 pair.1 may.0 j inside may.1)) may.1

@@ -24,7 +24,7 @@ pub struct Groups<'a> {
 impl<'a> Groups<'a> {
     ghost use Rattle.fm_place.specs.inner.PlanRows.{is_class, no_class, AreGroups, IsRowIn};
 
-    /// The groups of these holders. Takes memory for one bit for each two holders.
+    /// The groups of these holders. Takes memory for a row of bits by holder for each of them.
     pub fn of(alloc: Global, held: &'a [(u32, u32)]) -> Result<Groups<'a>, NoMemory>
         requires { length held.now ≤ MAX_LOCAL_WORDS }
         ensures { IfOk result (λ groups. AreGroups groups × (groups.held.now ≡ held.now)) }

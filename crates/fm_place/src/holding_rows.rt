@@ -1,7 +1,7 @@
 // What the holders may hold: a walk along the edges, which an object goes as long as its class is
 // busy.
 
-ghost use Rattle.std.specs.Prelude.{◌≡◌, ◌≤◌, ◌<◌, ◌↔◌, ℕ, false, Contains, IfOk, length};
+ghost use Rattle.std.specs.Prelude.{◌≡◌, ◌≤◌, ℕ, false, IfOk, length};
 ghost use Rattle.std.specs.Bool.{OnFalse};
 ghost use Rattle.fm_base.specs.declared.limits.TheConstants.{MAX_LOCAL_WORDS};
 ghost use Rattle.fm_place.specs.inner.PlanRows.{busy_at, is_freed, may_hold_at, AreRowsOf, AreStarted, IsBoth, IsSeen};
@@ -14,8 +14,8 @@ use std::alloc::Global;
 
 impl Seen<'_> {
     /// For each item a row with the holders that may hold something there. An item waits while its
-    /// row isn't handed on along its edges; the first item comes first, so that straight code is
-    /// walked over once.
+    /// row isn't handed on along its edges. Rounds go over the items in their order: one that is
+    /// woken behind the present one is walked in the same round, one before it in the next.
     pub fn holding_rows(
         &self,
         alloc: Global,
@@ -32,17 +32,18 @@ impl Seen<'_> {
     {
         let mut rows = started(alloc, held, count)?;
         let mut waits = vec![in alloc; true; count as usize]?;
-        let mut waiting = items_back(alloc, count)?;
-        while let Some(j) = waiting.pop() {
-            waits[j as usize] = false;
-            let row = kept(alloc, &rows[j as usize], &busy[j as usize])?;
-            hand_over(
-                self.flow.edges(j),
-                &row,
-                &mut rows,
-                &mut waits,
-                &mut waiting,
-            )?;
+        let mut left = count as usize;
+        while left > 0 {
+            let mut woken = Vec::new(alloc);
+            for j in 0..count {
+                if waits[j as usize] {
+                    waits[j as usize] = false;
+                    let row = kept(alloc, &rows[j as usize], &busy[j as usize])?;
+                    let ends = self.flow.edges(j);
+                    hand_over(ends, &row, &mut rows, &mut waits, &mut woken)?;
+                }
+            }
+            left = woken.len();
         }
         Ok(rows)
     }
@@ -58,17 +59,6 @@ fn started(alloc: Global, held: &[(u32, u32)], count: u32) -> Result<Vec<Row>, N
         set_at(&mut rows, pair.0 as usize + 1, holder as u32);
     }
     Ok(rows)
-}
-
-// The items from the last to the first.
-fn items_back(alloc: Global, count: u32) -> Result<Vec<u32>, NoMemory>
-    ensures { IfOk result (λ items. (j : ℕ) → Contains items.items j ↔ (j < count)) }
-{
-    let mut items = Vec::with_capacity(alloc, count as usize)?;
-    for past in 0..count {
-        items.push(count - 1 - past)?;
-    }
-    Ok(items)
 }
 
 // The holders that go on holding what they may hold: those whose class is busy. Where all are, whole

@@ -41,9 +41,10 @@ pub struct Plan {
     pub before: Vec<(u32, u16)>,
 }
 
-/// What is inserted into a method with these sites: all holders, and each is freed at all its places.
+/// What is inserted into a method with these sites: all holders, and each is freed at all its places:
+/// where it may hold something, and its class isn't busy.
 /// Typing, flow, live locals and classes are those of this method.
-/// Takes memory for the plan, and two bits for each item and holder.
+/// Takes memory for the plan, for rows of bits by holder, two for each item and one for each holder.
 pub fn places(
     alloc: Global,
     program: &Program,

@@ -61,7 +61,7 @@ module _ (p : Program) (facts : Facts) (exact : AreFacts p facts) (f : Frame) (c
   frames_now = frames-later p.outline facts store x.areas.store colour (f ∷ callers) gone.extends coloured
 
   pub with_frames : (frames : List Frame) → AreFramesColoured p.outline facts x.areas.store colour frames → To frames
-  with_frames frames h = record { other = colour; frames_coloured = h; areas_coloured = gone.areas; advances = λ birth lt. inl refl }
+  with_frames frames h = record { other = colour; frames_coloured = h; areas_coloured = gone.areas; advances = λ birth lt. inl refl; lowers = λ birth lt. inl refl }
 
   pub stays : To x.frames
   stays = subst (λ frames. To frames) (sym frames_are) (with_frames (f ∷ callers) frames_now)
@@ -160,7 +160,7 @@ returns_to : (p : Program) (facts : Facts) (exact : AreFacts p facts) (f g : Fra
     (cond b (record x { frames = g ∷ callers }) (record x { frames = record g { item = g.item + 1; stack = take n f.stack ++ g.stack } ∷ callers })).frames
     (cond b (record x { frames = g ∷ callers }) (record x { frames = record g { item = g.item + 1; stack = take n f.stack ++ g.stack } ∷ callers })).areas
 returns_to p facts exact f g callers at below x colour coloured shared home i n evenly true is stands =
-    record { other = colour; frames_coloured = coloured.1; areas_coloured = shared; advances = λ birth lt. inl refl }
+    record { other = colour; frames_coloured = coloured.1; areas_coloured = shared; advances = λ birth lt. inl refl; lowers = λ birth lt. inl refl }
 returns_to p facts exact f g callers at below x colour coloured shared home i n evenly false is stands = ⊎_elim
     (λ (call : (is_start p.outline f.method ≡ false) × Called p facts f g).
     return_kept p facts exact f g callers at call.1 x.areas colour coloured.0 coloured.1.0 coloured.1.1 shared n evenly stands.0)

@@ -14,7 +14,7 @@ use Rattle.fm_world.specs.Programs.{Outline, Program}
 use Rattle.fm_frames.specs.States.{Areas, Frame}
 use Rattle.fm_frames.specs.declared.values.Value.{Value}
 use Rattle.fm_frames.specs.declared.values.Value.TheVariants as value
-use Rattle.fm_same.specs.Advances.{Advances}
+use Rattle.fm_same.specs.Advances.{Advances, Lowers}
 use Rattle.fm_same.specs.Colours.{AreAreasColoured, AreFramesColoured, Colour, HasColour, IsEdgeEven, IsFrameColoured, node_of_word}
 use Rattle.fm_same.specs.Laws.{IsWithin}
 use Rattle.fm_same.specs.Regions.{Everywhere, Given, Own, Region, region, Retired}
@@ -160,6 +160,7 @@ pub record ReturnIsColoured (p : Program) (facts : Facts) (before : List Frame) 
   pub frames_coloured : AreFramesColoured p.outline facts areas.store other frames
   pub areas_coloured : AreAreasColoured p.outline other areas
   pub advances : Advances facts before colour other births
+  pub lowers : Lowers before colour other births
 
 module _ (p : Program) (facts : Facts) (exact : AreFacts p facts) (f g : Frame) (callers : List Frame) (at : StandsAt p facts f) (h : Called p facts f g) (areas : Areas) (colour : Colour) (frame_f : IsFrameColoured p.outline facts areas.store colour f (g ∷ callers)) (frame_g : IsFrameColoured p.outline facts areas.store colour g callers) (below : AreFramesColoured p.outline facts areas.store colour callers) (shared : AreAreasColoured p.outline colour areas) (n : ℕ) (evenly : (q : ℕ) → q < n → IsNode (method_of p facts f at.code) (node_of_word f q) → (facts.class f.method (node_of_word f q) ≡ facts.class f.method Return) × IsEnd p.outline f.method end.Return × (n ≡ 1)) where
   -- the caller, with the result on top
@@ -259,6 +260,7 @@ module _ (p : Program) (facts : Facts) (exact : AreFacts p facts) (f g : Frame) 
       frames_coloured = (resumed_coloured (λ r. r) (λ class. refl) (λ q v found leads. absurd (none q v found leads)), below);
       areas_coloured = shared;
       advances = λ birth lt. inl refl;
+      lowers = λ birth lt. inl refl;
     }
 
     module _ (v : Value) (found : slice_get f.stack 0 ≡ Some v) (leads : IsReference v) (one : n ≡ 1) where
@@ -313,6 +315,7 @@ module _ (p : Program) (facts : Facts) (exact : AreFacts p facts) (f g : Frame) 
         );
         areas_coloured = shared;
         advances = λ birth lt. inl refl;
+        lowers = λ birth lt. inl refl;
       }
 
       own_kept : region_f (facts.class f.method Return) ≡ Own (length (g ∷ callers)) (facts.class f.method Return)
@@ -338,6 +341,14 @@ module _ (p : Program) (facts : Facts) (exact : AreFacts p facts) (f g : Frame) 
             );
             areas_coloured = areas-mapped p.outline colour m areas refl shared;
             advances = λ birth less. moved_cases (length (g ∷ callers)) (facts.class f.method Return) to (colour birth);
+            lowers = λ birth less. ⊎_elim
+                (λ same. inl same)
+                (λ own_is. inr (λ d class is.
+                let le : d ≤ length callers =
+                (region_within p.outline facts g.method callers (facts.class g.method (Slot (g.item + 1) (length g.stack)))).below d class
+                (sym (ap m own_is ∙ moved_own (length (g ∷ callers)) (facts.class f.method Return) to) ∙ is) in
+                omega (arith, le)))
+                (moved_cases (length (g ∷ callers)) (facts.class f.method Return) to (colour birth));
           }
 
       one_kept : ReturnIsColoured p facts (f ∷ g ∷ callers) colour areas.store.births (resumed ∷ callers) areas

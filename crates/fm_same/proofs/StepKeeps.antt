@@ -38,6 +38,7 @@ stays_over p facts x next colour h same_frames same_areas = record {
     areas = subst (λ (y : Areas). AreAreasColoured p.outline colour y) (sym same_areas) h.areas;
   };
   advances = λ birth lt. inl refl;
+  lowers = λ birth lt. inl refl;
   still = λ cell object held not_fixed retired.
       ap (λ (y : Areas). object_at y.store cell) same_areas ∙ held;
   births = subst (λ (y : Areas). x.areas.store.births ≤ y.store.births) (sym same_areas) (omega arith);
@@ -84,6 +85,10 @@ module _ (p : Program) (facts : Facts) (exact : AreFacts p facts) (choose : Choo
         (λ same. inl (same ∙ agree birth lt))
         (λ result_is. inr (subst (λ r. IsResult facts (f ∷ callers) r) (agree birth lt) result_is))
         (kept.advances birth (omega arith));
+    lowers = λ birth lt. ⊎_elim
+        (λ same. inl (same ∙ agree birth lt))
+        (λ lower. inr lower)
+        (kept.lowers birth (omega arith));
     still = λ cell object held not_fixed retired.
         still cell object held not_fixed (agree object.birth (coloured.areas.orderly.born cell object held) ∙ retired);
     births = omega arith;
@@ -113,6 +118,7 @@ module _ (p : Program) (facts : Facts) (exact : AreFacts p facts) (choose : Choo
         frames_coloured = frames-later p.outline facts y.areas.store areas.store with_born (f ∷ callers) gone.1 frames_born;
         areas_coloured = gone.0;
         advances = λ birth lt. inl refl;
+        lowers = λ birth lt. inl refl;
       })
   finished_over price (LostAt v) gone after = stays_over p facts before (finished p price e before (LostAt v)) colour coloured refl refl
 

@@ -1,5 +1,5 @@
 -- How colours go on from one state to the next.
-use Rattle.std.specs.Prelude.{◌≡◌, ℕ, ◌<◌, ◌≤◌, ◌⊎◌, false, List, [], ◌∷◌, length, Some}
+use Rattle.std.specs.Prelude.{◌≡◌, ℕ, ◌+◌, ◌<◌, ◌≤◌, ◌⊎◌, false, List, [], ◌∷◌, length, Some}
 use Rattle.fm_cells.specs.Objects.{Object}
 use Rattle.fm_cells.specs.Stores.{object_at, Store}
 use Rattle.fm_code.specs.declared.code_array.Code.{Code}
@@ -40,6 +40,14 @@ abbrev pub Advances : Facts → List Frame → Colour → Colour → ℕ → Typ
 Advances facts frames colour other births =
     (birth : ℕ) → birth < births → (other birth ≡ colour birth) ⊎ IsResult facts frames (colour birth)
 
+-- no own region of the topmost of these frames, nor of one above it
+abbrev pub IsLower : List Frame → Region → Type 0
+IsLower frames r = (depth class : ℕ) → r ≡ Own depth class → depth + 1 < length frames
+
+-- what an object that was born goes over to, if it doesn't keep its region, is lower
+abbrev pub Lowers : List Frame → Colour → Colour → ℕ → Type 0
+Lowers frames colour other births = (birth : ℕ) → birth < births → (other birth ≡ colour birth) ⊎ IsLower frames (other birth)
+
 -- what is retired stays as it is
 abbrev pub IsStill : Store → Colour → Store → Type 0
 IsStill store colour later =
@@ -51,5 +59,6 @@ pub record GoesOver (p : Program) (facts : Facts) (x next : State) (colour : Col
   pub other : Colour
   pub coloured : Coloured p facts next other
   pub advances : Advances facts x.frames colour other x.areas.store.births
+  pub lowers : Lowers x.frames colour other x.areas.store.births
   pub still : IsStill x.areas.store colour next.areas.store
   pub births : x.areas.store.births ≤ next.areas.store.births

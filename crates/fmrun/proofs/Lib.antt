@@ -1,4 +1,5 @@
 pub mod CauseLemmas
+pub mod CompleteLemmas
 pub mod ChangeLemmas
 pub mod EndStatuses
 pub mod JobLemmas

@@ -16,7 +16,7 @@ use Rattle.fm_frames.specs.declared.ends.Ended.TheVariants as end
 use Rattle.fm_load.specs.Causes.{FailsARead}
 use Rattle.fm_run_job.specs.declared.status.TheConstants.{FAULT}
 use Rattle.fmrun.proofs.EndStatuses.{among_before_run}
-use Rattle.fmrun.specs.Causes.{AskFor, IsFaultless, IsForBytes, IsForCheck, IsForFault, IsForLimit, IsForLink, IsForMemory, IsForRead, IsForRun, IsForText, IsForWords, IsForWrite, IsSilent, IsStatus, MissesFile, OnlyReads, ReportsMostHeld, before_run, refusal_statuses}
+use Rattle.fmrun.specs.Causes.{AskFor, IsFaultless, IsForBytes, IsForCheck, IsForFault, IsForLimit, IsForLink, IsForMemory, IsForRead, IsForRun, IsForText, IsForWords, IsForWrite, IsSilent, IsStatus, MissesFile, OnlyReads, ReportsMostHeld, refusal_statuses}
 use Rattle.fmrun.specs.TopCall.{IsTextPut, IsTopCall, text_bytes}
 
 module _ (words : List Bytes) (files : Disk) (before after report : Output) (result : ℕ) (asked : ProgramText) (asks : AskForText words asked) (tells : Tells (text_bytes asked) DONE before after result) where

@@ -2,3 +2,4 @@ pub mod inner
 pub mod Jobs
 pub mod TopCall
 pub mod Causes
+pub mod Complete

@@ -8,6 +8,7 @@ ghost use Rattle.fm_law_sound.specs.Making.{AreUnits};
 ghost use Rattle.fm_cli.specs.Words.{texts};
 ghost use Rattle.fm_cli.specs.declared.status.TheConstants.{MALFORMED, UNSUPPORTED, VERSION};
 ghost use Rattle.fmrun.specs.Causes.{IsFaultless, IsForBytes, IsForCheck, IsForFault, IsForLimit, IsForLink, IsForMemory, IsForRead, IsForRun, IsForText, IsForWords, IsForWrite, IsSilent, IsStatus, OnlyReads, ReportsMostHeld};
+ghost use Rattle.fmrun.specs.Complete.{IsComplete};
 ghost use Rattle.fmrun.specs.Jobs.{IsWithinLimits, text_arguments};
 ghost use Rattle.fmrun.specs.TopCall.{ComesOf, ComesTo, IsTold, IsTopCall, StaysWithin};
 
@@ -79,6 +80,11 @@ pub fn fmrun_run<F: Files, O: Sink, R: Sink>(
         (F.disk files.old) (F.disk files.new) (O.output out.old) (O.output out.new)
         (R.output report.old) (R.output report.new) result }
     ensures memory { IsForMemory (texts words.now)
+        (F.disk files.old) (F.disk files.new) (O.output out.old) (O.output out.new)
+        (R.output report.old) (R.output report.new) result }
+
+    // Where nothing is against a job and nothing fails, its run ends, or memory can't be had.
+    ensures complete { IsComplete (texts words.now)
         (F.disk files.old) (F.disk files.new) (O.output out.old) (O.output out.new)
         (R.output report.old) (R.output report.new) result }
 

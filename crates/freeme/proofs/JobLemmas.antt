@@ -13,13 +13,15 @@ use Rattle.fm_base.proofs.TestFacts.{same_or_other}
 use Rattle.fm_files.specs.Files.{Bytes, Contents, Disk}
 use Rattle.fm_code.specs.ClassBytes.{class_bytes}
 use Rattle.fm_code.specs.ConstantPool.{class_name_at}
-use Rattle.fm_code.specs.Profile.{IsWithinLimits, Profile}
+use Rattle.fm_code.specs.Profile.{IsSupported, IsWithinLimits, Profile}
 use Rattle.fm_code.specs.Spells.{HasSpelling, Spells}
 use Rattle.fm_code.specs.declared.class_file.ClassDef.{ClassDef}
 use Rattle.fm_cli.specs.Outside.{HasNoFileFault, HasWriteFault}
 use Rattle.fm_cli.specs.declared.command_refusal.CommandRefusal.TheVariants as refusal
 use Rattle.fm_check_program.specs.Untyped.{AreTyped}
 use Rattle.fm_link_refusals.specs.Refused.{refusal_of}
+use Rattle.fm_law_headline.specs.Headline.{ClassesDoTheSame, DoesTheSame}
+use Rattle.fm_law_headline.specs.Taken.{CheckedAreTaken}
 use Rattle.fm_law_retyped.specs.Retyped.{SafeClassesAreTyped}
 use Rattle.fm_rewrite.proofs.JudgedLemmas.{judged_spelled}
 use Rattle.fm_rewrite.specs.Rewritten.{AreJudged, AreRewritten}
@@ -315,15 +317,26 @@ module _ {request : FreemeRequest} {names : List (Bor Bytes)} {classes : List Cl
         again_taken classes (main_name (job_of request)) made (judged_spelled classes (program_of classes (main_name (job_of request))) judged) checked.linked.linked rewritten
         link retype
 
-    freed : SafeClassesLink → SafeClassesAreTyped → AreFreed (job_of request) old.contents made
-    freed link retype = record {
+    made_profiles : AllByRecursion Profile made.classes.items
+    made_profiles =
+        written_accepted classes (main_name (job_of request)) made judged (have_profiles old.contents (job_of request).files classes reads.read.taken.taken) rewritten
+
+    does_the_same : CheckedAreTaken → ClassesDoTheSame → DoesTheSame classes (main_name (job_of request)) made.classes.items rewritten.marks rewritten.full
+    does_the_same taken same =
+        same classes (main_name (job_of request)) (taken (given_of (job_of request)) old.contents classes checked rewritten.no_call)
+        made.classes.items rewritten.marks rewritten.full
+        (AllByRecursion-weaker ClassIsSpelled HasSpelling (λ c spells. (class_bytes c, spells)) made.classes.items made_spelled)
+        (AllByRecursion-weaker Profile IsSupported (λ c profile. profile.supported) made.classes.items made_profiles)
+
+    freed : SafeClassesLink → SafeClassesAreTyped → CheckedAreTaken → ClassesDoTheSame → AreFreed (job_of request) old.contents made
+    freed link retype taken same = record {
       classes = classes;
       checked = checked;
       rewritten = rewritten;
       spelled = made_spelled;
-      profile =
-          written_accepted classes (main_name (job_of request)) made judged (have_profiles old.contents (job_of request).files classes reads.read.taken.taken) rewritten;
+      profile = made_profiles;
       again = taken_again link retype;
+      does = does_the_same taken same;
     }
 
     -- and by slices of both
@@ -345,15 +358,15 @@ module _ {request : FreemeRequest} {names : List (Bor Bytes)} {classes : List Cl
     pub ends_within : (r : Result Unit JobRefusal) → ComesOfClasses request.folder.now written between new r → StaysWithin (job_of request) old new
     ends_within r comes = writes_within (job_of request) old between new reads.all keeps (writes_in request.folder.now written between new r comes)
 
-  module _ {new : Disk} (keeps : KeepsReads between new) (link : SafeClassesLink) (retype : SafeClassesAreTyped) (checked : AreChecked (given_of (job_of request)) old.contents classes) (made : Rewritten) (rewritten : AreRewritten classes (main_name (job_of request)) made) {written : List ClassDef} (lent : written ≡ made.classes.items) where
+  module _ {new : Disk} (keeps : KeepsReads between new) (link : SafeClassesLink) (retype : SafeClassesAreTyped) (taken : CheckedAreTaken) (same : ClassesDoTheSame) (checked : AreChecked (given_of (job_of request)) old.contents classes) (made : Rewritten) (rewritten : AreRewritten classes (main_name (job_of request)) made) {written : List ClassDef} (lent : written ≡ made.classes.items) where
     pub ends_done : {counts : List Count} (lines : List ℕ) → counts ≡ made.counts.items → lines ≡ class_lines written counts → AllWritten request.folder.now written between new
         → IsDone (job_of request) lines old new
     ends_done lines told is now =
         let P : List ClassDef → Type 0 = λ cs. AllWritten request.folder.now cs between new in
-        is_done (job_of request) old between new reads.all keeps made reads.read.faultless (freed checked made rewritten link retype) lines
+        is_done (job_of request) old between new reads.all keeps made reads.read.faultless (freed checked made rewritten link retype taken same) lines
         (is ∙ ap (class_lines written) told ∙ ap (λ (cs : List ClassDef). class_lines cs made.counts.items) lent) (subst P lent now)
 
     pub ends_unwritten : (r : JobRefusal) → ComesOfClasses request.folder.now written between new (Err r) → ComesTo (job_of request) old new (Err (free_refusal.Job r))
     ends_unwritten r now =
         let P : List ClassDef → Type 0 = λ cs. ComesOfClasses request.folder.now cs between new (Err r) in
-        write_ended (job_of request) old between new reads.all keeps made reads.read.faultless (freed checked made rewritten link retype) r (subst P lent now)
+        write_ended (job_of request) old between new reads.all keeps made reads.read.faultless (freed checked made rewritten link retype taken same) r (subst P lent now)

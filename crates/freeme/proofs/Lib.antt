@@ -1,4 +1,5 @@
 pub mod CauseLemmas
+pub mod CompleteLemmas
 pub mod FreeingLemmas
 pub mod JobLemmas
 pub mod StatusLemmas
@@ -8,3 +9,4 @@ pub mod WriteLemmas
 pub mod WrittenLemmas
 pub mod TakenAgain
 pub mod TextLemmas
+pub mod MeaningLemmas

@@ -1,5 +1,5 @@
 -- What each clause says of a call for a text.
-use Rattle.std.proofs.Common.{◌≡◌, ◌≢◌, ◌<◌, ◌≤◌, ◌⊎◌, ℕ, inl, inr, List, Contains, refl, sym, ap, ◌∙◌, subst, arith}
+use Rattle.std.proofs.Common.{◌≡◌, ◌≢◌, ◌≤◌, ◌⊎◌, ℕ, inl, inr, List, refl, sym, ap, ◌∙◌, subst, arith}
 use Rattle.fm_base.proofs.ContainsFacts.{unlike_elements}
 use Rattle.fm_files.specs.Files.{Bytes, Disk}
 use Rattle.fm_files.specs.Sink.{Output}
@@ -10,7 +10,7 @@ use Rattle.fm_cli.specs.Status.{ComesExactly}
 use Rattle.fm_cli.specs.declared.status.TheConstants.{DONE, WORDS, READ, LIMIT, LINK, CHECK, WRITE, OUT_OF_MEMORY}
 use Rattle.fm_cli_requests.proofs.FreemeRequestLemmas.{text_no_job}
 use Rattle.fm_cli_requests.proofs.ProgramTextLemmas.{one_text}
-use Rattle.fm_cli_requests.specs.FreemeRequest.{FreemeJob, Asks, AskNoJob, AskOnlyForText}
+use Rattle.fm_cli_requests.specs.FreemeRequest.{FreemeJob, AskNoJob, AskOnlyForText}
 use Rattle.fm_cli_requests.specs.ProgramText.{AskForText}
 use Rattle.fm_cli_requests.specs.declared.program_text.ProgramText.{ProgramText}
 use Rattle.fm_load.specs.Causes.{FailsARead, FailsAWrite, IsMissing}

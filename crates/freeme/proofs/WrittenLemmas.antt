@@ -290,15 +290,18 @@ names_kept plans first [] spelled = refl
 names_kept plans first (c ∷ classes) spelled =
     λ k. printed (name_kept plans first c spelled.0 k) ∷ names_kept plans (first + length c.methods) classes spelled.1 k
 
+-- so do all
+pub names_same : (given : List ClassDef) (main : List ℕ) (made : Rewritten) → AllByRecursion HasSpelling given → AreRewritten given main made
+    → map printed_name made.classes.items ≡ map printed_name given
+names_same given main made spelled are =
+    ap (map printed_name) are.full.written_is ∙ names_kept (full_plans (program_of given main) are.full.facts) first_given given spelled
+
 pub written_apart : (given : List ClassDef) (main : List ℕ) (made : Rewritten) → AreJudged given (program_of given main) → AreRewritten given main made
     → AreNew (map printed_name made.classes.items)
 written_apart given main made judged are =
-    let p = program_of given main in
-    let spelled = judged_spelled given p judged in
+    let spelled = judged_spelled given (program_of given main) judged in
     let supported = AllByRecursion-weaker IsAccepted NameIsSupported (λ c is. is.supported.name) given judged.accepted in
-    let same : map printed_name made.classes.items ≡ map printed_name given =
-    ap (map printed_name) are.full.written_is ∙ names_kept (full_plans p are.full.facts) first_given given spelled in
-    subst AreNew (sym same) (names_apart given judged.main spelled supported judged.linked)
+    subst AreNew (sym (names_same given main made spelled are)) (names_apart given judged.main spelled supported judged.linked)
 
 -- ---- counts
 

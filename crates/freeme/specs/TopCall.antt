@@ -8,6 +8,7 @@ use Rattle.fm_code.specs.Profile.{Profile}
 use Rattle.fm_code.specs.declared.class_file.ClassDef.{ClassDef}
 use Rattle.fm_place.specs.Safe.{Safe}
 use Rattle.fm_link_refusals.specs.Refused.{refusal_of}
+use Rattle.fm_law_headline.specs.Headline.{DoesTheSame}
 use Rattle.fm_law_retyped.specs.Retyped.{NoneUnready}
 use Rattle.fm_rewrite.specs.Rewritten.{AreRewritten, ComesOfRewriting}
 use Rattle.fm_rewrite.specs.declared.counts.Count.{Count}
@@ -54,9 +55,9 @@ pub record AreTakenAgain (given : List ClassDef) (main : List ℕ) (made : Rewri
       → AreTyped (program_of made.classes.items main)
 
 -- Its class files make a program of typed methods that calls no FreeMe, and these are its classes
--- with a holder for each held site that is freed at all places of its class, with the counts of
--- each; no pool of them is full, and no method too long. The bytes of each class spell it, it is of
--- the profile, and all of them are taken again.
+-- with a holder for each held site that is freed at all its places, where it may hold something and
+-- its class isn't busy, with the counts of each; no pool of them is full, and no method too long.
+-- The bytes of each class spell it, it is of the profile, and all of them are taken again. They do what the classes read do.
 pub record AreFreed (job : FreemeJob) (contents : Contents) (made : Rewritten) : Type 0 where
   pub classes : List ClassDef
   pub checked : AreChecked (given_of job) contents classes
@@ -64,6 +65,7 @@ pub record AreFreed (job : FreemeJob) (contents : Contents) (made : Rewritten) :
   pub spelled : AllByRecursion ClassIsSpelled made.classes.items
   pub profile : AllByRecursion Profile made.classes.items
   pub again : AreTakenAgain classes (main_name job) made rewritten
+  pub does : DoesTheSame classes (main_name job) made.classes.items rewritten.marks rewritten.full
 
 -- where contents are known, the name holds now what the file held before
 abbrev pub HoldsStill : (file name : Bytes) → (old new : Contents) → Type 0

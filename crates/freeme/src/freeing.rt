@@ -16,9 +16,9 @@ use fm_rewrite::{Count, RewriteFail, Rewritten, rewrite};
 use fm_world::Program;
 use std::alloc::Global;
 
-/// The classes of a program, each held site with a holder that is freed at all places of its class,
-/// and what is reported of each; where there is a cause against it, they are refused for the first
-/// one.
+/// The classes of a program, each held site with a holder that is freed at all its places, where it
+/// may hold something and its class isn't busy, and what is reported of each; where there is a cause
+/// against it, they are refused for the first one.
 pub fn freed_classes<'a>(
     alloc: Global,
     program: &Program,

@@ -4,7 +4,9 @@ ghost use Rattle.fm_cli.specs.Line.{Tells};
 ghost use Rattle.fm_cli.specs.Words.{texts};
 ghost use Rattle.fm_cli.specs.declared.status.TheConstants.{MALFORMED, UNSUPPORTED, VERSION};
 ghost use Rattle.freeme.specs.Causes.{ChangesOnly, IsFaultless, IsForBytes, IsForCheck, IsForDone, IsForLimit, IsForLink, IsForMemory, IsForRead, IsForRewrite, IsForText, IsForWords, IsForWrite, IsStatus, KeepsContents};
+ghost use Rattle.freeme.specs.Complete.{IsComplete};
 ghost use Rattle.fm_cli_requests.specs.FreemeRequest.{job_of};
+ghost use Rattle.freeme.specs.Meaning.{KeepsMeaning};
 ghost use Rattle.freeme.specs.TopCall.{ComesOf, ComesTo, IsTopCall, StaysWithin, outcome_line, outcome_status};
 ghost use Rattle.freeme.specs.declared.status.TheConstants.{CALLS_FREE, METHOD_TOO_LONG, POOL_FULL};
 
@@ -19,6 +21,7 @@ use fm_cli_requests::ProgramText;
 use fm_cli_requests::freeme_request::{FreemeRequest, request_of};
 use fm_code::ClassDef;
 use fm_files::{Files, Sink};
+use fm_law_headline::{law_headline, law_taken};
 use fm_law_relinked::law_links;
 use fm_law_retyped::law_typed;
 use fm_load::{JobRefusal, judge_program, read_classes};
@@ -70,11 +73,18 @@ pub fn freeme_run<F: Files, S: Sink>(
     ensures memory { IsForMemory (texts words.now)
         (F.disk files.old) (F.disk files.new) (S.output out.old) (S.output out.new) result }
 
+    // Where nothing is against a job and nothing fails, it is done, or memory can't be had.
+    ensures complete { IsComplete (texts words.now)
+        (F.disk files.old) (F.disk files.new) (S.output out.old) (S.output out.new) result }
+
     // What fails and what changes.
     ensures faultless { IsFaultless
         (F.disk files.old) (F.disk files.new) (S.output out.old) (S.output out.new) result }
     ensures kept { KeepsContents (F.disk files.old) (F.disk files.new) result }
     ensures others { ChangesOnly (texts words.now) (F.disk files.old) (F.disk files.new) }
+
+    // Where it is done: the classes written do what the classes read do.
+    ensures same { KeepsMeaning (texts words.now) (F.disk files.old) (F.disk files.new) result }
 {
     match ProgramText::asked_by(words) {
         Some(asked) => put_text(alloc, asked, out),
@@ -117,9 +127,11 @@ fn do_job<'a, F: Files>(
     let classes: &[ClassDef] = &read;
     let program = judge_program(alloc, classes, request.main)?;
     let made = freed_classes(alloc, &program, classes)?;
-    // For their clauses: the classes written link, and their methods are typed.
+    // For their clauses: the classes written link, their methods are typed, and they do what those read do.
     law_links();
     law_typed();
+    law_taken();
+    law_headline();
     let written: &[ClassDef] = &made.classes;
     let counts: &[Count] = &made.counts;
     let lines = class_lines(alloc, written, counts)?;

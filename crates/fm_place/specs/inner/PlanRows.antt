@@ -158,15 +158,17 @@ IsHandedOn s busy rows j =
     (next h : ℕ) → IsEdge s.method.code.now j next → has (row_of rows j) h ≡ true → has (row_of busy j) h ≡ true → has (row_of rows next) h ≡ true
 
 -- so far: what an item has is handed on, or the item waits
-pub record Holding (s : Seen) (held : List (ℕ × ℕ)) (count : ℕ) (busy rows : List (List Bool)) (waits : List Bool) (waiting : List ℕ) : Type 0 where
+pub record Holding (s : Seen) (held : List (ℕ × ℕ)) (count : ℕ) (busy rows : List (List Bool)) (waits : List Bool) : Type 0 where
   pub one_each : length rows ≡ count
   pub one_wait_each : length waits ≡ count
   pub widths : HaveWidth (length held) rows
   pub first : (h : ℕ) (pair : ℕ × ℕ) → slice_get held h ≡ Some pair → pair.0 + 1 < count → has (row_of rows (pair.0 + 1)) h ≡ true
   pub sound : (j h : ℕ) → has (row_of rows j) h ≡ true → IsHolding s held j h
-  pub waiting_known : (j : ℕ) → has waits j ≡ true → Contains waiting j
-  pub waiting_inside : (j : ℕ) → Contains waiting j → j < count
   pub closed : (j : ℕ) → j < count → (has waits j ≡ true) ⊎ IsHandedOn s busy rows j
+
+-- in a round: the items below this one that wait were woken
+abbrev pub AreWoken : (below : ℕ) → (waits : List Bool) → (woken : List ℕ) → Type 0
+AreWoken below waits woken = (x : ℕ) → x < below → has waits x ≡ true → Contains woken x
 
 -- ---- what is freed
 

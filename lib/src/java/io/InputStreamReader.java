@@ -61,16 +61,16 @@ public class InputStreamReader extends Reader {
             point = point << 6 | next & 0x3f;
         }
         if (point < 0x10000) {
-            return point;
+            return 0xd800 <= point && point <= 0xdfff ? BAD : point;
         }
         half = 0xdc00 | point & 0x3ff;
         return 0xd7c0 + (point >> 10);
     }
 
-    /** Reports whether a byte may follow the first one, behind some that did: no char is longer than it has to be, nor a half of a pair. */
+    /** Reports whether a byte may follow the first one, behind some that did: no char is longer than it has to be. */
     private static boolean mayFollow(int first, int index, int next) {
         int least = index > 0 ? 0x80 : first == 0xe0 ? 0xa0 : first == 0xf0 ? 0x90 : 0x80;
-        int greatest = index > 0 ? 0xbf : first == 0xed ? 0x9f : first == 0xf4 ? 0x8f : 0xbf;
+        int greatest = index > 0 ? 0xbf : first == 0xf4 ? 0x8f : 0xbf;
         return least <= next && next <= greatest;
     }
 

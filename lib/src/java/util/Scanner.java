@@ -108,19 +108,26 @@ public final class Scanner implements Iterator<String> {
         return at(wordStart()) >= 0;
     }
 
+    /** Passes what is before the next word, also where there is none. */
     private String word() {
         checkOpen();
-        int from = wordStart();
-        if (at(from) < 0) {
+        pass(wordStart());
+        if (at(0) < 0) {
             throw new NoSuchElementException();
         }
+        return text(0, wordEnd(0));
+    }
+
+    /** Returns the next word, which there is, and passes nothing. */
+    private String seen() {
+        int from = wordStart();
         return text(from, wordEnd(from));
     }
 
     /** Returns the next word, or throws NoSuchElementException, in {@code n log n} time. */
     public String next() {
         String word = word();
-        pass(wordEnd(wordStart()));
+        pass(wordEnd(0));
         return word;
     }
 
@@ -139,11 +146,11 @@ public final class Scanner implements Iterator<String> {
         return first < word.length();
     }
 
-    /** Reads a number as the next word, which is passed only if it is one. */
+    /** Reads a number as the next word, which is passed only if it is one; what is before it is passed. */
     private long number(int radix, boolean isInt) {
         String word = word();
         if (!isWhole(word, radix)) {
-            throw new InputMismatchException(new StringBuilder().append("For input string: \"").append(word).append('"').toString());
+            throw new InputMismatchException();
         }
         long number;
         try {
@@ -151,7 +158,7 @@ public final class Scanner implements Iterator<String> {
         } catch (NumberFormatException e) {
             throw new InputMismatchException(e.getMessage());
         }
-        pass(wordEnd(wordStart()));
+        pass(wordEnd(0));
         return number;
     }
 
@@ -159,7 +166,7 @@ public final class Scanner implements Iterator<String> {
         if (!hasNext()) {
             return false;
         }
-        String word = word();
+        String word = seen();
         if (!isWhole(word, radix)) {
             return false;
         }
@@ -218,16 +225,16 @@ public final class Scanner implements Iterator<String> {
 
     /** Reports whether the next word is {@code true} or {@code false} in letters of any case, in the time of reading it. */
     public boolean hasNextBoolean() {
-        return hasNext() && isBoolean(word());
+        return hasNext() && isBoolean(seen());
     }
 
     /** Returns the next word as a boolean, or throws InputMismatchException or NoSuchElementException, in the time of reading it. */
     public boolean nextBoolean() {
         String word = word();
         if (!isBoolean(word)) {
-            throw new InputMismatchException(new StringBuilder().append("For input string: \"").append(word).append('"').toString());
+            throw new InputMismatchException();
         }
-        pass(wordEnd(wordStart()));
+        pass(wordEnd(0));
         return Boolean.parseBoolean(word);
     }
 

@@ -59,6 +59,7 @@ public class StringTokenizer implements Enumeration<Object> {
     /** Returns the next part, or throws NoSuchElementException, in the time of what it goes over. */
     public String nextToken() {
         int start = startFrom(at);
+        at = start;
         if (start >= text.length()) {
             throw new NoSuchElementException();
         }

@@ -2,6 +2,7 @@ use Rattle.std.proofs.Common.{arith, inr}
 use Rattle.fm_cli.specs.Words.{texts}
 use Rattle.fm_cli.specs.declared.status.TheConstants.{MALFORMED, VERSION, UNSUPPORTED}
 use Rattle.fmrun.proofs.CauseLemmas.{is_for_bytes, is_for_check, is_for_limit, is_for_link, is_for_read, is_for_run, is_for_words, run_only}
+use Rattle.fmrun.proofs.CompleteLemmas.{is_complete}
 use Rattle.fmrun.proofs.ChangeLemmas.{is_faultless, is_for_memory, is_for_write, is_silent, is_status, only_reads}
 use Rattle.fmrun.proofs.RunFacts.{is_for_fault, reports_most_held}
 use Rattle.fmrun.proofs.TextLemmas.{text_check, text_fault, text_faultless, text_limit, text_link, text_memory, text_most_held, text_of_bytes, text_read, text_reads, text_run, text_silent, text_status, text_text, text_whole, text_words, text_write}
@@ -34,6 +35,9 @@ returns-in-Some g c =
       fault = text_fault words files before after report result asked asks tells;
       write = text_write words files before after report result asked asks tells;
       memory = text_memory words files before after report result asked asks tells;
+      complete =
+          is_complete words files files before after report report result (text_run words files before after report result asked asks tells)
+          (text_read words files before after report result asked asks tells) (text_write words files before after report result asked asks tells);
       most_held = text_most_held words files before after report result asked asks tells;
       faultless = text_faultless words files before after report result asked asks tells;
       silent = text_silent words files before after report result asked asks tells;
@@ -109,6 +113,20 @@ pub returns-in-None-clause-memory : goal.returns-in-None-clause-memory
 returns-in-None-clause-memory g c =
     is_for_memory (texts c.args.words.now) (g.F.Files.disk c.args.files.now) (g.F.Files.disk c.do_words-outcome.new.files) (g.O.Sink.output c.args.out.now)
     (g.O.Sink.output c.do_words-outcome.new.out) (g.R.Sink.output c.args.report.now) (g.R.Sink.output c.tell.new.report) c.tell.result c.do_words-outcome.result c.do_words-outcome.ensures c.tell.ensures
+
+pub returns-in-None-clause-complete : goal.returns-in-None-clause-complete
+returns-in-None-clause-complete g c =
+    let words = texts c.args.words.now in
+    let old = g.F.Files.disk c.args.files.now in
+    let new = g.F.Files.disk c.do_words-outcome.new.files in
+    let before = g.O.Sink.output c.args.out.now in
+    let after = g.O.Sink.output c.do_words-outcome.new.out in
+    let report = g.R.Sink.output c.args.report.now in
+    let report' = g.R.Sink.output c.tell.new.report in
+    let o = c.do_words-outcome.result in
+    is_complete words old new before after report report' c.tell.result (is_for_run report report' c.tell.result o c.do_words-outcome.ensures c.tell.ensures)
+    (is_for_read report report' c.tell.result o c.do_words-outcome.ensures c.tell.ensures)
+    (is_for_write words old new before after report report' c.tell.result o c.do_words-outcome.ensures c.tell.ensures)
 
 pub returns-in-None-clause-faultless : goal.returns-in-None-clause-faultless
 returns-in-None-clause-faultless g c =

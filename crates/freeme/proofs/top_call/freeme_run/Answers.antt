@@ -3,7 +3,9 @@ use Rattle.fm_cli.specs.Words.{texts}
 use Rattle.fm_cli.specs.declared.status.TheConstants.{MALFORMED, VERSION, UNSUPPORTED}
 use Rattle.freeme.specs.declared.status.TheConstants.{CALLS_FREE, POOL_FULL, METHOD_TOO_LONG}
 use Rattle.freeme.proofs.CauseLemmas.{is_for_words, is_for_read, is_for_bytes, is_for_limit, is_for_link, is_for_check, is_for_rewrite, is_for_done, is_for_write, is_for_memory, is_faultless, keeps_contents, changes_only}
+use Rattle.freeme.proofs.CompleteLemmas.{is_complete}
 use Rattle.freeme.proofs.StatusLemmas.{is_status}
+use Rattle.freeme.proofs.MeaningLemmas.{keeps_meaning}
 use Rattle.freeme.proofs.TextLemmas.{text_changes, text_check, text_done, text_faultless, text_kept, text_limit, text_link, text_memory, text_of_bytes, text_read, text_rewrite, text_status, text_text, text_whole, text_words, text_write}
 use Rattle.freeme.proofs.top_call.freeme_run.Goals as goal
 
@@ -35,9 +37,13 @@ returns-in-Some g c =
       method_too_long = text_rewrite words files before after result asked asks tells METHOD_TOO_LONG (omega arith) (omega arith);
       write = text_write words files before after result asked asks tells;
       memory = text_memory words files before after result asked asks tells;
+      complete =
+          is_complete words files files before after result (text_done words files before after result asked asks tells)
+          (text_read words files before after result asked asks tells) (text_write words files before after result asked asks tells);
       faultless = text_faultless words files before after result asked asks tells;
       kept = text_kept words files before after result asked asks tells;
       others = text_changes words files before after result asked asks tells;
+      same = keeps_meaning words files files before after result (text_done words files before after result asked asks tells);
     }
 
 pub returns-in-None-clause-whole : goal.returns-in-None-clause-whole
@@ -52,6 +58,9 @@ returns-in-None-clause-status g c = is_status _ _ _ c.do_words-outcome.result _ 
 
 pub returns-in-None-clause-done : goal.returns-in-None-clause-done
 returns-in-None-clause-done g c = is_for_done c.do_words-outcome.result c.do_words-outcome.ensures c.tell.ensures
+
+pub returns-in-None-clause-same : goal.returns-in-None-clause-same
+returns-in-None-clause-same g c = keeps_meaning _ _ _ _ _ _ (is_for_done c.do_words-outcome.result c.do_words-outcome.ensures c.tell.ensures)
 
 pub returns-in-None-clause-words : goal.returns-in-None-clause-words
 returns-in-None-clause-words g c = is_for_words c.do_words-outcome.result c.do_words-outcome.ensures c.tell.ensures c.in-None.ensures
@@ -91,6 +100,11 @@ returns-in-None-clause-write g c = is_for_write c.do_words-outcome.result c.do_w
 
 pub returns-in-None-clause-memory : goal.returns-in-None-clause-memory
 returns-in-None-clause-memory g c = is_for_memory c.do_words-outcome.result c.do_words-outcome.ensures c.tell.ensures
+
+pub returns-in-None-clause-complete : goal.returns-in-None-clause-complete
+returns-in-None-clause-complete g c =
+    is_complete _ _ _ _ _ _ (is_for_done c.do_words-outcome.result c.do_words-outcome.ensures c.tell.ensures)
+    (is_for_read c.do_words-outcome.result c.do_words-outcome.ensures c.tell.ensures) (is_for_write c.do_words-outcome.result c.do_words-outcome.ensures c.tell.ensures)
 
 pub returns-in-None-clause-faultless : goal.returns-in-None-clause-faultless
 returns-in-None-clause-faultless g c = is_faultless c.do_words-outcome.result c.do_words-outcome.ensures c.tell.ensures

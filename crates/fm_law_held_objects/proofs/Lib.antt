@@ -1,0 +1,11 @@
+pub mod Initialised
+pub mod Holdings
+pub mod OneFree
+pub mod AllFrees
+pub mod Retired
+pub mod Steps
+pub mod Keeping
+pub mod Cleaned
+pub mod FramesUnder
+pub mod AboveKept
+pub mod NewInitialised

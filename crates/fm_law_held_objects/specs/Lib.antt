@@ -1,0 +1,6 @@
+pub mod Initialised
+pub mod Held
+pub mod Freeing
+pub mod Clean
+pub mod Above
+pub mod Laws

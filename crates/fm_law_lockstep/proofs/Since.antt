@@ -1,0 +1,91 @@
+-- Since when the holders of frames hold what they hold: from one state to another, frame by frame.
+use Rattle.std.proofs.Common.{◌≡◌, ℕ, inl, inr, List, [], ◌∷◌, ◌++◌, length, map, Some, slice_get, sym, ap, subst, ◌∙◌}
+use Rattle.std.specs.List.{AllByRecursion, AllZip}
+use Rattle.std.proofs.lemmas.List.{length-map}
+use Rattle.std.proofs.lemmas.List.Elements.{length_all_zip}
+use Rattle.fm_cells.specs.Stores.{Store}
+use Rattle.fm_code.specs.declared.code_array.Code.{Code}
+use Rattle.fm_conn.specs.Facts.{Facts}
+use Rattle.fm_frames.specs.States.{Frame, State}
+use Rattle.fm_frames.specs.declared.values.Value.{Value}
+use Rattle.fm_law_held_objects.specs.Held.{FramesAreHeld}
+use Rattle.fm_law_holders.specs.Holding.{holder_value, Holding, MayFree}
+use Rattle.fm_law_lockstep.proofs.FramesHeld.{holders_same}
+use Rattle.fm_law_same_runs.specs.Beside.{kept_item, Marks}
+use Rattle.fm_law_two_memories.specs.Pairing.{FramesPaired, Gone}
+use Rattle.fm_law_unwoven.proofs.Cleared.{none_at_first}
+use Rattle.fm_law_unwoven.specs.Kept.{holder_locals, old_frame, WaitAs}
+use Rattle.fm_law_unwoven.specs.WovenFrom.{inserted_by, IsWovenFrom}
+use Rattle.fm_place.specs.Insertions.{Holder}
+use Rattle.fm_place.specs.Rewriting.{Plans}
+use Rattle.fm_same.specs.Colours.{Colour}
+use Rattle.fm_same.specs.DeadRegions.{IsMethodAt}
+use Rattle.fm_world.specs.Programs.{code_at, Program}
+
+module _ (p : Program) (facts : Facts) (plans : Plans) (marks : Marks) where
+  -- this holds of the method, the depth, the class and the birth of what each holder of a frame holds, if it may be freed
+  abbrev pub HoldersSince : (ℕ → ℕ → ℕ → ℕ → Type 0) → Store → (method depth : ℕ) → Code → List Value → Type 0
+  HoldersSince S store method depth code values =
+      (h : ℕ) (holder : Holder) → slice_get (inserted_by (plans method)).holders h ≡ Some holder → (birth : ℕ) → MayFree store (holder_value code values h) birth
+      → S method depth holder.class birth
+
+  -- of a frame at a kept item
+  abbrev pub FrameSince : (ℕ → ℕ → ℕ → ℕ → Type 0) → Store → (depth : ℕ) → Frame → Type 0
+  FrameSince S store depth g =
+      (item : ℕ) (code : Code) → kept_item marks g.method g.item ≡ Some item → code_at p g.method ≡ Some code → HoldersSince S store g.method depth code g.locals
+
+  -- of all these
+  abbrev pub FramesSince : (ℕ → ℕ → ℕ → ℕ → Type 0) → Store → List Frame → Type 0
+  FramesSince S store [] = Unit {0}
+  FramesSince S store (g ∷ callers) = FrameSince S store (length callers) g × FramesSince S store callers
+
+  module _ (S : ℕ → ℕ → ℕ → ℕ → Type 0) (store : Store) where
+    -- of those below others
+    pub since_below : (above frames : List Frame) → FramesSince S store (above ++ frames) → FramesSince S store frames
+    since_below [] frames since = since
+    since_below (g ∷ above) frames since = since_below above frames since.1
+
+    pub since_waits : (before waiting : List Frame) → WaitAs before waiting → FramesSince S store before → FramesSince S store waiting
+    since_waits [] waiting waits since = subst (FramesSince S store) (sym waits) tt
+    since_waits (was ∷ callers) waiting waits since = subst (FramesSince S store) (sym waits.1) since
+
+    -- a method that has holders begins with an inserted item
+    pub since_news : (q : Program) → IsWovenFrom p q facts plans marks → (new waiting : List Frame) → AllByRecursion (λ (h : Frame). h.item ≡ 0) new
+        → FramesSince S store waiting → FramesSince S store (new ++ waiting)
+    since_news q from [] waiting first since = since
+    since_news q from (g ∷ new) waiting first since = (
+      λ item code item_is code_is h holder is birth may.
+          absurd (none_at_first p q facts plans marks from g.method code code_is item (ap (kept_item marks g.method) (sym first.0) ∙ item_is) h holder is),
+      since_news q from new waiting first.1 since,
+    )
+
+    -- of a frame that has the same holders
+    pub since_same : (depth : ℕ) (g was : Frame) (code : Code) → was.method ≡ g.method → code_at p g.method ≡ Some code → holder_locals p g ≡ holder_locals p was
+        → HoldersSince S store was.method depth code was.locals → HoldersSince S store g.method depth code g.locals
+    since_same depth g was code method code_is same since h holder is birth may =
+        subst (λ m. S m depth holder.class birth) method
+        (since h holder (ap (λ m. slice_get (inserted_by (plans m)).holders h) method ∙ is) birth
+        (subst (λ v. MayFree store v birth) (holders_same p g was code method code_is same h) may))
+
+  -- one holder after another state
+  abbrev pub GoesOn : (S T : ℕ → ℕ → ℕ → ℕ → Type 0) (x : State) (colour : Colour) (store later : Store) (all : List Frame) → Type 0
+  GoesOn S T x colour store later all =
+      (method depth class birth : ℕ) (v : Value) → IsMethodAt method depth all → Holding store colour depth class v → MayFree later v birth
+      → (MayFree store v birth → S method depth class birth) → T method depth class birth
+
+  -- all frames that are there
+  pub since_step : (S T : ℕ → ℕ → ℕ → ℕ → Type 0) (x : State) (colour : Colour) (store later : Store) (all : List Frame) → GoesOn S T x colour store later all
+      → (gone : Gone) (one two : Store) (fs gs : List Frame) → AllZip (FramesPaired gone one two) fs (map (old_frame p marks) gs)
+      → ((depth method : ℕ) → IsMethodAt method depth fs → IsMethodAt method depth all)
+      → FramesAreHeld p facts plans marks x colour store gs → FramesSince S store gs → FramesSince T later gs
+  since_step S T x colour store later all goes gone one two fs [] paired among held since = tt
+  since_step S T x colour store later all goes gone one two [] (g ∷ callers) paired among held since = absurd paired
+  since_step S T x colour store later all goes gone one two (f ∷ fs) (g ∷ callers) paired among held since =
+      let count : length fs ≡ length callers =
+      length_all_zip (FramesPaired gone one two) fs (map (old_frame p marks) callers) paired.1 ∙ length-map callers (old_frame p marks) in (
+        λ item code item_is code_is h holder is birth may.
+            goes g.method (length callers) holder.class birth (holder_value code g.locals h)
+            (among (length callers) g.method (inl (count, sym paired.0.method)))
+            ((held.0 item code item_is code_is).holds h holder is) may (since.0 item code item_is code_is h holder is birth),
+        since_step S T x colour store later all goes gone one two fs callers paired.1 (λ depth method there. among depth method (inr there)) held.1 since.1,
+      )

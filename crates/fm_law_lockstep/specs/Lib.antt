@@ -1,0 +1,9 @@
+pub mod Both
+pub mod Known
+pub mod Stepping
+pub mod Together
+pub mod Opening
+pub mod Composing
+pub mod Limits
+pub mod Reaching
+pub mod Renamed

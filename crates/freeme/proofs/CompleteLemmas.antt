@@ -1,0 +1,146 @@
+-- A job is done where nothing is against it and nothing fails: each other status says what can't be then.
+use Rattle.std.proofs.Common.{◌≡◌, ◌≢◌, ◌≤◌, ◌⊎◌, ℕ, inl, inr, ⊎_elim, List, [], ◌∷◌, Contains, Some, IsSome, length, map, refl, sym, ap, ◌∙◌, subst, arith}
+use Rattle.std.specs.List.{AllByRecursion, slice_get}
+use Rattle.std.specs.Option.{option_map}
+use Rattle.std.proofs.lemmas.List.Elements.{Contains-append_right, Contains-get_or}
+use Rattle.std.proofs.lemmas.Option.{get_or_from_slice_get, slice_get-map, slice_get_within}
+use Rattle.fm_base.proofs.ContainsFacts.{Contains-cons_cases}
+use Rattle.fm_base.proofs.ListFacts.{AllByRecursion-weaker, map-map}
+use Rattle.fm_base.proofs.OptionFacts.{Some-from_is_some}
+use Rattle.fm_cli.proofs.LineLemmas.{instead_for_file}
+use Rattle.fm_cli.specs.declared.status.TheConstants.{DONE, READ, WRITE, OUT_OF_MEMORY}
+use Rattle.fm_cli_requests.proofs.FreemeRequestLemmas.{asks_one}
+use Rattle.fm_cli_requests.specs.FreemeRequest.{FreemeJob, Asks}
+use Rattle.fm_code.specs.ClassBytes.{class_bytes}
+use Rattle.fm_code.specs.Spells.{HasSpelling}
+use Rattle.fm_code.specs.declared.class_file.ClassDef.{ClassDef}
+use Rattle.fm_files.specs.Files.{Bytes, Contents, Disk}
+use Rattle.fm_files.specs.Sink.{Output}
+use Rattle.fm_load.proofs.KnownLemmas.{all_taken}
+use Rattle.fm_load.proofs.TakenLemmas.{are_spelled}
+use Rattle.fm_load.proofs.VerdictLemmas.{Ends, EndsOnce, one_verdict}
+use Rattle.fm_load.specs.Given.{IsUnread}
+use Rattle.fm_load.specs.Taking.{AllTaken, ClassIsSpelled}
+use Rattle.fm_rewrite.specs.FreeCalls.{first_call}
+use Rattle.fm_world.specs.Programs.{program_of}
+use Rattle.freeme.proofs.WrittenLemmas.{names_same}
+use Rattle.freeme.specs.Causes.{AskFor, BecomesAs, IsForDone, IsForRead, IsForWrite, IsKnownAs, SaysRead, SaysWrite, cause_status}
+use Rattle.freeme.specs.Complete.{CanBeDone, IsComplete, NothingFails}
+use Rattle.freeme.specs.Jobs.{main_name}
+use Rattle.freeme.specs.TopCall.{IsUnwritten}
+use Rattle.freeme.specs.Writing.{IsFileOf, class_text, file_name, written_name}
+
+-- ---- lists
+
+-- what is at a place is an element
+element : (xs : List Bytes) (i : ℕ) (x : Bytes) → slice_get xs i ≡ Some x → Contains xs x
+element xs i x at = subst (Contains xs) (get_or_from_slice_get xs i x x at) (Contains-get_or xs i x (slice_get_within xs i x at))
+
+-- a status that is neither that of a read nor that of a write
+done_or_memory : (result : ℕ) → result ≢ READ → result ≢ WRITE → Contains (DONE ∷ instead_for_file) result → Contains (DONE ∷ OUT_OF_MEMORY ∷ []) result
+done_or_memory result unread unwritten among = by (Contains-cons_cases DONE instead_for_file result among) where
+  late : Contains (WRITE ∷ OUT_OF_MEMORY ∷ []) result → Contains (DONE ∷ OUT_OF_MEMORY ∷ []) result
+  late rest = ⊎_elim
+      (λ (is : result ≡ WRITE). absurd (unwritten is))
+      (λ (last : Contains (OUT_OF_MEMORY ∷ []) result). Contains-append_right (DONE ∷ []) (OUT_OF_MEMORY ∷ []) result last)
+      (Contains-cons_cases WRITE (OUT_OF_MEMORY ∷ []) result rest)
+
+  by : (result ≡ DONE) ⊎ Contains instead_for_file result → Contains (DONE ∷ OUT_OF_MEMORY ∷ []) result
+  by (inl is) = (0, omega arith, sym is)
+  by (inr rest) = ⊎_elim (λ (is : result ≡ READ). absurd (unread is)) late (Contains-cons_cases READ (WRITE ∷ OUT_OF_MEMORY ∷ []) result rest)
+
+-- ---- classes
+
+-- which of two sorts classes are of, as one of two statuses
+abbrev Sorts : (List ClassDef → Type 0) → Ends
+Sorts P classes status = (P classes × (status ≡ DONE)) ⊎ ((¬ P classes) × (status ≡ WRITE))
+
+sorted_once : (P : List ClassDef → Type 0) → EndsOnce (Sorts P)
+sorted_once P classes s t (inl a) (inl b) = a.1 ∙ sym b.1
+sorted_once P classes s t (inl a) (inr b) = absurd (b.0 a.0)
+sorted_once P classes s t (inr a) (inl b) = absurd (a.0 b.0)
+sorted_once P classes s t (inr a) (inr b) = a.1 ∙ sym b.1
+
+-- where contents are known, files are taken as classes of one sort
+one_sort : (P : List ClassDef → Type 0) (files : List Bytes) (contents : Contents) → IsSome contents → (these others : List ClassDef)
+    → AllTaken contents files these → AllTaken contents files others → P these → ¬ P others → ⊥
+one_sort P files contents known these others taken also holds fails =
+    let held = Some-from_is_some contents known in
+    let first = all_taken files contents held.0 held.1 these taken in
+    let second = all_taken files contents held.0 held.1 others also in
+    let unlike : DONE ≢ WRITE = λ is. omega arith in
+    unlike (one_verdict (Sorts P) (sorted_once P) held.0 files DONE WRITE (inr (inr (record { classes = these; taken = first; last = inl (holds, refl) })))
+    (inr (inr (record { classes = others; taken = second; last = inr (fails, refl) }))))
+
+-- the files of classes are those of their names
+files_named : (folder : Bytes) (classes : List ClassDef) → map (file_name folder) (map class_text classes) ≡ map (written_name folder) classes
+files_named folder = map-map class_text (file_name folder)
+
+-- ---- a job that nothing is against
+
+module _ {words : List Bytes} {old new : Disk} {before after : Output} (job : FreemeJob) (classes : List ClassDef) (asked : Asks words job) (can : CanBeDone job old.contents classes) (none : NothingFails job classes old new before after) where
+  -- it is known to be done
+  known_as_done : AskFor words (IsKnownAs DONE old)
+  known_as_done =
+      let free : BecomesAs DONE classes (main_name job) (first_call (program_of classes (main_name job))) = subst (BecomesAs DONE classes (main_name job)) (sym can.no_call) (λ facts exact least. ap cause_status (can.no_cause facts exact least)) in
+      (job, (asked, record { known = can.known; classes = classes; checked = can.checked; becomes = free }))
+
+  not_read : ¬ SaysRead words old new before after
+  not_read said =
+      let P : FreemeJob → Type 0 = λ k. IsUnread k.files said.file old new in
+      let unread = subst P (asks_one words said.job job said.asked asked) said.unread in
+      let rose = unread.fault.rose in
+      let kept = none.reads said.file (element job.files (length unread.before) said.file unread.reaches.there) in
+      omega arith
+
+  -- the classes that are written have the files of these, of which no write failed
+  module _ (name : Bytes) (unwritten : IsUnwritten job name old new) where
+    abbrev given : List ClassDef
+    given = unwritten.freed.classes
+
+    abbrev made : List ClassDef
+    made = unwritten.made.classes.items
+
+    spelled : AllByRecursion HasSpelling given
+    spelled =
+        AllByRecursion-weaker ClassIsSpelled HasSpelling (λ c spells. (class_bytes c, spells)) given
+        (are_spelled old.contents job.files given unwritten.freed.checked.linked.taken.taken)
+
+    files : map (written_name job.folder) made ≡ map (written_name job.folder) given
+    files =
+        sym (files_named job.folder made) ∙ ap (map (file_name job.folder)) (names_same given (main_name job) unwritten.made spelled unwritten.freed.rewritten)
+        ∙ files_named job.folder given
+
+    there : slice_get (map (written_name job.folder) made) unwritten.fails.count ≡ Some (written_name job.folder unwritten.fails.class)
+    there = slice_get-map (written_name job.folder) made unwritten.fails.count ∙ ap (option_map (written_name job.folder)) unwritten.fails.next
+
+    here : IsFileOf job.folder given name
+    here =
+        let P : List Bytes → Type 0 = λ names. Contains names (written_name job.folder unwritten.fails.class) in
+        let Q : Bytes → Type 0 = IsFileOf job.folder given in
+        subst Q (sym unwritten.fails.name_is)
+        (subst P files (element (map (written_name job.folder) made) unwritten.fails.count (written_name job.folder unwritten.fails.class) there))
+
+    abbrev Kept : List ClassDef → Type 0
+    Kept cs = (n : Bytes) → IsFileOf job.folder cs n → new.write_faults n ≤ old.write_faults n
+
+    fails_here : ¬ Kept given
+    fails_here kept = let low = kept name here in let rose = unwritten.fails.fault.rose in omega arith
+
+    not_unwritten : ⊥
+    not_unwritten = one_sort Kept job.files old.contents can.known classes given can.checked.linked.taken unwritten.freed.checked.linked.taken none.writes fails_here
+
+  not_write : ¬ SaysWrite words old new before after
+  not_write (inl unput) = let rose = unput.fails.fault in let kept = none.puts in omega arith
+  not_write (inr (inl said)) =
+      let P : FreemeJob → Type 0 = λ k. IsUnwritten k said.name old new in
+      not_unwritten said.name (subst P (asks_one words said.job job said.asked asked) said.unwritten)
+  not_write (inr (inr text)) = text.no_job job asked
+
+-- ---- the clause
+
+pub is_complete : (words : List Bytes) (old new : Disk) (before after : Output) (result : ℕ) → IsForDone words old new before after result
+    → IsForRead words old new before after result → IsForWrite words old new before after result → IsComplete words old new before after result
+is_complete words old new before after result done read write job classes asked can none =
+    done_or_memory result (λ is. not_read job classes asked can none (read.only is)) (λ is. not_write job classes asked can none (write.only is))
+    (done.there (known_as_done job classes asked can none))

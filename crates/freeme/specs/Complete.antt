@@ -1,0 +1,40 @@
+-- That a job is done where nothing is against it and nothing fails, as long as there is memory.
+use Rattle.std.specs.Prelude.{◌≡◌, ℕ, ◌≤◌, List, [], ◌∷◌, Contains, None, IsSome}
+use Rattle.fm_cli.specs.declared.status.TheConstants.{DONE, OUT_OF_MEMORY}
+use Rattle.fm_cli_requests.specs.FreemeRequest.{FreemeJob, Asks}
+use Rattle.fm_code.specs.declared.class_file.ClassDef.{ClassDef}
+use Rattle.fm_conn.specs.Facts.{AreFacts, Facts}
+use Rattle.fm_files.specs.Files.{Bytes, Contents, Disk}
+use Rattle.fm_files.specs.Sink.{Output}
+use Rattle.fm_load.specs.Given.{AreChecked}
+use Rattle.fm_place.specs.Safe.{full_plans}
+use Rattle.fm_rewrite.specs.FreeCalls.{first_call}
+use Rattle.fm_rewrite.specs.Rewritten.{first_cause}
+use Rattle.fm_summ_shapes.specs.Analysed.{AreLeastTypings}
+use Rattle.fm_world.specs.Programs.{program_of}
+use Rattle.freeme.specs.Jobs.{given_of, main_name}
+use Rattle.freeme.specs.Writing.{IsFileOf}
+
+-- Contents are known, and nothing is against the job in them: its files hold these classes, each with
+-- a spelling, of the profile and within the limits, as are the files in number and length (JVMS 4);
+-- they link (JVMS 5) and their methods are typed (JVMS 4.10); none calls FreeMe; and by all exact
+-- facts with least typings, of which one serves as another, no pool is full and no method too long.
+pub record CanBeDone (job : FreemeJob) (contents : Contents) (classes : List ClassDef) : Type 0 where
+  pub known : IsSome contents
+  pub checked : AreChecked (given_of job) contents classes
+  pub no_call : first_call (program_of classes (main_name job)) ≡ None
+  pub no_cause : (facts : Facts) → AreFacts (program_of classes (main_name job)) facts → AreLeastTypings (program_of classes (main_name job)) facts.typing
+      → first_cause (full_plans (program_of classes (main_name job)) facts) classes ≡ None
+
+-- In this call no read of a file of the job failed, no write of the file of one of these classes, and no put.
+-- Over `SureFiles` and `SureSink` of `fm_files` this always holds: their counts are 0.
+pub record NothingFails (job : FreemeJob) (classes : List ClassDef) (old new : Disk) (before after : Output) : Type 0 where
+  pub reads : (file : Bytes) → Contains job.files file → new.read_faults file ≤ old.read_faults file
+  pub writes : (name : Bytes) → IsFileOf job.folder classes name → new.write_faults name ≤ old.write_faults name
+  pub puts : after.faults ≤ before.faults
+
+-- a job that words ask for is done where nothing is against it and nothing fails, or memory can't be had
+abbrev pub IsComplete : List Bytes → Disk → Disk → Output → Output → ℕ → Type 0
+IsComplete words old new before after result =
+    (job : FreemeJob) (classes : List ClassDef) → Asks words job → CanBeDone job old.contents classes → NothingFails job classes old new before after
+    → Contains (DONE ∷ OUT_OF_MEMORY ∷ []) result
