@@ -12,6 +12,7 @@ import java.util.List;
 import java.util.ListIterator;
 import java.util.Map;
 import java.util.Random;
+import java.util.RandomAccess;
 import java.util.Set;
 
 /** Each method of Collections, with ordinary and edge arguments. */
@@ -130,6 +131,7 @@ public class Main {
         final List<String> view = Collections.unmodifiableList(list);
         list.add("d");
         show("view", view);
+        show("by index", view instanceof RandomAccess && !(Collections.unmodifiableList(new LinkedList<String>(list)) instanceof RandomAccess));
         show("view", view.get(3) + view.size() + view.indexOf("c") + view.lastIndexOf("z") + view.contains("a") + view.subList(1, 3).toString());
         show("equal", view.equals(list) && list.equals(view) && view.hashCode() == list.hashCode());
         show("array", Arrays.toString(view.toArray()) + Arrays.toString(view.toArray(new String[4])));

@@ -9,6 +9,7 @@ import java.util.Iterator;
 import java.util.LinkedList;
 import java.util.List;
 import java.util.ListIterator;
+import java.util.RandomAccess;
 import java.util.Stack;
 import java.util.Vector;
 
@@ -197,6 +198,7 @@ public class Main {
         abc(list);
         List<String> part = list.subList(1, 4);
         show(kind + " part", part);
+        show(kind + " by index", list instanceof RandomAccess ? part instanceof RandomAccess : !(part instanceof RandomAccess));
         part.set(0, "P");
         part.add("Q");
         part.add(0, "O");

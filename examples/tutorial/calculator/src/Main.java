@@ -2,7 +2,7 @@ import java.util.ArrayDeque;
 import java.util.Deque;
 import java.util.StringTokenizer;
 
-/** Computes what stands behind its operands: a stack of numbers. */
+/** Computes what is written behind its operands: a stack of numbers. */
 public class Main {
     static int compute(String line) {
         Deque<Integer> stack = new ArrayDeque<Integer>();

@@ -1,6 +1,6 @@
 package java.lang;
 
-/** What is built in of this class, for the compiler alone: the bodies do nothing. */
+/** What is built in of this class, for the compiler only: the bodies do nothing. */
 public class IncompatibleClassChangeError extends LinkageError {
     public IncompatibleClassChangeError() {
     }

@@ -1,7 +1,7 @@
 package java.lang;
 
 /** The machine is broken or has no room. */
-public class VirtualMachineError extends Error {
+public abstract class VirtualMachineError extends Error {
     /** Makes one without a message, in constant time. */
     public VirtualMachineError() {
     }

@@ -88,18 +88,23 @@ public abstract class AbstractList<E> extends AbstractCollection<E> implements L
         return new ListWalk<E>(this, index);
     }
 
-    /** Makes a view, in constant time. It throws ConcurrentModificationException once the list grew or shrank by others than it. */
+    /**
+     * Makes a view, in constant time, whose elements take the time of {@code get} and its like. It throws
+     * ConcurrentModificationException once the list grew or shrank by others than it.
+     */
     public List<E> subList(int start, int end) {
         Bounds.checkPart(start, end, size());
-        return new SubList<E>(this, start, end);
+        return this instanceof RandomAccess ? new SubList.OfRandom<E>(this, start, end) : new SubList<E>(this, start, end);
     }
 
     /** Sorts by merging, in {@code n log n} steps of the order, through an array of the elements that is dropped at the end. */
     public void sort(Comparator<? super E> order) {
         Object[] elements = toArray();
         Arrays.sort((E[]) elements, order);
-        for (int index = 0; index < elements.length; index++) {
-            set(index, (E) elements[index]);
+        ListIterator<E> place = listIterator();
+        for (Object each : elements) {
+            place.next();
+            place.set((E) each);
         }
     }
 

@@ -203,8 +203,8 @@ public class ArrayDeque<E> extends AbstractCollection<E> implements Deque<E>, Cl
 
     /** Removes the first equal element, in linear time. */
     public boolean removeFirstOccurrence(Object element) {
-        for (int index = 0; index < size; index++) {
-            if (elementAt(index).equals(element)) {
+        for (int index = 0; element != null && index < size; index++) {
+            if (element.equals(elementAt(index))) {
                 removeAt(index);
                 return true;
             }
@@ -214,8 +214,8 @@ public class ArrayDeque<E> extends AbstractCollection<E> implements Deque<E>, Cl
 
     /** Removes the last equal element, in linear time. */
     public boolean removeLastOccurrence(Object element) {
-        for (int index = size - 1; index >= 0; index--) {
-            if (elementAt(index).equals(element)) {
+        for (int index = size - 1; element != null && index >= 0; index--) {
+            if (element.equals(elementAt(index))) {
                 removeAt(index);
                 return true;
             }

@@ -178,7 +178,7 @@ public class BitSet implements Cloneable, Serializable {
         return place * BITS + Long.numberOfTrailingZeros(word);
     }
 
-    /** Returns the set bit before or at an index, or -1, in the time of the words between. */
+    /** Returns the set bit before or at an index, or -1, in the time of the bits between. */
     public int previousSetBit(int start) {
         for (int index = Math.min(start, length() - 1); index >= 0; index--) {
             if (get(index)) {

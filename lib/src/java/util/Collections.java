@@ -43,23 +43,53 @@ public class Collections {
         return -(low + 1);
     }
 
-    /** Reverses a list, by two calls of {@code set} for each pair. */
-    public static void reverse(List<?> list) {
-        for (int low = 0, high = list.size() - 1; low < high; low++, high--) {
-            swap(list, low, high);
+    /** Puts elements into a list from the first place on, by its iterator. */
+    private static void putBack(List<?> list, Object[] elements) {
+        ListIterator<Object> place = (ListIterator<Object>) list.listIterator();
+        for (Object each : elements) {
+            place.next();
+            place.set(each);
         }
     }
 
-    /** Mixes a list by a generator that begins anew in each program, by a swap for each element. */
+    /** Reverses a list in linear time: by swaps where it finds elements by their index, else by two iterators. */
+    public static void reverse(List<?> list) {
+        if (list instanceof RandomAccess) {
+            for (int low = 0, high = list.size() - 1; low < high; low++, high--) {
+                swap(list, low, high);
+            }
+            return;
+        }
+        ListIterator<Object> low = (ListIterator<Object>) list.listIterator();
+        ListIterator<Object> high = (ListIterator<Object>) list.listIterator(list.size());
+        while (low.nextIndex() < high.previousIndex()) {
+            Object first = low.next();
+            low.set(high.previous());
+            high.set(first);
+        }
+    }
+
+    /** Mixes a list by a generator that begins anew in each program, as below. */
     public static void shuffle(List<?> list) {
         shuffle(list, new Random());
     }
 
-    /** Mixes a list by a generator, by a swap for each element. */
+    /** Mixes a list by a generator in linear time: by swaps where it finds elements by their index, else through an array. */
     public static void shuffle(List<?> list, Random generator) {
-        for (int count = list.size(); count > 1; count--) {
-            swap(list, count - 1, generator.nextInt(count));
+        if (list instanceof RandomAccess) {
+            for (int count = list.size(); count > 1; count--) {
+                swap(list, count - 1, generator.nextInt(count));
+            }
+            return;
         }
+        Object[] elements = list.toArray();
+        for (int count = elements.length; count > 1; count--) {
+            int other = generator.nextInt(count);
+            Object exchanged = elements[other];
+            elements[other] = elements[count - 1];
+            elements[count - 1] = exchanged;
+        }
+        putBack(list, elements);
     }
 
     /** Exchanges two elements, by two calls of {@code set}. */
@@ -121,13 +151,14 @@ public class Collections {
         return best;
     }
 
-    /** Moves each element by a distance, round at the ends, in linear time and through an array that is freed. */
+    /** Moves each element by a distance, round at the ends, in linear time and through an array. */
     public static void rotate(List<?> list, int distance) {
         Object[] elements = list.toArray();
-        List<Object> all = (List<Object>) list;
+        Object[] moved = new Object[elements.length];
         for (int index = 0; index < elements.length; index++) {
-            all.set(Math.floorMod(index + Math.floorMod(distance, elements.length), elements.length), elements[index]);
+            moved[Math.floorMod(index + Math.floorMod(distance, elements.length), elements.length)] = elements[index];
         }
+        putBack(list, moved);
     }
 
     /** Replaces each element that equals the old one, and reports whether there was one, by the iterator. */
@@ -328,7 +359,7 @@ public class Collections {
 
     /** Makes a view that can't be changed, in constant time. */
     public static <T> List<T> unmodifiableList(List<? extends T> list) {
-        return new Unmodifiable.OfList<T>(list);
+        return Unmodifiable.OfList.<T>of(list);
     }
 
     /** Makes a view that can't be changed, in constant time. */

@@ -100,7 +100,7 @@ public class HashMap<K, V> extends AbstractMap<K, V> implements Map<K, V>, Clone
         return firstFrom(0);
     }
 
-    /** Returns the entry that an iterator comes to behind another one, or null. */
+    /** Returns the entry behind another one in the order of iterators, or null. */
     Node<K, V> after(Node<K, V> node) {
         return node.next != null ? node.next : firstFrom((node.hash & table.length - 1) + 1);
     }

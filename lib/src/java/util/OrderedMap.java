@@ -1,8 +1,8 @@
 package java.util;
 
 /**
- * A map in an order, by four questions that a class below answers: which entry is the least, the greatest, above a key and below it. What is
- * asked for besides, views too, is made of these.
+ * A map in an order, by four methods of a class below: which entry is the least, the greatest, above a key and below it. All others, views
+ * too, are made of these.
  */
 abstract class OrderedMap<K, V> extends AbstractMap<K, V> implements NavigableMap<K, V> {
     OrderedMap() {

@@ -1,10 +1,17 @@
 package java.util;
 
 /** A view of a part of a list. */
-final class SubList<E> extends AbstractList<E> implements RandomAccess {
+class SubList<E> extends AbstractList<E> {
     private final AbstractList<E> list;
     private final int start;
     private int size;
+
+    /** A view of a part of a list that finds elements by their index. */
+    static final class OfRandom<E> extends SubList<E> implements RandomAccess {
+        OfRandom(AbstractList<E> list, int start, int end) {
+            super(list, start, end);
+        }
+    }
 
     SubList(AbstractList<E> list, int start, int end) {
         this.list = list;

@@ -142,12 +142,16 @@ final class Unmodifiable {
     }
 
     /** A list. */
-    static final class OfList<E> extends OfCollection<E> implements List<E>, RandomAccess {
+    static class OfList<E> extends OfCollection<E> implements List<E> {
         private final List<? extends E> list;
 
         OfList(List<? extends E> list) {
             super(list);
             this.list = list;
+        }
+
+        static <E> List<E> of(List<? extends E> list) {
+            return list instanceof RandomAccess ? new OfRandomList<E>(list) : new OfList<E>(list);
         }
 
         public E get(int index) {
@@ -171,7 +175,7 @@ final class Unmodifiable {
         }
 
         public List<E> subList(int start, int end) {
-            return new OfList<E>(list.subList(start, end));
+            return OfList.<E>of(list.subList(start, end));
         }
 
         public boolean equals(Object other) {
@@ -200,6 +204,13 @@ final class Unmodifiable {
 
         public void sort(Comparator<? super E> order) {
             throw refused();
+        }
+    }
+
+    /** A list that finds elements by their index. */
+    static final class OfRandomList<E> extends OfList<E> implements RandomAccess {
+        OfRandomList(List<? extends E> list) {
+            super(list);
         }
     }
 
