@@ -117,6 +117,62 @@ public class Main {
         }
     }
 
+    /** Calls that change nothing, or that are refused, of what has no elements or one. */
+    static Object few(int which) {
+        List<String> noList = Collections.emptyList();
+        Set<String> noSet = Collections.emptySet();
+        Map<String, String> noMap = Collections.emptyMap();
+        List<String> oneList = Collections.singletonList("y");
+        Set<String> oneSet = Collections.singleton("y");
+        Map<String, String> oneMap = Collections.singletonMap("y", "z");
+        switch (which) {
+            case 0: noSet.clear(); return noSet;
+            case 1: noMap.clear(); return noMap;
+            case 2: noList.clear(); return noList;
+            case 3: return noSet.remove("x");
+            case 4: return noMap.remove("x");
+            case 5: return noSet.addAll(noList) || noList.addAll(noSet) || noSet.removeAll(oneSet) || noSet.retainAll(oneSet);
+            case 6: return oneSet.remove("x");
+            case 7: return oneSet.remove("y");
+            case 8: return oneSet.addAll(noSet) || oneList.addAll(noSet) || oneSet.removeAll(noSet) || oneSet.retainAll(oneSet);
+            case 9: return oneSet.addAll(oneSet);
+            case 10: return oneSet.retainAll(noSet);
+            case 11: oneSet.clear(); return oneSet;
+            case 12: return oneMap.remove("x");
+            case 13: return oneMap.remove("y");
+            case 14: oneMap.clear(); return oneMap;
+            case 15: oneMap.putAll(noMap); return oneMap;
+            case 16: return oneMap.putIfAbsent("y", "w");
+            case 17: return noMap.putIfAbsent("y", "w");
+            case 18: return oneMap.entrySet().iterator().next().setValue("w");
+            case 19: return oneMap.values().equals(Collections.singleton("z")) && noMap.values().equals(noSet);
+            case 20: return oneMap.keySet().remove("x") || oneMap.values().remove("x") || oneMap.entrySet().remove("x");
+            case 21: oneMap.keySet().clear(); return oneMap;
+            case 22: noMap.keySet().clear(); noMap.values().clear(); noMap.entrySet().clear(); return noMap;
+            case 23: return noList.get(0);
+            case 24: return oneList.get(1);
+            case 25: return Collections.nCopies(2, "x").get(-1);
+            case 26: Collections.sort(oneList); Collections.sort(noList); return oneList;
+            case 27: Collections.sort(Collections.nCopies(1, "x")); return null;
+            case 28: oneSet.iterator().remove(); return oneSet;
+            case 29: oneList.iterator().remove(); return oneList;
+            case 30: oneList.listIterator().remove(); return oneList;
+            case 31: noSet.iterator().remove(); return noSet;
+            case 32: return noSet.iterator().next();
+            default: return noList.listIterator(1);
+        }
+    }
+
+    static void fews() {
+        for (int i = 0; i < 34; i++) {
+            try {
+                show("few " + i, few(i));
+            } catch (RuntimeException e) {
+                show("few " + i, e);
+            }
+        }
+    }
+
     static void refused(String what, Runnable change) {
         try {
             change.run();
@@ -210,6 +266,7 @@ public class Main {
         lists(new LinkedList<Integer>());
         texts();
         small();
+        fews();
         views();
     }
 }

@@ -233,6 +233,83 @@ public class Main {
         show("cleared", set);
     }
 
+    /** A map of at most two keys, which counts its calls. */
+    static class Two<K, V> extends LinkedHashMap<K, V> {
+        private int puts;
+        private int questions;
+
+        Two() {
+        }
+
+        Two(Map<K, V> others) {
+            super(others);
+        }
+
+        public V put(K key, V value) {
+            puts++;
+            return super.put(key, value);
+        }
+
+        protected boolean removeEldestEntry(Map.Entry<K, V> eldest) {
+            questions++;
+            return size() > 2;
+        }
+
+        String calls() {
+            return " after " + puts + " puts and " + questions + " questions";
+        }
+    }
+
+    /** A map that removes its eldest key itself, and says yes or no. */
+    static class Own extends LinkedHashMap<Integer, String> {
+        private final boolean isAnswered;
+
+        Own(boolean isAnswered) {
+            this.isAnswered = isAnswered;
+        }
+
+        protected boolean removeEldestEntry(Map.Entry<Integer, String> eldest) {
+            boolean isFull = size() > 3;
+            if (isFull) {
+                remove(eldest.getKey());
+            }
+            return isFull && isAnswered;
+        }
+    }
+
+    static void eldest() {
+        Map<Integer, String> five = new LinkedHashMap<Integer, String>();
+        for (int i = 0; i < 5; i++) {
+            five.put(i, "v" + i);
+        }
+        Two<Integer, String> made = new Two<Integer, String>(five);
+        show("made", made.toString() + made.calls());
+        made.put(3, "w");
+        show("put again", made.toString() + made.calls());
+        made.putIfAbsent(7, "w");
+        show("put if absent", made.toString() + made.calls());
+        Two<Integer, String> filled = new Two<Integer, String>();
+        filled.putAll(five);
+        show("filled", filled.toString() + filled.calls());
+        Own yes = new Own(true);
+        Own no = new Own(false);
+        for (int i = 0; i < 6; i++) {
+            yes.put(i, "y");
+            no.put(i, "n");
+        }
+        show("own", yes.toString() + no.toString());
+        final int[] puts = {0};
+        Map<Integer, String> counted = new HashMap<Integer, String>() {
+            public String put(Integer key, String value) {
+                puts[0]++;
+                return super.put(key, value);
+            }
+        };
+        counted.putAll(five);
+        counted.put(9, "x");
+        show("counted", counted.toString() + puts[0]);
+    }
+
     static void linked() {
         LinkedHashMap<Integer, String> latest = new LinkedHashMap<Integer, String>() {
             protected boolean removeEldestEntry(Map.Entry<Integer, String> eldest) {
@@ -284,6 +361,7 @@ public class Main {
         sets("LinkedHashSet", new LinkedHashSet<String>());
         sets("HashSet of 3", new HashSet<String>(3));
         linked();
+        eldest();
         entries();
     }
 }

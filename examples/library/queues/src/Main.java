@@ -175,6 +175,17 @@ public class Main {
         show("next", set.nextSetBit(6) + 1000 * set.nextSetBit(201) + 1000000 * set.nextClearBit(63));
         show("clear", set.nextClearBit(0) + 1000 * set.nextClearBit(300));
         show("previous", set.previousSetBit(199) + 1000 * set.previousSetBit(64) + 1000000 * set.previousSetBit(10000));
+        int[] ends = {-1, 0, 2, 62, 63, 64, 66, 128, 199, 200, 255, 256, Integer.MAX_VALUE};
+        for (int i = 0; i < ends.length; i++) {
+            show("to " + ends[i], set.previousSetBit(ends[i]) + 1000L * set.previousClearBit(ends[i]));
+        }
+        for (int i = 0; i < 4; i++) {
+            try {
+                show("to " + i, i == 0 ? set.previousSetBit(-2) : i == 1 ? set.previousClearBit(Integer.MIN_VALUE) : new BitSet(0).previousSetBit(64 * i));
+            } catch (IndexOutOfBoundsException e) {
+                show("to " + i, e);
+            }
+        }
         set.flip(5);
         set.flip(6);
         set.clear(65);

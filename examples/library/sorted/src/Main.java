@@ -146,6 +146,62 @@ public class Main {
         }
     }
 
+    /** Parts of parts, whose bounds have to be within those of what they are of. */
+    static SortedMap<Integer, String> part(int which) {
+        TreeMap<Integer, String> map = tens();
+        NavigableMap<Integer, String> middle = map.subMap(20, true, 50, false);
+        NavigableMap<Integer, String> down = map.descendingMap().subMap(60, false, 30, true);
+        switch (which) {
+            case 0: return middle.headMap(80);
+            case 1: return middle.headMap(50);
+            case 2: return middle.headMap(50, true);
+            case 3: return middle.headMap(20);
+            case 4: return middle.headMap(19);
+            case 5: return middle.tailMap(10);
+            case 6: return middle.tailMap(20, false);
+            case 7: return middle.tailMap(50, false);
+            case 8: return middle.tailMap(50);
+            case 9: return middle.subMap(10, 40);
+            case 10: return middle.subMap(30, 70);
+            case 11: return middle.subMap(10, 90);
+            case 12: return middle.subMap(45, 25);
+            case 13: return middle.subMap(90, 25);
+            case 14: return middle.subMap(25, 50);
+            case 15: return map.headMap(50).tailMap(70);
+            case 16: return map.headMap(50).tailMap(10).headMap(5);
+            case 17: return map.tailMap(30).headMap(10);
+            case 18: return map.tailMap(30, false).subMap(30, 70);
+            case 19: return map.tailMap(30, false).subMap(30, false, 70, true);
+            case 20: return down.headMap(20);
+            case 21: return down.headMap(30, true);
+            case 22: return down.tailMap(60);
+            case 23: return down.tailMap(60, false);
+            case 24: return down.subMap(70, 40);
+            case 25: return down.subMap(50, 20);
+            case 26: return down.subMap(40, 50);
+            case 27: return down.descendingMap().headMap(70);
+            case 28: return down.descendingMap().tailMap(30).headMap(60);
+            default: return map.headMap(-10).tailMap(-20);
+        }
+    }
+
+    static void parts() {
+        for (int i = 0; i < 30; i++) {
+            try {
+                show("part " + i, part(i));
+            } catch (IllegalArgumentException e) {
+                show("part " + i, e);
+            }
+        }
+        SortedSet<Integer> set = new TreeSet<Integer>(Arrays.asList(1, 2, 3, 4, 5, 6)).subSet(2, 5);
+        try {
+            show("part of set", set.headSet(4).tailSet(3));
+            show("part of set", set.subSet(1, 4));
+        } catch (IllegalArgumentException e) {
+            show("part of set", e);
+        }
+    }
+
     static void orders() {
         Comparator<String> byLength = new Comparator<String>() {
             public int compare(String one, String other) {
@@ -263,6 +319,7 @@ public class Main {
 
     public static void main(String[] args) {
         maps();
+        parts();
         orders();
         many();
         sets();

@@ -105,6 +105,7 @@ public abstract class AbstractCollection<E> implements Collection<E> {
     }
 
     private boolean removeWhere(Collection<?> others, boolean isContained) {
+        Objects.requireNonNull(others);
         boolean isChanged = false;
         Iterator<E> each = iterator();
         while (each.hasNext()) {

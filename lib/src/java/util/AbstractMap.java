@@ -28,6 +28,12 @@ public abstract class AbstractMap<K, V> implements Map<K, V> {
         return entrySet().iterator();
     }
 
+    /** Makes an iterator over the entries of a map, as above where that can be. */
+    static <K, V> Iterator<Map.Entry<K, V>> entriesOf(Map<? extends K, ? extends V> others) {
+        Map<K, V> map = (Map<K, V>) others;
+        return map instanceof AbstractMap ? ((AbstractMap<K, V>) map).entries() : map.entrySet().iterator();
+    }
+
     private Map.Entry<K, V> find(Object key) {
         Iterator<Map.Entry<K, V>> entries = entries();
         while (entries.hasNext()) {
@@ -94,8 +100,7 @@ public abstract class AbstractMap<K, V> implements Map<K, V> {
 
     /** Calls {@code put} for each entry of the other map. */
     public void putAll(Map<? extends K, ? extends V> others) {
-        Map<K, V> map = (Map<K, V>) others;
-        Iterator<Map.Entry<K, V>> entries = map instanceof AbstractMap ? ((AbstractMap<K, V>) map).entries() : map.entrySet().iterator();
+        Iterator<Map.Entry<K, V>> entries = AbstractMap.<K, V>entriesOf(others);
         while (entries.hasNext()) {
             Map.Entry<K, V> each = entries.next();
             put(each.getKey(), each.getValue());

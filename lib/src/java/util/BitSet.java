@@ -178,11 +178,40 @@ public class BitSet implements Cloneable, Serializable {
         return place * BITS + Long.numberOfTrailingZeros(word);
     }
 
-    /** Returns the set bit before or at an index, or -1, in the time of the bits between. */
+    private static void checkLast(int index) {
+        if (index < -1) {
+            throw new IndexOutOfBoundsException(new StringBuilder().append("fromIndex < -1: ").append(index).toString());
+        }
+    }
+
+    /** Returns the bits of a word that are before or at an index. */
+    private static long maskTo(int place, int index) {
+        return place == index / BITS ? -1L >>> ~index : -1L;
+    }
+
+    private static int highest(int place, long word) {
+        return place * BITS + BITS - 1 - Long.numberOfLeadingZeros(word);
+    }
+
+    /** Returns the set bit before or at an index, or -1, in the time of the words between. */
     public int previousSetBit(int start) {
-        for (int index = Math.min(start, length() - 1); index >= 0; index--) {
-            if (get(index)) {
-                return index;
+        checkLast(start);
+        for (int place = start < 0 ? -1 : Math.min(start / BITS, words.length - 1); place >= 0; place--) {
+            long word = words[place] & maskTo(place, start);
+            if (word != 0) {
+                return highest(place, word);
+            }
+        }
+        return -1;
+    }
+
+    /** Returns the clear bit before or at an index, or -1, in the time of the words between. */
+    public int previousClearBit(int start) {
+        checkLast(start);
+        for (int place = start < 0 ? -1 : start / BITS; place >= 0; place--) {
+            long word = ~word(place) & maskTo(place, start);
+            if (word != 0) {
+                return highest(place, word);
             }
         }
         return -1;

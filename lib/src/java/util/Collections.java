@@ -268,7 +268,7 @@ public class Collections {
     }
 
     /** One element, at each index. */
-    static final class Copies<E> extends AbstractList<E> implements RandomAccess {
+    static class Copies<E> extends AbstractList<E> implements RandomAccess {
         private final int size;
         private final E element;
 
@@ -282,19 +282,44 @@ public class Collections {
         }
 
         public E get(int index) {
-            Bounds.checkElement(index, size);
+            Bounds.checkLinked(index, size);
             return element;
+        }
+    }
+
+    /** No elements. */
+    static final class None<E> extends Copies<E> {
+        None() {
+            super(0, null);
+        }
+
+        public E get(int index) {
+            throw new IndexOutOfBoundsException(new StringBuilder().append("Index: ").append(index).toString());
+        }
+    }
+
+    /** One element: sorting finds nothing to do, and an iterator removes nothing, whether it has gone on or not. */
+    static final class Single<E> extends Copies<E> {
+        Single(E element) {
+            super(1, element);
+        }
+
+        public Iterator<E> iterator() {
+            return new Unmodifiable.Walk<E>(super.iterator());
+        }
+
+        public void sort(Comparator<? super E> order) {
         }
     }
 
     /** Makes a list of no elements that can't change, in constant time. */
     public static <T> List<T> emptyList() {
-        return new Copies<T>(0, null);
+        return new None<T>();
     }
 
     /** Makes a set of no elements that can't change, in constant time. */
     public static <T> Set<T> emptySet() {
-        return new Unmodifiable.OfSet<T>(new ListedSet<T>(new Copies<T>(0, null)));
+        return new ListedSet<T>(new None<T>());
     }
 
     /** Makes a map of no keys that can't change, in constant time. */
@@ -304,12 +329,12 @@ public class Collections {
 
     /** Makes a list of one element that can't change, in constant time. */
     public static <T> List<T> singletonList(T element) {
-        return new Copies<T>(1, element);
+        return new Single<T>(element);
     }
 
     /** Makes a set of one element that can't change, in constant time. */
     public static <T> Set<T> singleton(T element) {
-        return new Unmodifiable.OfSet<T>(new ListedSet<T>(new Copies<T>(1, element)));
+        return new ListedSet<T>(new Single<T>(element));
     }
 
     /** Makes a map of one key that can't change, in constant time. */
@@ -346,9 +371,24 @@ public class Collections {
             this.value = value;
         }
 
+        private <T> Set<T> few(T element) {
+            return size == 0 ? Collections.<T>emptySet() : singleton(element);
+        }
+
+        public V putIfAbsent(K key, V value) {
+            throw new UnsupportedOperationException();
+        }
+
         public Set<Map.Entry<K, V>> entrySet() {
-            Map.Entry<K, V> entry = new AbstractMap.SimpleImmutableEntry<K, V>(key, value);
-            return new Unmodifiable.OfSet<Map.Entry<K, V>>(new ListedSet<Map.Entry<K, V>>(new Copies<Map.Entry<K, V>>(size, entry)));
+            return this.<Map.Entry<K, V>>few(new AbstractMap.SimpleImmutableEntry<K, V>(key, value));
+        }
+
+        public Set<K> keySet() {
+            return few(key);
+        }
+
+        public Collection<V> values() {
+            return few(value);
         }
     }
 

@@ -4,7 +4,7 @@ import java.io.Serializable;
 
 /**
  * A map by the keys' hashes. It is full at three quarters of its table, which then doubles. Keys come in the order of the table, as
- * Java has it; a place of the table keeps its keys in a list, however many they are.
+ * Java has it where no place of the table has more than eight keys; a place keeps its keys in a list, however many they are.
  *
  * <p>What stays: the table, each table that it grew out of, and the entries. Those of removed keys serve again in the same map, until
  * its {@code entrySet} is gone through, since from then on somebody may have them. {@code new HashMap(n)} with enough room makes one
@@ -41,7 +41,7 @@ public class HashMap<K, V> extends AbstractMap<K, V> implements Map<K, V>, Clone
 
     /** Makes a map of the keys and values of another one, in linear time. */
     public HashMap(Map<? extends K, ? extends V> others) {
-        putAll(others);
+        putEach(others, false);
     }
 
     private static int powerFrom(int capacity) {
@@ -164,6 +164,7 @@ public class HashMap<K, V> extends AbstractMap<K, V> implements Map<K, V>, Clone
             return node.setValue(value);
         }
         add(key, value);
+        evict();
         return null;
     }
 
@@ -172,6 +173,7 @@ public class HashMap<K, V> extends AbstractMap<K, V> implements Map<K, V>, Clone
         Node<K, V> node = find(key);
         if (node == null) {
             add(key, value);
+            evict();
             return null;
         }
         return node.value == null ? node.setValue(value) : node.value;
@@ -213,8 +215,12 @@ public class HashMap<K, V> extends AbstractMap<K, V> implements Map<K, V>, Clone
         return new Node<K, V>();
     }
 
-    /** Is called when a key was added: LinkedHashMap links its entry, and may remove another one. */
+    /** Is called when a key was added: LinkedHashMap links its entry. */
     void added(Node<K, V> node) {
+    }
+
+    /** Is called once a key was added to a map that isn't just being made: LinkedHashMap may remove another one. */
+    void evict() {
     }
 
     /** Is called when a key was removed: LinkedHashMap unlinks its entry. */
@@ -261,8 +267,13 @@ public class HashMap<K, V> extends AbstractMap<K, V> implements Map<K, V>, Clone
         table = resized;
     }
 
-    /** Puts all of another map, in the time of its entries and, where the table grows, of the keys. */
+    /** Puts all of another map, in the time of its entries and, where the table grows, of the keys. It doesn't call {@code put}. */
     public void putAll(Map<? extends K, ? extends V> others) {
+        putEach(others, true);
+    }
+
+    /** Puts all of another map, by no method that a class below may override but {@code removeEldestEntry}, where that is to be asked. */
+    final void putEach(Map<? extends K, ? extends V> others, boolean mayEvict) {
         int count = others.size();
         if (count > 0 && table == null) {
             capacity = Math.max(capacity, powerFrom((int) Math.min(count * 4L / 3 + 1, GREATEST_CAPACITY)));
@@ -270,7 +281,19 @@ public class HashMap<K, V> extends AbstractMap<K, V> implements Map<K, V>, Clone
         while (table != null && count > limit()) {
             grow();
         }
-        super.putAll(others);
+        Iterator<Map.Entry<K, V>> entries = AbstractMap.<K, V>entriesOf(others);
+        while (entries.hasNext()) {
+            Map.Entry<K, V> each = entries.next();
+            Node<K, V> node = find(each.getKey());
+            if (node != null) {
+                node.setValue(each.getValue());
+                continue;
+            }
+            add(each.getKey(), each.getValue());
+            if (mayEvict) {
+                evict();
+            }
+        }
     }
 
     /** Removes a key, in constant time where hashes differ. */

@@ -20,7 +20,7 @@ public class LinkedHashMap<K, V> extends HashMap<K, V> {
 
     /** Makes a map of the keys and values of another one, in linear time. */
     public LinkedHashMap(Map<? extends K, ? extends V> others) {
-        putAll(others);
+        putEach(others, false);
     }
 
     /** An entry between those that were put before and after it. */
@@ -46,8 +46,15 @@ public class LinkedHashMap<K, V> extends HashMap<K, V> {
             youngest.behind = linked;
         }
         youngest = linked;
+    }
+
+    void evict() {
+        K key = eldest.key;
         if (removeEldestEntry(eldest)) {
-            unlink(eldest);
+            HashMap.Node<K, V> node = find(key);
+            if (node != null) {
+                unlink(node);
+            }
         }
     }
 
@@ -73,7 +80,10 @@ public class LinkedHashMap<K, V> extends HashMap<K, V> {
         return ((Linked<K, V>) node).behind;
     }
 
-    /** Is asked once a key was added whether the eldest one is to be removed: no, but a class below may say yes. Constant time. */
+    /**
+     * Is asked once a key was added whether the eldest one is to be removed: no, but a class below may say yes. It may remove keys itself.
+     * It may not keep the entry, which serves again once its key is removed. Constant time.
+     */
     protected boolean removeEldestEntry(Map.Entry<K, V> eldest) {
         return false;
     }

@@ -32,6 +32,10 @@ final class MapDown<K, V> extends OrderedMap<K, V> {
         map.show();
     }
 
+    boolean mayBound(K key, boolean withKey) {
+        return map.mayBound(key, withKey);
+    }
+
     public Comparator<? super K> comparator() {
         return Collections.reverseOrder((Comparator<K>) map.comparator());
     }

@@ -48,6 +48,10 @@ final class MapPart<K, V> extends OrderedMap<K, V> {
         map.show();
     }
 
+    boolean mayBound(K key, boolean withKey) {
+        return map.mayBound(key, withKey) && (isInside(key) || !withKey && map.compare(key, bound) == 0);
+    }
+
     public Comparator<? super K> comparator() {
         return map.comparator();
     }

@@ -26,6 +26,9 @@ abstract class OrderedMap<K, V> extends AbstractMap<K, V> implements NavigableMa
     /** Is called before entries are shown to others, who may keep them. */
     abstract void show();
 
+    /** Reports whether a part may have a bound: one that it is to have, or one that it is not to have, which may be that of this map too. */
+    abstract boolean mayBound(K key, boolean withKey);
+
     Iterator<Map.Entry<K, V>> entries() {
         return new EntryWalk<K, V>(this);
     }
@@ -36,6 +39,12 @@ abstract class OrderedMap<K, V> extends AbstractMap<K, V> implements NavigableMa
 
     private static <K, V> Map.Entry<K, V> copyOf(Map.Entry<K, V> entry) {
         return entry == null ? null : new AbstractMap.SimpleImmutableEntry<K, V>(entry);
+    }
+
+    private void checkBound(String name, K key, boolean withKey) {
+        if (!mayBound(key, withKey)) {
+            throw new IllegalArgumentException(new StringBuilder().append(name).append(" out of range").toString());
+        }
     }
 
     private static <K> K keyOf(Map.Entry<K, ?> entry) {
@@ -154,6 +163,8 @@ abstract class OrderedMap<K, V> extends AbstractMap<K, V> implements NavigableMa
 
     /** Makes a view of the keys between two, in constant time. */
     public NavigableMap<K, V> subMap(K from, boolean withFrom, K to, boolean withTo) {
+        checkBound("fromKey", from, withFrom);
+        checkBound("toKey", to, withTo);
         if (compare(from, to) > 0) {
             throw new IllegalArgumentException("fromKey > toKey");
         }
@@ -162,12 +173,14 @@ abstract class OrderedMap<K, V> extends AbstractMap<K, V> implements NavigableMa
 
     /** Makes a view of the keys before a bound, in constant time. */
     public NavigableMap<K, V> headMap(K to, boolean withTo) {
+        checkBound("toKey", to, withTo);
         compare(to, to);
         return new MapPart<K, V>(this, to, withTo, true);
     }
 
     /** Makes a view of the keys from a bound on, in constant time. */
     public NavigableMap<K, V> tailMap(K from, boolean withFrom) {
+        checkBound("fromKey", from, withFrom);
         compare(from, from);
         return new MapPart<K, V>(this, from, withFrom, false);
     }

@@ -139,6 +139,10 @@ public class TreeMap<K, V> extends OrderedMap<K, V> implements Cloneable, Serial
         return changes;
     }
 
+    boolean mayBound(K key, boolean withKey) {
+        return true;
+    }
+
     void show() {
         areShown = true;
     }
