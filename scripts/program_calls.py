@@ -6,6 +6,7 @@ it is known, the report line of fmrun on the files read; where they are known, t
 line `class library: used` those class files of lib/classes that the program names are given too.
 """
 
+import re
 import resource
 import signal
 import subprocess
@@ -91,10 +92,15 @@ def words_of(folder, listed):
     return words
 
 
+def number(report, name):
+    """A number of a report line of fmrun, by its name."""
+    found = re.search(rf"[;,] {name} (\d+)", report)
+    return int(found[1]) if found else 0
+
+
 def peak(report):
     """The peak words of a report line."""
-    words = [part for part in report.split(", ") if part.startswith("peak words ")]
-    return int(words[0].split()[2]) if words else 0
+    return number(report, "peak words")
 
 
 def status_of(text):
