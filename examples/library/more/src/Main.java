@@ -116,6 +116,19 @@ public class Main {
                 }
             }
         }
+        long[] ends = {0, 5, Long.MAX_VALUE, Long.MIN_VALUE};
+        for (long end : ends) {
+            for (int i = 0; i < 3; i++) {
+                try {
+                    show("exact", i == 0 ? Math.incrementExact(end) : i == 1 ? Math.decrementExact(end) : Math.negateExact(end));
+                } catch (ArithmeticException e) {
+                    show("exact", e);
+                }
+            }
+            short narrow = (short) (end >> 7);
+            show("bytes", Short.reverseBytes(narrow) + 100000L * Short.toUnsignedLong(narrow) + 10000000000L * Byte.toUnsignedLong((byte) narrow));
+        }
+        show("bytes", Short.reverseBytes((short) 0x12fe) + 100000L * Short.reverseBytes((short) 0xfe12));
         CharSequence part = new Part("abcdefgh", 2, 7);
         show("part", part.subSequence(1, 3).toString() + part.length() + part.charAt(0) + part.toString());
     }

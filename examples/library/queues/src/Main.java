@@ -175,6 +175,13 @@ public class Main {
         show("next", set.nextSetBit(6) + 1000 * set.nextSetBit(201) + 1000000 * set.nextClearBit(63));
         show("clear", set.nextClearBit(0) + 1000 * set.nextClearBit(300));
         show("previous", set.previousSetBit(199) + 1000 * set.previousSetBit(64) + 1000000 * set.previousSetBit(10000));
+        show("longs", Arrays.toString(set.toLongArray()) + Arrays.toString(new BitSet(500).toLongArray()));
+        show("bytes", Arrays.toString(set.toByteArray()) + Arrays.toString(new BitSet(500).toByteArray()));
+        BitSet ofLongs = BitSet.valueOf(new long[] {5, -1, 0, 1L << 63, 0, 0});
+        show("of longs", ofLongs.toString() + ofLongs.size() + BitSet.valueOf(new long[2]).toString());
+        BitSet ofBytes = BitSet.valueOf(new byte[] {5, -1, 0, 0, 0, 0, 0, 0, -128, 0});
+        show("of bytes", ofBytes.toString() + ofBytes.size() + BitSet.valueOf(new byte[9]).size() + Arrays.toString(ofBytes.toByteArray()));
+        show("of both", set.equals(BitSet.valueOf(set.toLongArray())) && set.equals(BitSet.valueOf(set.toByteArray())));
         int[] ends = {-1, 0, 2, 62, 63, 64, 66, 128, 199, 200, 255, 256, Integer.MAX_VALUE};
         for (int i = 0; i < ends.length; i++) {
             show("to " + ends[i], set.previousSetBit(ends[i]) + 1000L * set.previousClearBit(ends[i]));

@@ -139,4 +139,9 @@ public final class Byte extends Number implements Comparable<Byte> {
     public static int toUnsignedInt(byte value) {
         return value & 0xff;
     }
+
+    /** Returns the number without its sign, in constant time. */
+    public static long toUnsignedLong(byte value) {
+        return value & 0xffL;
+    }
 }

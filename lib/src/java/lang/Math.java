@@ -92,6 +92,21 @@ public final class Math {
         return toInt(-(long) value);
     }
 
+    /** Adds one, or throws ArithmeticException at the greatest long. */
+    public static long incrementExact(long value) {
+        return addExact(value, 1L);
+    }
+
+    /** Subtracts one, or throws ArithmeticException at the least long. */
+    public static long decrementExact(long value) {
+        return subtractExact(value, 1L);
+    }
+
+    /** Returns the number with the other sign, or throws ArithmeticException at the least long. */
+    public static long negateExact(long value) {
+        return subtractExact(0L, value);
+    }
+
     /** Returns the long as an int, or throws ArithmeticException where it is none. */
     public static int toIntExact(long value) {
         return toInt(value);

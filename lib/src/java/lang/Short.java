@@ -140,4 +140,14 @@ public final class Short extends Number implements Comparable<Short> {
     public static int toUnsignedInt(short value) {
         return value & 0xffff;
     }
+
+    /** Returns the number without its sign, in constant time. */
+    public static long toUnsignedLong(short value) {
+        return value & 0xffffL;
+    }
+
+    /** Returns the bytes in the opposite order, in constant time. */
+    public static short reverseBytes(short value) {
+        return (short) (value << 8 | (value & 0xff00) >>> 8);
+    }
 }

@@ -9,6 +9,7 @@ import java.io.Serializable;
  */
 public class BitSet implements Cloneable, Serializable {
     private static final int BITS = 64;
+    private static final int BYTES = 8;
 
     private long[] words;
 
@@ -23,6 +24,46 @@ public class BitSet implements Cloneable, Serializable {
             throw new NegativeArraySizeException(new StringBuilder().append("nbits < 0: ").append(count).toString());
         }
         words = new long[(count + BITS - 1) / BITS];
+    }
+
+    /** Returns how many longs there are up to the last one that isn't zero. */
+    private static int used(long[] words) {
+        int count = words.length;
+        while (count > 0 && words[count - 1] == 0) {
+            count--;
+        }
+        return count;
+    }
+
+    /** Makes a set of the bits of longs, from the lowest bit of the first one on, in their time. */
+    public static BitSet valueOf(long[] words) {
+        BitSet set = new BitSet(0);
+        set.words = Arrays.copyOf(words, used(words));
+        return set;
+    }
+
+    /** Makes a set of the bits of bytes, from the lowest bit of the first one on, in their time. */
+    public static BitSet valueOf(byte[] bytes) {
+        long[] words = new long[bytes.length / BYTES + 1];
+        for (int index = 0; index < bytes.length; index++) {
+            words[index / BYTES] |= (bytes[index] & 0xffL) << 8 * index;
+        }
+        return valueOf(words);
+    }
+
+    /** Returns the bits in longs, as few as there have to be, in their time. */
+    public long[] toLongArray() {
+        return Arrays.copyOf(words, used(words));
+    }
+
+    /** Returns the bits in bytes, as few as there have to be, in their time. */
+    public byte[] toByteArray() {
+        int count = used(words);
+        byte[] bytes = new byte[count == 0 ? 0 : BYTES * count - Long.numberOfLeadingZeros(words[count - 1]) / 8];
+        for (int index = 0; index < bytes.length; index++) {
+            bytes[index] = (byte) (words[index / BYTES] >>> 8 * index);
+        }
+        return bytes;
     }
 
     private static void checkIndex(String name, int index) {
@@ -219,12 +260,8 @@ public class BitSet implements Cloneable, Serializable {
 
     /** Returns one more than the highest set bit, or 0, in the time of the words above it. */
     public int length() {
-        for (int place = words.length - 1; place >= 0; place--) {
-            if (words[place] != 0) {
-                return (place + 1) * BITS - Long.numberOfLeadingZeros(words[place]);
-            }
-        }
-        return 0;
+        int count = used(words);
+        return count == 0 ? 0 : count * BITS - Long.numberOfLeadingZeros(words[count - 1]);
     }
 
     /** Returns for how many bits there is room, in constant time. */
