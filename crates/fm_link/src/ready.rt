@@ -8,9 +8,9 @@ ghost use Rattle.fm_link_refusals.specs.Refused.{Refuses};
 
 use fm_code::ClassDef;
 use fm_link_members::{Members, fields_of, methods_of};
-use fm_link_names::{GivenFile, NameKey, Texts, declared_classes, given_files, shared_texts};
+use fm_link_names::{GivenFile, Texts, declared_classes, given_files, shared_texts};
 use fm_link_refusals::{LinkFail, refuse_built_ins, refuse_duplicates};
-use fm_world::DeclaredClass;
+use fm_world::{DeclaredClass, NameKey};
 use std::alloc::Global;
 
 /// The texts by number, the files, their classes, these classes' fields and methods, and the number of

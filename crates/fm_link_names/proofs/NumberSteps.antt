@@ -8,7 +8,7 @@ use Rattle.std.proofs.lemmas.Map.Text.{hash_map_updates_str}
 use Rattle.indexmap.specs.IndexMap.{IndexMap, Updates}
 use Rattle.fm_base.proofs.ListFacts.{drop_here}
 use Rattle.fm_link_names.specs.inner.ClassNumbering.{number_in}
-use Rattle.fm_link_names.specs.declared.name_key.NameKey.{NameKey}
+use Rattle.fm_world.specs.declared.name_key.NameKey.{NameKey}
 use Rattle.fm_link_names.specs.inner.Numbering.{lent}
 use Rattle.fm_world.specs.Descriptors.{class_number}
 use Rattle.fm_world.specs.declared.declarations.DeclaredClass.{DeclaredClass}

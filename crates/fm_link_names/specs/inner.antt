@@ -4,7 +4,6 @@ pub mod Declaring
 pub mod DescriptorTypes
 pub mod Files
 pub mod Marks
-pub mod NameKeys
 pub mod NamedTypes
 pub mod Numbering
 pub mod Wanting

@@ -3,10 +3,9 @@
 ghost use Rattle.std.specs.Prelude.{◌≡◌, IfOk};
 ghost use Rattle.fm_link_names.specs.inner.ClassNumbering.{number_in, NumbersClasses};
 
-use crate::name_key::NameKey;
 use crate::places::number_of;
 use fm_base::NoMemory;
-use fm_world::DeclaredClass;
+use fm_world::{DeclaredClass, NameKey};
 use indexmap::IndexMap;
 use std::alloc::Global;
 

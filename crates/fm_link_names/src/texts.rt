@@ -26,9 +26,9 @@ ghost use Rattle.fm_link_names.specs.inner.Numbering.{
   IsNumberOf,
 };
 
-use crate::name_key::NameKey;
 use fm_base::NoMemory;
 use fm_code::Entry;
+use fm_world::NameKey;
 use indexmap::IndexSet;
 use std::alloc::Global;
 

@@ -1,6 +1,7 @@
--- What only serves the proofs: how the program lies in the memory of the code.
+-- What only serves the proofs: how the program lies in the memory of the code, and the key of its hashes.
 pub mod BuiltInTable
 pub mod Layers
+pub mod NameKeys
 pub mod Nodes
 pub mod Tables
 pub mod Marks

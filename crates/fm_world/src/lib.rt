@@ -10,6 +10,7 @@ mod calls;
 mod declarations;
 mod laws;
 mod layers;
+mod name_key;
 mod parts;
 mod program;
 mod records;
@@ -25,6 +26,7 @@ pub use laws::{
     law_lookup_examples, law_one_answer, law_refused_examples,
 };
 pub use layers::Layers;
+pub use name_key::NameKey;
 pub use parts::Parts;
 pub use program::Program;
 pub use records::{Body, ClassInfo, FieldInfo, MethodInfo};

@@ -1,4 +1,4 @@
--- The key by which names are hashed: a digest of all texts of the class files.
+-- The key by which names and types are hashed: a digest of all texts of the class files.
 use Rattle.std.specs.Prelude.{ℕ, List, [], ◌++◌, length}
 use Rattle.std.specs.Hash.DefaultHasher as sip
 use Rattle.std.specs.Int.{to_le_bytes, w64}
@@ -7,7 +7,7 @@ use Rattle.sha2.specs.Sha256.{sha256}
 use Rattle.fm_code.specs.declared.class_file.ClassDef.{ClassDef}
 use Rattle.fm_code.specs.declared.constant_pool.Entry.{Entry}
 use Rattle.fm_code.specs.declared.constant_pool.Entry.TheVariants as entry
-use Rattle.fm_link_names.specs.declared.name_key.NameKey.{NameKey}
+use Rattle.fm_world.specs.declared.name_key.NameKey.{NameKey}
 
 -- the text that an entry is, after its length in eight bytes
 abbrev pub framed_text : Entry → List ℕ

@@ -1,26 +1,26 @@
-// The key by which names are hashed.
+// The key by which names and types are hashed.
 //
 // Class files are written by anybody, and names can be chosen that meet in one place under a hash that
 // is known beforehand. So the hash begins with a digest of the names themselves: whoever changes a name
-// changes the hash of all of them.
+// changes the hash of all of them, and of all types.
 
 ghost use Rattle.std.specs.Prelude.{◌≡◌, ◌++◌, ℕ, List};
 ghost use Rattle.std.specs.List.{flat_map};
 ghost use Rattle.sha2.specs.Hashers.{Holds256};
-ghost use Rattle.fm_link_names.specs.inner.NameKeys.{framed_text, key_of};
+ghost use Rattle.fm_world.specs.inner.NameKeys.{framed_text, key_of};
 
 use fm_code::{ClassDef, Entry};
 use sha2::{Digest, Sha256};
 use std::hash::{BuildHasher, DefaultHasher, Hasher};
 
-/// Makes the hashers of names. Each has taken the digest of all texts of the class files.
+/// Makes the hashers of names and types. Each has taken the digest of all texts of the class files.
 #[derive(Clone, Copy)]
 pub struct NameKey {
     initial: DefaultHasher,
 }
 
 impl NameKey {
-    /// The key of the names in these class files.
+    /// The key of the names and the types in these class files.
     pub fn of(given: &[ClassDef]) -> NameKey
         ensures { result ≡ key_of given.now }
     {

@@ -1,8 +1,8 @@
 use Rattle.std.proofs.Common.{◌++◌, length, sym, ◌∙◌, ap, subst, append_assoc, List, ℕ}
 use Rattle.std.specs.Int.{to_le_bytes, w64}
 use Rattle.sha2.specs.Hashers.{Holds256}
-use Rattle.fm_link_names.specs.inner.NameKeys.{framed_text}
-use Rattle.fm_link_names.proofs.name_key.add_text.Goals as goal
+use Rattle.fm_world.specs.inner.NameKeys.{framed_text}
+use Rattle.fm_world.proofs.name_key.add_text.Goals as goal
 
 pub returns-in-Utf8 : goal.returns-in-Utf8
 returns-in-Utf8 c = λ m holds.
