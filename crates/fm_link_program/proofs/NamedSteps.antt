@@ -1,5 +1,5 @@
 -- What files name, by number, is what their program names.
-use Rattle.std.proofs.Common.{◌≡◌, sym, ◌∙◌, ap, subst, ℕ, ◌<◌, List, [], ◌++◌, length, map, replicate, get_or, Option, Some, option_to_list}
+use Rattle.std.proofs.Common.{◌≡◌, sym, ◌∙◌, ap, subst, ℕ, ◌<◌, ◌^◌, List, [], ◌++◌, length, map, replicate, get_or, Option, Some, option_to_list}
 use Rattle.std.specs.Borrow.{Bor}
 use Rattle.std.specs.List.{flat_map, AllByRecursion}
 use Rattle.std.proofs.lemmas.Option.{slice_get-get_or}
@@ -16,7 +16,7 @@ use Rattle.fm_link_records.proofs.TextLaws.{texts-modified}
 use Rattle.fm_link_records.specs.inner.Named.{texts_named, types_made, types_named}
 use Rattle.fm_link_records.specs.inner.TextNumbers as text_numbers
 use Rattle.fm_link_records.specs.inner.TextNumbers.{literals_by, AreApart, IsModified}
-use Rattle.fm_link_records.specs.inner.TypeNumbers.{types_by, AreNumbered}
+use Rattle.fm_link_records.specs.inner.TypeNumbers.{types_by}
 use Rattle.fm_link_refusals.specs.inner.Linking.{IsLinking}
 use Rattle.fm_link_program.specs.declared.named.Named.{Named}
 use Rattle.fm_link_program.specs.declared.uses.Resolving.{Resolving}
@@ -52,12 +52,12 @@ pub named-made : (texts : List (List ℕ)) (given : List ClassDef) (files : List
     → arguments ≡ argument_array (classes_of given)
     → used ≡ flat_map (types_named by_text) files → arrays ≡ option_to_list arguments ++ flat_map (types_made by_text) files
     → naming ≡ flat_map texts_named files
-    → n.types.types.items ≡ types_by (length classes) used arrays
-    → AreNumbered n.types.numbers n.types.types.items
+    → n.types.types.keys ≡ types_by (length classes) used arrays
+    → length n.types.types.keys < 2 ^ 32
     → n.literals.units.items ≡ literals_by texts naming
     → n.uses.items ≡ replicate (length built_in) [] ++ map (class_uses (record {
       classes = classes;
-      types = n.types.types.items;
+      types = n.types.types.keys;
       texts = n.literals.units.items;
       main_class = 0;
       main = 0;
@@ -65,7 +65,7 @@ pub named-made : (texts : List (List ℕ)) (given : List ClassDef) (files : List
     → IsNamed given n
 unfolding bare
 named-made texts given files classes by_text arguments used arrays naming n classes_are types_are spelled are arguments_are used_is arrays_are
-    naming_is types numbers literals uses =
+    naming_is types few literals uses =
     let all = classes_of given in
     record {
       types = types ∙ ap (λ cs. types_by (length cs) used arrays) classes_are
@@ -73,9 +73,9 @@ named-made texts given files classes by_text arguments used arrays naming n clas
           ∙ ap (types_by (length all) (flat_map (types_named by_text) files))
           (arrays_are ∙ ap (λ o. option_to_list o ++ flat_map (types_made by_text) files) arguments_are)
           ∙ types-all texts all by_text given files types_are spelled are;
-      numbers = numbers;
+      few = few;
       texts = literals ∙ ap (literals_by texts) naming_is ∙ literals-all texts given files spelled are;
-      uses = uses ∙ uses-of classes n.types.types.items n.literals.units.items given classes_are;
+      uses = uses ∙ uses-of classes n.types.types.keys n.literals.units.items given classes_are;
     }
 
 -- the numbers that were read are those of texts in modified UTF-8
@@ -89,14 +89,14 @@ modified_texts texts read given files naming spelled are read_is naming_is =
 -- what entries are resolved by, where the texts were read from the tables
 pub is_resolving : (r : Resolving) (given : List ClassDef) (read : List (Bor (List ℕ))) → IsLinking (classes_of given) r.linking
     → r.by_text.now ≡ map (type_of_name (classes_of given)) (texts_in r.linking.texts.now)
-    → AreNumbered r.types.now.numbers r.types.now.types.items → read ≡ r.linking.texts.now.texts.keys
+    → length r.types.now.types.keys < 2 ^ 32 → read ≡ r.linking.texts.now.texts.keys
     → text_numbers.AreNumbered (lent read) r.literals.now.units.items r.literals.now.by_text.items → IsResolving r
-is_resolving r given read linked types numbers read_is texts =
+is_resolving r given read linked types few read_is texts =
     let same = sym linked.hierarchy.classes_are in
     record {
       linked = subst (λ cs. IsLinking cs r.linking) same linked;
       by_text = types ∙ ap (λ cs. map (type_of_name cs) (texts_in r.linking.texts.now)) same;
-      types = numbers;
+      few = few;
       texts = subst (λ (ts : List (Bor (List ℕ))). text_numbers.AreNumbered (lent ts) r.literals.now.units.items r.literals.now.by_text.items) read_is
           texts;
     }

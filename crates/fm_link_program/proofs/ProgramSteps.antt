@@ -30,7 +30,6 @@ all-made given main t is = record {
   statics = is.told.statics;
   answers = is.answers;
   calls = is.calls;
-  numbers = is.named.numbers;
 }
 
 -- the tables are those that a program asks for

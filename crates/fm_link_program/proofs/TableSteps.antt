@@ -75,7 +75,7 @@ tables-made texts given main h m t sound hierarchy methods counted classes named
     classes = counted.declared;
     methods = counted.methods;
     fields = counted.fields;
-    types = counted.types;
+    types = named.few;
     texts = counted.texts;
   };
   classes = classes;

@@ -36,7 +36,7 @@ found-by o entries index e = refl
 -- an entry with the numbers of what it names is what it is resolved to
 pub resolved-is : (r : Resolving) (file : GivenFile) (index : ℕ) (named found text : Option ℕ) (made : Use)
     → IsResolving r → IsNumbered (texts_in r.linking.texts.now) file → HasSpelling (class_in file)
-    → named ≡ option_and_then (type_number r.types.now.types.items) (type_at r.by_text.now file index)
+    → named ≡ option_and_then (type_number r.types.now.types.keys) (type_at r.by_text.now file index)
     → found ≡ member_found (classes_by r.linking) (named_member (class_in file).pool.entries index) (entry_at (class_in file).pool.entries index)
     → text ≡ option_and_then (λ n. slice_index_or r.literals.now.by_text.items n None) (text_at file index)
     → made ≡ use_by (entry_at (class_in file).pool.entries index) named found text

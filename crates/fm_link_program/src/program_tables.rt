@@ -67,13 +67,13 @@ impl ProgramTables {
             own,
             object,
         } = answers;
-        let Types { types, numbers } = types;
+        let Types { types } = types;
         Program::new(Parts {
             declared: Seq::new(declared),
             classes: Seq::new(classes),
             methods: Seq::new(methods),
             fields: Seq::new(infos),
-            types: Seq::new(types),
+            types,
             texts: Seq::new(literals.units),
             uses: Seq::new(uses),
             main: MethodId(main.1),
@@ -87,7 +87,6 @@ impl ProgramTables {
             selected,
             tops: Seq::new(tops),
             own: Seq::new(own),
-            numbers,
         })
     }
 }
@@ -134,7 +133,6 @@ fn few_places(classes: &[DeclaredClass], named: &Named, told: &MemberInfos) -> R
     few(classes.len())?;
     few(told.methods.len())?;
     few(told.fields.infos.len())?;
-    few(named.types.types.len())?;
     few(named.literals.units.len())?;
     Ok(())
 }

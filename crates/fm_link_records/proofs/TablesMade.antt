@@ -28,5 +28,4 @@ AreTables-made x kinds fields codes slots firsts made = record {
   statics = made.statics;
   answers = made.answers;
   calls = made.calls;
-  numbers = made.numbers;
 }

@@ -1,22 +1,20 @@
 -- Types are distinguished by their dimensions and their bases.
-use Rattle.std.proofs.Common.{◌≡◌, refl, sym, ◌∙◌, ap, ℕ, ◌+◌, ◌<◌, Bool, true, false, cond, ◌==◌, Some, List, [], ◌++◌, map, length, drop, get_or, append_assoc}
-use Rattle.std.specs.List.{flat_map, range_with_len}
+use Rattle.std.proofs.Common.{◌≡◌, refl, sym, ◌∙◌, ap, ℕ, suc, ◌+◌, ◌-◌, ◌<◌, cond, ◌==◌, List, [], ◌∷◌, ◌++◌, map, length, drop, get_or, append_assoc, arith}
+use Rattle.std.specs.List.{flat_map, list_any, range_with_len}
 use Rattle.std.proofs.lemmas.Grind.{flat_map-append}
 use Rattle.std.proofs.lemmas.List.{get_or_default}
-use Rattle.std.specs.HashMap.{HashMap, get, get_by}
-use Rattle.std.proofs.Math.Path.{fun_ext}
 use Rattle.std.proofs.lemmas.Bool.{eq-eqb, eqb-true, and_parts, and_from}
+use Rattle.indexmap.specs.IndexSet.{insert_key}
 use Rattle.fm_base.proofs.ListFacts.{drop_here}
 use Rattle.fm_base.specs.contracts.kinds.TypeRefPartialEq.TheImpl.{ghosts}
-use Rattle.fm_base.specs.declared.kinds.Base.{Base}
 use Rattle.fm_base.specs.declared.kinds.Base.TheVariants as base
 use Rattle.fm_base.specs.declared.kinds.TypeRef.{TypeRef}
-use Rattle.fm_base.specs.declared.ids.ClassId.{ClassId}
 use Rattle.fm_world.proofs.TableLemmas.{same_base-eq, same_base-refl}
+use Rattle.fm_world.proofs.TypeTests.{tested_type}
 use Rattle.fm_world.specs.Chains.{distinct, same_base, same_type}
 use Rattle.fm_world.specs.Numbers.{arrays_in, type_of_class}
 use Rattle.fm_link_records.specs.inner.InTurn.{Tells}
-use Rattle.fm_link_records.specs.inner.TypeNumbers.{types_by, with_types}
+use Rattle.fm_link_records.specs.inner.TypeNumbers.{types_by, with_type, with_types}
 use Rattle.fm_link_records.proofs.OneByOne.{distinct-all, with_all-append}
 
 pub same_type-tells : Tells TypeRef same_type
@@ -26,6 +24,14 @@ same_type-tells = record {
       ap (λ n. record a { dims = n }) (eqb-true a.dims b.dims both.0) ∙ ap (λ x. record b { base = x }) (same_base-eq a.base b.base both.1);
   itself = λ a. and_from (a.dims == a.dims) (same_base a.base a.base) (eq-eqb a.dims a.dims refl) (same_base-refl a.base);
 }
+
+-- of the types that a function makes of numbers in turn, the first one is added and the others are left
+pub numbers_step : (make : ℕ → TypeRef) (k n : ℕ) (old new all : List TypeRef) → k < n → new ≡ with_type old (make k)
+    → with_types old (map make (range_with_len k (n - k))) ≡ all → with_types new (map make (range_with_len (k + 1) (n - (k + 1)))) ≡ all
+numbers_step make k n old new all below added before =
+    let more : suc (n - (k + 1)) ≡ n - k = omega (arith, below) in
+    ap (λ ts. with_types ts (map make (range_with_len (k + 1) (n - (k + 1))))) added
+    ∙ ap (λ len. with_types old (map make (range_with_len k len))) more ∙ before
 
 -- the arrays of one type more
 pub arrays_step : (named : List TypeRef) (i : ℕ) (old new all : List TypeRef) → i < length named
@@ -57,30 +63,6 @@ all_types count named made start a b c d none e f g h =
     ∙ ap (distinct same_type) (append_assoc (classes ++ named) (flat_map arrays_in named) (flat_map arrays_in made)
     ∙ ap (λ ts. classes ++ named ++ ts) (sym (flat_map-append arrays_in named made)))
 
--- ---- the map's own test of types
-
-tested : (m n : ℕ) (b c : Base)
-    → ghosts.eq (record { dims = m; base = b }) (record { dims = n; base = c })
-    ≡ same_type (record { dims = m; base = b }) (record { dims = n; base = c })
-tested m n base.Boolean base.Boolean = refl
-tested m n base.Byte base.Byte = refl
-tested m n base.Char base.Char = refl
-tested m n base.Short base.Short = refl
-tested m n base.Int base.Int = refl
-tested m n base.Long base.Long = refl
-tested m n (base.OfClass c) (base.OfClass d) = refl
-tested m n b c = refl
-
-tested_type : (a b : TypeRef) → ghosts.eq a b ≡ same_type a b
-tested_type a b = tested a.dims b.dims a.base b.base
-
-tested_get : {S : Type 0} (numbers : HashMap TypeRef ℕ S) (t : TypeRef) → get ghosts.eq numbers t ≡ get same_type numbers t
-tested_get numbers t = ap (λ test. get_by test numbers) (fun_ext (tested_type t))
-
--- what the map has after one type more
-pub inserted : {S : Type 0} (old new : HashMap TypeRef ℕ S) (t : TypeRef) (number : ℕ) (q : TypeRef)
-    → get ghosts.eq new q ≡ cond (ghosts.eq t q) (Some number) (get ghosts.eq old q)
-    → get same_type new q ≡ cond (same_type t q) (Some number) (get same_type old q)
-inserted old new t number q is =
-    sym (tested_get new q) ∙ is ∙ ap (λ b. cond b (Some number) (get ghosts.eq old q)) (tested_type t q)
-    ∙ ap (cond (same_type t q) (Some number)) (tested_get old q)
+-- what the set has after one type more
+pub inserted : (types : List TypeRef) (t : TypeRef) → insert_key ghosts.eq types t ≡ with_type types t
+inserted types t = ap (λ test. cond (list_any test types) types (types ++ t ∷ [])) (tested_type t)

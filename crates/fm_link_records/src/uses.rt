@@ -1,12 +1,11 @@
 // What an entry of a pool is resolved to (JVMS 5.4.3).
 
-ghost use Rattle.std.specs.Prelude.{◌≡◌, None, option_and_then};
+ghost use Rattle.std.specs.Prelude.{◌≡◌, ◌<◌, ◌^◌, None, length, option_and_then};
 ghost use Rattle.std.specs.List.{slice_index_or};
 ghost use Rattle.fm_code.specs.ConstantPool.{entry_at};
 ghost use Rattle.fm_world.specs.Numbers.{type_number};
 ghost use Rattle.fm_world.specs.Programs.{field_use, method_use, with_number};
 ghost use Rattle.fm_link_records.specs.inner.Named.{text_at, type_at};
-ghost use Rattle.fm_link_records.specs.inner.TypeNumbers.{AreNumbered};
 ghost use Rattle.fm_link_records.specs.inner.Uses.{use_by};
 
 use crate::literals::Literals;
@@ -88,8 +87,8 @@ pub fn type_number_at(
     file: &GivenFile,
     index: u16,
 ) -> Option<u32>
-    requires { AreNumbered types.now.numbers types.now.types.items }
-    ensures { result ≡ option_and_then (type_number types.now.types.items)
+    requires { length types.now.types.keys < 2 ^ 32 }
+    ensures { result ≡ option_and_then (type_number types.now.types.keys)
         (type_at by_text.now file.now index) }
 {
     match type_at(by_text, file, index) {

@@ -1,5 +1,6 @@
 pub mod Example
 pub mod TableLemmas
+pub mod TypeTests
 pub mod Told
 mod Selected
 pub mod LayerLemmas

@@ -2,9 +2,11 @@
 
 use crate::declarations::DeclaredClass;
 use crate::layers::Layers;
+use crate::name_key::NameKey;
 use crate::records::{ClassInfo, FieldInfo, MethodInfo};
 use crate::uses::Use;
 use fm_base::{ClassId, MethodId, Row, Seq, TypeRef, Units};
+use indexmap::IndexSet;
 use std::collections::HashMap;
 
 /// A program with its tables, as the linker makes it. A list goes by the numbers of classes, methods,
@@ -15,7 +17,8 @@ pub struct Parts {
     pub classes: Seq<ClassInfo>,
     pub methods: Seq<MethodInfo>,
     pub fields: Seq<FieldInfo>,
-    pub types: Seq<TypeRef>,
+    /// The number of a type is its index in the set.
+    pub types: IndexSet<TypeRef, NameKey>,
     pub texts: Seq<Units>,
     /// For each class what the indices of its pool are resolved to.
     pub uses: Seq<Seq<Use>>,
@@ -38,6 +41,4 @@ pub struct Parts {
     pub tops: Seq<u32>,
     /// For each class by signature its own method that isn't static.
     pub own: Seq<HashMap<u32, u32>>,
-    /// The types by their numbers, turned round.
-    pub numbers: HashMap<TypeRef, u32>,
 }

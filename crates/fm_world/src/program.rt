@@ -154,7 +154,10 @@ impl Program {
         ensures { option_map (λ (n : TypeId). n.0) result
             ≡ type_number self.now.outline.types t }
     {
-        self.parts.numbers.get(&t).copied().map(TypeId)
+        match self.parts.types.get_index_of(&t) {
+            Some(index) => Some(TypeId(index as u32)),
+            None => None,
+        }
     }
 
     /// The type of this number. Takes no memory.

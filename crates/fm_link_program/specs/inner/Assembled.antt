@@ -19,7 +19,7 @@ parts_from declared t = record {
   classes = t.classes.items;
   methods = t.told.methods.items;
   fields = t.told.fields.infos.items;
-  types = t.named.types.types.items;
+  types = t.named.types.types;
   texts = t.named.literals.units.items;
   uses = t.named.uses.items;
   main = record { 0 = t.main.1 };
@@ -33,15 +33,13 @@ parts_from declared t = record {
   selected = t.answers.selected;
   tops = t.answers.tops.items;
   own = t.answers.own.items;
-  numbers = t.named.types.numbers;
 }
 
--- numbers of 32 bits number all classes, types, texts, methods and fields
+-- numbers of 32 bits number all classes, texts, methods and fields
 pub record AreCounted (classes : List DeclaredClass) (n : Named) (t : MemberInfos) : Type 0 where
   pub declared : length classes < 2 ^ 32
   pub methods : length t.methods.items < 2 ^ 32
   pub fields : length t.fields.infos.items < 2 ^ 32
-  pub types : length n.types.types.items < 2 ^ 32
   pub texts : length n.literals.units.items < 2 ^ 32
 
 -- the tables are those of the files' classes, with this main class and this main method

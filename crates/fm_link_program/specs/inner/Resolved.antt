@@ -1,5 +1,5 @@
 -- What indices are resolved by, and to.
-use Rattle.std.specs.Prelude.{◌≡◌, ℕ, Bool, List, map, Option, None, option_and_then, if◌then◌else◌}
+use Rattle.std.specs.Prelude.{◌≡◌, ◌<◌, ◌^◌, ℕ, Bool, List, length, map, Option, None, option_and_then, if◌then◌else◌}
 use Rattle.fm_code.specs.ConstantPool.{MemberName}
 use Rattle.fm_code.specs.declared.class_file.ClassDef.{ClassDef}
 use Rattle.fm_code.specs.declared.constant_pool.Entry.{Entry}
@@ -7,7 +7,6 @@ use Rattle.fm_code.specs.declared.constant_pool.Entry.TheVariants as entry
 use Rattle.fm_link_names.specs.inner.DescriptorTypes.{type_of_name}
 use Rattle.fm_link_names.specs.inner.Numbering.{texts_in}
 use Rattle.fm_link_records.specs.inner.TextNumbers as text_numbers
-use Rattle.fm_link_records.specs.inner.TypeNumbers as type_numbers
 use Rattle.fm_link_refusals.specs.declared.linking.Linking.{Linking}
 use Rattle.fm_link_refusals.specs.inner.Linking.{IsLinking}
 use Rattle.fm_link_program.specs.declared.uses.Resolving.{Resolving}
@@ -25,7 +24,7 @@ classes_by l = l.hierarchy.now.classes.now
 abbrev pub outline_by : Resolving → Outline
 outline_by r = record {
   classes = classes_by r.linking;
-  types = r.types.now.types.items;
+  types = r.types.now.types.keys;
   texts = r.literals.now.units.items;
   main_class = 0;
   main = 0;
@@ -35,7 +34,7 @@ outline_by r = record {
 pub record IsResolving (r : Resolving) : Type 0 where
   pub linked : IsLinking (classes_by r.linking) r.linking
   pub by_text : r.by_text.now ≡ map (type_of_name (classes_by r.linking)) (texts_in r.linking.texts.now)
-  pub types : type_numbers.AreNumbered r.types.now.numbers r.types.now.types.items
+  pub few : length r.types.now.types.keys < 2 ^ 32
   pub texts : text_numbers.AreNumbered (texts_in r.linking.texts.now) r.literals.now.units.items r.literals.now.by_text.items
 
 -- the field or the method of that name that an entry is resolved to

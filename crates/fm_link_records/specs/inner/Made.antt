@@ -1,13 +1,10 @@
 -- Parts of a program that are made of the tables of this crate.
 use Rattle.std.specs.Prelude.{◌≡◌, ℕ, List, length, map, Option, Some, None}
-use Rattle.std.specs.HashMap.{get}
-use Rattle.fm_base.specs.declared.kinds.TypeRef.{TypeRef}
 use Rattle.fm_code.specs.declared.class_file.ClassDef.{ClassDef}
 use Rattle.fm_code.specs.declared.code_array.Code.{Code}
 use Rattle.fm_link_names.specs.declared.descriptors.Kinds.{Kinds}
-use Rattle.fm_world.specs.Chains.{same_type}
 use Rattle.fm_world.specs.Members.{fields_of, methods_of, slot_of, statics_of}
-use Rattle.fm_world.specs.Numbers.{texts_of, type_number, types_of}
+use Rattle.fm_world.specs.Numbers.{texts_of, types_of}
 use Rattle.fm_world.specs.Programs.{class_info, classes_of, given_number, main_of, uses_of}
 use Rattle.fm_world.specs.declared.parts.Parts.{Parts}
 use Rattle.fm_world.specs.declared.uses.Use.{Use}
@@ -32,12 +29,11 @@ pub record AreMade (x : Parts) (method_kinds field_kinds : List (Option Kinds)) 
   pub statics : x.statics ≡ statics_of x.declared
   pub answers : AnswerForClasses x
   pub calls : AnswerForCalls x
-  pub numbers : (t : TypeRef) → get same_type x.numbers t ≡ type_number x.types t
 
 -- and the declared classes, types, texts, main and uses are those of the class files
 pub record IsMadeOf (given : List ClassDef) (main : List ℕ) (x : Parts) : Type 0 where
   pub declared : x.declared ≡ classes_of given
-  pub types : x.types ≡ types_of (classes_of given) given
+  pub types : x.types.keys ≡ types_of (classes_of given) given
   pub texts : x.texts ≡ texts_of given
   pub main_class : given_number (classes_of given) main ≡ Some x.main_class.0
   pub main_method : main_of (classes_of given) x.main_class.0 ≡ Some x.main.0

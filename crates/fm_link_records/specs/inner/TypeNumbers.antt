@@ -1,15 +1,10 @@
 -- Types that get their numbers one after the other.
-use Rattle.std.specs.Prelude.{◌≡◌, ℕ, List, ◌++◌, map}
-use Rattle.std.specs.HashMap.{HashMap, get}
+use Rattle.std.specs.Prelude.{ℕ, List, ◌++◌, map}
 use Rattle.std.specs.List.{flat_map, range_with_len}
 use Rattle.fm_base.specs.declared.kinds.TypeRef.{TypeRef}
 use Rattle.fm_world.specs.Chains.{distinct, same_type}
-use Rattle.fm_world.specs.Numbers.{arrays_in, type_number, type_of_class}
+use Rattle.fm_world.specs.Numbers.{arrays_in, type_of_class}
 use Rattle.fm_link_records.specs.inner.InTurn.{with_one, with_all}
-
--- the map has for each type its number
-abbrev pub AreNumbered : {S : Type 0} → HashMap TypeRef ℕ S → List TypeRef → Type 0
-AreNumbered numbers types = (t : TypeRef) → get same_type numbers t ≡ type_number types t
 
 -- one type more, unless it is there
 abbrev pub with_type : List TypeRef → TypeRef → List TypeRef

@@ -2,12 +2,10 @@
 use Rattle.std.specs.Prelude.{◌≡◌, ℕ, ◌^◌, ◌<◌, true, List, ◌∷◌, [], length, map, reverse, nat_eq, Option, None, Some, IsSomeAnd, slice_get, slice_index}
 use Rattle.std.specs.List.{range_with_len}
 use Rattle.std.specs.HashMap.{get}
-use Rattle.fm_base.specs.declared.kinds.TypeRef.{TypeRef}
 use Rattle.fm_code.specs.declared.code_array.Code.{Code}
-use Rattle.fm_world.specs.Chains.{chain_of, interfaces_of, is_among, parent_of, same_type}
+use Rattle.fm_world.specs.Chains.{chain_of, interfaces_of, is_among, parent_of}
 use Rattle.fm_world.specs.Lookups.{is_interface_at, is_selectable, object_number}
 use Rattle.fm_world.specs.Members.{fields_of, is_instance, methods_of, method_at, method_among, own_method, statics_of}
-use Rattle.fm_world.specs.Numbers.{type_number}
 use Rattle.fm_world.specs.Programs.{Outline, Program, class_info, field_info, method_info}
 use Rattle.fm_world.specs.declared.declarations.DeclaredClass.{DeclaredClass}
 use Rattle.fm_world.specs.inner.Layers.{value_at}
@@ -25,7 +23,7 @@ code_in b = None
 
 -- the outline of a program that is made of parts
 abbrev pub outline_in : Parts → Outline
-outline_in x = record { classes = x.declared; types = x.types; texts = x.texts; main_class = x.main_class.0; main = x.main.0 }
+outline_in x = record { classes = x.declared; types = x.types.keys; texts = x.texts; main_class = x.main_class.0; main = x.main.0 }
 
 -- the program that is made of parts
 abbrev pub program_in : Parts → Program
@@ -55,7 +53,7 @@ pub record AreFew (x : Parts) : Type 0 where
   pub classes : length x.declared < 2 ^ 32
   pub methods : length x.methods < 2 ^ 32
   pub fields : length x.fields < 2 ^ 32
-  pub types : length x.types < 2 ^ 32
+  pub types : length x.types.keys < 2 ^ 32
   pub texts : length x.texts < 2 ^ 32
 
 -- for each class from the uppermost one down its superclasses and itself; all its superinterfaces; and by the number of a signature the
@@ -90,4 +88,3 @@ pub record AreTables (x : Parts) : Type 0 where
   pub statics : x.statics ≡ statics_of x.declared
   pub answers : AnswerForClasses x
   pub calls : AnswerForCalls x
-  pub numbers : (t : TypeRef) → get same_type x.numbers t ≡ type_number x.types t

@@ -18,7 +18,7 @@ of-requires-2-clause-modified c =
 
 pub uses_of-requires-clause-resolving : goal.uses_of-requires-clause-resolving
 uses_of-requires-clause-resolving c =
-    is_resolving _ (given_in c.args.files.now) c.as_slice-texts.result.now c.requires.linked c.requires.types c.in_ok-types.ensures.numbers
+    is_resolving _ (given_in c.args.files.now) c.as_slice-texts.result.now c.requires.linked c.requires.types c.in_ok-types.ensures.few
     c.as_slice-texts.ensures.keys c.in_ok-literals.ensures.numbers
 
 pub returns : goal.returns
@@ -31,6 +31,6 @@ returns c =
     (c.argument_array.ensures _ c.requires.named)
     (c.as_slice.ensures.value ∙ c.in_ok-used.ensures) (c.as_slice-2.ensures.value ∙ c.in_ok-arrays.ensures)
     (c.as_slice-3.ensures.value ∙ c.in_ok-spelled.ensures)
-    c.in_ok-types.ensures.types c.in_ok-types.ensures.numbers
+    c.in_ok-types.ensures.types c.in_ok-types.ensures.few
     (c.in_ok-literals.ensures.units ∙ ap (λ (ts : List (Bor (List ℕ))). literals_by (lent ts) naming) c.as_slice-texts.ensures.keys)
     c.in_ok-uses.ensures

@@ -2,7 +2,5 @@ use Rattle.fm_link_records.proofs.TypeSteps.{arrays_step}
 use Rattle.fm_link_records.proofs.types.Types.add_all_arrays.Goals as goal
 
 pub loop-one-preserved : goal.loop-one-preserved
-loop-one-preserved c = (
-  arrays_step c.args.named.now c.loop-one.one-index _ _ _ c.loop-one-test.true c.in_ok-add_arrays.ensures.types c.loop-one.invariant.0,
-  c.in_ok-add_arrays.ensures.numbers,
-)
+loop-one-preserved c =
+    arrays_step c.args.named.now c.loop-one.one-index _ _ _ c.loop-one-test.true c.in_ok-add_arrays.ensures c.loop-one.invariant
