@@ -45,7 +45,7 @@ use Rattle.fm_frames.specs.Acts.{cell_of, value_of}
 use Rattle.fm_frames.specs.CallRows.{entered, entered_as, interface_effect, native_of, receiver_class, special_effect, static_effect, virtual_effect, words_of_arguments}
 use Rattle.fm_frames.specs.Effects.{Calls, Effect, Enters, Exits, Falls, Faults, Jumps, JumpsIfSame, Next, Returns, Throws}
 use Rattle.fm_frames.specs.NativeRows.{native_effect}
-use Rattle.fm_frames.specs.Natives.{FreeMeFree, FreeMeFreeChain, FreeMeLink, Native}
+use Rattle.fm_frames.specs.Natives.{FreeMeFree, FreeMeFreeChain, FreeMeLink, has_receiver, Native}
 use Rattle.fm_frames.specs.ObjectRows.{starting}
 use Rattle.fm_frames.specs.Operands.{on_reference, thrown, thrown_null}
 use Rattle.fm_frames.specs.Rows.{effect_of}
@@ -64,7 +64,7 @@ use Rattle.fm_law_sound.proofs.Cases.{by_if}
 use Rattle.fm_law_sound.proofs.FoundMethods.{IsAlike, select_alike, special_alike}
 use Rattle.fm_law_sound.proofs.ReturnsStand.{arguments_count, method_in, taken_drop}
 use Rattle.fm_law_sound.proofs.SeenObjects.{IsSeen, seen_at}
-use Rattle.fm_law_no_fault.specs.CellsResolved.{arguments_asked, CellsAreResolved, has_receiver, IsMet, result_given, Selects, special_of, TakesAsAsked}
+use Rattle.fm_law_no_fault.specs.CellsResolved.{arguments_asked, CellsAreResolved, IsMet, result_given, Selects, special_of, TakesAsAsked}
 use Rattle.fm_law_no_fault.specs.Whole.{AreasAreWhole, FrameIsWhole, HoldsA, is_below, LeadsToA, WordFits}
 use Rattle.fm_law_no_fault.proofs.ActsSuits.{holds_weaker, leads_weaker}
 use Rattle.fm_law_no_fault.proofs.CellsLeave.{stack_left}

@@ -27,10 +27,10 @@ use Rattle.fm_frames.proofs.BuiltInTypes.{buffer_there, builder_there, named_cla
 use Rattle.fm_frames.proofs.Programs.{string_number}
 use Rattle.fm_frames.specs.CallRows.{native_of}
 use Rattle.fm_frames.specs.NativeRows.{text_type}
-use Rattle.fm_frames.specs.Natives.{Append, BufferInitOf, BuilderInit, BuilderLength, BuilderToString, CharAt, CompareTo, Exit, FreeMeFree, FreeMeFreeChain, FreeMeLink, GetMessage, Native, native_of_row, ObjectEquals, ObjectHashCode, ObjectInit, ObjectToString, Print, Println, PrintlnNothing, Read, Shown, ShownBoolean, ShownChar, ShownInt, ShownLong, ShownText, StringEquals, StringHashCode, StringLength, StringToString, Substring, ThrowableInit, ThrowableInitOf, ThrowableToString, ValueOf}
+use Rattle.fm_frames.specs.Natives.{AGiven, AnObject, Append, AShown, BufferInitOf, BuilderInit, BuilderLength, BuilderReceiver, BuilderToString, CharAt, CompareTo, Exit, FreeMeFree, FreeMeFreeChain, FreeMeLink, GetMessage, Given, has_receiver, Native, native_of_row, native_type, Nothing, ObjectEquals, ObjectHashCode, ObjectInit, ObjectToString, OwnObject, Print, Println, PrintlnNothing, Read, Receiver, Returned, Shown, ShownBoolean, ShownChar, ShownInt, ShownLong, ShownText, StringEquals, StringHashCode, StringLength, StringToString, Substring, TextReceiver, ThrowableInit, ThrowableInitOf, ThrowableReceiver, ThrowableToString, ValueOf}
 use Rattle.fm_frames.specs.Runnable.{IsRunnable}
 use Rattle.fm_law_sound.proofs.BuiltInMethods.{method_same}
-use Rattle.fm_law_no_fault.specs.CellsResolved.{arguments_asked, has_receiver, result_given, suits_row, TakesAsAsked}
+use Rattle.fm_law_no_fault.specs.CellsResolved.{arguments_asked, result_given, suits, TakesAsAsked}
 use Rattle.fm_law_no_fault.proofs.LinkedTypes.{below, bounds_below, change_below, exception_there, fits_throwable, parents, runtime_below, runtime_there, throwable_itself}
 
 -- ---- the descriptors of the rows
@@ -52,77 +52,33 @@ shown_text ShownChar = codes "C"
 shown_text ShownBoolean = codes "Z"
 shown_text ShownText = string_text
 
-abbrev parameters_text : Native → List ℕ
-parameters_text ObjectEquals = object_text
-parameters_text CharAt = codes "I"
-parameters_text StringEquals = object_text
-parameters_text CompareTo = string_text
-parameters_text Substring = codes "II"
-parameters_text (ValueOf shown) = shown_text shown
-parameters_text (Append shown) = shown_text shown
-parameters_text BufferInitOf = string_text
-parameters_text Exit = codes "I"
-parameters_text (Print shown) = shown_text shown
-parameters_text (Println shown) = shown_text shown
-parameters_text ThrowableInitOf = string_text
-parameters_text FreeMeFree = object_text
-parameters_text FreeMeLink = object_text ++ object_text
-parameters_text FreeMeFreeChain = object_text
-parameters_text row = []
+abbrev given_text : Given → List ℕ
+given_text (AShown shown) = shown_text shown
+given_text AnObject = object_text
+
+abbrev arguments_text : List Given → List ℕ
+arguments_text [] = []
+arguments_text (given ∷ arguments) = given_text given ++ arguments_text arguments
 
 -- where it is given whether the class is StringBuffer
-abbrev result_text : Bool → Native → List ℕ
-result_text buffer ObjectInit = codes "V"
-result_text buffer ObjectEquals = codes "Z"
-result_text buffer ObjectToString = string_text
-result_text buffer CharAt = codes "C"
-result_text buffer StringEquals = codes "Z"
-result_text buffer StringToString = string_text
-result_text buffer Substring = string_text
-result_text buffer (ValueOf shown) = string_text
-result_text buffer BuilderInit = codes "V"
-result_text buffer (Append shown) = builder_text buffer
-result_text buffer BuilderToString = string_text
-result_text buffer BufferInitOf = codes "V"
-result_text buffer Exit = codes "V"
-result_text buffer (Print shown) = codes "V"
-result_text buffer (Println shown) = codes "V"
-result_text buffer PrintlnNothing = codes "V"
-result_text buffer ThrowableInit = codes "V"
-result_text buffer ThrowableInitOf = codes "V"
-result_text buffer GetMessage = string_text
-result_text buffer ThrowableToString = string_text
-result_text buffer FreeMeFree = codes "V"
-result_text buffer FreeMeLink = object_text
-result_text buffer FreeMeFreeChain = codes "V"
-result_text buffer row = codes "I"
+abbrev returned_text : Bool → Returned → List ℕ
+returned_text buffer Nothing = codes "V"
+returned_text buffer (AGiven given) = given_text given
+returned_text buffer OwnObject = builder_text buffer
 
 abbrev descriptor_of : Bool → Native → List ℕ
-descriptor_of buffer row = codes "(" ++ parameters_text row ++ codes ")" ++ result_text buffer row
+descriptor_of buffer row = codes "(" ++ arguments_text (native_type row).arguments ++ codes ")" ++ returned_text buffer (native_type row).result
 
 -- the classes of what can be thrown
 abbrev throwables : List ℕ
 throwables = 7 ∷ 9 ∷ 10 ∷ 11 ∷ 12 ∷ 13 ∷ 14 ∷ 15 ∷ 16 ∷ 17 ∷ 18 ∷ 19 ∷ 20 ∷ 21 ∷ 22 ∷ 23 ∷ 24 ∷ 25 ∷ []
 
--- which classes declare a method of the row
-abbrev declares : ℕ → Native → Bool
-declares class StringLength = class == 1
-declares class CharAt = class == 1
-declares class StringEquals = class == 1
-declares class StringHashCode = class == 1
-declares class CompareTo = class == 1
-declares class StringToString = class == 1
-declares class Substring = class == 1
-declares class BuilderInit = (class == 2) || (class == 3)
-declares class (Append shown) = (class == 2) || (class == 3)
-declares class BuilderLength = (class == 2) || (class == 3)
-declares class BuilderToString = (class == 2) || (class == 3)
-declares class BufferInitOf = (class == 2) || (class == 3)
-declares class ThrowableInit = is_among class throwables
-declares class ThrowableInitOf = is_among class throwables
-declares class GetMessage = is_among class throwables
-declares class ThrowableToString = is_among class throwables
-declares class row = true
+-- which classes declare methods with the receiver
+abbrev declares : ℕ → Receiver → Bool
+declares class TextReceiver = class == 1
+declares class BuilderReceiver = (class == 2) || (class == 3)
+declares class ThrowableReceiver = is_among class throwables
+declares class other = true
 
 -- ---- the table
 
@@ -138,7 +94,7 @@ bools_same false false is = refl
 abbrev fits_row : OwnedMethod → Option Native → Bool
 fits_row m None = true
 fits_row m (Some row) =
-    bytes_eq m.method.descriptor (descriptor_of (m.class == 3) row) && (same_bool (is_static m.method.flags) (not (has_receiver row)) && declares m.class row)
+    bytes_eq m.method.descriptor (descriptor_of (m.class == 3) row) && (same_bool (is_static m.method.flags) (not (has_receiver row)) && declares m.class (native_type row).receiver)
 
 abbrev fits_it : OwnedMethod → Bool
 fits_it m = fits_row m (option_and_then native_of_row m.method.row)
@@ -260,7 +216,7 @@ module _ (o : Outline) (more : List DeclaredClass) (classes : o.classes ≡ buil
       ∙ ap (λ n. slot.Ref (type_of_class n) ∷ [])
       (sym (⊎_elim (λ two. eqb-true class 2 two) (λ three. absurd (false≢true (sym here ∙ three))) (or_cases (class == 2) (class == 3) is)))
 
-  result_are : (class : ℕ) (buffer : Bool) → (class == 3) ≡ buffer → (row : Native) → declares class row ≡ true → Result class buffer row
+  result_are : (class : ℕ) (buffer : Bool) → (class == 3) ≡ buffer → (row : Native) → declares class (native_type row).receiver ≡ true → Result class buffer row
   result_are class buffer here ObjectInit is = refl
   result_are class buffer here ObjectHashCode is = refl
   result_are class buffer here ObjectEquals is = refl
@@ -421,24 +377,12 @@ module _ (p : Program) (runnable : IsRunnable p) (tree : AreTree p.outline.class
       subst (λ w. fits_type out.classes t w ≡ true) (sym (named_class p (codes "java/lang/Throwable") 7 runnable throwable_there))
       (type-trans out.classes tree t (type_of_class class) (type_of_class 7) fits higher)
 
-  receives : (class : ℕ) (row : Native) → declares class row ≡ true → (t : TypeRef) → fits_type out.classes t (type_of_class class) ≡ true → suits_row out row t ≡ true
-  receives class StringLength is t fits = text_fits class is t fits
-  receives class CharAt is t fits = text_fits class is t fits
-  receives class StringEquals is t fits = text_fits class is t fits
-  receives class StringHashCode is t fits = text_fits class is t fits
-  receives class CompareTo is t fits = text_fits class is t fits
-  receives class StringToString is t fits = text_fits class is t fits
-  receives class Substring is t fits = text_fits class is t fits
-  receives class BuilderInit is t fits = builder_fits class is t fits
-  receives class (Append shown) is t fits = builder_fits class is t fits
-  receives class BuilderLength is t fits = builder_fits class is t fits
-  receives class BuilderToString is t fits = builder_fits class is t fits
-  receives class BufferInitOf is t fits = builder_fits class is t fits
-  receives class ThrowableInit is t fits = throwable_fits class is t fits
-  receives class ThrowableInitOf is t fits = throwable_fits class is t fits
-  receives class GetMessage is t fits = throwable_fits class is t fits
-  receives class ThrowableToString is t fits = throwable_fits class is t fits
-  receives class row is t fits = refl
+  receives : (class : ℕ) (receiver : Receiver) → declares class receiver ≡ true → (t : TypeRef) → fits_type out.classes t (type_of_class class) ≡ true
+      → suits out receiver t ≡ true
+  receives class TextReceiver is t fits = text_fits class is t fits
+  receives class BuilderReceiver is t fits = builder_fits class is t fits
+  receives class ThrowableReceiver is t fits = throwable_fits class is t fits
+  receives class other is t fits = refl
 
   -- ---- all together
 
@@ -452,8 +396,8 @@ module _ (p : Program) (runnable : IsRunnable p) (tree : AreTree p.outline.class
   asked_by : (method : ℕ) (row : Native) → fits_row (here method) (Some row) ≡ true → TakesAsAsked out method row
   asked_by method row fits =
       let m : OwnedMethod = here method in
-      let first = and_parts (bytes_eq m.method.descriptor (descriptor_of (m.class == 3) row)) (same_bool (is_static m.method.flags) (not (has_receiver row)) && declares m.class row) fits in
-      let second = and_parts (same_bool (is_static m.method.flags) (not (has_receiver row))) (declares m.class row) first.1 in
+      let first = and_parts (bytes_eq m.method.descriptor (descriptor_of (m.class == 3) row)) (same_bool (is_static m.method.flags) (not (has_receiver row)) && declares m.class (native_type row).receiver) fits in
+      let second = and_parts (same_bool (is_static m.method.flags) (not (has_receiver row))) (declares m.class (native_type row).receiver) first.1 in
       let descriptor : m.method.descriptor ≡ descriptor_of (m.class == 3) row =
       (bytes_eq-Decides m.method.descriptor (descriptor_of (m.class == 3) row)).0 first.0 in
       record {
@@ -461,7 +405,7 @@ module _ (p : Program) (runnable : IsRunnable p) (tree : AreTree p.outline.class
         result = ap (λ d. stack_slots (option_to_list (result_kind out.classes d))) descriptor
             ∙ result_are out given runnable.classes m.class (m.class == 3) refl row second.1;
         static = bools_same (is_static m.method.flags) (not (has_receiver row)) second.0;
-        receiver = λ instance t fits_class. receives m.class row second.1 t fits_class;
+        receiver = λ instance t fits_class. receives m.class (native_type row).receiver second.1 t fits_class;
       }
 
   pub built_ins_asked : ((method : ℕ) → length (methods_of built_in) ≤ method → (here method).method.row ≡ None) → (method : ℕ) (row : Native)

@@ -15,7 +15,7 @@ use Rattle.fm_frames.specs.Acts.{cell_of}
 use Rattle.fm_frames.specs.Effects.{acting, Effect, Exits, Falls, faulty, int_word, making, Next, OfMade, OfOperand, Source, Throws, words}
 use Rattle.fm_frames.specs.Elements.{is_text_type}
 use Rattle.fm_frames.specs.NativeRows.{builder_native, has_text, native_effect, object_native, on_builder, on_built, on_shown, shown_words, stream_native, string_native, text_kind, text_made, text_type, throwable_native, thrown_outside}
-use Rattle.fm_frames.specs.Natives.{Append, BufferInitOf, BuilderInit, BuilderLength, BuilderToString, CharAt, CompareTo, Exit, FreeMeFree, FreeMeFreeChain, FreeMeLink, GetMessage, Native, ObjectEquals, ObjectHashCode, ObjectInit, ObjectToString, Print, Println, PrintlnNothing, Read, Shown, ShownBoolean, ShownChar, ShownInt, ShownLong, ShownText, StringEquals, StringHashCode, StringLength, StringToString, Substring, ThrowableInit, ThrowableInitOf, ThrowableToString, ValueOf}
+use Rattle.fm_frames.specs.Natives.{Append, BufferInitOf, BuilderInit, BuilderLength, BuilderToString, CharAt, CompareTo, Exit, FreeMeFree, FreeMeFreeChain, FreeMeLink, GetMessage, has_receiver, Native, ObjectEquals, ObjectHashCode, ObjectInit, ObjectToString, Print, Println, PrintlnNothing, Read, Shown, ShownBoolean, ShownChar, ShownInt, ShownLong, ShownText, StringEquals, StringHashCode, StringLength, StringToString, Substring, ThrowableInit, ThrowableInitOf, ThrowableToString, ValueOf}
 use Rattle.fm_frames.specs.Operands.{on_any, on_inner, on_inner_of, on_int, on_object, on_passing, on_text, on_text_or_null, thrown}
 use Rattle.fm_frames.specs.Sights.{has_hidden_field, inner_of, Inner, led_to, Looks, looks, Lost, Missing, NoField, Sight, sights, Text, text_in, Thing, type_numbered}
 use Rattle.fm_frames.specs.States.{Areas, word_at}
@@ -24,7 +24,7 @@ use Rattle.fm_law_sound.specs.Making.{is_built}
 use Rattle.fm_law_sound.specs.Sound.{IsReference}
 use Rattle.fm_law_sound.proofs.Cases.{by_if}
 use Rattle.fm_law_sound.proofs.SeenObjects.{IsSeen, seen_at}
-use Rattle.fm_law_no_fault.specs.CellsResolved.{arguments_asked, has_receiver, result_given, shown_asked, suits_row}
+use Rattle.fm_law_no_fault.specs.CellsResolved.{arguments_asked, result_given, shown_asked, suits_row}
 use Rattle.fm_law_no_fault.specs.Doing.{SourceLeadsTo}
 use Rattle.fm_law_no_fault.specs.Whole.{LeadsToA, ObjectIsWhole}
 use Rattle.fm_law_no_fault.proofs.ActsKeep.{types_after, Went}

@@ -23,7 +23,7 @@ use Rattle.fm_world.specs.declared.uses.Use.TheVariants as resolved
 use Rattle.fm_frames.specs.CallRows.{native_of}
 use Rattle.fm_frames.specs.Elements.{is_text_type}
 use Rattle.fm_frames.specs.NativeRows.{text_kind, text_type}
-use Rattle.fm_frames.specs.Natives.{Append, BufferInitOf, BuilderInit, BuilderLength, BuilderToString, CharAt, CompareTo, Exit, FreeMeFree, FreeMeFreeChain, FreeMeLink, GetMessage, Native, ObjectEquals, ObjectInit, ObjectToString, Print, Println, PrintlnNothing, Shown, ShownBoolean, ShownChar, ShownInt, ShownLong, ShownText, StringEquals, StringHashCode, StringLength, StringToString, Substring, ThrowableInit, ThrowableInitOf, ThrowableToString, ValueOf}
+use Rattle.fm_frames.specs.Natives.{AGiven, AnObject, AShown, BuilderReceiver, from_top, Given, has_receiver, Native, native_type, Nothing, OwnObject, Receiver, Returned, Shown, ShownBoolean, ShownChar, ShownInt, ShownLong, ShownText, TextReceiver, ThrowableReceiver}
 use Rattle.fm_frames.specs.ObjectRows.{kind_of_field}
 use Rattle.fm_frames.specs.Runs.{arguments_type}
 use Rattle.fm_frames.specs.Sights.{has_hidden_field}
@@ -79,77 +79,35 @@ shown_asked o ShownChar = slot.Int ∷ []
 shown_asked o ShownBoolean = slot.Int ∷ []
 shown_asked o ShownText = slot.Ref (text_type o) ∷ []
 
+-- the words of a value
+abbrev pub given_asked : Outline → Given → List Slot
+given_asked o (AShown shown) = shown_asked o shown
+given_asked o AnObject = object_slot o ∷ []
+
 -- the words of a built-in method's arguments, the topmost first
 abbrev pub arguments_asked : Outline → Native → List Slot
-arguments_asked o ObjectEquals = object_slot o ∷ []
-arguments_asked o CharAt = slot.Int ∷ []
-arguments_asked o StringEquals = object_slot o ∷ []
-arguments_asked o CompareTo = slot.Ref (text_type o) ∷ []
-arguments_asked o Substring = slot.Int ∷ slot.Int ∷ []
-arguments_asked o (ValueOf shown) = shown_asked o shown
-arguments_asked o (Append shown) = shown_asked o shown
-arguments_asked o BufferInitOf = slot.Ref (text_type o) ∷ []
-arguments_asked o Exit = slot.Int ∷ []
-arguments_asked o (Print shown) = shown_asked o shown
-arguments_asked o (Println shown) = shown_asked o shown
-arguments_asked o ThrowableInitOf = slot.Ref (text_type o) ∷ []
-arguments_asked o FreeMeFree = object_slot o ∷ []
-arguments_asked o FreeMeLink = object_slot o ∷ object_slot o ∷ []
-arguments_asked o FreeMeFreeChain = object_slot o ∷ []
-arguments_asked o row = []
+arguments_asked o row = from_top (given_asked o) (native_type row).arguments
 
--- whether an object of the type may be the receiver of a built-in method: a text, one that builds a text, or a throwable
+-- whether an object of the type may be a receiver: a text, one that builds a text, or a throwable
+abbrev pub suits : Outline → Receiver → TypeRef → Bool
+suits o TextReceiver t = fits_type o.classes t (text_type o)
+suits o BuilderReceiver t = is_built o t
+suits o ThrowableReceiver t = fits_type o.classes t (throwable_type o)
+suits o other t = true
+
+-- whether it may be the receiver of a built-in method
 abbrev pub suits_row : Outline → Native → TypeRef → Bool
-suits_row o StringLength t = fits_type o.classes t (text_type o)
-suits_row o CharAt t = fits_type o.classes t (text_type o)
-suits_row o StringEquals t = fits_type o.classes t (text_type o)
-suits_row o StringHashCode t = fits_type o.classes t (text_type o)
-suits_row o CompareTo t = fits_type o.classes t (text_type o)
-suits_row o StringToString t = fits_type o.classes t (text_type o)
-suits_row o Substring t = fits_type o.classes t (text_type o)
-suits_row o BuilderInit t = is_built o t
-suits_row o (Append shown) t = is_built o t
-suits_row o BuilderLength t = is_built o t
-suits_row o BuilderToString t = is_built o t
-suits_row o BufferInitOf t = is_built o t
-suits_row o ThrowableInit t = fits_type o.classes t (throwable_type o)
-suits_row o ThrowableInitOf t = fits_type o.classes t (throwable_type o)
-suits_row o GetMessage t = fits_type o.classes t (throwable_type o)
-suits_row o ThrowableToString t = fits_type o.classes t (throwable_type o)
-suits_row o row t = true
+suits_row o row t = suits o (native_type row).receiver t
 
--- whether a built-in method has a receiver
-abbrev pub has_receiver : Native → Bool
-has_receiver (ValueOf shown) = false
-has_receiver Exit = false
-has_receiver FreeMeFree = false
-has_receiver FreeMeLink = false
-has_receiver FreeMeFreeChain = false
-has_receiver row = true
+-- the words that a method of a class returns
+abbrev pub returned_asked : Outline → TypeRef → Returned → List Slot
+returned_asked o t Nothing = []
+returned_asked o t (AGiven given) = given_asked o given
+returned_asked o t OwnObject = slot.Ref t ∷ []
 
 -- the words that a built-in method of a class gives
 abbrev pub result_given : Outline → TypeRef → Native → List Slot
-result_given o t ObjectInit = []
-result_given o t ObjectToString = slot.Ref (text_type o) ∷ []
-result_given o t StringToString = slot.Ref (text_type o) ∷ []
-result_given o t Substring = slot.Ref (text_type o) ∷ []
-result_given o t (ValueOf shown) = slot.Ref (text_type o) ∷ []
-result_given o t BuilderInit = []
-result_given o t (Append shown) = slot.Ref t ∷ []
-result_given o t BuilderToString = slot.Ref (text_type o) ∷ []
-result_given o t BufferInitOf = []
-result_given o t Exit = []
-result_given o t (Print shown) = []
-result_given o t (Println shown) = []
-result_given o t PrintlnNothing = []
-result_given o t ThrowableInit = []
-result_given o t ThrowableInitOf = []
-result_given o t GetMessage = slot.Ref (text_type o) ∷ []
-result_given o t ThrowableToString = slot.Ref (text_type o) ∷ []
-result_given o t FreeMeFree = []
-result_given o t FreeMeLink = object_slot o ∷ []
-result_given o t FreeMeFreeChain = []
-result_given o t row = slot.Int ∷ []
+result_given o t row = returned_asked o t (native_type row).result
 
 -- A built-in method has the parameters that its row looks at, and the result that its row gives; and what fits the class that declares it may be its receiver.
 pub record TakesAsAsked (o : Outline) (method : ℕ) (row : Native) : Type 0 where

@@ -1,11 +1,11 @@
 -- The words that the built-in methods take and give, and what their effects owe.
-use Rattle.std.specs.Prelude.{◌≡◌, ℕ, List, [], ◌∷◌, ◌++◌, length}
+use Rattle.std.specs.Prelude.{◌≡◌, ℕ, Bool, true, false, List, [], ◌∷◌, ◌++◌, length}
 use Rattle.fm_types.specs.declared.slots.Slot.{Slot}
 use Rattle.fm_types.specs.declared.slots.Slot.TheVariants as slot
 use Rattle.fm_world.specs.Programs.{Outline}
 use Rattle.fm_frames.specs.Acts.{value_of}
 use Rattle.fm_frames.specs.Effects.{Effect, Next, Falls, Throws, Exits, Faults, Source}
-use Rattle.fm_frames.specs.Natives.{Shown, ShownInt, ShownLong, ShownChar, ShownBoolean, ShownText, Native, ObjectInit, ObjectEquals, ObjectToString, CharAt, StringEquals, CompareTo, StringToString, Substring, ValueOf, BuilderInit, Append, BuilderToString, BufferInitOf, Exit, Print, Println, PrintlnNothing, ThrowableInit, ThrowableInitOf, GetMessage, ThrowableToString, FreeMeFree, FreeMeLink, FreeMeFreeChain}
+use Rattle.fm_frames.specs.Natives.{AGiven, AnObject, AShown, from_top, Given, has_receiver, Native, native_type, Nothing, OwnObject, Returned, Shown, ShownBoolean, ShownChar, ShownInt, ShownLong, ShownText}
 use Rattle.fm_frames.specs.States.{Areas, Frame}
 use Rattle.std.specs.Prelude.{map}
 use Rattle.fm_law_sound.specs.Leading.{sources_of}
@@ -23,46 +23,29 @@ shown_slots ShownChar = slot.Int ∷ []
 shown_slots ShownBoolean = slot.Int ∷ []
 shown_slots ShownText = reference ∷ []
 
+-- the words of a value: those of an object are a reference
+abbrev pub given_slots : Given → List Slot
+given_slots (AShown shown) = shown_slots shown
+given_slots AnObject = reference ∷ []
+
+-- with the receiver below them, where there is one
+abbrev pub above_receiver : Bool → List Slot → List Slot
+above_receiver true arguments = arguments ++ reference ∷ []
+above_receiver false arguments = arguments
+
 -- the words that a built-in method takes, the topmost first and the receiver last
 abbrev pub native_slots : Native → List Slot
-native_slots ObjectEquals = reference ∷ reference ∷ []
-native_slots CharAt = slot.Int ∷ reference ∷ []
-native_slots StringEquals = reference ∷ reference ∷ []
-native_slots CompareTo = reference ∷ reference ∷ []
-native_slots Substring = slot.Int ∷ slot.Int ∷ reference ∷ []
-native_slots (ValueOf shown) = shown_slots shown
-native_slots (Append shown) = shown_slots shown ++ reference ∷ []
-native_slots BufferInitOf = reference ∷ reference ∷ []
-native_slots Exit = slot.Int ∷ []
-native_slots (Print shown) = shown_slots shown ++ reference ∷ []
-native_slots (Println shown) = shown_slots shown ++ reference ∷ []
-native_slots ThrowableInitOf = reference ∷ reference ∷ []
-native_slots FreeMeLink = reference ∷ reference ∷ []
-native_slots row = reference ∷ []
+native_slots row = above_receiver (has_receiver row) (from_top given_slots (native_type row).arguments)
+
+-- the words that are returned
+abbrev pub returned_slots : Returned → List Slot
+returned_slots Nothing = []
+returned_slots (AGiven given) = given_slots given
+returned_slots OwnObject = reference ∷ []
 
 -- the words that it gives
 abbrev pub native_result : Native → List Slot
-native_result ObjectInit = []
-native_result ObjectToString = reference ∷ []
-native_result StringToString = reference ∷ []
-native_result Substring = reference ∷ []
-native_result (ValueOf shown) = reference ∷ []
-native_result BuilderInit = []
-native_result (Append shown) = reference ∷ []
-native_result BuilderToString = reference ∷ []
-native_result BufferInitOf = []
-native_result Exit = []
-native_result (Print shown) = []
-native_result (Println shown) = []
-native_result PrintlnNothing = []
-native_result ThrowableInit = []
-native_result ThrowableInitOf = []
-native_result GetMessage = reference ∷ []
-native_result ThrowableToString = reference ∷ []
-native_result FreeMeFree = []
-native_result FreeMeLink = reference ∷ []
-native_result FreeMeFreeChain = []
-native_result row = slot.Int ∷ []
+native_result row = returned_slots (native_type row).result
 
 -- the sources give words of these slots, as long as static fields have their kinds
 abbrev pub GivesSlots : Outline → Frame → List Slot → List Source → Type 0

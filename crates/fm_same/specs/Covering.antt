@@ -1,6 +1,6 @@
 -- What is required of calls: the method that a call leads to is among its targets, and a built-in
 -- method has the words and the ends that its row works on.
-use Rattle.std.specs.Prelude.{◌≡◌, ℕ, ◌+◌, ◌-◌, ◌≤◌, Bool, true, false, Some, List, [], ◌∷◌, length, Contains, slice_get}
+use Rattle.std.specs.Prelude.{◌≡◌, ℕ, ◌+◌, ◌-◌, ◌≤◌, Bool, true, false, Some, List, [], ◌∷◌, length, Contains, slice_get, if◌then◌else◌}
 use Rattle.fm_base.specs.declared.ids.MethodId.{MethodId}
 use Rattle.fm_base.specs.declared.ids.TypeId.{TypeId}
 use Rattle.fm_base.specs.declared.kinds.TypeRef.{TypeRef}
@@ -24,7 +24,7 @@ use Rattle.fm_world.specs.declared.uses.Use.{Use}
 use Rattle.fm_world.specs.declared.uses.Use.TheVariants as resolved
 use Rattle.fm_frames.specs.CallRows.{native_of, receiver_class, words_of_arguments}
 use Rattle.fm_frames.specs.NativeRows.{shown_words}
-use Rattle.fm_frames.specs.Natives.{Native, ObjectInit, ObjectHashCode, ObjectEquals, ObjectToString, StringLength, CharAt, StringEquals, StringHashCode, CompareTo, StringToString, Substring, ValueOf, BuilderInit, Append, BuilderLength, BuilderToString, BufferInitOf, Exit, Print, Println, PrintlnNothing, Read, ThrowableInit, ThrowableInitOf, GetMessage, ThrowableToString, FreeMeFree, FreeMeLink, FreeMeFreeChain, native_of_row}
+use Rattle.fm_frames.specs.Natives.{AnObject, Append, AShown, FreeMeFree, FreeMeFreeChain, FreeMeLink, GetMessage, Given, has_receiver, Native, native_of_row, native_type, StringToString, ThrowableInitOf}
 use Rattle.fm_frames.specs.Sights.{Looks, Sight, sights, Thing}
 use Rattle.fm_frames.specs.States.{Frame, State}
 use Rattle.fm_frames.specs.Steps.{effect_at}
@@ -71,37 +71,21 @@ Enters o caller u s other target = ⊥
 
 -- ---- built-in methods
 
+-- the number of the words of a value
+abbrev pub given_words : Given → ℕ
+given_words (AShown shown) = shown_words shown
+given_words AnObject = 1
+
+-- of all arguments
+abbrev pub arguments_words : List Given → ℕ
+arguments_words [] = 0
+arguments_words (argument ∷ []) = given_words argument
+arguments_words (argument ∷ next ∷ arguments) = given_words argument + arguments_words (next ∷ arguments)
+
 -- the words that a row takes, with the receiver
 abbrev pub native_words : Native → ℕ
-native_words ObjectInit = 1
-native_words ObjectHashCode = 1
-native_words ObjectEquals = 2
-native_words ObjectToString = 1
-native_words StringLength = 1
-native_words CharAt = 2
-native_words StringEquals = 2
-native_words StringHashCode = 1
-native_words CompareTo = 2
-native_words StringToString = 1
-native_words Substring = 3
-native_words (ValueOf shown) = shown_words shown
-native_words BuilderInit = 1
-native_words (Append shown) = shown_words shown + 1
-native_words BuilderLength = 1
-native_words BuilderToString = 1
-native_words BufferInitOf = 2
-native_words Exit = 1
-native_words (Print shown) = shown_words shown + 1
-native_words (Println shown) = shown_words shown + 1
-native_words PrintlnNothing = 1
-native_words Read = 1
-native_words ThrowableInit = 1
-native_words ThrowableInitOf = 2
-native_words GetMessage = 1
-native_words ThrowableToString = 1
-native_words FreeMeFree = 1
-native_words FreeMeLink = 2
-native_words FreeMeFreeChain = 1
+native_words row =
+    if has_receiver row then arguments_words (native_type row).arguments + 1 else arguments_words (native_type row).arguments
 
 -- the ends that a row works on are references; and nothing is freed or chained
 abbrev pub NativeEnds : Outline → (method : ℕ) → Native → Type 0
