@@ -1,6 +1,6 @@
 -- The rows of built-in methods: what they give or keep is joined through the ends that they link, and a new text's home is the word that it becomes, or the
 -- object that it is put into.
-use Rattle.std.proofs.Common.{◌≡◌, ℕ, ℤ, pos, int_lt, not, ◌||◌, zero, suc, ◌+◌, ◌-◌, ◌≤◌, ◌==◌, ◌&&◌, Bool, true, false, List, [], ◌∷◌, ◌++◌, length, Option, Some, None, codes, Contains, refl, sym, ◌∙◌, ap, subst, inl, inr, slice_get, arith, eqb-true}
+use Rattle.std.proofs.Common.{◌≡◌, ℕ, ℤ, pos, int_lt, not, ◌||◌, zero, suc, ◌+◌, ◌-◌, ◌≤◌, ◌==◌, ◌&&◌, Bool, true, false, List, [], ◌∷◌, ◌++◌, length, Option, Some, None, codes, cond, Contains, refl, sym, ◌∙◌, ap, subst, inl, inr, slice_get, arith, eqb-true}
 use Rattle.std.proofs.lemmas.Bool.{and_parts}
 use Rattle.std.proofs.lemmas.Option.{same_Some}
 use Rattle.fm_base.proofs.OptionFacts.{IsSomeAnd-from_some}
@@ -39,80 +39,66 @@ use Rattle.fm_same.proofs.PlainRows.{fault_obeys, faulty_obeys, IsPlainSource, n
 
 -- ---- rows by number
 
--- the place of a row in the list of all
+abbrev same_shown : Shown → Shown → Bool
+same_shown ShownInt ShownInt = true
+same_shown ShownLong ShownLong = true
+same_shown ShownChar ShownChar = true
+same_shown ShownBoolean ShownBoolean = true
+same_shown ShownText ShownText = true
+same_shown shown other = false
+
+itself : (shown : Shown) → same_shown shown shown ≡ true
+itself ShownInt = refl
+itself ShownLong = refl
+itself ShownChar = refl
+itself ShownBoolean = refl
+itself ShownText = refl
+
+-- whether two rows are the same, and link ends
+abbrev same_linking : Native → Native → Bool
+same_linking StringToString StringToString = true
+same_linking (Append shown) (Append other) = same_shown shown other
+same_linking ThrowableInitOf ThrowableInitOf = true
+same_linking GetMessage GetMessage = true
+same_linking row other = false
+
+abbrev place_from : ℕ → List Native → Native → ℕ
+place_from k [] row = k
+place_from k (first ∷ rows) row = cond (same_linking first row) k (place_from (suc k) rows row)
+
+-- the place of a row that links ends in the list of all
 abbrev place_of : Native → ℕ
-place_of ObjectInit = 0
-place_of ObjectHashCode = 1
-place_of ObjectEquals = 2
-place_of ObjectToString = 3
-place_of StringLength = 4
-place_of CharAt = 5
-place_of StringEquals = 6
-place_of StringHashCode = 7
-place_of CompareTo = 8
-place_of StringToString = 9
-place_of Substring = 10
-place_of (ValueOf ShownInt) = 11
-place_of (ValueOf ShownLong) = 12
-place_of (ValueOf ShownChar) = 13
-place_of (ValueOf ShownBoolean) = 14
-place_of (ValueOf ShownText) = 100
-place_of BuilderInit = 15
-place_of (Append ShownInt) = 16
-place_of (Append ShownLong) = 17
-place_of (Append ShownChar) = 18
-place_of (Append ShownBoolean) = 19
-place_of (Append ShownText) = 20
-place_of BuilderLength = 21
-place_of BuilderToString = 22
-place_of BufferInitOf = 23
-place_of Exit = 24
-place_of (Print ShownInt) = 25
-place_of (Print ShownLong) = 26
-place_of (Print ShownChar) = 27
-place_of (Print ShownBoolean) = 28
-place_of (Print ShownText) = 29
-place_of (Println ShownInt) = 30
-place_of (Println ShownLong) = 31
-place_of (Println ShownChar) = 32
-place_of (Println ShownBoolean) = 33
-place_of (Println ShownText) = 34
-place_of PrintlnNothing = 35
-place_of Read = 36
-place_of ThrowableInit = 37
-place_of ThrowableInitOf = 38
-place_of GetMessage = 39
-place_of ThrowableToString = 40
-place_of FreeMeFree = 41
-place_of FreeMeLink = 42
-place_of FreeMeFreeChain = 43
+place_of row = place_from 0 natives row
 
 abbrev are_numbered : ℕ → List Native → Bool
 are_numbered k [] = true
-are_numbered k (row ∷ rows) = (place_of row == k) && are_numbered (suc k) rows
+are_numbered k (row ∷ rows) = (not (same_linking row row) || (place_of row == k)) && are_numbered (suc k) rows
 
-placed : (k : ℕ) (rows : List Native) (n : ℕ) (row : Native) → are_numbered k rows ≡ true → slice_get rows n ≡ Some row → k + n ≡ place_of row
-placed k [] n row h at = absurd (cc)
-placed k (first ∷ rows) zero row h at =
-    let parts = and_parts (place_of first == k) (are_numbered (suc k) rows) h in
-    let is : place_of first ≡ k = eqb-true (place_of first) k parts.0 in
+placed : (k : ℕ) (rows : List Native) (n : ℕ) (row : Native) → same_linking row row ≡ true → are_numbered k rows ≡ true → slice_get rows n ≡ Some row
+    → k + n ≡ place_of row
+placed k [] n row links h at = absurd (cc)
+placed k (first ∷ rows) zero row links h at =
+    let parts = and_parts (not (same_linking first first) || (place_of first == k)) (are_numbered (suc k) rows) h in
     let same : first ≡ row = same_Some first row at in
-    let there : place_of first ≡ place_of row = ap place_of same in
-    omega (arith, is, there)
-placed k (first ∷ rows) (suc n) row h at =
-    let parts = and_parts (place_of first == k) (are_numbered (suc k) rows) h in
-    let rest : suc k + n ≡ place_of row = placed (suc k) rows n row parts.1 at in
+    let numbered : (not (same_linking row row) || (place_of row == k)) ≡ true =
+    subst (λ r. (not (same_linking r r) || (place_of r == k)) ≡ true) same parts.0 in
+    let is : (place_of row == k) ≡ true = sym (ap (λ b. not b || (place_of row == k)) links) ∙ numbered in
+    let there : place_of row ≡ k = eqb-true (place_of row) k is in
+    omega (arith, there)
+placed k (first ∷ rows) (suc n) row links h at =
+    let parts = and_parts (not (same_linking first first) || (place_of first == k)) (are_numbered (suc k) rows) h in
+    let rest : suc k + n ≡ place_of row = placed (suc k) rows n row links parts.1 at in
     omega (arith, rest)
 
-number_of : (number : ℕ) (row : Native) → native_of_row number ≡ Some row → number ≡ place_of row
-number_of number row at = let is : 0 + number ≡ place_of row = placed 0 natives number row refl at in omega (arith, is)
+number_of : (number : ℕ) (row : Native) → same_linking row row ≡ true → native_of_row number ≡ Some row → number ≡ place_of row
+number_of number row links at = let is : 0 + number ≡ place_of row = placed 0 natives number row links refl at in omega (arith, is)
 
 -- ---- what rows link
 
 receiver_link : (links : List (End2 × End2)) → links ≡ result_and_receiver → Contains links (end.Return, end.Parameter 0)
 receiver_link links is = subst (λ l. Contains l (end.Return, end.Parameter 0)) (sym is) (0, omega arith, refl)
 
-to_string_link : IsNativeLink 9 end.Return (end.Parameter 0)
+to_string_link : IsNativeLink (place_of StringToString) end.Return (end.Parameter 0)
 unfolding native_links built_in methods_of chain_of
 to_string_link = record { links = result_and_receiver; row_has = (0, omega arith, refl); among = inl (0, omega arith, refl) }
 
@@ -124,11 +110,11 @@ append_link ShownChar = record { links = result_and_receiver; row_has = (3, omeg
 append_link ShownBoolean = record { links = result_and_receiver; row_has = (4, omega arith, refl); among = inl (0, omega arith, refl) }
 append_link ShownText = record { links = result_and_receiver; row_has = (5, omega arith, refl); among = inl (0, omega arith, refl) }
 
-message_link : IsNativeLink 38 (end.Parameter 0) (end.Parameter 1)
+message_link : IsNativeLink (place_of ThrowableInitOf) (end.Parameter 0) (end.Parameter 1)
 unfolding native_links built_in methods_of chain_of
 message_link = record { links = (end.Parameter 0, end.Parameter 1) ∷ []; row_has = (6, omega arith, refl); among = inl (0, omega arith, refl) }
 
-get_message_link : IsNativeLink 39 end.Return (end.Parameter 0)
+get_message_link : IsNativeLink (place_of GetMessage) end.Return (end.Parameter 0)
 unfolding native_links built_in methods_of chain_of
 get_message_link = record { links = result_and_receiver; row_has = (7, omega arith, refl); among = inl (0, omega arith, refl) }
 
@@ -443,13 +429,13 @@ module _ (p : Program) (facts : Facts) (exact : AreFacts p facts) (f : Frame) (i
   native_obeys CompareTo c byte s = compare_rows p facts exact f i h target CompareTo c s (omega arith)
   native_obeys StringToString c byte s =
       self_rows p facts exact f i h target StringToString c s refl c.ends.0 c.ends.1
-      (link_at c.number 9 end.Return (end.Parameter 0) (number_of c.number StringToString c.row_is) to_string_link)
+      (link_at c.number (place_of StringToString) end.Return (end.Parameter 0) (number_of c.number StringToString refl c.row_is) to_string_link)
   native_obeys Substring c byte s = part_rows p facts exact f i h target Substring c s (omega arith)
   native_obeys (ValueOf shown) c byte s = value_rows p facts exact f i h target (ValueOf shown) c shown s (omega arith)
   native_obeys BuilderInit c byte s = builder_init_rows p facts exact f i h target BuilderInit c s (omega arith)
   native_obeys (Append shown) c byte s =
       append_rows p facts exact f i h target (Append shown) c shown s refl c.ends.0 c.ends.1
-      (link_at c.number (place_of (Append shown)) end.Return (end.Parameter 0) (number_of c.number (Append shown) c.row_is) (append_link shown))
+      (link_at c.number (place_of (Append shown)) end.Return (end.Parameter 0) (number_of c.number (Append shown) (itself shown) c.row_is) (append_link shown))
   native_obeys BuilderLength c byte s = builder_length_rows p facts exact f i h target BuilderLength c s (omega arith)
   native_obeys BuilderToString c byte s = builder_string_rows p facts exact f i h target BuilderToString c s (omega arith)
   native_obeys BufferInitOf c byte s = buffer_init_rows p facts exact f i h target BufferInitOf c s (omega arith)
@@ -461,10 +447,10 @@ module _ (p : Program) (facts : Facts) (exact : AreFacts p facts) (f : Frame) (i
   native_obeys ThrowableInit c byte s = throwable_init_rows p facts exact f i h target ThrowableInit c s (omega arith)
   native_obeys ThrowableInitOf c byte s =
       message_rows p facts exact f i h target ThrowableInitOf c s refl c.ends.0 c.ends.1
-      (link_at c.number 38 (end.Parameter 0) (end.Parameter 1) (number_of c.number ThrowableInitOf c.row_is) message_link)
+      (link_at c.number (place_of ThrowableInitOf) (end.Parameter 0) (end.Parameter 1) (number_of c.number ThrowableInitOf refl c.row_is) message_link)
   native_obeys GetMessage c byte s =
       get_message_rows p facts exact f i h target GetMessage c s refl c.ends.0 c.ends.1
-      (link_at c.number 39 end.Return (end.Parameter 0) (number_of c.number GetMessage c.row_is) get_message_link)
+      (link_at c.number (place_of GetMessage) end.Return (end.Parameter 0) (number_of c.number GetMessage refl c.row_is) get_message_link)
   native_obeys ThrowableToString c byte s = throwable_string_rows p facts exact f i h target ThrowableToString c s (omega arith)
   native_obeys FreeMeFree c byte s = absurd c.ends
   native_obeys FreeMeLink c byte s = absurd c.ends
