@@ -1,50 +1,20 @@
 -- What each instruction but one makes: at most one object, and literals of texts that are there.
-use Rattle.std.proofs.Common.{◌≡◌, ℕ, pos, ◌+◌, ◌-◌, ◌<◌, ◌≤◌, ◌||◌, not, List, [], ◌∷◌, ◌++◌, codes, length, Option, Some, None, option_map, refl, sym, subst, arith}
-use Rattle.std.specs.Prelude.{int_lt, unsigned_abs, nat_lt}
+use Rattle.std.proofs.Common.{◌≡◌, ℕ, ◌<◌, ◌≤◌, List, [], ◌∷◌, length, Option, None, refl, sym, ◌∙◌, ap, subst, arith}
 use Rattle.std.specs.List.{AllByRecursion}
 use Rattle.std.proofs.lemmas.Option.{none-some}
-use Rattle.fm_alu.specs.Operations.{result_of_op}
-use Rattle.fm_base.specs.declared.kinds.Base.{Base}
-use Rattle.fm_base.specs.declared.kinds.Kind.{Kind}
-use Rattle.fm_base.specs.declared.kinds.Kind.TheVariants as kind
-use Rattle.fm_base.specs.declared.kinds.TypeRef.{TypeRef}
 use Rattle.fm_code.specs.declared.instructions.Insn.{Insn}
-use Rattle.fm_code.specs.declared.instructions.Insn.TheVariants as insn
-use Rattle.fm_code.specs.declared.operations.Conv.{Conv}
-use Rattle.fm_code.specs.declared.operations.Conv.TheVariants as conv
-use Rattle.fm_code.specs.declared.operations.Elem.{Elem}
-use Rattle.fm_code.specs.declared.operations.Elem.TheVariants as elem
-use Rattle.fm_code.specs.declared.operations.Op.{Op}
-use Rattle.fm_code.specs.declared.operations.Reg.{Reg}
-use Rattle.fm_code.specs.declared.operations.Reg.TheVariants as reg
-use Rattle.fm_frames.specs.ArrayRows as arrays
-use Rattle.fm_frames.specs.ArrayRows.{element_kind, element_type, on_element, put_element, put_reference}
-use Rattle.fm_frames.specs.CallRows as calls
-use Rattle.fm_frames.specs.CallRows.{entered, native_of, receiver_class, words_of_arguments}
-use Rattle.fm_frames.specs.Effects.{acting, Action, Calls, Effect, faulty, Faults, going, int_word, loaded, Make, MakeFixed, MakeLiteral, making, OfOperand, OfPlace, SetStatic, stuck, words}
-use Rattle.fm_frames.specs.JumpRows as jumps
-use Rattle.fm_frames.specs.NativeRows as table
-use Rattle.fm_frames.specs.NativeRows.{has_text, shown_words, text_made, thrown_outside}
-use Rattle.fm_frames.specs.Natives.{Native, ObjectInit, ObjectHashCode, ObjectEquals, ObjectToString, StringLength, CharAt, StringEquals, StringHashCode, CompareTo, StringToString, Substring, ValueOf, BuilderInit, Append, BuilderLength, BuilderToString, BufferInitOf, Exit, Print, Println, PrintlnNothing, Read, ThrowableInit, ThrowableInitOf, GetMessage, ThrowableToString, FreeMeFree, FreeMeLink, FreeMeFreeChain}
-use Rattle.fm_frames.specs.NumberRows as numbers
-use Rattle.fm_frames.specs.ObjectRows as objects
-use Rattle.fm_frames.specs.Operands.{thrown, thrown_null}
+use Rattle.fm_frames.specs.Effects.{Action, Effect, Free, FreeChain, Make, MakeFixed, MakeLiteral, Put, SetChain, SetStatic}
+use Rattle.fm_frames.specs.NativeRows.{has_text, text_made}
+use Rattle.fm_frames.specs.Operands.{thrown}
 use Rattle.fm_frames.specs.Rows.{effect_of}
-use Rattle.fm_frames.specs.Sights.{Looks, Sight}
+use Rattle.fm_frames.specs.Sights.{Sight}
 use Rattle.fm_frames.specs.Steps.{objects_made}
-use Rattle.fm_law_sound.proofs.Cases.{by_any, by_builder, by_built, by_held, by_if, by_inner, by_int, by_long, by_object, by_on_field, by_on_method, by_on_type, by_passing, by_reference, by_shown, by_text, by_thrown}
-use Rattle.fm_types.specs.Named.{built_in_type, class_of_method, throwable_type}
-use Rattle.fm_world.specs.BuiltIns.{string_name}
-use Rattle.fm_world.specs.Chains.{is_sub}
-use Rattle.fm_world.specs.Lookups.{select, special_target}
-use Rattle.fm_world.specs.Members.{slot_of}
-use Rattle.fm_world.specs.Programs.{class_of_type, Outline}
-use Rattle.fm_world.specs.Uses.{array_of, base_of_elem}
+use Rattle.fm_world.specs.Programs.{Outline}
 use Rattle.fm_world.specs.declared.uses.Use.{Use}
 use Rattle.fm_world.specs.declared.uses.Use.TheVariants as resolved
 use Rattle.fm_frames.specs.Runnable.{IsUseIn}
 use Rattle.fm_exec_nests.specs.inner.Costs.{nest_of}
-use Rattle.fm_base.specs.Kinds.{kind_words}
+use Rattle.fm_law_sound.proofs.EachRow.{each_row, Leaves}
 
 -- no object is made that lives for ever, but for literals of texts that are there
 abbrev pub IsMade : Outline → Action → Type 0
@@ -58,402 +28,32 @@ pub record IsCheap (o : Outline) (e : Effect) : Type 0 where
   pub made : AllByRecursion (IsMade o) e.actions
 
 module _ (o : Outline) where
-  abbrev A : Effect → Type 0
-  A e = IsCheap o e
-
-  plain : (e : Effect) → e.actions ≡ [] → A e
-  plain e none = record {
-    few = subst (λ actions. objects_made actions ≤ 1) (sym none) (omega arith);
-    made = subst (AllByRecursion (IsMade o)) (sym none) tt;
+  counted : (e : Effect) (actions : List Action) → objects_made actions ≤ 1 → AllByRecursion (IsMade o) actions → e.actions ≡ actions → IsCheap o e
+  counted e actions few all is = record {
+    few = subst (λ these. objects_made these ≤ 1) (sym is) few;
+    made = subst (AllByRecursion (IsMade o)) (sym is) all;
   }
 
-  counted : (e : Effect) (n : ℕ) → objects_made e.actions ≡ n → n ≤ 1 → AllByRecursion (IsMade o) e.actions → A e
-  counted e n is few made = record { few = omega (arith, is, few); made = made }
+  leaves : Leaves o (IsCheap o)
+  leaves = record {
+    plain = λ e is. counted e [] (omega arith) tt is;
+    thrown = λ name. counted (thrown o name) _ (omega arith) (tt, tt) refl;
+    made = λ e t len is. counted e (Make t len [] ∷ []) (omega arith) (tt, tt) is;
+    text = λ e units is. counted e (text_made o units ∷ []) (omega arith) (tt, tt) is;
+    text_put = λ e operand units is. counted e (has_text o operand units) (omega arith) (tt, (tt, tt)) is;
+    put = λ e object place k value is. counted e (Put object place k value ∷ []) (omega arith) (tt, tt) is;
+    static_put = λ e place k value is. counted e (SetStatic place k value ∷ []) (omega arith) (tt, tt) is;
+    chained = λ e operand to is. counted e (SetChain operand to ∷ []) (omega arith) (tt, tt) is;
+    freed = λ e starts operand is. counted e (Free operand ∷ []) (omega arith) (tt, tt) is;
+    chain_freed = λ e starts operand is. counted e (FreeChain operand ∷ []) (omega arith) (tt, tt) is;
+  }
 
-  raises : (name : List ℕ) → A (thrown o name)
-  raises name = counted (thrown o name) 1 refl (omega arith) (tt, tt)
+  -- a literal that the instruction names is one that is there
+  named : (u : Use) (text : ℕ) → IsUseIn o u → u ≡ resolved.OfText text → text < length o.texts
+  named u text inside is = subst (IsUseIn o) is inside
 
-  null : A (thrown_null o)
-  null = raises (codes "java/lang/NullPointerException")
-
-  none : A stuck
-  none = plain stuck refl
-
-  lost : (n : ℕ) → A (faulty n)
-  lost n = plain (faulty n) refl
-
-  inner_lost : (n : ℕ) → A (going 0 (Faults (OfPlace n 0 (kind.Ref (built_in_type o string_name)))))
-  inner_lost n = plain (going 0 (Faults (OfPlace n 0 (kind.Ref (built_in_type o string_name))))) refl
-
-  one_made : (n : ℕ) (t : TypeRef) (len : ℕ) (content : List ℕ) → A (making n (Make t len content))
-  one_made n t len content = counted (making n (Make t len content)) 1 refl (omega arith) (tt, tt)
-
-  -- an effect that does no more than put
-  one_put : (e : Effect) → objects_made e.actions ≡ 0 → AllByRecursion (IsMade o) e.actions → A e
-  one_put e is made = counted e 0 is (omega arith) made
-
-  started : (class : ℕ) (e : Effect) → A e → A (objects.starting class e)
-  started class e h = record { few = h.few; made = h.made }
-
-  -- ---- built-in methods
-
-  module _ (s : List Sight) where
-    object_rows : (row : Native) → A (table.object_native o row s)
-    unfolding table.object_native
-    object_rows ObjectInit = plain _ refl
-    object_rows ObjectHashCode = by_any A o s 0 _ null none (lost 0) (λ it seen. plain _ refl)
-    object_rows ObjectEquals = plain _ refl
-    object_rows ObjectToString = by_any A o s 0 _ null none (lost 0) (λ it seen. one_made 1 _ _ _)
-    object_rows row = none
-
-    outside : A (thrown_outside o)
-    outside = raises (codes "java/lang/StringIndexOutOfBoundsException")
-
-    string_rows : (row : Native) → A (table.string_native o row s)
-    unfolding table.string_native
-    string_rows StringLength = by_text A o s 0 _ null none (lost 0) (λ units. plain _ refl)
-    string_rows CharAt =
-        by_text A o s 1 _ null none (lost 1)
-        (λ units. by_int A s 0 _ none (λ i. by_if A (int_lt i (pos 0) || not (int_lt i (pos (length units)))) (thrown_outside o) _
-        (λ out. outside) (λ inside. plain _ refl)))
-    string_rows StringEquals =
-        by_text A o s 1 _ null none (lost 1) (λ units. by_held A _ s 0 _ (plain _ refl) none (lost 0) (λ it seen. plain _ refl))
-    string_rows StringHashCode = by_text A o s 0 _ null none (lost 0) (λ units. plain _ refl)
-    string_rows CompareTo = by_text A o s 1 _ null none (lost 1) (λ units. by_text A o s 0 _ null none (lost 0) (λ others. plain _ refl))
-    string_rows StringToString = by_text A o s 0 _ null none (lost 0) (λ units. plain _ refl)
-    string_rows Substring =
-        by_text A o s 2 _ null none (lost 2)
-        (λ units. by_int A s 1 _ none (λ begin. by_int A s 0 _ none
-        (λ end. by_if A (int_lt begin (pos 0) || int_lt end begin || int_lt (pos (length units)) end) (thrown_outside o) _ (λ out. outside)
-        (λ inside. one_made 3 _ _ _))))
-    string_rows (ValueOf shown) = by_shown A o shown s _ none (lost 0) (λ units. one_made (shown_words shown) _ _ _)
-    string_rows row = none
-
-    builder_rows : (row : Native) → A (table.builder_native o row s)
-    unfolding table.builder_native
-    builder_rows BuilderInit = by_builder A o s 0 _ null none (lost 0) (λ it. one_put _ refl (tt, tt))
-    builder_rows (Append shown) =
-        by_built A o s (shown_words shown) _ null none (lost (shown_words shown)) (inner_lost (shown_words shown))
-        (λ units. by_shown A o shown s _ none (lost 0)
-        (λ added.
-        let e : Effect = record (acting (shown_words shown + 1) (has_text o (shown_words shown) (units ++ added))) { gives = OfOperand (shown_words shown) ∷ [] } in
-        counted e 1 refl (omega arith) (tt, (tt, tt))))
-    builder_rows BuilderLength =
-        by_built A o s 0 (λ units. words 1 (int_word (pos (length units)))) null none (lost 0) (inner_lost 0)
-        (λ units. plain (words 1 (int_word (pos (length units)))) refl)
-    builder_rows BuilderToString =
-        by_built A o s 0 (λ units. making 1 (text_made o units)) null none (lost 0) (inner_lost 0)
-        (λ units. counted (making 1 (text_made o units)) 1 refl (omega arith) (tt, tt))
-    builder_rows BufferInitOf =
-        by_builder A o s 1 _ null none (lost 1) (λ it. by_text A o s 0 _ null none (lost 0) (λ units. counted (acting 2 (has_text o 1 units)) 1 refl (omega arith) (tt, (tt, tt))))
-    builder_rows row = none
-
-    byte_row : (byte : Option ℕ) → A (table.byte_read byte)
-    byte_row None = plain _ refl
-    byte_row (Some byte) = plain _ refl
-
-    stream_rows : (row : Native) (byte : Option ℕ) → A (table.stream_native o row byte s)
-    unfolding table.stream_native
-    stream_rows Exit byte = by_int A s 0 _ none (λ n. plain _ refl)
-    stream_rows (Print shown) byte = by_shown A o shown s _ none (lost 0) (λ units. plain _ refl)
-    stream_rows (Println shown) byte = by_shown A o shown s _ none (lost 0) (λ units. plain _ refl)
-    stream_rows PrintlnNothing byte = plain _ refl
-    stream_rows Read byte = byte_row byte
-    stream_rows row byte = none
-
-    throwable_rows : (row : Native) → A (table.throwable_native o row s)
-    unfolding table.throwable_native
-    throwable_rows ThrowableInit = by_object A o (throwable_type o) s 0 _ null none (lost 0) (λ it seen passes. one_put _ refl (tt, tt))
-    throwable_rows ThrowableInitOf = by_object A o (throwable_type o) s 1 _ null none (lost 1) (λ it seen passes. one_put _ refl (tt, tt))
-    throwable_rows GetMessage = by_object A o (throwable_type o) s 0 _ null none (lost 0) (λ it seen passes. plain _ refl)
-    throwable_rows ThrowableToString =
-        by_object A o (throwable_type o) s 0 _ null none (lost 0)
-        (λ it seen passes. by_inner A o 0 it _ (lost 0) (inner_lost 0) (λ message. one_made 1 _ _ _))
-    throwable_rows row = none
-
-    free_rows : (row : Native) → A (table.free_native o row s)
-    unfolding table.free_native
-    free_rows FreeMeFree = by_held A _ s 0 _ (plain _ refl) none (lost 0) (λ it seen. one_put _ refl (tt, tt))
-    free_rows FreeMeLink =
-        by_held A _ s 1 _ (plain _ refl) none (lost 1)
-        (λ it seen. by_if A it.fixed _ _ (λ fixed. plain _ refl) (λ loose. one_put _ refl (tt, tt)))
-    free_rows FreeMeFreeChain = one_put _ refl (tt, tt)
-    free_rows row = none
-
-    native_rows : (row : Native) (byte : Option ℕ) → A (table.native_effect o row byte s)
-    unfolding table.native_effect
-    native_rows ObjectInit byte = object_rows ObjectInit
-    native_rows ObjectHashCode byte = object_rows ObjectHashCode
-    native_rows ObjectEquals byte = object_rows ObjectEquals
-    native_rows ObjectToString byte = object_rows ObjectToString
-    native_rows StringLength byte = string_rows StringLength
-    native_rows CharAt byte = string_rows CharAt
-    native_rows StringEquals byte = string_rows StringEquals
-    native_rows StringHashCode byte = string_rows StringHashCode
-    native_rows CompareTo byte = string_rows CompareTo
-    native_rows StringToString byte = string_rows StringToString
-    native_rows Substring byte = string_rows Substring
-    native_rows (ValueOf shown) byte = string_rows (ValueOf shown)
-    native_rows BuilderInit byte = builder_rows BuilderInit
-    native_rows (Append shown) byte = builder_rows (Append shown)
-    native_rows BuilderLength byte = builder_rows BuilderLength
-    native_rows BuilderToString byte = builder_rows BuilderToString
-    native_rows BufferInitOf byte = builder_rows BufferInitOf
-    native_rows Exit byte = stream_rows Exit byte
-    native_rows (Print shown) byte = stream_rows (Print shown) byte
-    native_rows (Println shown) byte = stream_rows (Println shown) byte
-    native_rows PrintlnNothing byte = stream_rows PrintlnNothing byte
-    native_rows Read byte = stream_rows Read byte
-    native_rows ThrowableInit byte = throwable_rows ThrowableInit
-    native_rows ThrowableInitOf byte = throwable_rows ThrowableInitOf
-    native_rows GetMessage byte = throwable_rows GetMessage
-    native_rows ThrowableToString byte = throwable_rows ThrowableToString
-    native_rows FreeMeFree byte = free_rows FreeMeFree
-    native_rows FreeMeLink byte = free_rows FreeMeLink
-    native_rows FreeMeFreeChain byte = free_rows FreeMeFreeChain
-
-    -- ---- calls
-
-    entered_as : (count method : ℕ) (byte : Option ℕ) (found : Option Native) → A (calls.entered_as o count method byte s found)
-    entered_as count method byte None = plain (going count (Calls method)) refl
-    entered_as count method byte (Some row) = native_rows row byte
-
-    entered_row : (count : ℕ) (method byte : Option ℕ) → A (entered o count method byte s)
-    entered_row count None byte = none
-    entered_row count (Some method) byte = entered_as count method byte (native_of o method)
-
-    virtual_row : (u : Use) (byte : Option ℕ) → A (calls.virtual_effect o u byte s)
-    unfolding calls.virtual_effect
-    virtual_row u byte =
-        by_on_method A o u _ none
-        (λ m n t is at. by_object A o t s (words_of_arguments o m.0) _ null none (lost (words_of_arguments o m.0))
-        (λ it seen passes. entered_row (words_of_arguments o m.0 + 1) (select o.classes (receiver_class o it) m.0) byte))
-
-    interface_row : (u : Use) (byte : Option ℕ) → A (calls.interface_effect o u byte s)
-    unfolding calls.interface_effect
-    interface_row u byte =
-        by_on_method A o u _ none
-        (λ m n t is at. by_any A o s (words_of_arguments o m.0) _ null none (lost (words_of_arguments o m.0))
-        (λ it seen. by_if A (is_sub o.classes it.type t) _ (thrown o (codes "java/lang/IncompatibleClassChangeError"))
-        (λ passes. entered_row (words_of_arguments o m.0 + 1) (select o.classes (receiver_class o it) m.0) byte)
-        (λ fails. raises (codes "java/lang/IncompatibleClassChangeError"))))
-
-    special_row : (method : ℕ) (u : Use) (byte : Option ℕ) → A (calls.special_effect o method u byte s)
-    unfolding calls.special_effect
-    special_row method u byte =
-        by_on_method A o u _ none
-        (λ m n t is at. by_reference A s (words_of_arguments o m.0) _ none
-        (λ is_null. by_if A is_null (thrown_null o) _ (λ missing. null)
-        (λ there. entered_row (words_of_arguments o m.0 + 1) (Some (special_target o.classes (class_of_method o method) (class_of_type t) m.0)) byte)))
-
-    static_row : (u : Use) (byte : Option ℕ) → A (calls.static_effect o u byte s)
-    unfolding calls.static_effect
-    static_row u byte =
-        by_on_method A o u _ none
-        (λ m n t is at. started (class_of_method o m.0) (entered o (words_of_arguments o m.0) (Some m.0) byte s)
-        (entered_row (words_of_arguments o m.0) (Some m.0) byte))
-
-    -- ---- objects, fields and casts
-
-    made_row : (t : TypeRef) (class : Option ℕ) → A (objects.made_of o t class)
-    made_row t None = none
-    made_row t (Some class) = started class _ (one_made 0 t _ [])
-
-    new_row : (u : Use) → A (objects.new_effect o u)
-    unfolding objects.new_effect
-    new_row u = by_on_type A o u _ none (λ n t is at. made_row t (class_of_type t))
-
-    get_static_row : (u : Use) → A (objects.get_static_effect o u)
-    unfolding objects.get_static_effect
-    get_static_row u = by_on_field A o u _ none (λ g n t is at. started (objects.class_of_field o g.0) _ (plain (words 0 _) refl))
-
-    put_static_row : (u : Use) → A (objects.put_static_effect o u)
-    unfolding objects.put_static_effect
-    put_static_row u =
-        by_on_field A o u _ none
-        (λ g n t is at.
-        let k : Kind = objects.kind_of_field o g.0 in
-        let e : Effect = acting (kind_words k) (SetStatic (slot_of o.classes g.0) k (OfOperand (kind_words k - 1)) ∷ []) in
-        started (objects.class_of_field o g.0) e (one_put e refl (tt, tt)))
-
-    get_field_row : (u : Use) → A (objects.get_field_effect o u s)
-    unfolding objects.get_field_effect
-    get_field_row u =
-        by_on_field A o u _ none (λ g n t is at. by_object A o t s 0 _ null none (lost 0) (λ it seen passes. plain (words 1 _) refl))
-
-    put_field_row : (u : Use) → A (objects.put_field_effect o u s)
-    unfolding objects.put_field_effect
-    put_field_row u =
-        by_on_field A o u _ none
-        (λ g n t is at. by_object A o t s (kind_words (objects.kind_of_field o g.0)) _ null none (lost (kind_words (objects.kind_of_field o g.0)))
-        (λ it seen passes. one_put _ refl (tt, tt)))
-
-    cast_row : (u : Use) → A (objects.cast_effect o u s)
-    unfolding objects.cast_effect
-    cast_row u =
-        by_on_type A o u _ none
-        (λ n t is at. by_held A _ s 0 _ (plain _ refl) none (lost 0)
-        (λ it seen. by_if A (is_sub o.classes it.type t) _ (thrown o (codes "java/lang/ClassCastException")) (λ passes. plain _ refl)
-        (λ fails. raises (codes "java/lang/ClassCastException"))))
-
-    is_a_row : (u : Use) → A (objects.is_a_effect o u s)
-    unfolding objects.is_a_effect
-    is_a_row u = by_on_type A o u _ none (λ n t is at. by_held A _ s 0 _ (plain _ refl) none (lost 0) (λ it seen. plain _ refl))
-
-    -- ---- arrays
-
-    by_element : (e : Elem) (index : ℕ) (follows : Looks → ℕ → Effect) → ((it : Looks) (place : ℕ) → A (follows it place)) → A (on_element o e s index follows)
-    by_element e index follows some =
-        by_passing A o _ s (index + 1) _ null none (lost (index + 1))
-        (λ it seen passes. by_int A s index _ none
-        (λ i. by_if A (int_lt i (pos 0) || not (int_lt i (pos it.len))) (thrown o (codes "java/lang/ArrayIndexOutOfBoundsException"))
-        (follows it (unsigned_abs i)) (λ out. raises (codes "java/lang/ArrayIndexOutOfBoundsException")) (λ inside. some it (unsigned_abs i))))
-
-    array_load_row : (e : Elem) → A (arrays.array_load_effect o e s)
-    unfolding arrays.array_load_effect
-    array_load_row e =
-        by_element e 0 (λ it place. words 2 (loaded (element_kind it.type) (OfPlace 1 place (element_kind it.type))))
-        (λ it place. plain (words 2 (loaded (element_kind it.type) (OfPlace 1 place (element_kind it.type)))) refl)
-
-    reference_row : (it : Looks) (place : ℕ) → A (put_reference o s it place)
-    reference_row it place =
-        by_held A (put_element 1 it place) s 0 _ (one_put (put_element 1 it place) refl (tt, tt)) none (lost 0)
-        (λ v seen. by_if A (is_sub o.classes v.type (element_type it.type)) (put_element 1 it place) (thrown o (codes "java/lang/ArrayStoreException"))
-        (λ fits. one_put (put_element 1 it place) refl (tt, tt)) (λ fails. raises (codes "java/lang/ArrayStoreException")))
-
-    array_store_row : (e : Elem) → A (arrays.array_store_effect o e s)
-    unfolding arrays.array_store_effect
-    array_store_row elem.Boolean = by_element elem.Boolean 1 (put_element 1) (λ it place. one_put (put_element 1 it place) refl (tt, tt))
-    array_store_row elem.Byte = by_element elem.Byte 1 (put_element 1) (λ it place. one_put (put_element 1 it place) refl (tt, tt))
-    array_store_row elem.Char = by_element elem.Char 1 (put_element 1) (λ it place. one_put (put_element 1 it place) refl (tt, tt))
-    array_store_row elem.Short = by_element elem.Short 1 (put_element 1) (λ it place. one_put (put_element 1 it place) refl (tt, tt))
-    array_store_row elem.Int = by_element elem.Int 1 (put_element 1) (λ it place. one_put (put_element 1 it place) refl (tt, tt))
-    array_store_row elem.Long = by_element elem.Long 2 (put_element 2) (λ it place. one_put (put_element 2 it place) refl (tt, tt))
-    array_store_row elem.Ref = by_element elem.Ref 1 (λ it place. put_reference o s it place) reference_row
-
-    array_row : (t : Option TypeRef) → A (arrays.array_made o t s)
-    array_row None = none
-    array_row (Some t) =
-        by_int A s 0 _ none
-        (λ n. by_if A (int_lt n (pos 0)) (arrays.thrown_negative o) (making 1 (Make t (unsigned_abs n) []))
-        (λ negative. raises (codes "java/lang/NegativeArraySizeException")) (λ positive. one_made 1 t (unsigned_abs n) []))
-
-    new_array_row : (e : Elem) → A (arrays.new_array_effect o e s)
-    unfolding arrays.new_array_effect
-    new_array_row e = array_row (option_map (λ (b : Base). record { dims = 1; base = b }) (base_of_elem e))
-
-    new_references_row : (u : Use) → A (arrays.new_references_effect o u s)
-    unfolding arrays.new_references_effect
-    new_references_row u = by_on_type A o u _ none (λ n t is at. array_row (array_of t))
-
-    length_row : A (arrays.length_effect o s)
-    unfolding arrays.length_effect
-    length_row = by_passing A o (λ it. nat_lt 0 it.type.dims) s 0 _ null none (lost 0) (λ it seen passes. plain (words 1 (int_word (pos it.len))) refl)
-
-    -- ---- numbers, locals and jumps
-
-    constant_row : (u : Use) → IsUseIn o u → A (numbers.constant_effect u)
-    unfolding numbers.constant_effect
-    constant_row (resolved.OfInt n) inside = plain _ refl
-    constant_row (resolved.OfLong n) inside = plain _ refl
-    constant_row (resolved.OfText text) inside = one_put _ refl (inside, tt)
-    constant_row (resolved.OfType t) inside = none
-    constant_row (resolved.OfField f t) inside = none
-    constant_row (resolved.OfMethod m t) inside = none
-    constant_row resolved.Unused inside = none
-
-    load_row : (r : Reg) (k : ℕ) → A (numbers.load_effect r k)
-    unfolding numbers.load_effect
-    load_row reg.Int k = plain _ refl
-    load_row reg.Long k = plain _ refl
-    load_row reg.Ref k = plain _ refl
-
-    store_row : (r : Reg) (k : ℕ) → A (numbers.store_effect r k)
-    unfolding numbers.store_effect
-    store_row reg.Int k = plain _ refl
-    store_row reg.Long k = plain _ refl
-    store_row reg.Ref k = plain _ refl
-
-    convert_row : (to : Conv) → A (numbers.convert_effect to s)
-    unfolding numbers.convert_effect
-    convert_row conv.IntToLong = by_int A s 0 _ none (λ a. plain _ refl)
-    convert_row conv.LongToInt = by_long A s 1 _ none (λ a. plain _ refl)
-    convert_row conv.IntToByte = by_int A s 0 _ none (λ a. plain _ refl)
-    convert_row conv.IntToChar = by_int A s 0 _ none (λ a. plain _ refl)
-    convert_row conv.IntToShort = by_int A s 0 _ none (λ a. plain _ refl)
-
-    operation_row : (op : Op) → A (numbers.int_op_effect o op s)
-    unfolding numbers.int_op_effect
-    operation_row op =
-        by_int A s 0 _ none (λ b. by_int A s 1 _ none (λ a. by_thrown A o (result_of_op op 32 a b) _
-        (raises (codes "java/lang/ArithmeticException")) (λ n. plain (words 2 (int_word n)) refl)))
-
-    long_operation_row : (op : Op) → A (numbers.long_op_effect o op s)
-    unfolding numbers.long_op_effect
-    long_operation_row op =
-        by_long A s 1 _ none (λ b. by_long A s 3 _ none (λ a. by_thrown A o (result_of_op op 64 a b) _
-        (raises (codes "java/lang/ArithmeticException")) (λ n. plain (words 4 _) refl)))
-
-    return_row : (value : Option Reg) → A (jumps.return_effect value)
-    unfolding jumps.return_effect
-    return_row None = plain _ refl
-    return_row (Some reg.Int) = plain _ refl
-    return_row (Some reg.Long) = plain _ refl
-    return_row (Some reg.Ref) = plain _ refl
-
-    -- ---- all instructions
-
-    pub insn-cheap : (method : ℕ) (i : Insn) (u : Use) (byte : Option ℕ) → IsUseIn o u → nest_of i ≡ None → A (effect_of o method u i byte s)
-    unfolding effect_of numbers.move_effect numbers.int_negate_effect numbers.long_negate_effect numbers.int_shift_effect numbers.long_shift_effect numbers.compare_effect jumps.int_jump_effect jumps.pair_jump_effect jumps.null_jump_effect jumps.table_effect jumps.lookup_effect jumps.throw_effect
-    insn-cheap method insn.Nop u byte inside other = plain _ refl
-    insn-cheap method insn.Null u byte inside other = plain _ refl
-    insn-cheap method (insn.Const n) u byte inside other = plain _ refl
-    insn-cheap method (insn.LongConst n) u byte inside other = plain _ refl
-    insn-cheap method (insn.LoadPool index) u byte inside other = constant_row u inside
-    insn-cheap method (insn.Load r k) u byte inside other = load_row r k
-    insn-cheap method (insn.Store r k) u byte inside other = store_row r k
-    insn-cheap method (insn.Inc k by) u byte inside other = plain _ refl
-    insn-cheap method insn.Pop u byte inside other = plain _ refl
-    insn-cheap method insn.Pop2 u byte inside other = plain _ refl
-    insn-cheap method insn.Dup u byte inside other = plain _ refl
-    insn-cheap method insn.DupX1 u byte inside other = plain _ refl
-    insn-cheap method insn.DupX2 u byte inside other = plain _ refl
-    insn-cheap method insn.Dup2 u byte inside other = plain _ refl
-    insn-cheap method insn.Dup2X1 u byte inside other = plain _ refl
-    insn-cheap method insn.Dup2X2 u byte inside other = plain _ refl
-    insn-cheap method insn.Swap u byte inside other = plain _ refl
-    insn-cheap method (insn.IntOp op) u byte inside other = operation_row op
-    insn-cheap method (insn.LongOp op) u byte inside other = long_operation_row op
-    insn-cheap method insn.IntNeg u byte inside other = by_int A s 0 _ none (λ a. plain _ refl)
-    insn-cheap method insn.LongNeg u byte inside other = by_long A s 1 _ none (λ a. plain _ refl)
-    insn-cheap method (insn.IntShift shift) u byte inside other = by_int A s 0 _ none (λ n. by_int A s 1 _ none (λ a. plain _ refl))
-    insn-cheap method (insn.LongShift shift) u byte inside other = by_int A s 0 _ none (λ n. by_long A s 2 _ none (λ a. plain _ refl))
-    insn-cheap method (insn.Convert to) u byte inside other = convert_row to
-    insn-cheap method insn.LongCompare u byte inside other = by_long A s 1 _ none (λ b. by_long A s 3 _ none (λ a. plain _ refl))
-    insn-cheap method (insn.IfInt test target) u byte inside other = by_int A s 0 _ none (λ a. plain _ refl)
-    insn-cheap method (insn.IfPair test target) u byte inside other = by_int A s 0 _ none (λ b. by_int A s 1 _ none (λ a. plain _ refl))
-    insn-cheap method (insn.IfSame same target) u byte inside other = plain _ refl
-    insn-cheap method (insn.IfNull is_null target) u byte inside other = by_reference A s 0 _ none (λ b. plain _ refl)
-    insn-cheap method (insn.Goto target) u byte inside other = plain _ refl
-    insn-cheap method (insn.Table low others targets) u byte inside other = by_int A s 0 _ none (λ key. plain _ refl)
-    insn-cheap method (insn.Lookup others keys targets) u byte inside other = by_int A s 0 _ none (λ key. plain _ refl)
-    insn-cheap method (insn.Return value) u byte inside other = return_row value
-    insn-cheap method insn.Throw u byte inside other = by_object A o (throwable_type o) s 0 _ null none (lost 0) (λ it seen passes. plain _ refl)
-    insn-cheap method (insn.New index) u byte inside other = new_row u
-    insn-cheap method (insn.GetStatic index) u byte inside other = get_static_row u
-    insn-cheap method (insn.PutStatic index) u byte inside other = put_static_row u
-    insn-cheap method (insn.GetField index) u byte inside other = get_field_row u
-    insn-cheap method (insn.PutField index) u byte inside other = put_field_row u
-    insn-cheap method (insn.Cast index) u byte inside other = cast_row u
-    insn-cheap method (insn.IsA index) u byte inside other = is_a_row u
-    insn-cheap method (insn.ArrayLoad e) u byte inside other = array_load_row e
-    insn-cheap method (insn.ArrayStore e) u byte inside other = array_store_row e
-    insn-cheap method insn.Length u byte inside other = length_row
-    insn-cheap method (insn.NewArray e) u byte inside other = new_array_row e
-    insn-cheap method (insn.NewRefs index) u byte inside other = new_references_row u
-    insn-cheap method (insn.MultiArray index dimensions) u byte inside other = absurd (none-some _ (sym other))
-    insn-cheap method (insn.Virtual index) u byte inside other = virtual_row u byte
-    insn-cheap method (insn.Interface index) u byte inside other = interface_row u byte
-    insn-cheap method (insn.Special index) u byte inside other = special_row method u byte
-    insn-cheap method (insn.Static index) u byte inside other = static_row u byte
-    insn-cheap method (insn.LeftOut opcode) u byte inside other = none
+  pub insn-cheap : (s : List Sight) (method : ℕ) (i : Insn) (u : Use) (byte : Option ℕ) → IsUseIn o u → nest_of i ≡ None → IsCheap o (effect_of o method u i byte s)
+  insn-cheap s method i u byte inside other =
+      each_row o (IsCheap o) leaves s method i u byte
+      (λ e text is_text is. counted e (MakeLiteral text ∷ []) (omega arith) (named u text inside is_text, tt) is)
+      (λ index dimensions is_it e t counts is. absurd (none-some _ (sym other ∙ ap nest_of is_it)))
