@@ -28,6 +28,7 @@ use Rattle.fm_check_walk.specs.declared.risen.Rise.{Rise}
 use Rattle.fm_code.proofs.EdgesLemmas.{Contains-filter, Contains-from_filter}
 use Rattle.fm_types.specs.Fits.{fits}
 use Rattle.fm_types.specs.declared.slots.Slot.{Slot}
+use Rattle.fm_flow.proofs.HandlerLemmas.{blank}
 
 -- ---- states that are brought
 
@@ -101,10 +102,6 @@ pub handlers_later : (t : Task) (a b : Walked) (j : ℕ) (s : TypeState) (handle
 handlers_later t a b j s handlers sound rises all =
     AllByRecursion-weaker (FitsHandler t.program t.number a.states j s) (FitsHandler t.program t.number b.states j s)
     (λ h fits. handler_later t a b j s h sound rises fits) handlers all
-
--- an entry that is nowhere
-abbrev pub blank : Handler
-blank = record { start = 0; end = 0; handler = 0; catch_class = 0 }
 
 pub BringsHandlers-none : (t : Task) (j : ℕ) (s : TypeState) (w : Walked) → IsSound t → Stands t w → BringsHandlers t j s [] w w
 BringsHandlers-none t j s w sound stands = record { went = Went-none t w sound stands; fits = tt }

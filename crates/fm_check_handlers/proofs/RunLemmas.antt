@@ -8,13 +8,13 @@ use Rattle.std.proofs.lemmas.List.Elements.{All-contains, Contains-push, Contain
 use Rattle.std.proofs.Math.ListN.{get_or-append}
 use Rattle.std.proofs.Math.Seq.{get_or-append_seam}
 use Rattle.fm_base.proofs.ContainsFacts.{Contains-none}
-use Rattle.fm_check_handlers.proofs.HandlerLemmas.{blank}
 use Rattle.fm_check_handlers.specs.declared.runs.Level.{Level}
 use Rattle.fm_check_handlers.specs.declared.runs.Run.{Run}
 use Rattle.fm_check_handlers.specs.declared.runs.Span.{Span}
 use Rattle.fm_check_handlers.specs.inner.Runs.{AreFresh, AreMore, entries_at, entries_in, entries_of, halved, Holds, IsLaid, IsLaidSoFar, IsMade, IsMet, IsNoted, IsOneMore, IsPut, IsShort, IsSpanned, Puts, shape, span_of, Spans, spans_of, wider}
 use Rattle.fm_code.proofs.EdgesLemmas.{Contains-from_map, Contains-map}
 use Rattle.fm_code.specs.declared.code_array.Handler.{Handler}
+use Rattle.fm_flow.proofs.HandlerLemmas.{blank}
 
 -- what a call leaves where it returns Ok
 pub on_ok : {T E : Type 0} (A B : Type 0) (r : Result T E) → (A → B) → OnOk r A → OnOk r B

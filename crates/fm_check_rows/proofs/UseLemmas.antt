@@ -25,6 +25,7 @@ use Rattle.fm_world.specs.declared.declarations.DeclaredField.{DeclaredField}
 use Rattle.fm_world.specs.declared.declarations.DeclaredMethod.{DeclaredMethod}
 use Rattle.fm_world.specs.declared.uses.Use.{Use}
 use Rattle.fm_world.specs.declared.uses.Use.TheVariants as resolved
+use Rattle.std.proofs.lemmas.Option.{none-some, same_Some}
 
 -- ---- members by number
 
@@ -52,22 +53,16 @@ length-methods (c ∷ classes) class =
 
 -- ---- members by name
 
-no_value : {X : Type 0} {x : X} → None ≡ Some x → ⊥
-no_value e = cc
-
-same_value : {X : Type 0} {x y : X} → Some x ≡ Some y → x ≡ y
-same_value e = cc
-
 own_within : {X : Type 0} (test : X → Bool) (members : List X) (none : X) (first total n : ℕ) → ((k : ℕ) → k < length members → first + k < total)
     → option_map (λ k. first + k) (position test members) ≡ Some n → n < total
 own_within test members none first total n inside found = go (position test members) refl found where
   go : (o : Option ℕ) → position test members ≡ o → option_map (λ k. first + k) o ≡ Some n → n < total
-  go None at e = absurd (no_value e)
-  go (Some k) at e = omega (arith, inside k (position-Some test members k none at).0, same_value e)
+  go None at e = absurd (none-some _ e)
+  go (Some k) at e = omega (arith, inside k (position-Some test members k none at).0, same_Some _ _ e)
 
 first_within : (find : ℕ → Option ℕ) (total : ℕ) → ((class n : ℕ) → find class ≡ Some n → n < total) → (path : List ℕ) (n : ℕ)
     → first_found find path ≡ Some n → n < total
-first_within find total each [] n found = absurd (no_value found)
+first_within find total each [] n found = absurd (none-some _ found)
 first_within find total each (class ∷ path) n found = go (find class) refl found (first_within find total each path n) where
   go : (o : Option ℕ) → find class ≡ o → first_found find (class ∷ path) ≡ Some n → (first_found find path ≡ Some n → n < total) → n < total
   go None here e after = after (rw here at e)
@@ -75,7 +70,7 @@ first_within find total each (class ∷ path) n found = go (find class) refl fou
 
 then_within : (find : ℕ → Option ℕ) (total : ℕ) → ((class n : ℕ) → find class ≡ Some n → n < total) → (o : Option ℕ) (n : ℕ)
     → option_and_then find o ≡ Some n → n < total
-then_within find total each None n e = absurd (no_value e)
+then_within find total each None n e = absurd (none-some _ e)
 then_within find total each (Some class) n e = each class n e
 
 field_inside : (classes : List DeclaredClass) (class k : ℕ) → k < length (class_at classes class).fields
@@ -187,7 +182,7 @@ resolved_names o entries index =
     (entry_at entries index) where
       of_member : (look_up : MemberName → Option ℕ) (total : ℕ) → ((m : MemberName) (n : ℕ) → look_up m ≡ Some n → n < total)
           → (o : Option MemberName) (n : ℕ) → option_and_then look_up o ≡ Some n → n < total
-      of_member look_up total each None n e = absurd (no_value e)
+      of_member look_up total each None n e = absurd (none-some _ e)
       of_member look_up total each (Some m) n e = each m n e
 
 -- ---- the program

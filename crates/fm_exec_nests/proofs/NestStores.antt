@@ -5,7 +5,7 @@ use Rattle.fm_base.specs.declared.kinds.Kind.{Kind}
 use Rattle.fm_base.specs.declared.kinds.TypeRef.{TypeRef}
 use Rattle.fm_cells.proofs.Changes.{births-made_by, live_words-made_by, object_at-made_by, object_at-with_object}
 use Rattle.fm_cells.proofs.StoreLaws.{live_words-put_by}
-use Rattle.fm_cells.specs.Changes.{on_object, put_by, with_element, with_object}
+use Rattle.fm_cells.specs.Changes.{put_by, with_element}
 use Rattle.fm_cells.specs.Objects.{new_object, Object, Request, request_words}
 use Rattle.fm_cells.specs.Stores.{live_words, object_at, Store}
 use Rattle.fm_cells.specs.declared.answers.Cell.{Cell}
@@ -21,6 +21,7 @@ use Rattle.fm_frames.specs.inner.Places.{IsWide}
 use Rattle.fm_exec_nests.specs.inner.Nests.{Grows}
 use Rattle.fm_world.specs.Programs.{Outline}
 use Rattle.fm_law_sound.proofs.NestedArrays.{array_is_no_text}
+use Rattle.fm_frames.proofs.Contents.{put_in}
 
 pub grows-then : (x y z : Store) (a b m n : ℕ) → Grows x y a m → Grows y z b n → Grows x z (a + b) (m + n)
 grows-then x y z a b m n first second =
@@ -43,9 +44,6 @@ grows-made choose y z r array (grows, taken, free, is) = record {
   budget = ap (λ (z : State). z.areas.store.budget) is;
   wide = λ cell wide. wide-after choose y z r [] array cell wide (grows, taken, free, is);
 }
-
-put_in : Store → ℕ → ℕ → ℕ → Option Object → Store
-put_in store cell place element object = on_object object (λ object. with_object store cell (with_element object place element)) store
 
 -- and so do the objects of other cells
 other-put : (store : Store) (array place element cell : ℕ) → (cell == array) ≡ false → object_at (put_by store array place element) cell ≡ object_at store cell

@@ -1,8 +1,7 @@
 -- What comes of class files by one set of exact facts comes of them by another.
 use Rattle.std.proofs.Common.{sym, ◌∙◌, ℕ, List}
-use Rattle.std.proofs.lemmas.Option.{none-some}
+use Rattle.std.proofs.lemmas.Option.{none-some, same_Some}
 use Rattle.fm_code.specs.declared.class_file.ClassDef.{ClassDef}
-use Rattle.fm_place.proofs.FullLemmas.{some-same}
 use Rattle.fm_place.specs.Safe.{full_plans}
 use Rattle.fm_rewrite.specs.Rewritten.{AreNotRewritten, AreRewritten}
 use Rattle.fm_rewrite.specs.declared.error.RewriteFail.{RewriteFail}
@@ -43,4 +42,4 @@ pub refused_for_one_cause : RefusedForOneCause
 refused_for_one_cause given main cause other one another =
     let alike : ServeAlike given (full_plans (program_of given main) one.facts) (full_plans (program_of given main) another.facts) =
     serve_alike given main one.facts another.facts (refused_by given main cause one) (refused_by given main other another) in
-    some-same (sym one.first ∙ alike.cause ∙ another.first)
+    same_Some _ _ (sym one.first ∙ alike.cause ∙ another.first)

@@ -26,6 +26,7 @@ use Rattle.fm_rewrite.specs.declared.counts.Count.{Count}
 use Rattle.fm_law_beside_freeme.specs.Exact.{ServeAlike}
 use Rattle.fm_world.specs.BuiltIns.{built_in}
 use Rattle.fm_law_retyped.proofs.WrittenMethods.{marks_in}
+use Rattle.fm_place_weave.proofs.ClassLawLemmas.{by_change}
 
 -- ---- plans without the numbers of classes
 
@@ -137,16 +138,6 @@ long_plain free (Some plan) m = by_code (code_of m) where
       ap (λ (items : List NewItem). cond (nat_lt MAX_CODE_BYTES (laid_length code.items items)) (Some (refused_length code.items items)) None)
       (woven_plain free code plan)
 
--- the class, where some method of it is changed
-abbrev class_by : Plans → (first : ℕ) → ClassDef → Bool → ClassDef
-class_by plans first c false = c
-class_by plans first c true = record c {
-  minor = 0;
-  major = rewritten_major;
-  pool = record { entries = with_free c.pool.entries };
-  methods = rewritten_methods plans (free_index c) first c.methods;
-}
-
 module _ (plans : Plans) where
   methods_plain : (free first : ℕ) (methods : List Member) → rewritten_methods (plains plans) free first methods ≡ rewritten_methods plans free first methods
   methods_plain free first [] = refl
@@ -155,7 +146,7 @@ module _ (plans : Plans) where
   changes_plain : (first : ℕ) (c : ClassDef) → changes (plains plans) first c ≡ changes plans first c
   changes_plain first c = λ k. list_any (λ method. is_some_plain (plans method) k) (range_with_len first (length c.methods))
 
-  class_by_plain : (first : ℕ) (c : ClassDef) (b : Bool) → class_by (plains plans) first c b ≡ class_by plans first c b
+  class_by_plain : (first : ℕ) (c : ClassDef) (b : Bool) → by_change (plains plans) first c b ≡ by_change plans first c b
   class_by_plain first c false = refl
   class_by_plain first c true = λ k. record c {
     minor = 0;
@@ -165,7 +156,7 @@ module _ (plans : Plans) where
   }
 
   class_plain : (first : ℕ) (c : ClassDef) → rewritten_class (plains plans) first c ≡ rewritten_class plans first c
-  class_plain first c = ap (class_by (plains plans) first c) (changes_plain first c) ∙ class_by_plain first c (changes plans first c)
+  class_plain first c = ap (by_change (plains plans) first c) (changes_plain first c) ∙ class_by_plain first c (changes plans first c)
 
   classes_plain : (first : ℕ) (given : List ClassDef) → rewritten_from (plains plans) first given ≡ rewritten_from plans first given
   classes_plain first [] = refl

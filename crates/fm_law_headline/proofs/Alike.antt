@@ -16,11 +16,11 @@ use Rattle.fm_law_lockstep.specs.Opening.{OpeningsAreTogether}
 use Rattle.fm_law_lockstep.specs.Together.{GoTogetherIn, TogetherCostsSame}
 use Rattle.fm_law_same_runs.specs.Beside.{Beside, FewAreInserted, InAllRuns, Marks, runs_of}
 use Rattle.fm_law_same_runs.specs.Programs.{AreTaken}
-use Rattle.fm_law_unwoven.proofs.ClearedPrograms.{facts_typed}
 use Rattle.fm_law_unwoven.specs.Runs.{FewAreInsertedInRuns}
 use Rattle.fm_law_unwoven.specs.WovenFrom.{IsWovenFrom, SafeProgramsAreWoven}
 use Rattle.fm_place.specs.Rewriting.{Plans}
 use Rattle.fm_world.specs.Programs.{Program, program_of}
+use Rattle.fm_same.proofs.DeadRuns.{facts_type}
 
 -- ---- two programs
 
@@ -71,7 +71,7 @@ module _ (resolved : ProgramsAreResolved) (cells : CellsOfProgramsAreResolved) (
     resolved = resolved given main taken.spelled taken.linked taken.few;
     cells = cells given main taken.spelled taken.supported taken.linked taken.few;
     all_made = all_made given main;
-    without = without given main taken.spelled taken.supported taken.linked taken.few facts.typing (facts_typed (program_of given main) facts exact) taken.no_free;
+    without = without given main taken.spelled taken.supported taken.linked taken.few facts.typing (facts_type (program_of given main) facts exact) taken.no_free;
   }
 
   pub classes_alike : SafeProgramsAreWoven → FewAreInsertedInRuns → WovenProgramsDoAlike → SafeClassesDoAlike

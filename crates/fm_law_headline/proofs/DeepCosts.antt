@@ -10,22 +10,22 @@ use Rattle.fm_cells.specs.Sizes.{cell_words}
 use Rattle.fm_cells.specs.Stores.{live_words}
 use Rattle.fm_code.specs.declared.instructions.Insn.{Insn}
 use Rattle.fm_code.specs.declared.instructions.Insn.TheVariants as insn
-use Rattle.fm_exec_nests.proofs.CostSteps.{cost-at, cost-cheap, cost-none, nest-alone, nest-insn}
+use Rattle.fm_exec_nests.proofs.CostSteps.{cost-at, cost-cheap, cost-none, frames_effect, nest-alone, nest-insn}
 use Rattle.fm_exec_nests.specs.inner.Costs.{nest_of}
 use Rattle.fm_exec_nests.specs.inner.Nests.{nest_effect}
 use Rattle.fm_frames.proofs.StepCounts.{step_going}
 use Rattle.fm_frames.specs.Acts.{Choose, performed, Performed, Did, FullAt, LostAt, Sources, value_of}
 use Rattle.fm_frames.specs.ArrayRows.{arrays_of, ints_at, multi_array_effect, thrown_negative}
-use Rattle.fm_frames.specs.Effects.{Calls, Effect, Enters, Exits, Falls, Faults, Jumps, JumpsIfSame, Next, Returns, stuck, Throws}
+use Rattle.fm_frames.specs.Effects.{Calls, Effect, Enters, Exits, Falls, Faults, Jumps, JumpsIfSame, Next, Returns, Throws}
 use Rattle.fm_frames.specs.Rows.{effect_of}
 use Rattle.fm_frames.specs.Runnable.{IsRunnable}
 use Rattle.fm_frames.specs.Sights.{Sight, sights}
 use Rattle.fm_frames.specs.Starts.{with_start}
 use Rattle.fm_frames.specs.States.{Areas, Frame, Moved, State}
-use Rattle.fm_frames.specs.Steps.{attempted, caught, Caught, continued, cost, done_by, effect_by, fault_of, finished, halted, InFrames, input_after, is_deep, is_done, is_over, Leaves, locals_of, next_effect, next_insn, objects_made, stack_of, step, stopped, thrown_by, type_at, words_made}
+use Rattle.fm_frames.specs.Steps.{attempted, caught, continued, cost, done_by, effect_by, fault_of, finished, halted, is_deep, is_done, is_over, locals_of, next_effect, next_insn, objects_made, stack_of, step, stopped, type_at, words_made}
 use Rattle.fm_frames.specs.declared.ends.Ended.{Ended}
 use Rattle.fm_frames.specs.declared.ends.Ended.TheVariants as end
-use Rattle.fm_law_same_runs.proofs.Costs.{end_counts, is_counted, steps_rise}
+use Rattle.fm_law_same_runs.proofs.Costs.{begun, end_counts, is_counted, steps_rise, thrown-keeps}
 use Rattle.fm_law_same_runs.specs.Programs as programs
 use Rattle.fm_law_sound.proofs.Cases.{by_on_type}
 use Rattle.fm_law_sound.proofs.InsnActs.{magnitudes}
@@ -70,15 +70,6 @@ is_too_deep e = false
 no_deep : (n : ℕ) (y : State) (e : Ended) → is_too_deep e ≡ false → CountsDeep n (stopped y e)
 no_deep n y e other frames is = absurd (false≢true (sym other ∙ ap is_too_deep (same_Some e (end.TooDeep frames) is)))
 
-thrown_steps : (y : State) (c : Caught) → (thrown_by y c).steps ≡ y.steps
-thrown_steps y (InFrames frames) = refl
-thrown_steps y (Leaves e) = refl
-
--- the state before what follows is done
-abbrev begun : ℕ → Effect → State → Areas → State
-begun price e x areas =
-    record x { areas = areas; input = input_after e.reads x.input; steps = (if is_done e.next then x.steps + price else x.steps) }
-
 continued_deep : (p : Program) (price : ℕ) (from : Sources) (e : Effect) (x : State) (f : Frame) (callers : List Frame) (areas : Areas) (next : Next)
     → IsShallow next
     → CountsDeep (x.steps + price)
@@ -87,7 +78,7 @@ unfolding continued
 continued_deep p price from e x f callers areas Falls shallow frames is = refl
 continued_deep p price from e x f callers areas (Throws source) shallow frames is =
     let y = begun price (record e { next = Throws source }) (record x { frames = f ∷ callers }) areas in
-    let v = value_of from source in thrown_steps y (caught p (type_at p.outline areas.store v) v (f ∷ callers))
+    let v = value_of from source in thrown-keeps y (caught p (type_at p.outline areas.store v) v (f ∷ callers))
 continued_deep p price from e x f callers areas (Faults source) shallow frames is =
     let y = begun price (record e { next = Faults source }) (record x { frames = f ∷ callers }) areas in
     no_deep (x.steps + price) y (fault_of p y (value_of from source)) refl frames is
@@ -145,11 +136,6 @@ CostsWithin p choose x = x.steps + cost p x ≤ (step p choose x).state.steps + 
 within_one : (p : Program) (choose : Choose) (x : State) → cost p x ≡ 1 → CostsWithin p choose x
 within_one p choose x one = let rise = steps_rise p choose x in omega (arith, one, rise)
 
--- the effect of the next instruction by the frames
-abbrev effect_in : Program → State → List Frame → Effect
-effect_in p x [] = stuck
-effect_in p x (f ∷ callers) = effect_by p x f (next_insn p f)
-
 module _ (p : Program) (x : State) (f : Frame) (callers : List Frame) (is : x.frames ≡ f ∷ callers) where
   nest_next : (index dimensions : ℕ) → next_insn p f ≡ Some (insn.MultiArray index dimensions) → HasShallow (next_effect p x)
   unfolding next_effect effect_of
@@ -158,7 +144,7 @@ module _ (p : Program) (x : State) (f : Frame) (callers : List Frame) (is : x.fr
       let u : Use = use_in p f.method index in
       subst HasShallow
       (sym
-      (ap (λ frames. with_start p.outline x.areas.started (effect_in p x frames)) is
+      (ap (λ frames. with_start p.outline x.areas.started (frames_effect p x frames)) is
       ∙ ap (λ i. with_start p.outline x.areas.started (effect_by p x f i)) at ∙ nest-alone p.outline x.areas.started u dimensions s))
       (nest_shallow p.outline u dimensions s)
 

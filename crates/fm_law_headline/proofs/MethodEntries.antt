@@ -31,6 +31,7 @@ use Rattle.fm_world.specs.Programs.{field_use, Outline, outline_of, program_of, 
 use Rattle.fm_world.specs.Uses.{named_member}
 use Rattle.fm_world.specs.declared.uses.Use.{Use}
 use Rattle.fm_world.specs.declared.uses.Use.TheVariants as resolved
+use Rattle.fm_law_linked.proofs.Calls.{names_method}
 
 -- ---- entries
 
@@ -39,16 +40,12 @@ is_method_entry (entry.Method class member) = true
 is_method_entry (entry.InterfaceMethod class member) = true
 is_method_entry e = false
 
-abbrev is_method_use : Use → Bool
-is_method_use (resolved.OfMethod m t) = true
-is_method_use u = false
-
-no_method : (make : ℕ → Use) → ((n : ℕ) → is_method_use (make n) ≡ false) → (number : Option ℕ) → is_method_use (with_number make number) ≡ false
+no_method : (make : ℕ → Use) → ((n : ℕ) → names_method (make n) ≡ false) → (number : Option ℕ) → names_method (with_number make number) ≡ false
 no_method make each None = refl
 no_method make each (Some n) = each n
 
 -- an entry of another tag is resolved to no method
-other_use : (o : Outline) (entries : List Entry) (index : ℕ) (e : Entry) → is_method_entry e ≡ false → is_method_use (resolved_by o entries index e) ≡ false
+other_use : (o : Outline) (entries : List Entry) (index : ℕ) (e : Entry) → is_method_entry e ≡ false → names_method (resolved_by o entries index e) ≡ false
 other_use o entries index (entry.Integer value) other = refl
 other_use o entries index (entry.Long value) other = refl
 other_use o entries index (entry.Text text) other =
@@ -115,13 +112,13 @@ module _ (given : List ClassDef) (main : List ℕ) (spelled : AllByRecursion Has
       let c = there.file in
       let entries = c.pool.entries in
       let uses = ap (λ k. get_or (uses_of o given) k []) there.class_is ∙ uses_of_file o given there.place c there.file_is in
-      let some : resolved.Unused ≡ resolved.OfMethod m t → ⊥ = λ is. false≢true (ap is_method_use is) in
+      let some : resolved.Unused ≡ resolved.OfMethod m t → ⊥ = λ is. false≢true (ap names_method is) in
       let at = use_at o c index (resolved.OfMethod m t) some (sym (ap (λ us. get_or us index resolved.Unused) uses) ∙ use_is) in
       let valid = valid_code c (spelled_at given there.place c spelled there.file_is) there.member x.code there.among there.code_is in
       let item = valid_item entries x.code.items x.item i valid.operands x.insn_is in
       false≢true
       (sym (other_use o entries index (entry_at entries index) (other entries item.0 item.1))
-      ∙ ap is_method_use (sym (resolved_at-by o entries index) ∙ at.resolved_is))
+      ∙ ap names_method (sym (resolved_at-by o entries index) ∙ at.resolved_is))
 
   pub only_calls : (i : Insn) → IsNamed (program_of given main) method i (resolved.OfMethod m t) → (wanted : Bool) × (static_method_wanted i ≡ Some wanted)
   only_calls (insn.Virtual index) x = (false, refl)
@@ -148,4 +145,4 @@ module _ (given : List ClassDef) (main : List ℕ) (spelled : AllByRecursion Has
       absurd (names_other (insn.IsA index) index x x.use_is (λ entries item valid. class_entry entries index valid))
   only_calls (insn.MultiArray index dimensions) x =
       absurd (names_other (insn.MultiArray index dimensions) index x x.use_is (λ entries item valid. class_entry entries index valid))
-  only_calls i x = absurd (false≢true (ap is_method_use x.use_is))
+  only_calls i x = absurd (false≢true (ap names_method x.use_is))

@@ -11,8 +11,8 @@ use Rattle.fm_law_no_fault.specs.NoFault.{LinkedProgramsNeverFault}
 use Rattle.fm_law_same_runs.specs.Beside.{Same}
 use Rattle.fm_law_same_runs.specs.Programs.{AreTaken}
 use Rattle.fm_law_sound.specs.Sound.{AreTyped, Typings}
-use Rattle.fm_law_unwoven.proofs.ClearedPrograms.{facts_typed}
 use Rattle.fm_world.specs.Programs.{program_of}
+use Rattle.fm_same.proofs.DeadRuns.{facts_type}
 
 module _ (resolved : ProgramsAreResolved) (alike : LinkedDoesTheSame) (faultless : LinkedProgramsNeverFault) where
   known_of : (given : List ClassDef) (main : List ℕ) → AreTaken given main → (typings : Typings) → AreTyped (program_of given main) typings
@@ -35,5 +35,5 @@ module _ (resolved : ProgramsAreResolved) (alike : LinkedDoesTheSame) (faultless
 
   pub matched_ends : MatchedStepsGiveEnds
   matched_ends matched given main taken written marks safe r one_is other_is are =
-      same_ends given main taken safe.facts.typing (facts_typed (program_of given main) safe.facts safe.exact) (program_of written main) marks
+      same_ends given main taken safe.facts.typing (facts_type (program_of given main) safe.facts safe.exact) (program_of written main) marks
       (matched given main taken written marks safe) r one_is other_is are

@@ -78,7 +78,7 @@ abbrev type_of_method : Use → ℕ
 type_of_method (resolved.OfMethod m t) = t.0
 type_of_method u = 0
 
-abbrev names_method : Use → Bool
+abbrev pub names_method : Use → Bool
 names_method (resolved.OfMethod m t) = true
 names_method u = false
 

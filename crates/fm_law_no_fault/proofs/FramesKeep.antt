@@ -135,16 +135,11 @@ module _ (p : Program) (typings : Typings) (typed : AreTyped p typings) (store :
         in_stack = tt;
       })
 
-  starts_whole : (methods : List ℕ) → AllByRecursion (StartsClass p) methods → (frames : List Frame)
+  pub started_whole : (methods : List ℕ) → AllByRecursion (StartsClass p) methods → (frames : List Frame)
       → AllByRecursion (FrameIsWhole p typings store) frames → AllByRecursion (FrameIsWhole p typings store) (start_frames p methods ++ frames)
-  starts_whole [] each frames below = below
-  starts_whole (m ∷ methods) each frames below = (
+  started_whole [] each frames below = below
+  started_whole (m ∷ methods) each frames below = (
     new_whole m each.0.code [] each.0.code_is
         (subst (λ slots. AllZip (WordFits p.outline store (class_of_method p.outline m) (made_at p m each.0.code)) slots []) (sym each.0.no_arguments) tt),
-    starts_whole methods each.1 frames below,
+    started_whole methods each.1 frames below,
   )
-
-pub started_whole : (p : Program) (typings : Typings) → AreTyped p typings → (store : Store) (methods : List ℕ)
-    → AllByRecursion (StartsClass p) methods → (frames : List Frame) → AllByRecursion (FrameIsWhole p typings store) frames
-    → AllByRecursion (FrameIsWhole p typings store) (start_frames p methods ++ frames)
-started_whole p typings typed store methods each frames below = starts_whole p typings typed store methods each frames below

@@ -20,28 +20,26 @@ use Rattle.fm_types.specs.States.{TypeState}
 use Rattle.fm_types.specs.Typed.{after_item, FitsAt, IsTypingOf, made_at, MeetsItem, use_by}
 use Rattle.fm_world.specs.Programs.{Outline, Program}
 use Rattle.fm_frames.specs.Acts.{cell_of, Choose, Did, FullAt, LostAt, performed, Performed, value_of}
-use Rattle.fm_frames.specs.Effects.{Action, Calls, Effect, Enters, Exits, Falls, Faults, Jumps, JumpsIfSame, Next, nothing, OfMade, OfOperand, Returns, Source, Throws}
+use Rattle.fm_frames.specs.Effects.{Action, Calls, Effect, Enters, Exits, Falls, Faults, Jumps, JumpsIfSame, Next, OfMade, OfOperand, Returns, Source, Throws}
 use Rattle.fm_frames.specs.Rows.{effect_of}
 use Rattle.fm_frames.specs.Sights.{sights, type_numbered}
-use Rattle.fm_frames.specs.Starts.{start_actions, start_methods, to_start, with_start}
+use Rattle.fm_frames.specs.Starts.{with_start}
 use Rattle.fm_frames.specs.States.{Areas, Frame, Moved, State, word_at}
 use Rattle.fm_frames.specs.Steps.{attempted, Caught, caught, caught_in, continued, effect_by, finished, handler_of, InFrames, next_insn, is_deep, is_over, is_start, Leaves, next_effect, objects_made, returned, stack_after, step, stopped, thrown_by, type_at, written}
 use Rattle.fm_frames.specs.declared.ends.Ended.{Ended}
 use Rattle.fm_frames.specs.declared.ends.Ended.TheVariants as end
 use Rattle.fm_frames.specs.declared.values.Value.{Value}
 use Rattle.fm_law_sound.specs.Acting.{ActsFit}
-use Rattle.fm_law_sound.specs.Going.{CallLeads, StandsAtRow, StartsClass}
-use Rattle.fm_law_sound.specs.Leading.{is_call, LeadsAs, LeavesAs, sources_of}
+use Rattle.fm_law_sound.specs.Going.{CallLeads, StandsAtRow}
+use Rattle.fm_law_sound.specs.Leading.{is_call, LeavesAs, sources_of}
 use Rattle.fm_law_sound.specs.Making.{MakesAreResolved, MakesFew}
 use Rattle.fm_law_sound.specs.Resolved.{StepsAreResolved}
 use Rattle.fm_law_sound.specs.Sound.{AreasAreSound, AreTyped, FrameHasKinds, HaveKinds, IsSoundBy, StandBelow, StandsWithout, static_slots, Typings}
 use Rattle.fm_law_sound.proofs.CallsLead.{calls_lead}
-use Rattle.fm_law_sound.proofs.ClassStarts.{starts_are_methods}
 use Rattle.fm_law_sound.proofs.FramesStand.{typing_of}
 use Rattle.fm_law_sound.proofs.NextActs.{next_acts_fit}
 use Rattle.fm_law_sound.proofs.Rows.{effect_leads}
-use Rattle.fm_law_sound.proofs.StartActs.{for_class}
-use Rattle.fm_law_sound.proofs.StepsSound.{moved_by, step_sound, StepLeads}
+use Rattle.fm_law_sound.proofs.StepsSound.{as_call, class_leads, moved_by, step_sound, StepLeads}
 use Rattle.fm_law_no_fault.specs.CellsResolved.{CellsAreResolved}
 use Rattle.fm_law_no_fault.specs.Whole.{AreasAreWhole, FrameFits, FrameIsWhole, HasNoFault, HoldsA, IsWholeBy}
 use Rattle.fm_law_no_fault.proofs.ActsKeep.{acts_go, IsAn, types_after, Went, went_first, WentTo}
@@ -57,49 +55,6 @@ use Rattle.fm_law_no_fault.proofs.RowCases.{Whole}
 use Rattle.fm_law_no_fault.proofs.StartsSuit.{NumbersAreConstants, start_owes}
 use Rattle.fm_law_no_fault.proofs.StoresKeep.{frames-later, holds-later}
 use Rattle.fm_law_no_fault.proofs.WaitingFrames.{waiting_whole}
-
--- ---- where a step leads
-
--- what the start of a class makes of an effect
-abbrev with_methods : Outline → List ℕ → Effect → List ℕ → Effect
-with_methods o classes e [] = record e { starts = None; actions = start_actions o classes ++ e.actions }
-with_methods o classes e (m ∷ methods) = record nothing { actions = start_actions o classes; next = Enters (m ∷ methods) }
-
-module _ (p : Program) (ready : StepsAreResolved p) (f : Frame) (i : Insn) (after : TypeState) where
-  as_call : (e : Effect) (next : Next) → LeadsAs p.outline i after f e next → CallLeads p f i after e next
-  as_call e Falls leads = leads
-  as_call e (Jumps n) leads = leads
-  as_call e (JumpsIfSame same) leads = leads
-  as_call e (Calls target) leads = absurd leads
-  as_call e (Returns n) leads = leads
-  as_call e (Throws s) leads = leads
-  as_call e (Enters methods) leads = absurd leads
-  as_call e (Exits n) leads = leads
-  as_call e (Faults s) leads = leads
-
-  as_step : (e : Effect) (actions : List Action) (starts : Option ℕ) (next : Next) → CallLeads p f i after e next
-      → StepLeads p f i after (record e { starts = starts; actions = actions }) next
-  as_step e actions starts Falls leads = leads
-  as_step e actions starts (Jumps n) leads = leads
-  as_step e actions starts (JumpsIfSame same) leads = leads
-  as_step e actions starts (Calls target) leads = leads
-  as_step e actions starts (Returns n) leads = leads
-  as_step e actions starts (Throws s) leads = leads
-  as_step e actions starts (Enters methods) leads = absurd leads
-  as_step e actions starts (Exits n) leads = leads
-  as_step e actions starts (Faults s) leads = leads
-
-  methods_lead : (classes : List ℕ) (e : Effect) (methods : List ℕ) → AllByRecursion (StartsClass p) methods → CallLeads p f i after e e.next
-      → StepLeads p f i after (with_methods p.outline classes e methods) (with_methods p.outline classes e methods).next
-  methods_lead classes e [] each leads = as_step e (start_actions p.outline classes ++ e.actions) None e.next leads
-  methods_lead classes e (m ∷ methods) each leads = each
-
-  class_leads : (started : List Bool) (e : Effect) (class : Option ℕ) → CallLeads p f i after e e.next
-      → StepLeads p f i after (for_class p.outline started e class) (for_class p.outline started e class).next
-  class_leads started e None leads = as_step e e.actions e.starts e.next leads
-  class_leads started e (Some class) leads =
-      let classes : List ℕ = to_start p.outline started class in
-      methods_lead classes e (start_methods p.outline classes) (starts_are_methods p ready.calls classes) leads
 
 -- ---- exceptions end no run in a fault
 

@@ -8,7 +8,7 @@ use Rattle.fm_law_relinked.proofs.ClassLists.{fields_wanted, instances_wanted, m
 use Rattle.fm_law_relinked.proofs.ClassStays.{is_other, more_entries, name_is, names_free, superclass_within, text_same, that_index, uses_alike}
 use Rattle.fm_law_relinked.proofs.FreeMethod.{free_class_number, KnowsFree}
 use Rattle.fm_law_relinked.proofs.PoolStays.{class_same, entry_same, member_same, method_class, method_entry, method_named, name_same}
-use Rattle.fm_law_relinked.proofs.UsedWithin.{all_items_valid, AreBelow, below_option, flat_map-below, indices_below, insn_below, IsBelow, unused_past, uses_below}
+use Rattle.fm_law_relinked.proofs.UsedWithin.{all_items_valid, below_option, flat_map-below, indices_below, insn_below, IsBelow, unused_past, uses_below}
 use Rattle.fm_code.specs.AccessFlags.{is_abstract, is_interface}
 use Rattle.fm_code.specs.ConstantPool.{entry_at, method_ref_at}
 use Rattle.fm_code.specs.FreeEntries.{free_class, free_method}
@@ -37,6 +37,7 @@ use Rattle.fm_world.specs.Uses.{class_items, named_member, pool_indices, uses_in
 use Rattle.fm_world.specs.declared.declarations.DeclaredClass.{DeclaredClass}
 use Rattle.fm_link_records.proofs.MarkedPlaces.{range-append}
 use Rattle.fm_law_spelled.specs.Changed.{changed}
+use Rattle.fm_link_supers.proofs.InterfaceLemmas.{AreWithin}
 
 -- ---- lists over indices
 
@@ -46,7 +47,7 @@ none_past f a (suc n) none = λ k. none a (omega arith) k ++ none_past f (a + 1)
 
 -- what longer lists of indices give, where only the old ones give something
 longer : {A : Type 0} (n m l : ℕ) (f g : ℕ → List A) → l ≡ n + m → ((k : ℕ) → k < n → f k ≡ g k) → ((k : ℕ) → n ≤ k → f k ≡ [])
-    → AreBelow n (range_with_len 0 n) → flat_map f (range_with_len 0 l) ≡ flat_map g (range_with_len 0 n)
+    → AreWithin n (range_with_len 0 n) → flat_map f (range_with_len 0 l) ≡ flat_map g (range_with_len 0 n)
 longer n m l f g long agree none below =
     ap (λ k. flat_map f (range_with_len 0 k)) long ∙ ap (flat_map f) (range-append 0 n m)
     ∙ flat_map-append f (range_with_len 0 n) (range_with_len (0 + n) m)
@@ -80,7 +81,7 @@ special_below entries offset bytes (insn.Special index) valid = insn_below entri
 special_below entries offset bytes i valid = tt
 
 specials_below : (entries : List Entry) (items : List Item) → AllByRecursion (OperandIsValid entries) items
-    → AreBelow (length entries) (filter_map (λ (item : Item). special_operand item.insn) items)
+    → AreWithin (length entries) (filter_map (λ (item : Item). special_operand item.insn) items)
 specials_below entries [] valid = tt
 specials_below entries (item ∷ items) valid =
     below_option entries (special_operand item.insn) (filter_map (λ (i : Item). special_operand i.insn) items)

@@ -28,10 +28,7 @@ use Rattle.fm_link_names.proofs.MarkLemmas.{other_number}
 use Rattle.fm_world.specs.Chains.{is_among}
 use Rattle.fm_world.specs.Uses.{caught_by, class_items, is_used, items_of, pool_indices, used_indices, uses_in_order, values_of}
 use Rattle.fm_conn.proofs.TypeLemmas.{filter_all}
-
--- numbers below a bound
-abbrev pub AreBelow : ℕ → List ℕ → Type 0
-AreBelow n ks = AllByRecursion (λ k. k < n) ks
+use Rattle.fm_link_supers.proofs.InterfaceLemmas.{AreWithin}
 
 -- ---- entries that are there
 
@@ -110,12 +107,12 @@ module _ (entries : List Entry) where
   insn_below offset bytes i valid = tt
 
   -- an option more
-  pub below_option : (o : Option ℕ) (ks : List ℕ) → IsBelow o → AreBelow (length entries) ks → AreBelow (length entries) (cons_option o ks)
+  pub below_option : (o : Option ℕ) (ks : List ℕ) → IsBelow o → AreWithin (length entries) ks → AreWithin (length entries) (cons_option o ks)
   below_option None ks here later = later
   below_option (Some k) ks here later = (here, later)
 
   pub operands_below : (items : List Item) → AllByRecursion (OperandIsValid entries) items
-      → AreBelow (length entries) (filter_map (λ (item : Item). pool_index item.insn) items)
+      → AreWithin (length entries) (filter_map (λ (item : Item). pool_index item.insn) items)
   operands_below [] valid = tt
   operands_below (item ∷ items) valid =
       below_option (pool_index item.insn) (filter_map (λ (i : Item). pool_index i.insn) items) (insn_below item.offset item.bytes item.insn valid.0)
@@ -143,33 +140,33 @@ module _ (entries : List Entry) where
     class_below index (inr there) = name_within entries index there
 
     caught_below : (count : ℕ) (handlers : List Handler) → AllByRecursion (HandlerIsValid entries count) handlers
-        → AreBelow (length entries) (map (λ (h : Handler). h.catch_class) handlers)
+        → AreWithin (length entries) (map (λ (h : Handler). h.catch_class) handlers)
     caught_below count [] valid = tt
     caught_below count (h ∷ handlers) valid = (class_below h.catch_class valid.0.catch_class, caught_below count handlers valid.1)
 
     method_caught : (m : Member) (attributes : List MemberAttr) → AllByRecursion (MethodAttrIsValid entries) attributes
-        → AreBelow (length entries) (caught_by (record m { attributes = attributes }))
+        → AreWithin (length entries) (caught_by (record m { attributes = attributes }))
     method_caught m [] valid = tt
     method_caught m (attribute.Constant name value ∷ attributes) valid = absurd valid.0
     method_caught m (attribute.Coded name code ∷ attributes) valid = caught_below (length code.items) code.handlers valid.0.1.handlers
     method_caught m (attribute.Other raw ∷ attributes) valid = method_caught m attributes valid.1
 
     all_caught : (in_interface : Bool) (methods : List Member) → AllByRecursion (MethodIsValid in_interface entries) methods
-        → AreBelow (length entries) (flat_map caught_by methods)
+        → AreWithin (length entries) (flat_map caught_by methods)
     all_caught in_interface [] valid = tt
     all_caught in_interface (m ∷ methods) valid =
         AllByRecursion-append (λ k. k < length entries) (caught_by m) (flat_map caught_by methods) (method_caught m m.attributes valid.0.attributes)
         (all_caught in_interface methods valid.1)
 
     field_values : (m : Member) (attributes : List MemberAttr) → AllByRecursion (FieldAttrIsValid entries) attributes
-        → AreBelow (length entries) (values_of (record m { attributes = attributes }))
+        → AreWithin (length entries) (values_of (record m { attributes = attributes }))
     field_values m [] valid = tt
     field_values m (attribute.Constant name value ∷ attributes) valid = (value_within value valid.0.1, field_values m attributes valid.1)
     field_values m (attribute.Coded name code ∷ attributes) valid = absurd valid.0
     field_values m (attribute.Other raw ∷ attributes) valid = field_values m attributes valid.1
 
     all_values : (in_interface : Bool) (fields : List Member) → AllByRecursion (FieldIsValid in_interface entries) fields
-        → AreBelow (length entries) (flat_map values_of fields)
+        → AreWithin (length entries) (flat_map values_of fields)
     all_values in_interface [] valid = tt
     all_values in_interface (m ∷ fields) valid =
         AllByRecursion-append (λ k. k < length entries) (values_of m) (flat_map values_of fields) (field_values m m.attributes valid.0.attributes)
@@ -180,7 +177,7 @@ module _ (entries : List Entry) where
 pub such_there : (entries : List Entry) (index : ℕ) (P : List ℕ → Type 0) → IsSomeAnd (class_name_at entries index) P → IsSome (class_name_at entries index)
 such_there entries index P such = let v = Some-from_some_and (class_name_at entries index) P such in IsSome-from_some (class_name_at entries index) v.0 v.1
 
-pub used_below : (c : ClassDef) → HasSpelling c → AreBelow (length c.pool.entries) (used_indices c)
+pub used_below : (c : ClassDef) → HasSpelling c → AreWithin (length c.pool.entries) (used_indices c)
 unfolding used_indices
 used_below c (bytes, spells) =
     let entries = c.pool.entries in
@@ -200,7 +197,7 @@ used_below c (bytes, spells) =
       ),
     )
 
-past_all : (n k : ℕ) (ks : List ℕ) → AreBelow n ks → n ≤ k → is_among k ks ≡ false
+past_all : (n k : ℕ) (ks : List ℕ) → AreWithin n ks → n ≤ k → is_among k ks ≡ false
 past_all n k [] below past = refl
 past_all n k (x ∷ ks) below past =
     let small = below.0 in
@@ -212,7 +209,7 @@ unused_past c spelled index past = past_all (length c.pool.entries) index (used_
 
 -- ---- the indices in their order
 
-range_below : (a n : ℕ) → AreBelow (a + n) (range_with_len a n)
+range_below : (a n : ℕ) → AreWithin (a + n) (range_with_len a n)
 range_below a zero = tt
 range_below a (suc n) =
     (omega arith, AllByRecursion-weaker (λ k. k < a + 1 + n) (λ k. k < a + suc n) (λ k within. omega (arith, within)) (range_with_len (a + 1) n) (range_below (a + 1) n))
@@ -221,19 +218,19 @@ one_filtered : {A : Type 0} (P : A → Type 0) (b : Bool) (x : A) (ys : List A) 
 one_filtered P true x ys here later = (here, later)
 one_filtered P false x ys here later = later
 
-pub indices_below : (c : ClassDef) → AreBelow (length c.pool.entries) (pool_indices c)
-indices_below c = subst (λ n. AreBelow n (pool_indices c)) (zero-add (length c.pool.entries)) (range_below 0 (length c.pool.entries))
+pub indices_below : (c : ClassDef) → AreWithin (length c.pool.entries) (pool_indices c)
+indices_below c = subst (λ n. AreWithin n (pool_indices c)) (zero-add (length c.pool.entries)) (range_below 0 (length c.pool.entries))
 
-pub uses_below : (c : ClassDef) → AreBelow (length c.pool.entries) (uses_in_order c)
+pub uses_below : (c : ClassDef) → AreWithin (length c.pool.entries) (uses_in_order c)
 uses_below c = filter_all (λ k. k < length c.pool.entries) (is_used c) (pool_indices c) (indices_below c)
 
 -- ---- lists over such numbers
 
-pub flat_map-below : {A : Type 0} (n : ℕ) (f g : ℕ → List A) → ((k : ℕ) → k < n → f k ≡ g k) → (ks : List ℕ) → AreBelow n ks → flat_map f ks ≡ flat_map g ks
+pub flat_map-below : {A : Type 0} (n : ℕ) (f g : ℕ → List A) → ((k : ℕ) → k < n → f k ≡ g k) → (ks : List ℕ) → AreWithin n ks → flat_map f ks ≡ flat_map g ks
 flat_map-below n f g agree [] below = refl
 flat_map-below n f g agree (x ∷ ks) below = λ k. agree x below.0 k ++ flat_map-below n f g agree ks below.1 k
 
-pub filter_map-below : {A : Type 0} (n : ℕ) (f g : ℕ → Option A) → ((k : ℕ) → k < n → f k ≡ g k) → (ks : List ℕ) → AreBelow n ks
+pub filter_map-below : {A : Type 0} (n : ℕ) (f g : ℕ → Option A) → ((k : ℕ) → k < n → f k ≡ g k) → (ks : List ℕ) → AreWithin n ks
     → filter_map f ks ≡ filter_map g ks
 filter_map-below n f g agree [] below = refl
 filter_map-below n f g agree (x ∷ ks) below = λ k. cons_option (agree x below.0 k) (filter_map-below n f g agree ks below.1 k)

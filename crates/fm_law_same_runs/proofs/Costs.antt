@@ -25,7 +25,7 @@ returned-keeps p words f (caller ∷ callers) y = by_start (is_start p.outline f
   by_start true = refl
   by_start false = refl
 
-thrown-keeps : (y : State) (c : Caught) → (thrown_by y c).steps ≡ y.steps
+pub thrown-keeps : (y : State) (c : Caught) → (thrown_by y c).steps ≡ y.steps
 thrown-keeps y (InFrames frames) = refl
 thrown-keeps y (Leaves e) = refl
 
@@ -48,7 +48,7 @@ priced n price true = omega arith
 priced n price false = le_refl n
 
 -- the state before what follows is done
-abbrev begun : ℕ → Effect → State → Areas → State
+abbrev pub begun : ℕ → Effect → State → Areas → State
 begun price e x areas =
     record x { areas = areas; input = input_after e.reads x.input; steps = (if is_done e.next then x.steps + price else x.steps) }
 

@@ -108,17 +108,12 @@ module _ (p : Program) (typings : Typings) (typed : AreTyped p typings) where
     (inr (record { starts = start.starts; stands = below.0 }), below.1),
   )
 
-  all_started : (methods : List ℕ) → AllByRecursion (StartsClass p) methods → (f : Frame) (callers : List Frame) → Stand p typings (f ∷ callers)
+  pub started_stand : (methods : List ℕ) → AllByRecursion (StartsClass p) methods → (f : Frame) (callers : List Frame) → Stand p typings (f ∷ callers)
       → Stand p typings (start_frames p methods ++ f ∷ callers)
-  all_started [] each f callers below = below
-  all_started (m ∷ []) each f callers below = start_stands m f callers each.0 below
-  all_started (m ∷ n ∷ methods) each f callers below =
-      start_stands m (new_frame p n []) (start_frames p methods ++ f ∷ callers) each.0 (all_started (n ∷ methods) each.1 f callers below)
-
-pub started_stand : (p : Program) (typings : Typings) → AreTyped p typings
-    → (methods : List ℕ) → AllByRecursion (StartsClass p) methods → (f : Frame) (callers : List Frame) → Stand p typings (f ∷ callers)
-    → Stand p typings (start_frames p methods ++ f ∷ callers)
-started_stand p typings typed methods each f callers below = all_started p typings typed methods each f callers below
+  started_stand [] each f callers below = below
+  started_stand (m ∷ []) each f callers below = start_stands m f callers each.0 below
+  started_stand (m ∷ n ∷ methods) each f callers below =
+      start_stands m (new_frame p n []) (start_frames p methods ++ f ∷ callers) each.0 (started_stand (n ∷ methods) each.1 f callers below)
 
 -- ---- the words that a call takes
 
@@ -133,7 +128,7 @@ pub record Takes (o : Outline) (named words : ℕ) (no_receiver : Bool) (stack :
   pub is_receiver : IsReceiver no_receiver receiver
   pub have : HaveKinds (argument_words o named ++ receiver) (take words stack)
 
-reference_value : (r : Slot) (v : Value) → is_reference r ≡ true → HasKind r v → IsReference v
+pub reference_value : (r : Slot) (v : Value) → is_reference r ≡ true → HasKind r v → IsReference v
 reference_value slot.Top v is h = absurd (false≢true is)
 reference_value slot.Int v is h = absurd (false≢true is)
 reference_value slot.Long v is h = absurd (false≢true is)

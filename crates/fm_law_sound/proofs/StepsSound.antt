@@ -67,7 +67,7 @@ StepLeads p f i after e (Enters methods) = AllByRecursion (StartsClass p) method
 StepLeads p f i after e next = CallLeads p f i after e next
 
 module _ (p : Program) (ready : StepsAreResolved p) (f : Frame) (i : Insn) (after : TypeState) where
-  as_call : (e : Effect) (next : Next) → LeadsAs p.outline i after f e next → CallLeads p f i after e next
+  pub as_call : (e : Effect) (next : Next) → LeadsAs p.outline i after f e next → CallLeads p f i after e next
   as_call e Falls leads = leads
   as_call e (Jumps n) leads = leads
   as_call e (JumpsIfSame same) leads = leads
@@ -95,7 +95,7 @@ module _ (p : Program) (ready : StepsAreResolved p) (f : Frame) (i : Insn) (afte
   methods_lead classes e [] each leads = as_step e (start_actions p.outline classes ++ e.actions) None e.next leads
   methods_lead classes e (m ∷ methods) each leads = each
 
-  class_leads : (started : List Bool) (e : Effect) (class : Option ℕ) → CallLeads p f i after e e.next
+  pub class_leads : (started : List Bool) (e : Effect) (class : Option ℕ) → CallLeads p f i after e e.next
       → StepLeads p f i after (for_class p.outline started e class) (for_class p.outline started e class).next
   class_leads started e None leads = as_step e e.actions e.starts e.next leads
   class_leads started e (Some class) leads =

@@ -3,10 +3,9 @@ use Rattle.std.proofs.Common.{◌≡◌, ℕ, false, List, [], ◌∷◌, Option
 use Rattle.std.specs.Prelude.{slice_get}
 use Rattle.std.specs.List.{AllByRecursion}
 use Rattle.std.proofs.lemmas.Option.{none-some, same_Some}
-use Rattle.fm_base.proofs.OptionFacts.{IsSomeAnd-from_some, option_and_then-some}
 use Rattle.fm_code.specs.declared.class_file.ClassDef.{ClassDef}
 use Rattle.fm_code.specs.declared.code_array.Code.{Code}
-use Rattle.fm_conn.specs.Facts.{AreFacts, Facts}
+use Rattle.fm_conn.specs.Facts.{Facts}
 use Rattle.fm_conn.specs.Links.{typed_method}
 use Rattle.fm_conn.specs.Nodes.{TypedMethod}
 use Rattle.fm_frames.specs.States.{Frame, null, word_at}
@@ -14,26 +13,20 @@ use Rattle.fm_law_linked.specs.Laws.{MainOfProgramsIsReady, StepsOfProgramsAreRe
 use Rattle.fm_law_linked.specs.Makes.{MakesOfProgramsAreResolved}
 use Rattle.fm_law_same_runs.specs.Beside.{Marks, reuse_run}
 use Rattle.fm_law_same_runs.specs.Programs.{AreClear, HoldersAreCleared, IsClear}
-use Rattle.fm_law_sound.specs.Sound.{AreTyped}
 use Rattle.fm_law_unwoven.specs.Runs.{AllRunsAreCleared, AreCleared, FewAreInsertedInRuns, IsCleared, SafeRunsAreCleared}
 use Rattle.fm_law_unwoven.specs.WovenFrom.{inserted_by, SafeProgramsAreWoven}
-use Rattle.fm_place.proofs.FullLemmas.{full-safe}
-use Rattle.fm_place.specs.Insertions.{full_insertions, Insertions}
+use Rattle.fm_place.proofs.FullLemmas.{method-safe}
+use Rattle.fm_place.specs.Insertions.{full_insertions}
 use Rattle.fm_place.specs.Places.{is_busy}
-use Rattle.fm_place.specs.Safe.{Full, full_plans, IsSafeMethod, method_in_facts, Safe}
+use Rattle.fm_place.specs.Safe.{Full, full_plans, Safe}
 use Rattle.fm_place.specs.Woven.{local_of}
-use Rattle.fm_types.specs.Typed.{IsTypingOf}
 use Rattle.fm_world.specs.Programs.{code_at, Program, program_of}
-
--- the states of facts are a typing
-pub facts_typed : (p : Program) (facts : Facts) → AreFacts p facts → AreTyped p facts.typing
-facts_typed p facts exact method code is =
-    IsSomeAnd-from_some (code_at p method) (λ c. IsTypingOf p method c (facts.typing method)) code is (exact.methods method code is).typing
+use Rattle.fm_same.proofs.DeadRuns.{facts_type}
 
 pub safe_cleared : AllRunsAreCleared → SafeProgramsAreWoven → StepsOfProgramsAreResolved → MakesOfProgramsAreResolved → MainOfProgramsIsReady → SafeRunsAreCleared
 safe_cleared runs woven steps makes main given entry taken written marks safe job job_given choose words few free =
     runs (program_of given entry) (program_of written entry) safe.facts safe.plans marks (woven given entry taken written marks safe)
-    (facts_typed (program_of given entry) safe.facts safe.exact) (steps given entry taken.spelled taken.supported taken.linked taken.few)
+    (facts_type (program_of given entry) safe.facts safe.exact) (steps given entry taken.spelled taken.supported taken.linked taken.few)
     (makes given entry taken.spelled taken.linked taken.few) (main given entry taken.spelled taken.supported taken.linked)
     choose job job_given.arguments words few free
 
@@ -64,19 +57,13 @@ all_clear : (p : Program) (facts : Facts) (marks : Marks) (frames : List Frame) 
 all_clear p facts marks [] all = tt
 all_clear p facts marks (f ∷ frames) all = (full_clear p facts marks f all.0, all_clear p facts marks frames all.1)
 
--- each method that has them, by the facts that they were made with
-pub full_method : (p : Program) (facts : Facts) (method : ℕ) (plan : Insertions) → full_plans p facts method ≡ Some plan → IsSafeMethod p facts method plan
-full_method p facts method plan found =
-    let parts = option_and_then-some (full_insertions facts) (method_in_facts p facts method) plan found in
-    record { x = parts.0; is = parts.1; safe = full-safe facts parts.0 plan parts.2 }
-
 -- they are safe, with these facts and plans
 unfoldable pub safe_of : (given : List ClassDef) (main : List ℕ) (written : List ClassDef) (marks : Marks) → Full given main written marks → Safe given main written marks
 safe_of given main written marks full = record {
   facts = full.facts;
   exact = full.exact;
   plans = full_plans (program_of given main) full.facts;
-  methods = full_method (program_of given main) full.facts;
+  methods = method-safe (program_of given main) full.facts;
   written_is = full.written_is;
   marks_are = full.marks_are;
 }

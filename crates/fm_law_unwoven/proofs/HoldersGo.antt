@@ -3,7 +3,7 @@ use Rattle.std.proofs.Common.{◌≡◌, ◌≢◌, ℕ, ◌+◌, ◌<◌, ◌�
 use Rattle.std.specs.Prelude.{nat_eq, slice_get, slice_set}
 use Rattle.std.specs.List.{range_with_len}
 use Rattle.std.proofs.lemmas.Bool.{cases_eq, eqb-true}
-use Rattle.std.proofs.lemmas.Option.{slice_get_within}
+use Rattle.std.proofs.lemmas.Option.{same_Some, slice_get_within}
 use Rattle.fm_code.specs.Edges.{IsEdge}
 use Rattle.fm_code.proofs.EdgesLemmas.{Contains-from_map}
 use Rattle.fm_conn.proofs.ListLemmas.{Contains-from_range, Contains-range}
@@ -17,21 +17,14 @@ use Rattle.fm_law_unwoven.proofs.TodoAreas.{may_both, may_free, may_keep, may_st
 use Rattle.fm_law_unwoven.specs.Doing.{all_locals_after, MayDoAll}
 use Rattle.fm_law_unwoven.specs.Kept.{HoldersStand}
 use Rattle.fm_law_unwoven.specs.Laid.{frees_at, keeps_at, starts_of, Todo, ToFree, ToKeep, ToStart}
-use Rattle.fm_place.proofs.FullLemmas.{numbers-found, some-same}
+use Rattle.fm_place.proofs.FullLemmas.{numbers-found}
 use Rattle.fm_place.specs.Insertions.{after_at, before_at, Holder, Insertions}
-use Rattle.fm_place.specs.Places.{is_busy, IsBusyPath, MayHold}
+use Rattle.fm_place.specs.Places.{is_busy, MayHold}
 use Rattle.fm_place.specs.Safe.{IsSafeAt}
 use Rattle.fm_place.specs.Woven.{local_of}
+use Rattle.fm_place.proofs.HoldingLemmas.{path-more}
 
 -- ---- what a holder may hold
-
--- along one edge more, from an item at which its class is busy
-held_along : (facts : Facts) (x : TypedMethod) (class : ℕ) (path : List ℕ) (first j next : ℕ) → IsBusyPath facts x class first path j
-    → is_busy facts x class j ≡ true → IsEdge x.code j next → IsBusyPath facts x class first (path ++ next ∷ []) next
-held_along facts x class [] first j next same busy edge =
-    subst (λ n. IsBusyPath facts x class n (next ∷ []) next) (sym same) (busy, (edge, refl))
-held_along facts x class (b ∷ path) first j next (busy_here, (here, rest)) busy edge =
-    (busy_here, (here, held_along facts x class path b j next rest busy edge))
 
 module _ (facts : Facts) (x : TypedMethod) (plan : Insertions) where
   -- a holder is null, or may hold something
@@ -52,7 +45,7 @@ module _ (facts : Facts) (x : TypedMethod) (plan : Insertions) where
     by_word : (word_at g.locals (local_of x.code h) ≡ null) ⊎ ((is_busy facts x holder.class j ≡ true) × MayHold facts x holder.site holder.class j)
         → (word_at g.locals (local_of x.code h) ≡ null) ⊎ MayHold facts x holder.site holder.class next
     by_word (inl none) = inl none
-    by_word (inr (busy, (path, leads))) = inr (path ++ next ∷ [], held_along facts x holder.class path (holder.site + 1) j next leads busy edge)
+    by_word (inr (busy, (path, leads))) = inr (path ++ next ∷ [], path-more facts x holder.class path (holder.site + 1) j next leads busy edge)
 
   -- ---- before an item
 
@@ -112,7 +105,7 @@ module _ (facts : Facts) (x : TypedMethod) (plan : Insertions) where
         let number : there.0 ≡ h = ap holder_of there.2 ∙ same in
         let place = listed.number in
         let here : listed.place ≡ h = omega (arith, place, number) in
-        let one : listed.holder ≡ holder = some-same (sym listed.there ∙ ap (slice_get plan.holders) here ∙ is) in
+        let one : listed.holder ≡ holder = same_Some _ _ (sym listed.there ∙ ap (slice_get plan.holders) here ∙ is) in
         other (ap (λ (o : Holder). o.site) (sym one) ∙ eqb-true listed.holder.site j listed.passes)
 
     -- the holders of item j keep what it gave, which they may hold from there on

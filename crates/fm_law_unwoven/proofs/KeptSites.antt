@@ -20,7 +20,7 @@ use Rattle.fm_frames.specs.declared.values.Value.{Value}
 use Rattle.fm_law_same_runs.specs.Beside.{Marks}
 use Rattle.fm_law_sound.proofs.FramesStand.{typing_of}
 use Rattle.fm_law_sound.specs.Resolved.{StepsAreResolved}
-use Rattle.fm_law_sound.specs.Sound.{AreTyped, HasKind, HaveKinds, IsReference, StandsWithout}
+use Rattle.fm_law_sound.specs.Sound.{AreTyped, HaveKinds, IsReference, StandsWithout}
 use Rattle.fm_law_unwoven.specs.WovenFrom.{inserted_by, IsWovenFrom}
 use Rattle.fm_place.proofs.BusyLemmas.{depth_of}
 use Rattle.fm_place.proofs.FullLemmas.{numbers-found}
@@ -35,17 +35,9 @@ use Rattle.fm_types.specs.Typed.{state_at}
 use Rattle.fm_types.specs.declared.slots.Slot as slots
 use Rattle.fm_types.specs.declared.slots.Slot.TheVariants as slot
 use Rattle.fm_world.specs.Programs.{code_at, Program}
+use Rattle.fm_law_sound.proofs.CallsStand.{reference_value}
 
 -- ---- on top of the stack
-
-refers : (s : slots.Slot) (v : Value) → is_reference s ≡ true → HasKind s v → IsReference v
-refers slot.Top v is kind = absurd (false≢true is)
-refers slot.Int v is kind = absurd (false≢true is)
-refers slot.Long v is kind = absurd (false≢true is)
-refers slot.Null v is kind = kind
-refers (slot.Ref t) v is kind = kind
-refers (slot.Uninit item) v is kind = kind
-refers slot.UninitThis v is kind = kind
 
 -- the highest word is a reference
 on_top : (known : List slots.Slot) (stack : List Value) → IsSomeAnd (slice_get (reverse known) (length known - 1)) (λ s. is_reference s ≡ true)
@@ -56,7 +48,7 @@ on_top (s ∷ known) (v ∷ stack) node kinds =
     let same : length (s ∷ known) - 1 ≡ length (s ∷ known) - 1 - 0 = omega arith in
     let there : slice_get (reverse (s ∷ known)) (length (s ∷ known) - 1) ≡ Some s =
     ap (slice_get (reverse (s ∷ known))) same ∙ slot_from_below (s ∷ known) 0 (omega arith) in
-    (omega arith, refers s v (subst (λ (o : Option slots.Slot). IsSomeAnd o (λ t. is_reference t ≡ true)) there node) kinds.0)
+    (omega arith, reference_value s v (subst (λ (o : Option slots.Slot). IsSomeAnd o (λ t. is_reference t ≡ true)) there node) kinds.0)
 
 abbrev top_in : Option TypeState → Option slots.Slot
 top_in o = option_and_then (λ (s : TypeState). slice_get (reverse s.stack) (depth_of o - 1)) o

@@ -4,7 +4,7 @@ use Rattle.std.specs.Prelude.{nat_lt, slice_get, slice_index}
 use Rattle.std.specs.List.{AllByRecursion, flat_map, range_with_len}
 use Rattle.std.specs.Option.{option_map}
 use Rattle.std.proofs.lemmas.Bool.{cases_lt, lt-ltb}
-use Rattle.std.proofs.lemmas.Option.{none-some, slice_get_within, slice_get-map}
+use Rattle.std.proofs.lemmas.Option.{none-some, same_Some, slice_get-map, slice_get_within}
 use Rattle.fm_base.proofs.ListFacts.{slice_get-append_right}
 use Rattle.fm_code.proofs.EdgesLemmas.{insn_inside}
 use Rattle.fm_code.specs.Edges.{insn_of, MeetsCodeRules}
@@ -14,11 +14,10 @@ use Rattle.fm_code.specs.declared.instructions.Insn.{Insn}
 use Rattle.fm_code.specs.declared.instructions.Insn.TheVariants as insn
 use Rattle.fm_code.specs.declared.operations.Reg.TheVariants as reg
 use Rattle.fm_flow.proofs.CodeFacts.{items_counted}
-use Rattle.fm_place.proofs.FullLemmas.{some-same}
 use Rattle.fm_place.specs.Insertions.{after_at, before_at, Insertions}
 use Rattle.fm_place.specs.Woven.{anchors_of, local_of, woven, woven_code, woven_marks}
 use Rattle.fm_law_woven_flow.proofs.Caught.{anchor_inside, first_le, goes_le}
-use Rattle.fm_law_woven_flow.proofs.LaidItems.{first_of, goes_to, is_split_of, item_total, laid_insn, lays, split_insn, whole_insn}
+use Rattle.fm_law_woven_flow.proofs.LaidItems.{first_of, goes_to, is_split_of, item_total, laid_insn, lays, some-more, split_insn, whole_insn}
 use Rattle.fm_law_woven_flow.proofs.LaidRoles.{width}
 use Rattle.fm_law_woven_flow.proofs.NewItems.{HasWhole, new_count}
 use Rattle.fm_law_woven_flow.proofs.RoleLists.{first_anchor, kept_role, length-after, length-before, length-start, next_anchor, part_of}
@@ -82,10 +81,6 @@ some_is : (o : Option Insn) (x : Insn) → IsSomeAnd o (λ i. i ≡ x) → o ≡
 some_is None x found = absurd found
 some_is (Some i) x found = ap Some found
 
-weaken : (P Q : Insn → Type 0) → ((i : Insn) → P i → Q i) → (o : Option Insn) → IsSomeAnd o P → IsSomeAnd o Q
-weaken P Q each None found = absurd found
-weaken P Q each (Some i) found = each i found
-
 -- the mark of a role
 join_mark : (o : Option Role) (r : Role) → o ≡ Some r → option_map mark_of o ≡ Some (mark_of r)
 join_mark o r is = ap (option_map mark_of) is
@@ -136,7 +131,7 @@ module _ (free : ℕ) (old : Code) (plan : Insertions) where
       let way = not_split k r there all.0 (is_split_of free old plan k) refl in
       let step = step_whole k r there way in
       let insn = some_is (laid_insn free old plan (first k)) (role_insn free old r)
-      (weaken (HasWhole free old (goes_to free old plan) r) (λ i. i ≡ role_insn free old r) (λ i whole. has_insn free old (goes_to free old plan) r i all.0 whole)
+      (some-more (HasWhole free old (goes_to free old plan) r) (λ i. i ≡ role_insn free old r) (λ i whole. has_insn free old (goes_to free old plan) r i all.0 whole)
       (laid_insn free old plan (first k)) (whole_insn free old plan k r there way)) in
       let mark = mark_by (first k) r ((lays free old plan).first k r there) ∙ no_mark r all.0 in
       let later = run rest (front ++ (r ∷ [])) back (suc k) next (is ∙ sym (append_assoc front (r ∷ []) (rest ++ back))) (omega arith) (omega arith) all.1 in
@@ -241,11 +236,11 @@ module _ (free : ℕ) (old : Code) (plan : Insertions) where
     up le = let below = goes_le free old plan t j le (omega arith) in let low = sides.0 in omega arith
 
   keep_is : (i j : ℕ) → Keep i ≡ Keep j → i ≡ j
-  keep_is i j same = some-same (ap mark_of same)
+  keep_is i j same = same_Some _ _ (ap mark_of same)
 
   insn_is : (j : ℕ) (i : Insn) (goes : ℕ → ℕ) (o : Option Insn) (x : Insn) → o ≡ Some x → IsSomeAnd o (λ was. i ≡ with_targets goes was) → i ≡ with_targets goes x
   insn_is j i goes None x is whole = absurd whole
-  insn_is j i goes (Some was) x is whole = whole ∙ ap (with_targets goes) (some-same is)
+  insn_is j i goes (Some was) x is whole = whole ∙ ap (with_targets goes) (same_Some _ _ is)
 
   kept_as : (j : ℕ) (i : Insn) → j < length old.items → insn_of old j ≡ Some i → (b : Bool) → is_split_of free old plan (kept_new old plan j) ≡ b
       → IsKept old new marks (goes_to free old plan) j i (first (kept_new old plan j)) (first (suc (kept_new old plan j)))
@@ -255,7 +250,7 @@ module _ (free : ℕ) (old : Code) (plan : Insertions) where
       let whole = whole_insn free old plan k (Keep j) role way in
       IsWhole
       (some_is (laid_insn free old plan (first k)) (with_targets (goes_to free old plan) i)
-      (weaken (HasWhole free old (goes_to free old plan) (Keep j)) (λ x. x ≡ with_targets (goes_to free old plan) i)
+      (some-more (HasWhole free old (goes_to free old plan) (Keep j)) (λ x. x ≡ with_targets (goes_to free old plan) i)
       (λ x has. insn_is j x (goes_to free old plan) (insn_of old j) i found has) (laid_insn free old plan (first k)) whole))
       (step_whole k (Keep j) role way)
   kept_as j i inside found true way =
@@ -265,7 +260,7 @@ module _ (free : ℕ) (old : Code) (plan : Insertions) where
       let item_is : split.item ≡ j = sym (keep_is j split.item split.is) in
       let step : first (suc k) ≡ first k + 2 = (lays free old plan).step k (kept_below j inside) ∙ ap (λ b. first k + width b) way in
       IsSplit split.condition split.target split.other
-      (some-same (sym found ∙ ap (λ n. insn_of old n) (sym item_is) ∙ split.branch))
+      (same_Some _ _ (sym found ∙ ap (λ n. insn_of old n) (sym item_is) ∙ split.branch))
       split.test
       (λ more. other_is j k more split.other split.other_is step (let below = kept_below (j + 1) more in let rise = later j more in omega arith))
       split.jump
@@ -289,7 +284,7 @@ module _ (free : ℕ) (old : Code) (plan : Insertions) where
 
   -- an item with a mark keeps an old one
   kept_by : (r : Role) (j : ℕ) → mark_of r ≡ Some j → r ≡ Keep j
-  kept_by (Keep i) j is = ap Keep (some-same is)
+  kept_by (Keep i) j is = ap Keep (same_Some _ _ is)
   kept_by (StartNull h) j is = absurd (none-some j is)
   kept_by (StartStore h) j is = absurd (none-some j is)
   kept_by (LoadBefore i h) j is = absurd (none-some j is)

@@ -5,7 +5,7 @@ use Rattle.std.specs.List.{AllByRecursion}
 use Rattle.std.specs.Option.{option_map}
 use Rattle.std.proofs.lemmas.Bool.{cases_lt, false≢true, le-ltb, lt-ltb}
 use Rattle.std.proofs.lemmas.List.Elements.{All-contains, All-from_recursion}
-use Rattle.std.proofs.lemmas.Option.{none-some, slice_get_within}
+use Rattle.std.proofs.lemmas.Option.{none-some, same_Some, slice_get_within}
 use Rattle.fm_base.proofs.ContainsFacts.{Contains-none}
 use Rattle.fm_base.proofs.ListFacts.{AllByRecursion-at}
 use Rattle.fm_code.proofs.EdgesLemmas.{Contains-first, Contains-from_map}
@@ -20,7 +20,6 @@ use Rattle.fm_conn.proofs.ListLemmas.{Contains-one}
 use Rattle.fm_flow.proofs.CodeFacts.{targets_inside}
 use Rattle.fm_flow.proofs.ReachLemmas.{edge_from_item}
 use Rattle.fm_layout.specs.Spelling.{conditional, opposite}
-use Rattle.fm_place.proofs.FullLemmas.{some-same}
 use Rattle.fm_place.proofs.WovenLemmas.{targets-of-with}
 use Rattle.fm_place.specs.Insertions.{Insertions}
 use Rattle.fm_place.specs.Woven.{anchors_of, woven, woven_code}
@@ -36,7 +35,7 @@ use Rattle.fm_law_woven_flow.specs.inner.RolesOf.{jump_of, new_roles, roles_of}
 -- the item of an instruction
 insn-item : (o : Option Item) (i : Insn) → option_map (λ (item : Item). item.insn) o ≡ Some i → (item : Item) × (o ≡ Some item) × (item.insn ≡ i)
 insn-item None i found = absurd (none-some i found)
-insn-item (Some item) i found = (item, refl, some-same found)
+insn-item (Some item) i found = (item, refl, same_Some _ _ found)
 
 -- a target is an item
 pub target_inside : (old : Code) → MeetsCodeRules old → (j : ℕ) (i : Insn) (t : ℕ) → insn_of old j ≡ Some i → Contains (targets_of i) t → t < length old.items

@@ -1,7 +1,7 @@
 -- The instructions of laid items, by their roles.
 use Rattle.std.proofs.Common.{◌≡◌, ℕ, ◌+◌, ◌⊎◌, inl, inr, Bool, true, false, [], ◌∷◌, length, Option, Some, None, IsSomeAnd, refl, sym, ap, subst, ◌∙◌, arith, if◌then◌else◌}
 use Rattle.std.specs.Prelude.{nat_lt, slice_get, slice_index}
-use Rattle.std.proofs.lemmas.Option.{none-some, slice_get_within}
+use Rattle.std.proofs.lemmas.Option.{none-some, same_Some, slice_get_within}
 use Rattle.fm_base.proofs.ListFacts.{AllByRecursion-from_every}
 use Rattle.fm_code.specs.Edges.{falls_through, insn_of}
 use Rattle.fm_code.specs.SpellsCode.{targets_of, with_targets}
@@ -16,7 +16,6 @@ use Rattle.fm_layout.specs.Spelling.{conditional, opposite}
 use Rattle.fm_layout.specs.Stands.{StandsSplit, StandsWhole}
 use Rattle.fm_layout.specs.declared.rooms.Condition.{Condition}
 use Rattle.fm_layout.specs.declared.rooms.Condition.TheVariants as condition
-use Rattle.fm_place.proofs.FullLemmas.{some-same}
 use Rattle.fm_place.specs.Insertions.{Insertions}
 use Rattle.fm_place.specs.Woven.{anchors_of, woven, woven_code}
 use Rattle.fm_law_woven_flow.proofs.LaidRoles.{first_at, item_at, lays_roles, LaysRoles, split_at}
@@ -66,10 +65,10 @@ target-conditional (condition.Same a) t = refl
 target-conditional (condition.Null a) t = refl
 
 conditional-from : (i : Insn) (c : Condition) → condition_of i ≡ Some c → i ≡ conditional c (target_of i)
-conditional-from (insn.IfInt t n) c is = ap (λ d. conditional d n) (some-same is)
-conditional-from (insn.IfPair t n) c is = ap (λ d. conditional d n) (some-same is)
-conditional-from (insn.IfSame same n) c is = ap (λ d. conditional d n) (some-same is)
-conditional-from (insn.IfNull null n) c is = ap (λ d. conditional d n) (some-same is)
+conditional-from (insn.IfInt t n) c is = ap (λ d. conditional d n) (same_Some _ _ is)
+conditional-from (insn.IfPair t n) c is = ap (λ d. conditional d n) (same_Some _ _ is)
+conditional-from (insn.IfSame same n) c is = ap (λ d. conditional d n) (same_Some _ _ is)
+conditional-from (insn.IfNull null n) c is = ap (λ d. conditional d n) (same_Some _ _ is)
 conditional-from i c is = absurd (none-some c is)
 
 -- it has one target, and goes on else
@@ -255,10 +254,10 @@ laid_item free old plan n r found =
       go : (k : ℕ) (x : Role) → slice_get (new_roles old plan) k ≡ Some x
           → (n ≡ first_of free old plan k) ⊎ ((n ≡ first_of free old plan k + 1) × (is_split_of free old plan k ≡ true)) → LaidItem free old plan n r
       go k x there (inl same) =
-          let is : x ≡ r = some-same (sym ((lays free old plan).first k x there) ∙ ap (λ m. slice_get (roles_of free old plan) m) (sym same) ∙ found) in
+          let is : x ≡ r = same_Some _ _ (sym ((lays free old plan).first k x there) ∙ ap (λ m. slice_get (roles_of free old plan) m) (sym same) ∙ found) in
           laid-first free old plan n k r (is_split_of free old plan k) refl same (there ∙ ap Some is)
       go k x there (inr (same, split)) =
-          let is : jump_of x ≡ r = some-same (sym ((lays free old plan).second k x split there) ∙ ap (λ m. slice_get (roles_of free old plan) m) (sym same) ∙ found) in
+          let is : jump_of x ≡ r = same_Some _ _ (sym ((lays free old plan).second k x split there) ∙ ap (λ m. slice_get (roles_of free old plan) m) (sym same) ∙ found) in
           let branch = split_insn free old plan k x there split in
           Jump k x same there split branch (sym is ∙ ap jump_of branch.is)
 

@@ -2,7 +2,7 @@
 use Rattle.std.proofs.Common.{◌≡◌, ℕ, zero, suc, ◌+◌, ◌<◌, ◌≤◌, ◌⊎◌, inl, inr, Bool, true, false, List, [], ◌∷◌, ◌++◌, length, get_or, Option, Some, None, refl, sym, ap, ◌∙◌, arith, append_assoc, length-append}
 use Rattle.std.specs.Prelude.{is_some, slice_get, slice_index}
 use Rattle.std.proofs.lemmas.Bool.{cases_lt, false≢true}
-use Rattle.std.proofs.lemmas.Option.{none-some, slice_get_within}
+use Rattle.std.proofs.lemmas.Option.{none-some, same_Some, slice_get_within}
 use Rattle.fm_base.proofs.ListFacts.{slice_get-append_right}
 use Rattle.fm_code.specs.declared.code_array.Item.{Item}
 use Rattle.fm_layout.proofs.LayoutLemmas.{one_each}
@@ -14,7 +14,6 @@ use Rattle.fm_layout.specs.declared.new_items.NewItem.{NewItem}
 use Rattle.fm_layout.specs.declared.rooms.Condition.{Condition}
 use Rattle.fm_layout.specs.declared.rooms.Room.{Room}
 use Rattle.fm_layout.specs.declared.rooms.Room.TheVariants as room
-use Rattle.fm_place.proofs.FullLemmas.{some-same}
 use Rattle.fm_law_woven_flow.proofs.RoleLists.{between}
 use Rattle.fm_law_woven_flow.specs.Roles.{Role}
 use Rattle.fm_law_woven_flow.specs.inner.RolesOf.{branch_roles, jump_of, laid_roles, roles_in}
@@ -92,7 +91,7 @@ second_from first (x ∷ roles) (m ∷ rooms) front zero r number split found =
     let place : first + 1 ≡ length front + 1 = omega arith in
     let rest = laid_roles roles rooms in
     ap (λ n. slice_get (front ++ (roles_in x m ++ rest)) n) place ∙ slice_get-append_right front (roles_in x m ++ rest) 1 ∙ second_in x m rest split
-    ∙ ap (λ y. Some (jump_of y)) (some-same found)
+    ∙ ap (λ y. Some (jump_of y)) (same_Some _ _ found)
 second_from first (x ∷ roles) (m ∷ rooms) front (suc k) r number split found =
     let size = roles_width x m in
     let count = count_width m in

@@ -3,7 +3,7 @@ use Rattle.std.proofs.Common.{◌≡◌, ℕ, zero, suc, ◌+◌, ◌<◌, List,
 use Rattle.std.specs.Prelude.{slice_get, slice_index}
 use Rattle.std.specs.List.{flat_map, range_with_len}
 use Rattle.std.specs.Option.{option_map}
-use Rattle.std.proofs.lemmas.Option.{none-some}
+use Rattle.std.proofs.lemmas.Option.{none-some, same_Some}
 use Rattle.fm_code.proofs.EdgesLemmas.{Contains-first, Contains-later}
 use Rattle.fm_code.specs.Edges.{insn_of}
 use Rattle.fm_code.specs.SpellsCode.{with_targets}
@@ -14,7 +14,6 @@ use Rattle.fm_code.specs.declared.instructions.Insn.TheVariants as insn
 use Rattle.fm_code.specs.declared.operations.Reg.TheVariants as reg
 use Rattle.fm_conn.proofs.ListLemmas.{Contains-from_range}
 use Rattle.fm_layout.specs.declared.new_items.NewItem.{NewItem}
-use Rattle.fm_place.proofs.FullLemmas.{some-same}
 use Rattle.fm_place.specs.Insertions.{after_at, before_at, Insertions}
 use Rattle.fm_place.specs.Woven.{anchors_of, freed, kept, local_of, null_stored, top_stored, woven, woven_from, woven_item}
 use Rattle.fm_law_woven_flow.specs.Roles.{DupAfter, FreeBefore, HasHolder, JumpOf, Keep, LoadBefore, NullBefore, Role, StartNull, StartStore, StoreAfter, StoreBefore}
@@ -62,7 +61,7 @@ for-flat free old plan f g (h ∷ hs) each =
 kept-same : (goes : ℕ → ℕ) (item : Item) (o : Option Item) → o ≡ Some item
     → IsSomeAnd (option_map (λ (x : Item). x.insn) o) (λ was. with_targets goes item.insn ≡ with_targets goes was)
 kept-same goes item None is = absurd (none-some item is)
-kept-same goes item (Some x) is = ap (λ (y : Item). with_targets goes y.insn) (sym (some-same is))
+kept-same goes item (Some x) is = ap (λ (y : Item). with_targets goes y.insn) (sym (same_Some _ _ is))
 
 for-item : (free : ℕ) (old : Code) (plan : Insertions) (j : ℕ) (item : Item) → slice_get old.items j ≡ Some item
     → AreFor free old plan (woven_item free old plan (anchors_of plan old.items) j item.insn) (item_roles plan j)
@@ -117,7 +116,7 @@ for-at free old plan [] [] k r all found = absurd (none-some r found)
 for-at free old plan [] (x ∷ roles) k r all found = absurd all
 for-at free old plan (new ∷ news) [] k r all found = absurd all
 for-at free old plan (new ∷ news) (x ∷ roles) zero r all found =
-    record { new = new; there = refl; is_for = subst (λ y. IsFor free old plan new y) (some-same found) all.0 }
+    record { new = new; there = refl; is_for = subst (λ y. IsFor free old plan new y) (same_Some _ _ found) all.0 }
 for-at free old plan (new ∷ news) (x ∷ roles) (suc k) r all found =
     let later = for-at free old plan news roles k r all.1 found in record { new = later.new; there = later.there; is_for = later.is_for }
 

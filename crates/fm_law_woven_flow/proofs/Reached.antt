@@ -2,7 +2,7 @@
 use Rattle.std.proofs.Common.{◌≡◌, ℕ, zero, suc, ◌+◌, ◌-◌, ◌<◌, ◌≤◌, ◌⊎◌, inl, inr, Bool, true, false, List, [], ◌∷◌, ◌++◌, length, Option, Some, None, Contains, IsSomeAnd, refl, sym, ap, subst, ◌∙◌, arith, if◌then◌else◌}
 use Rattle.std.specs.Prelude.{slice_get, slice_index}
 use Rattle.std.proofs.lemmas.Bool.{cases_lt, false≢true, lt-ltb}
-use Rattle.std.proofs.lemmas.Option.{slice_get_within}
+use Rattle.std.proofs.lemmas.Option.{same_Some, slice_get_within}
 use Rattle.fm_code.proofs.EdgesLemmas.{Contains-first, Contains-from_map, Contains-map}
 use Rattle.fm_code.specs.Edges.{Catches, falls_through, insn_of, IsEdge, IsFlowPath, IsHandlerEdge, IsReachable, LeadsTo, MeetsCodeRules}
 use Rattle.fm_code.specs.SpellsCode.{targets_of, with_targets}
@@ -13,7 +13,6 @@ use Rattle.fm_conn.proofs.ListLemmas.{Contains-one}
 use Rattle.fm_flow.proofs.ReachLemmas.{edge_from_item, IsFlowPath-more}
 use Rattle.fm_layout.proofs.TablesLemmas.{below_total}
 use Rattle.fm_layout.specs.Spelling.{conditional, opposite}
-use Rattle.fm_place.proofs.FullLemmas.{some-same}
 use Rattle.fm_place.proofs.WovenLemmas.{targets-of-with}
 use Rattle.fm_place.specs.Insertions.{Insertions}
 use Rattle.fm_place.specs.Woven.{anchors_of, woven, woven_code}
@@ -93,7 +92,7 @@ edge_reached : (free : ℕ) (old : Code) (plan : Insertions) → MeetsCodeRules 
     → IsHereReached free old plan n → IsHereReached free old plan next
 edge_reached free old plan rules can n next (inl edge) reached r there =
     let follow = follow_edge free old plan rules n next edge in
-    let same : follow.to ≡ r = some-same (sym follow.to_is ∙ there) in
+    let same : follow.to ≡ r = same_Some _ _ (sym follow.to_is ∙ there) in
     subst (λ x. IsOwnerReached old (owner x)) same
     (follows_reached old plan can follow.from follow.to (holders free old plan n follow.from follow.from_is) follow.follows (reached follow.from follow.from_is))
 edge_reached free old plan rules can n next (inr edge) reached r there =
@@ -110,7 +109,7 @@ edge_reached free old plan rules can n next (inr edge) reached r there =
     (record { after_start = catches.after_start; before_end = catches.before_end; handler_is = refl }) in
     let is = caught free old plan rules n role.0 h role.1 was.1 own in
     let goal : (moved_by free old plan h).handler ≡ next = ap (λ (m : Handler). m.handler) same ∙ catches.handler_is in
-    let to : is.to ≡ r = some-same (sym is.to_is ∙ ap (λ m. slice_get (roles_of free old plan) m) goal ∙ there) in
+    let to : is.to ≡ r = same_Some _ _ (sym is.to_is ∙ ap (λ m. slice_get (roles_of free old plan) m) goal ∙ there) in
     subst (λ x. IsOwnerReached old (owner x)) to
     (caught_reached old rules (owner role.0) h is.to was.1 is.caught (reached role.0 role.1) is.entered)
 
@@ -131,7 +130,7 @@ pub owner_reached : (free : ℕ) (old : Code) (plan : Insertions) → MeetsCodeR
     → IsHereReached free old plan n
 owner_reached free old plan rules can n (path, leads) =
     path_reached free old plan rules can path 0 n leads
-    (λ r there. subst (λ x. IsOwnerReached old (owner x)) (some-same (sym (begin_role free old plan can) ∙ there)) tt)
+    (λ r there. subst (λ x. IsOwnerReached old (owner x)) (same_Some _ _ (sym (begin_role free old plan can) ∙ there)) tt)
 
 -- ---- from the old code to the new one
 
@@ -261,7 +260,7 @@ after_reached free old plan j k inside falls low high within reached =
       each m r from to found (inl more) = past-after old r (Some j) (role_after old plan j m r inside more (omega arith) found)
       each m r from to found (inr le) =
           let same : kept_new old plan j ≡ m = omega arith in
-          let is : Keep j ≡ r = some-same (sym (kept_role old plan j inside) ∙ ap (λ n. slice_get (new_roles old plan) n) same ∙ found) in
+          let is : Keep j ≡ r = same_Some _ _ (sym (kept_role old plan j inside) ∙ ap (λ n. slice_get (new_roles old plan) n) same ∙ found) in
           subst (λ x. GoesPast old x) is falls
 
 -- an item that is kept is reached from its anchor
@@ -314,7 +313,7 @@ target_from free old plan j next i true way inside there named within reached =
     let found = kept_role old plan j inside in
     let split = split_insn free old plan k (Keep j) found way in
     let same = keep-same j split.item split.is in
-    let is : i ≡ conditional split.condition split.target = some-same (sym there ∙ ap (λ n. insn_of old n) same ∙ split.branch) in
+    let is : i ≡ conditional split.condition split.target = same_Some _ _ (sym there ∙ ap (λ n. insn_of old n) same ∙ split.branch) in
     let only = Contains-one split.target next
     (subst (λ xs. Contains xs next) (ap targets_of is ∙ targets-conditional split.condition split.target) named) in
     let up = below_total (goes_to free old plan) (length old.items) (item_total free old plan) (goes_up free old plan) next within in
@@ -405,8 +404,8 @@ anchor_reached free old plan rules j inside (path, leads) =
 
 -- what keeps an object comes after an item that goes on
 pub after_holder : (old : Code) (plan : Insertions) → CanStand old plan → (j : ℕ) (r : Role) → IsOf After (Some j) r → HasHolder plan r → FallsAt old j
-after_holder old plan can j (DupAfter i h) is holder = subst (λ n. FallsAt old n) (some-same is.owner_is) (can.goes_on i h holder)
-after_holder old plan can j (StoreAfter i h) is holder = subst (λ n. FallsAt old n) (some-same is.owner_is) (can.goes_on i h holder)
+after_holder old plan can j (DupAfter i h) is holder = subst (λ n. FallsAt old n) (same_Some _ _ is.owner_is) (can.goes_on i h holder)
+after_holder old plan can j (StoreAfter i h) is holder = subst (λ n. FallsAt old n) (same_Some _ _ is.owner_is) (can.goes_on i h holder)
 after_holder old plan can j r is holder = absurd (false≢true (ap is_after is.phase_is))
 
 owned_reached : (free : ℕ) (old : Code) (plan : Insertions) → MeetsCodeRules old → CanStand old plan → (k : ℕ) (r : Role) → slice_get (new_roles old plan) k ≡ Some r

@@ -3,11 +3,10 @@ use Rattle.std.proofs.Common.{◌≡◌, ℕ, zero, suc, ◌+◌, ◌-◌, ◌*�
 use Rattle.std.specs.Prelude.{slice_get, slice_index}
 use Rattle.std.specs.List.{flat_map, range_with_len}
 use Rattle.std.proofs.lemmas.Bool.{cases_lt}
-use Rattle.std.proofs.lemmas.Option.{none-some, slice_get_cases, slice_get_within}
+use Rattle.std.proofs.lemmas.Option.{none-some, same_Some, slice_get_cases, slice_get_within}
 use Rattle.fm_base.proofs.ListFacts.{slice_get-append_right}
 use Rattle.fm_code.specs.declared.code_array.Code.{Code}
 use Rattle.fm_code.specs.declared.code_array.Item.{Item}
-use Rattle.fm_place.proofs.FullLemmas.{some-same}
 use Rattle.fm_place.proofs.WovenLemmas.{anchor-first}
 use Rattle.fm_place.specs.Insertions.{after_at, before_at, Insertions}
 use Rattle.fm_place.specs.Woven.{anchors_from, anchors_of, count_at, freed_items, null_stored_items, top_stored_items}
@@ -65,7 +64,7 @@ chain-at : (old : Code) (plan : Insertions) (roles : List Role) (k : ℕ) (r nex
 chain-at old plan [] k r next chain here there = absurd (none-some r here)
 chain-at old plan (x ∷ []) zero r next chain here there = absurd (none-some next there)
 chain-at old plan (x ∷ y ∷ roles) zero r next chain here there =
-    subst (λ a. Next old plan a next) (some-same here) (subst (λ b. Next old plan x b) (some-same there) chain.0)
+    subst (λ a. Next old plan a next) (same_Some _ _ here) (subst (λ b. Next old plan x b) (same_Some _ _ there) chain.0)
 chain-at old plan (x ∷ roles) (suc k) r next chain here there = chain-at old plan roles k r next chain.1 here there
 
 chain-before : (old : Code) (plan : Insertions) (j : ℕ) (hs : List ℕ) (rest : List Role) → j < length old.items → HeadIs (λ r. IsEntry old j r) rest
@@ -246,7 +245,7 @@ pub record IsOf (p : Phase) (o : Option ℕ) (r : Role) : Type 0 where
   pub owner_is : owner r ≡ o
 
 of-same : (p : Phase) (o : Option ℕ) (x r : Role) → Some x ≡ Some r → IsOf p o x → IsOf p o r
-of-same p o x r same is = subst (λ y. IsOf p o y) (some-same same) is
+of-same p o x r same is = subst (λ y. IsOf p o y) (same_Some _ _ same) is
 
 start-role : (h n : ℕ) (rest : List Role) (k : ℕ) (r : Role) → k < null_stored_items * n
     → slice_get (flat_map start_roles (range_with_len h n) ++ rest) k ≡ Some r → IsOf AtStart None r
@@ -335,7 +334,7 @@ stands_in old plan j k r inside low high found = go (cases_lt k (kept_new old pl
   go (inr le) (inr ge) =
       let same : k ≡ kept_new old plan j = omega arith in
       let kept = kept_role old plan j inside in
-      IsKept j inside same (some-same (sym found ∙ ap (λ n. slice_get (new_roles old plan) n) same ∙ kept))
+      IsKept j inside same (same_Some _ _ (sym found ∙ ap (λ n. slice_get (new_roles old plan) n) same ∙ kept))
 
 -- of all
 pub stands_at : (old : Code) (plan : Insertions) (k : ℕ) (r : Role) → slice_get (new_roles old plan) k ≡ Some r → StandsAt old plan k r

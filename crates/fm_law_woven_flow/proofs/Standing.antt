@@ -2,11 +2,10 @@
 use Rattle.std.proofs.Common.{◌≡◌, ◌≢◌, ℕ, suc, ◌+◌, ◌<◌, ◌≤◌, ◌==◌, ◌⊎◌, inl, inr, true, false, length, Some, IsSomeAnd, refl, sym, ap, subst, ◌∙◌, arith, if◌then◌else◌}
 use Rattle.std.specs.Prelude.{slice_get, slice_index}
 use Rattle.std.proofs.lemmas.Bool.{cases_eq, cases_lt, eq-eqb, false≢true, le-ltb, lt-ltb, ne_eqb}
-use Rattle.std.proofs.lemmas.Option.{slice_get_within}
+use Rattle.std.proofs.lemmas.Option.{same_Some, slice_get_within}
 use Rattle.fm_code.specs.Edges.{falls_through, FallsOff, insn_of, MeetsCodeRules}
 use Rattle.fm_code.specs.declared.code_array.Code.{Code}
 use Rattle.fm_flow.proofs.CodeFacts.{items_counted}
-use Rattle.fm_place.proofs.FullLemmas.{some-same}
 use Rattle.fm_place.specs.Insertions.{Insertions}
 use Rattle.fm_place.specs.Woven.{anchors_of, woven_code}
 use Rattle.fm_law_woven_flow.proofs.Caught.{caught, first_le}
@@ -68,7 +67,7 @@ one_number : (free : ℕ) (old : Code) (plan : Insertions) (i j : ℕ) → numbe
 one_number free old plan i j same = go (cases_lt i (length old.items)) (cases_lt j (length old.items)) where
   go : (i < length old.items) ⊎ (length old.items ≤ i) → (j < length old.items) ⊎ (length old.items ≤ j) → i ≡ j
   go (inl here) (inl there) =
-      keep-same i j (some-same (sym (numbered free old plan i here) ∙ ap (λ n. slice_get (roles_of free old plan) n) same ∙ numbered free old plan j there))
+      keep-same i j (same_Some _ _ (sym (numbered free old plan i here) ∙ ap (λ n. slice_get (roles_of free old plan) n) same ∙ numbered free old plan j there))
   go (inl here) (inr past) =
       let low = number_below free old plan i here in
       let high = beyond free old plan j past in

@@ -18,7 +18,7 @@ use Rattle.fm_world.specs.declared.declarations.DeclaredMethod.{DeclaredMethod}
 use Rattle.fm_world.specs.declared.records.ClassInfo.{ClassInfo}
 use Rattle.fm_world.specs.inner.Tables.{numbers_below}
 use Rattle.fm_link_records.specs.inner.Classes.{bare_outline, class_told, is_start, start_from}
-use Rattle.fm_link_records.specs.inner.Sizes.{lists}
+use Rattle.fm_link_supers.specs.inner.ListTables.{lists}
 
 pub info_is : (classes : List DeclaredClass) (place : ℕ) (c : DeclaredClass) (parent : Option ℕ) (listed : List ℕ) (first size : ℕ) (info : ClassInfo)
     → place < length classes → c ≡ get_or classes place c → parent ≡ parent_of classes place → listed ≡ listed_interfaces classes place

@@ -12,8 +12,9 @@ use Rattle.fm_base.specs.Texts.{unit_bytes, units, IsModifiedUtf8}
 use Rattle.fm_world.specs.Chains.{distinct}
 use Rattle.fm_world.specs.Numbers.{text_number}
 use Rattle.fm_link_records.specs.inner.InTurn.{with_all, with_one, Tells}
-use Rattle.fm_link_records.specs.inner.TextNumbers.{lent, literals_by, units_at, with_text, AreApart, AreNumbered, IsModified}
+use Rattle.fm_link_records.specs.inner.TextNumbers.{literals_by, units_at, with_text, AreApart, AreNumbered, IsModified}
 use Rattle.fm_link_records.proofs.OneByOne.{distinct-all, numbered_step, same_sym}
+use Rattle.fm_link_names.specs.inner.Numbering.{lent}
 
 -- ---- texts are distinguished by their units
 

@@ -8,8 +8,8 @@ ghost use Rattle.fm_world.specs.Chains.{listed_interfaces, parent_of};
 ghost use Rattle.fm_world.specs.Members.{first_method, size_of, start_of};
 ghost use Rattle.fm_world.specs.Programs.{class_id, class_info, method_id};
 ghost use Rattle.fm_link_records.specs.inner.Classes.{bare_outline, class_told, is_start, start_from};
-ghost use Rattle.fm_link_records.specs.inner.Sizes.{lists};
 ghost use Rattle.fm_world.specs.inner.Tables.{numbers_below};
+ghost use Rattle.fm_link_supers.specs.inner.ListTables.{lists};
 
 use crate::places::sum_of;
 use fm_base::{ClassId, MethodId, NoMemory, Seq};

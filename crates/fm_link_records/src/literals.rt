@@ -4,7 +4,8 @@ ghost use Rattle.std.specs.Prelude.{◌≡◌, ◌<◌, ℕ, IfOk, OnOk, length,
 ghost use Rattle.std.specs.List.{slice_index_or};
 ghost use Rattle.std.specs.Str.{bytes_eq};
 ghost use Rattle.fm_world.specs.Numbers.{text_number};
-ghost use Rattle.fm_link_records.specs.inner.TextNumbers.{lent, literals_by, units_at, with_text, AreApart, AreNumbered, IsModified};
+ghost use Rattle.fm_link_records.specs.inner.TextNumbers.{literals_by, units_at, with_text, AreApart, AreNumbered, IsModified};
+ghost use Rattle.fm_link_names.specs.inner.Numbering.{lent};
 
 use fm_base::{NoMemory, Units};
 use fm_link_names::number_of;

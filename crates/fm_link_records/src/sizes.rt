@@ -3,8 +3,9 @@
 ghost use Rattle.std.specs.Prelude.{◌≡◌, ◌+◌, ◌++◌, IfOk, drop, length, map, slice_index};
 ghost use Rattle.fm_world.specs.Chains.{chain_of};
 ghost use Rattle.fm_world.specs.Members.{hidden_fields, instance_fields, own_size};
-ghost use Rattle.fm_link_records.specs.inner.Sizes.{base_of, lists, size_along};
+ghost use Rattle.fm_link_records.specs.inner.Sizes.{base_of, size_along};
 ghost use Rattle.fm_world.specs.inner.Tables.{numbers_below};
+ghost use Rattle.fm_link_supers.specs.inner.ListTables.{lists};
 
 use crate::places::sum_of;
 use fm_base::NoMemory;

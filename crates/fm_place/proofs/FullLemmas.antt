@@ -1,11 +1,11 @@
 -- All held sites and all places: what is inserted is safe.
 use Rattle.std.proofs.Common.{◌≡◌, ℕ, zero, suc, ◌+◌, ◌-◌, ◌<◌, ◌≤◌, cond, Bool, true, false, List, [], ◌∷◌, length, map, take, Option, Some, None, refl, sym, ap, subst, ◌∙◌, ⊎_elim, arith, Contains}
-use Rattle.std.specs.Prelude.{nat_eq, nat_lt, filter, slice_get, unwrap_or}
+use Rattle.std.specs.Prelude.{nat_eq, nat_lt, filter, slice_get}
 use Rattle.std.specs.List.{AllByRecursion, IsDistinct, range_with_len}
 use Rattle.std.proofs.lemmas.Bool.Decides.{eqb_tells}
 use Rattle.std.proofs.lemmas.List.{length-map}
 use Rattle.std.proofs.lemmas.List.FromFn.{get_or-map-range_with_len, length-map-range_with_len}
-use Rattle.std.proofs.lemmas.Option.{none-some, option_and_then_some}
+use Rattle.std.proofs.lemmas.Option.{none-some, option_and_then_some, same_Some}
 use Rattle.fm_base.proofs.ContainsFacts.{Contains-cons_cases}
 use Rattle.fm_base.specs.declared.limits.TheConstants.{MAX_LOCAL_WORDS}
 use Rattle.fm_code.proofs.EdgesLemmas.{Contains-first, Contains-from_filter, Contains-from_map, Contains-later}
@@ -59,9 +59,6 @@ rises-distinct n [] rises = tt
 rises-distinct n (x ∷ xs) (first, rest) = (rises-apart x (x + 1) xs (omega arith) rest, rises-distinct (x + 1) xs rest)
 
 -- ---- elements
-
-pub some-same : {X : Type 0} {a b : X} → Some a ≡ Some b → a ≡ b
-some-same {a = a} same = ap (λ o. unwrap_or o a) same
 
 Contains-from_take : {X : Type 0} (k : ℕ) (xs : List X) (x : X) → Contains (take k xs) x → Contains xs x
 Contains-from_take zero xs x (i, inside, there) = absurd (omega arith)
@@ -119,7 +116,7 @@ numbers-from : (test : Holder → Bool) (n : ℕ) (holders : List Holder) (place
 numbers-from test n [] place h there passes = absurd (none-some h there)
 numbers-from test n (g ∷ holders) zero h there passes =
     subst (λ b. Contains (cond b (n ∷ numbers_of test (n + 1) holders) (numbers_of test (n + 1) holders)) (n + 0))
-    (sym (ap test (some-same there) ∙ passes)) (Contains-first n (numbers_of test (n + 1) holders) (n + 0) (omega arith))
+    (sym (ap test (same_Some _ _ there) ∙ passes)) (Contains-first n (numbers_of test (n + 1) holders) (n + 0) (omega arith))
 numbers-from test n (g ∷ holders) (suc place) h there passes =
     numbers-later test n g holders (n + suc place)
     (subst (Contains (numbers_of test (n + 1) holders)) (omega arith) (numbers-from test (n + 1) holders place h there passes))
@@ -227,9 +224,9 @@ full-safe facts x plan found = of_sites (held_sites facts x) refl found where
   of_sites : (sites : List ℕ) → held_sites facts x ≡ sites → plan_of sites ≡ Some plan → AreSafe facts x plan
   of_sites [] same there = absurd (none-some plan there)
   of_sites (site ∷ sites) same there =
-      subst (AreSafe facts x) (some-same there) (plan-safe facts x (subst (λ xs. 0 < length xs) (sym same) (omega arith)))
+      subst (AreSafe facts x) (same_Some _ _ there) (plan-safe facts x (subst (λ xs. 0 < length xs) (sym same) (omega arith)))
 
-method-safe : (p : Program) (facts : Facts) (method : ℕ) (plan : Insertions) → full_plans p facts method ≡ Some plan → IsSafeMethod p facts method plan
+pub method-safe : (p : Program) (facts : Facts) (method : ℕ) (plan : Insertions) → full_plans p facts method ≡ Some plan → IsSafeMethod p facts method plan
 method-safe p facts method plan found =
     option_and_then_some (full_insertions facts) (method_in_facts p facts method) plan found
     (λ x is there. record { x = x; is = is; safe = full-safe facts x plan there })

@@ -3,7 +3,7 @@ use Rattle.std.proofs.Common.{◌≡◌, ◌≢◌, ◌⊎◌, ℕ, zero, suc, �
 use Rattle.std.specs.Prelude.{nat_eq, nat_lt, slice_get}
 use Rattle.std.proofs.lemmas.Bool.{cases_eq, cases_lt, eqb-true}
 use Rattle.std.proofs.lemmas.List.{get_or-replicate, get_or-set_other, get_or-set_same, get_or_push, length-map, length-replicate}
-use Rattle.std.proofs.lemmas.Option.{none-some, slice_get-get_or, slice_get_within}
+use Rattle.std.proofs.lemmas.Option.{none-some, same_Some, slice_get-get_or, slice_get_within}
 use Rattle.std.proofs.Math.Bool.{or-false, or-true}
 use Rattle.std.proofs.Math.ListN.{get_or-append}
 use Rattle.fm_base.proofs.ListFacts.{slice_get_push}
@@ -11,7 +11,6 @@ use Rattle.fm_base.proofs.TestFacts.{apart-nat_eq, same_test}
 use Rattle.fm_base.specs.Rows.{has, IsUnion}
 use Rattle.fm_flow.proofs.RowFacts.{has-replicate}
 use Rattle.fm_flow.specs.inner.LiveWalks.{row_of}
-use Rattle.fm_place.proofs.FullLemmas.{some-same}
 use Rattle.fm_place.specs.inner.PlanRows.{AreBelow, AreMembers, classes_of, is_class, IsGroupsOf, IsRowOf, SetsBit}
 
 -- ---- elements
@@ -23,7 +22,7 @@ slice_get-longer (z ∷ xs) y (suc k) x there = slice_get-longer xs y k x there
 
 slice_get-cases : {X : Type 0} (xs : List X) (y : X) (k : ℕ) (x : X) → slice_get (xs ++ y ∷ []) k ≡ Some x
     → (slice_get xs k ≡ Some x) ⊎ ((k ≡ length xs) × (y ≡ x))
-slice_get-cases [] y zero x there = inr (refl, some-same there)
+slice_get-cases [] y zero x there = inr (refl, same_Some _ _ there)
 slice_get-cases [] y (suc k) x there = absurd (none-some x there)
 slice_get-cases (z ∷ xs) y zero x there = inl there
 slice_get-cases (z ∷ xs) y (suc k) x there =
@@ -51,7 +50,7 @@ module _ (held of_holders : List ℕ) (numbers after : ℕ → Option ℕ) (clas
   known-more c g there =
       ⊎_elim
       (λ (same : class ≡ c).
-      let number : group ≡ g = some-same (sym here ∙ ap after same ∙ there) in
+      let number : group ≡ g = same_Some _ _ (sym here ∙ ap after same ∙ there) in
       subst (λ n. slice_get (held ++ class ∷ []) n ≡ Some c) number (placed (numbers class) refl ∙ ap (λ n. Some n) same))
       (λ (other : class ≢ c). slice_get-longer held class g c (was.known c g (sym (apart c other) ∙ there)))
       (cases_eq class c)
@@ -111,7 +110,7 @@ row_unmarked held test class row none is =
 
 pub slice_get-mapped : {X Y : Type 0} (f : X → Y) (xs : List X) (k : ℕ) (x : X) → slice_get xs k ≡ Some x → slice_get (map f xs) k ≡ Some (f x)
 slice_get-mapped f [] k x there = absurd (none-some x there)
-slice_get-mapped f (y ∷ ys) zero x there = ap (λ z. Some (f z)) (some-same there)
+slice_get-mapped f (y ∷ ys) zero x there = ap (λ z. Some (f z)) (same_Some _ _ there)
 slice_get-mapped f (y ∷ ys) (suc k) x there = slice_get-mapped f ys k x there
 
 pub class-there : (held : List (ℕ × ℕ)) (h : ℕ) (pair : ℕ × ℕ) → slice_get held h ≡ Some pair → slice_get (classes_of held) h ≡ Some pair.1
@@ -263,11 +262,11 @@ module _ (held : List (ℕ × ℕ)) (numbers : ℕ → Option ℕ) (of_holders :
           forth same =
               let is : get_or of_holders h 0 ≡ group = eqb-true (get_or of_holders h 0) group same in
               eq-eqb class pair.1
-              (some-same (sym (groups.known class group there) ∙ groups.known pair.1 group (number ∙ ap (λ n. Some n) is)))
+              (same_Some _ _ (sym (groups.known class group there) ∙ groups.known pair.1 group (number ∙ ap (λ n. Some n) is)))
 
           back : nat_eq class pair.1 ≡ true → nat_eq (get_or of_holders h 0) group ≡ true
           back same =
-              eq-eqb (get_or of_holders h 0) group (some-same (sym number ∙ ap numbers (sym (eqb-true class pair.1 same)) ∙ there))
+              eq-eqb (get_or of_holders h 0) group (same_Some _ _ (sym number ∙ ap numbers (sym (eqb-true class pair.1 same)) ∙ there))
 
   pub class_known : (h : ℕ) (pair : ℕ × ℕ) → slice_get held h ≡ Some pair → numbers pair.1 ≢ None
   class_known h pair at none = none-some (get_or of_holders h 0) (sym none ∙ groups.each h pair.1 (class-there held h pair at))

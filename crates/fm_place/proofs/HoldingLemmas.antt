@@ -3,7 +3,7 @@ use Rattle.std.proofs.Common.{◌≡◌, ◌≢◌, ◌⊎◌, ◌↔◌, ℕ, �
 use Rattle.std.specs.Prelude.{nat_eq, nat_lt, slice_get}
 use Rattle.std.proofs.lemmas.Bool.{and_from, cases_eq, cases_lt, eqb-true, false≢true}
 use Rattle.std.proofs.lemmas.List.{get_or-replicate, get_or-set_other, get_or-set_same, get_or_past, length-replicate}
-use Rattle.std.proofs.lemmas.Option.{slice_get-get_or, slice_get_within}
+use Rattle.std.proofs.lemmas.Option.{same_Some, slice_get-get_or, slice_get_within}
 use Rattle.fm_base.proofs.TestFacts.{and_left, and_right, same_test}
 use Rattle.fm_base.specs.Rows.{has}
 use Rattle.fm_code.specs.Edges.{IsEdge}
@@ -14,7 +14,6 @@ use Rattle.fm_flow.proofs.ReachLemmas.{edge_from_item}
 use Rattle.fm_flow.proofs.RowFacts.{has-replicate, has_inside}
 use Rattle.fm_flow.specs.Tables.{IsRisingListOf}
 use Rattle.fm_flow.specs.inner.LiveWalks.{HandsOver, row_of}
-use Rattle.fm_place.proofs.FullLemmas.{some-same}
 use Rattle.fm_place.proofs.GroupLemmas.{bits_more}
 use Rattle.fm_place.proofs.PathLemmas.{may_hold-from, may_hold-tells}
 use Rattle.fm_place.specs.Places.{is_busy, IsBusyPath, MayHold}
@@ -47,7 +46,7 @@ started_more held i count now rows after so_far is sets = record {
       ∙ ap (λ b. b || (nat_eq (now.0 + 1) j && nat_eq i h)) (so_far.members j h pair inside there)
       ∙ bits_more h i (nat_eq (pair.0 + 1) j) (nat_eq (now.0 + 1) j)
       (λ same.
-      let one : now ≡ pair = some-same (sym is ∙ ap (slice_get held) (sym same) ∙ there) in
+      let one : now ≡ pair = same_Some _ _ (sym is ∙ ap (slice_get held) (sym same) ∙ there) in
       ap (λ (p : ℕ × ℕ). nat_eq (p.0 + 1) j) one);
 }
 
@@ -202,7 +201,7 @@ module _ (s : Seen) (held : List (ℕ × ℕ)) (count : ℕ) (all : count ≡ le
       forth : has (row_of rows j) h ≡ true → may_hold_at s j pair ≡ true
       forth is =
           let was = done.sound j h is in
-          let one : was.pair ≡ pair = some-same (sym was.is ∙ there) in
+          let one : was.pair ≡ pair = same_Some _ _ (sym was.is ∙ there) in
           subst (λ (p : ℕ × ℕ). may_hold_at s j p ≡ true) one (may_hold-from (facts_seen s) (typed_seen s) was.pair.1 was.pair.0 j was.may)
 
       back : may_hold_at s j pair ≡ true → has (row_of rows j) h ≡ true

@@ -22,7 +22,7 @@ use Rattle.fm_same.proofs.ProgramNumbers.{holds_numbers}
 use Rattle.fm_same.proofs.RegionsDie.{dead_later, first_is, states_are_steps}
 
 -- the states of facts are typings
-facts_type : (p : Program) (facts : Facts) → AreFacts p facts → AreTyped p facts.typing
+pub facts_type : (p : Program) (facts : Facts) → AreFacts p facts → AreTyped p facts.typing
 facts_type p facts exact method code code_is =
     subst (λ o. IsSomeAnd o (λ (c : Code). IsTypingOf p method c (facts.typing method))) (sym code_is) (exact.methods method code code_is).typing
 

@@ -1,13 +1,8 @@
 -- Sizes of objects by a table of what each class gives to its objects.
-use Rattle.std.specs.Prelude.{ℕ, ◌+◌, List, map, slice_index, sum_by}
-use Rattle.std.specs.Global.{Vec}
+use Rattle.std.specs.Prelude.{ℕ, ◌+◌, List, slice_index, sum_by}
 use Rattle.fm_world.specs.Chains.{class_at, superclasses_of}
 use Rattle.fm_world.specs.Members.{hidden_fields, size_among}
 use Rattle.fm_world.specs.declared.declarations.DeclaredClass.{DeclaredClass}
-
--- the lists in vectors
-abbrev pub lists : List (Vec ℕ) → List (List ℕ)
-lists vectors = map (λ (v : Vec ℕ). v.items) vectors
 
 -- the sum of the sizes of some classes
 abbrev pub size_along : List ℕ → List ℕ → ℕ

@@ -1,16 +1,11 @@
 -- Texts that get their numbers one after the other, each once by its units.
 use Rattle.std.specs.Prelude.{◌≡◌, ℕ, ◌<◌, List, [], ◌∷◌, length, map, Option, None}
-use Rattle.std.specs.Borrow.{Bor}
 use Rattle.std.specs.List.{slice_index_or}
 use Rattle.std.specs.Str.{bytes_eq}
 use Rattle.fm_base.specs.Texts.{units, IsModifiedUtf8}
 use Rattle.fm_world.specs.Chains.{distinct}
 use Rattle.fm_world.specs.Numbers.{text_number}
 use Rattle.fm_link_records.specs.inner.InTurn.{with_one}
-
--- the texts behind references
-abbrev pub lent : List (Bor (List ℕ)) → List (List ℕ)
-lent texts = map (λ (b : Bor (List ℕ)). b.now) texts
 
 -- the units of the text of a number
 abbrev pub units_at : List (List ℕ) → ℕ → List ℕ

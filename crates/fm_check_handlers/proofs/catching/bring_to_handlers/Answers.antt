@@ -3,12 +3,13 @@ use Rattle.std.proofs.lemmas.List.{take_all}
 use Rattle.std.proofs.lemmas.List.Elements.{Contains-get_or}
 use Rattle.fm_base.proofs.TestFacts.{match_true}
 use Rattle.fm_types.specs.Typings.{type_state}
-use Rattle.fm_check_handlers.proofs.HandlerLemmas.{blank, BringsHandlers-more, BringsHandlers-none}
+use Rattle.fm_check_handlers.proofs.HandlerLemmas.{BringsHandlers-more, BringsHandlers-none}
 use Rattle.fm_check_handlers.specs.inner.Runs.{BringsCaught, BringsHandlers}
 use Rattle.fm_check_walk.specs.inner.Walks.{Untypable, walked}
 use Rattle.fm_check_walk.specs.inner.Tasks.{task}
 use Rattle.fm_code.specs.declared.code_array.Handler.{Handler}
 use Rattle.fm_check_handlers.proofs.catching.bring_to_handlers.Goals as goal
+use Rattle.fm_flow.proofs.HandlerLemmas.{blank}
 
 pub loop-handler-init : goal.loop-handler-init
 loop-handler-init c =

@@ -3,13 +3,14 @@ use Rattle.std.proofs.lemmas.List.{take_all}
 use Rattle.std.proofs.lemmas.List.Elements.{Contains-get_or}
 use Rattle.fm_base.proofs.TestFacts.{match_true}
 use Rattle.fm_check_handlers.proofs.GivingLemmas.{CarriesHandlers-nothing}
-use Rattle.fm_check_handlers.proofs.HandlerLemmas.{blank, CarriesHandlers-more, CarriesHandlers-none}
+use Rattle.fm_check_handlers.proofs.HandlerLemmas.{CarriesHandlers-more, CarriesHandlers-none}
 use Rattle.fm_check_walk.proofs.CarryLemmas.{can_carry_later}
 use Rattle.fm_check_walk.specs.inner.Walks.{Carries, Untypable, walked}
 use Rattle.fm_check_handlers.specs.inner.Runs.{CarriesHandlers}
 use Rattle.fm_check_walk.specs.inner.Tasks.{task}
 use Rattle.fm_code.specs.declared.code_array.Handler.{Handler}
 use Rattle.fm_check_handlers.proofs.catching.carry_to_handlers.Goals as goal
+use Rattle.fm_flow.proofs.HandlerLemmas.{blank}
 
 pub returns-then-is_empty : goal.returns-then-is_empty
 returns-then-is_empty c =

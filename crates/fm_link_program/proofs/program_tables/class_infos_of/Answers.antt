@@ -1,7 +1,7 @@
 use Rattle.std.proofs.Common.{◌∙◌, ap}
 use Rattle.fm_link_records.proofs.SizeSteps.{sizes-all}
-use Rattle.fm_link_records.specs.inner.Sizes.{lists}
 use Rattle.fm_link_program.proofs.program_tables.class_infos_of.Goals as goal
+use Rattle.fm_link_supers.specs.inner.ListTables.{lists}
 
 pub class_infos-requires-clause-parents : goal.class_infos-requires-clause-parents
 class_infos-requires-clause-parents c = c.as_slice-parents.ensures.value ∙ c.requires.hierarchy.parents

@@ -5,10 +5,10 @@ use Rattle.fm_world.specs.Chains.{listed_interfaces, parent_of}
 use Rattle.fm_world.specs.Members.{first_method, size_of}
 use Rattle.fm_world.specs.Programs.{class_info}
 use Rattle.fm_link_records.specs.inner.Classes.{bare_outline}
-use Rattle.fm_link_records.specs.inner.Sizes.{lists}
 use Rattle.fm_link_records.proofs.ClassSteps.{info_is, length-lists, list_at, table_default}
 use Rattle.fm_link_records.proofs.RowSteps.{row_more}
 use Rattle.fm_link_records.proofs.classes.class_infos.Goals as goal
+use Rattle.fm_link_supers.specs.inner.ListTables.{lists}
 
 pub bounds-listed-place : goal.bounds-listed-place
 bounds-listed-place c =

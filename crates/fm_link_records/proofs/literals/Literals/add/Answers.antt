@@ -1,9 +1,10 @@
 use Rattle.std.proofs.Common.{arith, not, sym, ◌<◌, ◌^◌, ◌∙◌, ap, refl, subst, cond, false, true, is_some, List, ℕ, [], ◌∷◌, ◌++◌, set, Some}
 use Rattle.std.proofs.lemmas.List.Elements.{All-from_recursion}
 use Rattle.fm_base.specs.Texts.{units, IsModifiedUtf8}
-use Rattle.fm_link_records.specs.inner.TextNumbers.{lent, units_at, AreNumbered}
+use Rattle.fm_link_records.specs.inner.TextNumbers.{units_at, AreNumbered}
 use Rattle.fm_link_records.proofs.LiteralSteps.{has_number, lent_at, numbered_more}
 use Rattle.fm_link_records.proofs.literals.Literals.add.Goals as goal
+use Rattle.fm_link_names.specs.inner.Numbering.{lent}
 
 pub from_modified_utf8-requires : goal.from_modified_utf8-requires
 from_modified_utf8-requires c =

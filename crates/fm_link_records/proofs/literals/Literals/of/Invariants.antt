@@ -1,8 +1,9 @@
 use Rattle.std.proofs.Common.{◌≡◌, [], drop, map}
 use Rattle.std.specs.Str.{bytes_eq}
 use Rattle.fm_link_records.specs.inner.InTurn.{with_all}
-use Rattle.fm_link_records.specs.inner.TextNumbers.{lent, units_at, AreNumbered}
+use Rattle.fm_link_records.specs.inner.TextNumbers.{units_at, AreNumbered}
 use Rattle.fm_link_records.proofs.literals.Literals.of.Given as goal
+use Rattle.fm_link_names.specs.inner.Numbering.{lent}
 
 abbrev pub invariant-loop-number : goal.invariant-loop-number
 invariant-loop-number l = record {
