@@ -3,8 +3,8 @@ use Rattle.std.proofs.Common.{◌≡◌, ℕ, List, None, refl}
 use Rattle.fm_code.specs.declared.class_file.ClassDef.{ClassDef}
 use Rattle.fm_conn.specs.Facts.{AreFacts, Facts}
 use Rattle.fm_law_headline.proofs.InStep.{do_alike}
-use Rattle.fm_law_headline.specs.Alike.{SafeClassesDoAlike, WovenProgramsDoAlike}
-use Rattle.fm_law_headline.specs.InStep.{AreInStep}
+use Rattle.fm_law_headline.specs.Alike.{SafeClassesDoAlike}
+use Rattle.fm_law_headline.specs.InStep.{AreInStep, DoAlike}
 use Rattle.fm_law_linked.specs.Cells.{CellsOfProgramsAreResolved}
 use Rattle.fm_law_linked.specs.Laws.{ProgramsAreResolved}
 use Rattle.fm_law_linked.specs.TwoMemories.{LinkedIsWithoutFrees}
@@ -50,6 +50,12 @@ woven_in_step steps openings costs one other facts plans marks woven linked few 
       few_inserted = few job given count words other_words within other_within choose free has_words;
       balanced = λ k l pace. balanced b (r.xs k).state (r.ys l).state pace.0;
     }
+
+-- two programs, the second of which is the first one with safe insertions, do alike in all runs, where few inserted steps follow one another
+abbrev pub WovenProgramsDoAlike : Type 0
+WovenProgramsDoAlike =
+    (one other : Program) (facts : Facts) (plans : Plans) (marks : Marks) → IsWovenFrom one other facts plans marks → IsLinked one facts
+    → InAllRuns one other marks FewAreInserted → DoAlike one other marks
 
 pub woven_alike : LockstepsStep → OpeningsAreTogether → TogetherCostsSame → WovenProgramsDoAlike
 woven_alike steps openings costs one other facts plans marks woven linked few =

@@ -2,7 +2,7 @@
 use Rattle.fm_cells.specs.Choices.{lawful, never_choice}
 use Rattle.fm_law_headline.proofs.Alike.{are_linked, both_of, woven_in_step}
 use Rattle.fm_law_headline.proofs.InStep.{step_matched}
-use Rattle.fm_law_headline.specs.Renamed.{SafeClassesAreRenamed, WovenProgramsAreRenamed}
+use Rattle.fm_law_headline.specs.Renamed.{SafeClassesAreRenamed}
 use Rattle.fm_law_linked.specs.Cells.{CellsOfProgramsAreResolved}
 use Rattle.fm_law_linked.specs.Laws.{ProgramsAreResolved}
 use Rattle.fm_law_linked.specs.TwoMemories.{LinkedIsWithoutFrees}
@@ -13,11 +13,21 @@ use Rattle.fm_law_lockstep.specs.Reaching.{ReachedIsRenamed}
 use Rattle.fm_law_lockstep.specs.Renamed.{MatchedAreRenamed, TogetherIsRenamed}
 use Rattle.fm_law_lockstep.specs.Together.{GoTogetherIn, TogetherCostsSame}
 use Rattle.fm_law_same_runs.proofs.Openings.{runs_go}
-use Rattle.fm_law_same_runs.specs.Beside.{Beside, runs_of}
+use Rattle.fm_law_same_runs.specs.Beside.{Beside, FewAreInserted, InAllRuns, Marks, runs_of}
 use Rattle.fm_law_same_runs.specs.Programs.{ObjectsAreRenamed}
 use Rattle.fm_law_unwoven.specs.Runs.{FewAreInsertedInRuns}
-use Rattle.fm_law_unwoven.specs.WovenFrom.{SafeProgramsAreWoven}
-use Rattle.fm_world.specs.Programs.{program_of}
+use Rattle.fm_law_unwoven.specs.WovenFrom.{IsWovenFrom, SafeProgramsAreWoven}
+use Rattle.fm_world.specs.Programs.{Program, program_of}
+use Rattle.fm_conn.specs.Facts.{Facts}
+use Rattle.fm_law_lockstep.specs.Known.{IsLinked}
+use Rattle.fm_law_headline.specs.Headline.{AreRenamedInRuns}
+use Rattle.fm_place.specs.Rewriting.{Plans}
+
+-- what a program reaches is the same in the same program with safe insertions, under other cells
+abbrev pub WovenProgramsAreRenamed : Type 0
+WovenProgramsAreRenamed =
+    (one other : Program) (facts : Facts) (plans : Plans) (marks : Marks) → IsWovenFrom one other facts plans marks → IsLinked one facts
+    → InAllRuns one other marks FewAreInserted → AreRenamedInRuns one other facts marks
 
 -- what holds of states that go together holds of matched ones
 pub woven_renamed : LockstepsStep → OpeningsAreTogether → TogetherCostsSame → TogetherIsRenamed → WovenProgramsAreRenamed

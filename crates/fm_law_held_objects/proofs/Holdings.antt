@@ -10,7 +10,7 @@ use Rattle.fm_frames.specs.Acts.{cell_of}
 use Rattle.fm_frames.specs.States.{null, State}
 use Rattle.fm_frames.specs.declared.values.Value.{Value}
 use Rattle.fm_law_held_objects.specs.Held.{AreHeld}
-use Rattle.fm_law_holders.specs.Holding.{holder_value, Holding, HoldsFixed, HoldsNull, HoldsOwn, MayFree}
+use Rattle.fm_law_holders.specs.Holding.{holder_value, Holding, HoldsFixed, HoldsNull, HoldsOwn, HoldsFreeable}
 use Rattle.fm_law_sound.specs.Sound.{Typings}
 use Rattle.fm_place.specs.Insertions.{Insertions}
 use Rattle.fm_same.specs.Colours.{Colour}
@@ -18,7 +18,7 @@ use Rattle.fm_same.specs.Regions.{Own}
 
 -- what may be freed has the region of its holder
 pub own_of : (store : Store) (colour : Colour) (depth class : ℕ) (v : Value) (birth : ℕ) → IsOrderly store → Holding store colour depth class v
-    → MayFree store v birth → colour birth ≡ Own depth class
+    → HoldsFreeable store v birth → colour birth ≡ Own depth class
 own_of store colour depth class v birth orderly (HoldsNull null_is) h =
     absurd (none-some h.object (sym orderly.null_not_held ∙ ap (λ w. object_at store (cell_of w)) (sym null_is) ∙ h.held))
 own_of store colour depth class v birth orderly (HoldsFixed object held fixed) h =
@@ -27,12 +27,12 @@ own_of store colour depth class v birth orderly (HoldsOwn object held loose own)
     ap colour (sym h.birth_is ∙ ap (λ (o : Object). o.birth) (same_Some h.object object (sym h.held ∙ held))) ∙ own
 
 -- null leads to nothing
-pub nothing_of_null : (store : Store) (birth : ℕ) → IsOrderly store → MayFree store null birth → ⊥
+pub nothing_of_null : (store : Store) (birth : ℕ) → IsOrderly store → HoldsFreeable store null birth → ⊥
 nothing_of_null store birth orderly h = none-some h.object (sym orderly.null_not_held ∙ h.held)
 
 -- ---- in other colours
 
-pub holding_by : (store : Store) (colour other : Colour) (depth class : ℕ) (v : Value) → ((birth : ℕ) → MayFree store v birth → other birth ≡ colour birth)
+pub holding_by : (store : Store) (colour other : Colour) (depth class : ℕ) (v : Value) → ((birth : ℕ) → HoldsFreeable store v birth → other birth ≡ colour birth)
     → Holding store colour depth class v → Holding store other depth class v
 holding_by store colour other depth class v same (HoldsNull null_is) = HoldsNull null_is
 holding_by store colour other depth class v same (HoldsFixed object held fixed) = HoldsFixed object held fixed
@@ -41,7 +41,7 @@ holding_by store colour other depth class v same (HoldsOwn object held loose own
 
 -- holders hold what they held where none of their objects has another colour
 pub held_by : (typings : Typings) (x : State) (colour other : Colour) (depth : ℕ) (store : Store) (code : Code) (plan : Insertions) (locals : List Value)
-    → ((h birth : ℕ) → h < length plan.holders → MayFree store (holder_value code locals h) birth → other birth ≡ colour birth)
+    → ((h birth : ℕ) → h < length plan.holders → HoldsFreeable store (holder_value code locals h) birth → other birth ≡ colour birth)
     → AreHeld typings x colour depth store code plan locals → AreHeld typings x other depth store code plan locals
 held_by typings x colour other depth store code plan locals same had = record {
   holds = λ h holder at.

@@ -16,7 +16,7 @@ use Rattle.fm_law_held_objects.proofs.Steps.{may_before}
 use Rattle.fm_law_held_objects.specs.Held.{AreHeld}
 use Rattle.fm_law_held_objects.specs.Initialised.{AreNotFor, FrameIsNotFor, IsInitialised, IsNotFor}
 use Rattle.fm_law_held_objects.specs.Laws.{KeepingKeepsHeld}
-use Rattle.fm_law_holders.specs.Holding.{HasOther, holder_value, Holding, IsUnshared, MayFree}
+use Rattle.fm_law_holders.specs.Holding.{HasOther, holder_value, Holding, IsUnshared, HoldsFreeable}
 use Rattle.fm_law_holders.specs.Laws.{NewResultsAreUnheld}
 use Rattle.fm_law_holders.specs.NewResults.{GoesOnBehind, HasNewResult, IsDone, IsReturnedTo, KeepsObjects}
 use Rattle.fm_law_holders.specs.Uninitialised.{AreMadeIn, Made}
@@ -67,8 +67,8 @@ module _ (unheld : NewResultsAreUnheld) (p : Program) (facts : Facts) (x next : 
     (locals : List Value) (had : AreHeld facts.typing x colour (length callers) before code plan locals)
     (have : AreHeld facts.typing next other (length callers) later code plan locals) (width : length locals ≡ code.max_locals + length plan.holders)
     (kept : ℕ) (holder : Holder) (at : slice_get plan.holders kept ≡ Some holder) (w : Value) (holding : Holding later other (length callers) holder.class w)
-    (leads : (birth : ℕ) → MayFree later w birth → MayFree next.areas.store r.result birth)
-    (fresh : (birth : ℕ) → MayFree next.areas.store r.result birth → IsInitialised facts.typing next birth) where
+    (leads : (birth : ℕ) → HoldsFreeable later w birth → HoldsFreeable next.areas.store r.result birth)
+    (fresh : (birth : ℕ) → HoldsFreeable next.areas.store r.result birth → IsInitialised facts.typing next birth) where
   abbrev changed : List Value
   changed = slice_set locals (local_of code kept) w
 
@@ -83,14 +83,14 @@ module _ (unheld : NewResultsAreUnheld) (p : Program) (facts : Facts) (x next : 
   value_there : (h : ℕ) → h ≢ kept → holder_value code changed h ≡ holder_value code locals h
   value_there h away = get_or-set_other locals (local_of code kept) (local_of code h) w value.Top (λ same. away (omega (arith, same)))
 
-  own_may : (h birth : ℕ) → h ≡ kept → MayFree later (holder_value code changed h) birth → MayFree later w birth
-  own_may h birth same may = subst (λ v. MayFree later v birth) (value_here h same) may
+  own_may : (h birth : ℕ) → h ≡ kept → HoldsFreeable later (holder_value code changed h) birth → HoldsFreeable later w birth
+  own_may h birth same may = subst (λ v. HoldsFreeable later v birth) (value_here h same) may
 
-  old_may : (h birth : ℕ) → h ≢ kept → MayFree later (holder_value code changed h) birth → MayFree later (holder_value code locals h) birth
-  old_may h birth away may = subst (λ v. MayFree later v birth) (value_there h away) may
+  old_may : (h birth : ℕ) → h ≢ kept → HoldsFreeable later (holder_value code changed h) birth → HoldsFreeable later (holder_value code locals h) birth
+  old_may h birth away may = subst (λ v. HoldsFreeable later v birth) (value_there h away) may
 
   -- no other holder has what this one gets
-  other_has : (h birth : ℕ) → h < length plan.holders → MayFree later w birth → MayFree later (holder_value code locals h) birth → ⊥
+  other_has : (h birth : ℕ) → h < length plan.holders → HoldsFreeable later w birth → HoldsFreeable later (holder_value code locals h) birth → ⊥
   other_has h birth within mine theirs =
       let holds = had.holds h (get_or plan.holders h holder) (slice_get-get_or plan.holders h holder within) in
       unheld facts x next colour made known f callers r orderly are before before_orderly births (get_or plan.holders h holder).class

@@ -17,7 +17,7 @@ use Rattle.fm_law_held_objects.proofs.Initialised.{frames_after}
 use Rattle.fm_law_held_objects.specs.Above.{AreForNoneAbove, FrameIsForNoneAbove, NewResultsAreInitialised, OpeningIsForNoneAbove}
 use Rattle.fm_law_held_objects.specs.Initialised.{AreNotFor, FrameIsNotFor, IsNotFor}
 use Rattle.fm_law_holders.proofs.ApartPlaces.{zip_by_places, zip_found}
-use Rattle.fm_law_holders.specs.Holding.{HasOther, MayFree}
+use Rattle.fm_law_holders.specs.Holding.{HasOther, HoldsFreeable}
 use Rattle.fm_law_holders.specs.Laws.{KeptResultsAreOwn, OpeningIsMade}
 use Rattle.fm_law_holders.specs.NewResults.{frame_behind, GoesOnBehind, HasNewResult, IsDone, IsReturnedTo, LocalsAreNoCallees}
 use Rattle.fm_law_holders.specs.Uninitialised.{AreMade, AreMadeIn, FrameIsMade, Made, ValueIsMade}
@@ -66,7 +66,7 @@ no_callees typings store colour depth f known at none k item v there found objec
     let place = zip_found (IsNotFor store object.birth) known.locals f.locals k (slot.Uninit item) other.in_locals there in
     subst (λ w. HasOther store object.birth (cell_of w)) (same_Some place.0 v (sym place.1 ∙ found)) place.2 object held refl
 
-module _ (p : Program) (facts : Facts) (exact : AreFacts p facts) (x next : State) (colour other : Colour) (made : Made) (known : TypeState) (f : Frame) (callers : List Frame) (r : HasNewResult facts x next colour known f callers) (orderly : IsOrderly next.areas.store) (are : AreMade facts.typing next made) (birth : ℕ) (may : MayFree next.areas.store r.result birth) where
+module _ (p : Program) (facts : Facts) (exact : AreFacts p facts) (x next : State) (colour other : Colour) (made : Made) (known : TypeState) (f : Frame) (callers : List Frame) (r : HasNewResult facts x next colour known f callers) (orderly : IsOrderly next.areas.store) (are : AreMade facts.typing next made) (birth : ℕ) (may : HoldsFreeable next.areas.store r.result birth) where
   abbrev now : Frame
   now = frame_behind f (r.result ∷ r.below)
 

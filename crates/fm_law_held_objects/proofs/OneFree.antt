@@ -19,7 +19,7 @@ use Rattle.fm_frames.specs.declared.values.Value.TheVariants as value
 use Rattle.fm_law_held_objects.proofs.Holdings.{nothing_of_null, own_of}
 use Rattle.fm_law_held_objects.specs.Freeing.{AreFreed}
 use Rattle.fm_law_held_objects.specs.Held.{AreHeld}
-use Rattle.fm_law_holders.specs.Holding.{holder_value, Holding, HoldsFixed, HoldsNull, HoldsOwn, MayFree}
+use Rattle.fm_law_holders.specs.Holding.{holder_value, Holding, HoldsFixed, HoldsNull, HoldsOwn, HoldsFreeable}
 use Rattle.fm_law_sound.specs.Sound.{Typings}
 use Rattle.fm_law_two_memories.proofs.FreesSame.{freed_areas, freed_frames}
 use Rattle.fm_law_two_memories.specs.Pairing.{AreasPaired, Gone, with_gone}
@@ -59,7 +59,7 @@ module _ (gone : Gone) (o : Outline) (typings : Typings) (x : State) (colour : C
 
   changed_held : (later : Store) → IsOrderly later
       → ((k : ℕ) (found : Holder) → slice_get plan.holders k ≡ Some found → k ≢ h → Holding later colour depth found.class (holder_value code locals k))
-      → ((w : Value) (birth : ℕ) → MayFree later w birth → MayFree y.store w birth) → AreHeld typings x colour depth later code plan changed
+      → ((w : Value) (birth : ℕ) → HoldsFreeable later w birth → HoldsFreeable y.store w birth) → AreHeld typings x colour depth later code plan changed
   changed_held later later_orderly holds before = record {
     holds = λ k found there. ⊎_elim
         (λ same. HoldsNull (value_here k same))
@@ -69,10 +69,10 @@ module _ (gone : Gone) (o : Outline) (typings : Typings) (x : State) (colour : C
         had.apart k second birth within inside_too (old_may k birth one) (old_may second birth two);
     initialised = λ k birth within may. had.initialised k birth within (old_may k birth may);
   } where
-    old_may : (k birth : ℕ) → MayFree later (holder_value code changed k) birth → MayFree y.store (holder_value code locals k) birth
+    old_may : (k birth : ℕ) → HoldsFreeable later (holder_value code changed k) birth → HoldsFreeable y.store (holder_value code locals k) birth
     old_may k birth may = ⊎_elim
-        (λ same. absurd (nothing_of_null later birth later_orderly (subst (λ w. MayFree later w birth) (value_here k same) may)))
-        (λ away. before (holder_value code locals k) birth (subst (λ w. MayFree later w birth) (value_there k away) may))
+        (λ same. absurd (nothing_of_null later birth later_orderly (subst (λ w. HoldsFreeable later w birth) (value_here k same) may)))
+        (λ away. before (holder_value code locals k) birth (subst (λ w. HoldsFreeable later w birth) (value_there k away) may))
         (cases_eq k h)
 
   -- ---- nothing is freed
@@ -122,7 +122,7 @@ module _ (gone : Gone) (o : Outline) (typings : Typings) (x : State) (colour : C
         (λ away. ap (λ b. cond b None (object_at y.store q)) (sym (ne_eqb q cell away)) ∙ sym (object_at-without_object y.store cell object q) ∙ there)
         (cases_eq q cell)
 
-    may_before : (w : Value) (birth : ℕ) → MayFree following w birth → MayFree y.store w birth
+    may_before : (w : Value) (birth : ℕ) → HoldsFreeable following w birth → HoldsFreeable y.store w birth
     may_before w birth may = record {
       object = may.object;
       held = held_before (cell_of w) may.object may.held;
@@ -131,7 +131,7 @@ module _ (gone : Gone) (o : Outline) (typings : Typings) (x : State) (colour : C
     }
 
     -- what doesn't lead to the object is held still
-    holding_still : (d class : ℕ) (w : Value) → ¬ MayFree y.store w object.birth → Holding y.store colour d class w → Holding following colour d class w
+    holding_still : (d class : ℕ) (w : Value) → ¬ HoldsFreeable y.store w object.birth → Holding y.store colour d class w → Holding following colour d class w
     holding_still d class w none (HoldsNull null_is) = HoldsNull null_is
     holding_still d class w none (HoldsFixed found there fixed) =
         HoldsFixed found
@@ -148,7 +148,7 @@ module _ (gone : Gone) (o : Outline) (typings : Typings) (x : State) (colour : C
         })))
         free region
 
-    of_holder : MayFree y.store v object.birth
+    of_holder : HoldsFreeable y.store v object.birth
     of_holder = record { object = object; held = held; not_fixed = loose; birth_is = refl }
 
     freed_held : AreHeld typings x colour depth following code plan changed

@@ -10,7 +10,7 @@ use Rattle.fm_frames.specs.States.{Frame, State}
 use Rattle.fm_law_held_objects.proofs.Holdings.{held_by, nothing_of_null, own_of}
 use Rattle.fm_law_held_objects.specs.Freeing.{AreRetired, IsOfHolder}
 use Rattle.fm_law_held_objects.specs.Laws.{FreedClassesRetire, RetiringKeepsHeld}
-use Rattle.fm_law_holders.specs.Holding.{holder_value, MayFree}
+use Rattle.fm_law_holders.specs.Holding.{holder_value, HoldsFreeable}
 use Rattle.fm_place.specs.Insertions.{Holder, Insertions}
 use Rattle.fm_place.specs.Places.{is_busy}
 use Rattle.fm_place.specs.Safe as safe
@@ -124,7 +124,7 @@ retiring_keeps_held p facts x colour depth plan hs r method item code may other 
     (λ (theirs : IsOfHolder colour depth plan hs birth).
     absurd (apart h birth mine (get_or inserted.holders h theirs.holder) (slice_get-get_or inserted.holders h theirs.holder within) theirs))
     (r.or_same birth)) are where
-      apart : (h birth : ℕ) → MayFree store (holder_value second locals h) birth → (holder : Holder) → slice_get inserted.holders h ≡ Some holder
+      apart : (h birth : ℕ) → HoldsFreeable store (holder_value second locals h) birth → (holder : Holder) → slice_get inserted.holders h ≡ Some holder
           → IsOfHolder colour depth plan hs birth → ⊥
       apart h birth mine holder at theirs =
           let region : Own other holder.class ≡ Own depth theirs.holder.class =
@@ -134,6 +134,6 @@ retiring_keeps_held p facts x colour depth plan hs r method item code may other 
           let m : safe.MayFree facts (typed_method p facts.typing method code) plan item theirs.number = may theirs.number theirs.among in
           let found : m.holder.class ≡ holder.class = ap (λ (k : Holder). k.class) (same_Some m.holder theirs.holder (sym m.is ∙ theirs.is)) ∙ classes in
           ⊎_elim
-          (λ null_is. nothing_of_null store birth orderly (subst (λ v. MayFree store v birth) null_is mine))
+          (λ null_is. nothing_of_null store birth orderly (subst (λ v. HoldsFreeable store v birth) null_is mine))
           (λ busy. false≢true (sym m.quiet ∙ ap (λ class. is_busy facts (typed_method p facts.typing method code) class item) found ∙ busy))
           (there depths h holder at)

@@ -17,7 +17,7 @@ use Rattle.fm_frames.specs.States.{Frame}
 use Rattle.fm_frames.specs.declared.values.Value.{Value}
 use Rattle.fm_law_held_objects.specs.Initialised.{StepsKeepInitialised}
 use Rattle.fm_law_held_objects.specs.Laws.{StepsKeepHeld}
-use Rattle.fm_law_holders.specs.Holding.{holder_value, Holding, HoldsFixed, HoldsNull, HoldsOwn, MayFree}
+use Rattle.fm_law_holders.specs.Holding.{holder_value, Holding, HoldsFixed, HoldsNull, HoldsOwn, HoldsFreeable}
 use Rattle.fm_law_holders.specs.NewResults.{KeepsObjects}
 use Rattle.fm_place.specs.Insertions.{Holder}
 use Rattle.fm_place.specs.Safe.{IsSafeHolder}
@@ -54,7 +54,7 @@ not_result p facts method depth class code r captured (f ∷ callers) there own 
 
 module _ (store later : Store) (later_orderly : IsOrderly later) (keeps : KeepsObjects store later) where
   -- what may be freed might be freed before
-  pub may_before : (colour : Colour) (depth class : ℕ) (v : Value) (birth : ℕ) → Holding store colour depth class v → MayFree later v birth → MayFree store v birth
+  pub may_before : (colour : Colour) (depth class : ℕ) (v : Value) (birth : ℕ) → Holding store colour depth class v → HoldsFreeable later v birth → HoldsFreeable store v birth
   may_before colour depth class v birth (HoldsNull none) may =
       absurd (none-some may.object (sym later_orderly.null_not_held ∙ ap (λ u. object_at later (cell_of u)) (sym none) ∙ may.held))
   may_before colour depth class v birth (HoldsFixed object held fixed) may =
@@ -90,7 +90,7 @@ steps_keep_held stay_initialised p facts linked steps makes cells free choose x 
           (had.holds h holder at);
       apart = λ h second birth within inside one two. had.apart h second birth within inside (before h birth within one) (before second birth inside two);
       initialised = λ h birth within may.
-          let mine : MayFree store (holder_value code locals h) birth = before h birth within may in
+          let mine : HoldsFreeable store (holder_value code locals h) birth = before h birth within may in
           let old = orderly.born (cell_of (holder_value code locals h)) mine.object mine.held in
           let same = mine.birth_is in
           stay_initialised p facts.typing linked steps makes cells free choose x made whole few are birth (omega (arith, old, same, births))
@@ -105,7 +105,7 @@ steps_keep_held stay_initialised p facts linked steps makes cells free choose x 
       any_holder : Holder
       any_holder = record { site = 0; class = 0; looped = false }
 
-      before : (h birth : ℕ) → h < length plan.holders → MayFree later (holder_value code locals h) birth → MayFree store (holder_value code locals h) birth
+      before : (h birth : ℕ) → h < length plan.holders → HoldsFreeable later (holder_value code locals h) birth → HoldsFreeable store (holder_value code locals h) birth
       before h birth within may =
           may_before store later later_orderly keeps colour depth (get_or plan.holders h any_holder).class (holder_value code locals h) birth
           (had.holds h (get_or plan.holders h any_holder) (slice_get-get_or plan.holders h any_holder within)) may

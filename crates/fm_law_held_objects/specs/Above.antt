@@ -11,7 +11,7 @@ use Rattle.fm_frames.specs.States.{Frame, State}
 use Rattle.fm_frames.specs.Steps.{step}
 use Rattle.fm_law_held_objects.specs.Clean.{IsClean}
 use Rattle.fm_law_held_objects.specs.Initialised.{FrameIsNotFor, IsInitialised}
-use Rattle.fm_law_holders.specs.Holding.{MayFree}
+use Rattle.fm_law_holders.specs.Holding.{HoldsFreeable}
 use Rattle.fm_law_holders.specs.NewResults.{GoesOnBehind, HasNewResult}
 use Rattle.fm_law_holders.specs.Uninitialised.{AreMade, Made}
 use Rattle.fm_law_sound.specs.Resolved.{StepsAreResolved}
@@ -78,4 +78,4 @@ NewResultsAreInitialised =
     → (r : HasNewResult facts x next colour known f callers) → Coloured p facts next other → Stand p facts next.frames → AreMade facts.typing next made
     → (code : Code) → code_at p f.method ≡ Some code → is_captured_site facts (typed_method p facts.typing f.method code) f.item ≡ true
     → AreForNoneAbove facts.typing x.areas.store colour x.frames → AreForNoneAbove facts.typing next.areas.store other next.frames
-    → (birth : ℕ) → MayFree next.areas.store r.result birth → IsInitialised facts.typing next birth
+    → (birth : ℕ) → HoldsFreeable next.areas.store r.result birth → IsInitialised facts.typing next birth

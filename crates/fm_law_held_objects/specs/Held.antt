@@ -6,7 +6,7 @@ use Rattle.fm_conn.specs.Facts.{Facts}
 use Rattle.fm_frames.specs.States.{Frame, State}
 use Rattle.fm_frames.specs.declared.values.Value.{Value}
 use Rattle.fm_law_held_objects.specs.Initialised.{IsInitialised}
-use Rattle.fm_law_holders.specs.Holding.{holder_value, Holding, MayFree}
+use Rattle.fm_law_holders.specs.Holding.{holder_value, Holding, HoldsFreeable}
 use Rattle.fm_law_same_runs.specs.Beside.{kept_item, Marks}
 use Rattle.fm_law_sound.specs.Sound.{Typings}
 use Rattle.fm_law_unwoven.specs.WovenFrom.{inserted_by}
@@ -19,9 +19,9 @@ use Rattle.fm_world.specs.Programs.{code_at, Program}
 -- such an object is initialised in the state of the first program.
 pub record AreHeld (typings : Typings) (x : State) (colour : Colour) (depth : ℕ) (store : Store) (code : Code) (plan : Insertions) (locals : List Value) : Type 0 where
   pub holds : (h : ℕ) (holder : Holder) → slice_get plan.holders h ≡ Some holder → Holding store colour depth holder.class (holder_value code locals h)
-  pub apart : (h other birth : ℕ) → h < length plan.holders → other < length plan.holders → MayFree store (holder_value code locals h) birth
-      → MayFree store (holder_value code locals other) birth → h ≡ other
-  pub initialised : (h birth : ℕ) → h < length plan.holders → MayFree store (holder_value code locals h) birth → IsInitialised typings x birth
+  pub apart : (h other birth : ℕ) → h < length plan.holders → other < length plan.holders → HoldsFreeable store (holder_value code locals h) birth
+      → HoldsFreeable store (holder_value code locals other) birth → h ≡ other
+  pub initialised : (h birth : ℕ) → h < length plan.holders → HoldsFreeable store (holder_value code locals h) birth → IsInitialised typings x birth
 
 -- so it is of a frame of the second program at a kept item; one that hasn't begun has no holders yet
 abbrev pub FrameIsHeld : Program → Facts → Plans → Marks → State → Colour → (depth : ℕ) → Store → Frame → Type 0

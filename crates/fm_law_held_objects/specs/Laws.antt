@@ -14,7 +14,7 @@ use Rattle.fm_frames.specs.declared.values.Value.{Value}
 use Rattle.fm_law_held_objects.specs.Freeing.{AreFreed, AreRetired}
 use Rattle.fm_law_held_objects.specs.Held.{AreHeld}
 use Rattle.fm_law_held_objects.specs.Initialised.{IsInitialised}
-use Rattle.fm_law_holders.specs.Holding.{holder_value, Holding, MayFree}
+use Rattle.fm_law_holders.specs.Holding.{holder_value, Holding, HoldsFreeable}
 use Rattle.fm_law_holders.specs.NewResults.{GoesOnBehind, HasNewResult, KeepsObjects}
 use Rattle.fm_law_holders.specs.Uninitialised.{AreMade, AreMadeIn, Made}
 use Rattle.fm_law_no_fault.specs.CellsResolved.{CellsAreResolved}
@@ -107,6 +107,6 @@ KeepingKeepsHeld =
     → AreHeld facts.typing next other (length callers) later code plan locals → length locals ≡ code.max_locals + length plan.holders
     → (kept : ℕ) (holder : Holder) → slice_get plan.holders kept ≡ Some holder
     → (w : Value) → Holding later other (length callers) holder.class w
-    → ((birth : ℕ) → MayFree later w birth → MayFree next.areas.store r.result birth)
-    → ((birth : ℕ) → MayFree next.areas.store r.result birth → IsInitialised facts.typing next birth)
+    → ((birth : ℕ) → HoldsFreeable later w birth → HoldsFreeable next.areas.store r.result birth)
+    → ((birth : ℕ) → HoldsFreeable next.areas.store r.result birth → IsInitialised facts.typing next birth)
     → AreHeld facts.typing next other (length callers) later code plan (slice_set locals (local_of code kept) w)

@@ -30,7 +30,7 @@ use Rattle.fm_same.specs.Regions.{Own}
 use Rattle.fm_same.specs.Standing.{Stand}
 use Rattle.fm_code.specs.declared.code_array.Code.{Code}
 use Rattle.fm_law_holders.proofs.ApartPlaces.{zip_found}
-use Rattle.fm_law_holders.specs.Holding.{holder_value, HoldersHold, Holding, HoldsFixed, HoldsNull, HoldsOwn, IsUnshared, MayFree}
+use Rattle.fm_law_holders.specs.Holding.{holder_value, HoldersHold, Holding, HoldsFixed, HoldsNull, HoldsOwn, IsUnshared, HoldsFreeable}
 use Rattle.fm_law_holders.specs.Laws.{KeepingKeepsHolders, KeptResultsAreOwn, NewResultsAreUnheld}
 use Rattle.fm_law_holders.specs.NewResults.{IsBorn, IsBuilt, IsCallees, IsHeldByAll, IsNew, KeepsObjects, frame_behind, HasNewResult, IsApart}
 use Rattle.fm_law_holders.specs.Uninitialised.{AreMadeIn, IsMadeAt, Made, ValueIsMade}
@@ -71,16 +71,16 @@ kept_results_are_own p facts exact steps x next colour other known f callers h c
 
 -- ---- no holder has it yet
 
-module _ (facts : Facts) (x : State) (colour : Colour) (made : Made) (known : TypeState) (f : Frame) (depth : ℕ) (later : Store) (orderly : IsOrderly later) (are : AreMadeIn x.areas.store made known f) (kept : KeepsObjects x.areas.store later) (store : Store) (own_orderly : IsOrderly store) (births : store.births ≡ x.areas.store.births) (class : ℕ) (v : Value) (holding : Holding store colour depth class v) (unshared : (birth : ℕ) → MayFree store v birth → IsUnshared facts x.areas.store known f birth) where
+module _ (facts : Facts) (x : State) (colour : Colour) (made : Made) (known : TypeState) (f : Frame) (depth : ℕ) (later : Store) (orderly : IsOrderly later) (are : AreMadeIn x.areas.store made known f) (kept : KeepsObjects x.areas.store later) (store : Store) (own_orderly : IsOrderly store) (births : store.births ≡ x.areas.store.births) (class : ℕ) (v : Value) (holding : Holding store colour depth class v) (unshared : (birth : ℕ) → HoldsFreeable store v birth → IsUnshared facts x.areas.store known f birth) where
   -- what a holder holds was born before
-  born_before : (birth : ℕ) → MayFree store v birth → birth < x.areas.store.births
+  born_before : (birth : ℕ) → HoldsFreeable store v birth → birth < x.areas.store.births
   born_before birth h =
       let old = own_orderly.born (cell_of v) h.object h.held in
       let same = h.birth_is in
       omega (arith, old, same, births)
 
   -- and is of a region of the frame
-  own_region : (birth : ℕ) → MayFree store v birth → colour birth ≡ Own depth class
+  own_region : (birth : ℕ) → HoldsFreeable store v birth → colour birth ≡ Own depth class
   own_region birth h = by_holding holding where
     by_holding : Holding store colour depth class v → colour birth ≡ Own depth class
     by_holding (HoldsNull null_is) =
@@ -91,7 +91,7 @@ module _ (facts : Facts) (x : State) (colour : Colour) (made : Made) (known : Ty
         ap colour (sym h.birth_is ∙ ap (λ (o : Object). o.birth) (same_Some h.object object (sym h.held ∙ held))) ∙ own
 
   pub unheld : (cell : ℕ) → IsNew x colour known f depth later cell → (object : Object) → object_at later cell ≡ Some object → object.fixed ≡ false
-      → MayFree store v object.birth → ⊥
+      → HoldsFreeable store v object.birth → ⊥
   unheld cell (IsHeldByAll (IsNull none)) object held loose h =
       none-some object (sym orderly.null_not_held ∙ ap (λ c. object_at later c) (sym none) ∙ held)
   unheld cell (IsHeldByAll (IsFixed other there fixed)) object held loose h =
@@ -118,7 +118,7 @@ module _ (facts : Facts) (x : State) (colour : Colour) (made : Made) (known : Ty
 pub new_results_are_unheld : NewResultsAreUnheld
 new_results_are_unheld facts x next colour made known f callers h orderly are store own_orderly births class v holding unshared birth result held =
     unheld facts x colour made known f (length callers) next.areas.store orderly are h.kept store own_orderly births class v holding unshared (cell_of h.result) h.new
-    result.object result.held result.not_fixed (subst (MayFree store v) (sym result.birth_is) held)
+    result.object result.held result.not_fixed (subst (HoldsFreeable store v) (sym result.birth_is) held)
 
 -- ---- a holder gets it
 
@@ -133,7 +133,7 @@ module _ (facts : Facts) (x next : State) (colour other : Colour) (made : Made) 
     (locals : List Value) (had : HoldersHold facts colour x.areas.store known f (length callers) before code plan locals)
     (have : HoldersHold facts other next.areas.store after (frame_behind f (r.result ∷ r.below)) (length callers) later code plan locals)
     (width : length locals ≡ code.max_locals + length plan.holders) (kept : ℕ) (holder : Holder) (at : slice_get plan.holders kept ≡ Some holder) (w : Value)
-    (holding : Holding later other (length callers) holder.class w) (leads : (birth : ℕ) → MayFree later w birth → MayFree next.areas.store r.result birth) where
+    (holding : Holding later other (length callers) holder.class w) (leads : (birth : ℕ) → HoldsFreeable later w birth → HoldsFreeable next.areas.store r.result birth) where
   abbrev changed : List Value
   changed = slice_set locals (local_of code kept) w
 
@@ -151,12 +151,12 @@ module _ (facts : Facts) (x next : State) (colour other : Colour) (made : Made) 
       get_or-set_other locals (local_of code kept) (local_of code h) w value.Top (λ same. apart (omega (arith, same)))
 
   -- what a holder has then it had before the step
-  had_before : (h birth : ℕ) → h < length plan.holders → MayFree later (holder_value code locals h) birth → MayFree before (holder_value code locals h) birth
+  had_before : (h birth : ℕ) → h < length plan.holders → HoldsFreeable later (holder_value code locals h) birth → HoldsFreeable before (holder_value code locals h) birth
   had_before h birth within may = by_holder (slice_get-get_or plan.holders h holder within) where
     v : Value
     v = holder_value code locals h
 
-    by_value : (class : ℕ) → Holding before colour (length callers) class v → MayFree before v birth
+    by_value : (class : ℕ) → Holding before colour (length callers) class v → HoldsFreeable before v birth
     by_value class (HoldsNull none) =
         absurd (none-some may.object (sym later_orderly.null_not_held ∙ ap (λ u. object_at later (cell_of u)) (sym none) ∙ may.held))
     by_value class (HoldsFixed object held fixed) =
@@ -171,11 +171,11 @@ module _ (facts : Facts) (x next : State) (colour other : Colour) (made : Made) 
           birth_is = sym now.2 ∙ ap (λ (o : Object). o.birth) (same_Some now.0 may.object (sym now.1 ∙ may.held)) ∙ may.birth_is;
         }
 
-    by_holder : slice_get plan.holders h ≡ Some (get_or plan.holders h holder) → MayFree before v birth
+    by_holder : slice_get plan.holders h ≡ Some (get_or plan.holders h holder) → HoldsFreeable before v birth
     by_holder found = by_value (get_or plan.holders h holder).class (had.holds h (get_or plan.holders h holder) found)
 
   -- no other holder has what this one gets
-  other_has : (h birth : ℕ) → h < length plan.holders → MayFree later w birth → MayFree later (holder_value code locals h) birth → ⊥
+  other_has : (h birth : ℕ) → h < length plan.holders → HoldsFreeable later w birth → HoldsFreeable later (holder_value code locals h) birth → ⊥
   other_has h birth within mine his =
       let found = slice_get-get_or plan.holders h holder within in
       new_results_are_unheld facts x next colour made known f callers r orderly are before before_orderly births (get_or plan.holders h holder).class
@@ -185,14 +185,14 @@ module _ (facts : Facts) (x next : State) (colour other : Colour) (made : Made) 
   here_or_there : (h : ℕ) → (h ≡ kept) ⊎ (h ≢ kept)
   here_or_there h = cases_eq h kept
 
-  own_may : (h birth : ℕ) → h ≡ kept → MayFree later (holder_value code changed h) birth → MayFree later w birth
-  own_may h birth same may = subst (λ v. MayFree later v birth) (value_here h same) may
+  own_may : (h birth : ℕ) → h ≡ kept → HoldsFreeable later (holder_value code changed h) birth → HoldsFreeable later w birth
+  own_may h birth same may = subst (λ v. HoldsFreeable later v birth) (value_here h same) may
 
-  old_may : (h birth : ℕ) → h ≢ kept → MayFree later (holder_value code changed h) birth → MayFree later (holder_value code locals h) birth
-  old_may h birth apart may = subst (λ v. MayFree later v birth) (value_there h apart) may
+  old_may : (h birth : ℕ) → h ≢ kept → HoldsFreeable later (holder_value code changed h) birth → HoldsFreeable later (holder_value code locals h) birth
+  old_may h birth apart may = subst (λ v. HoldsFreeable later v birth) (value_there h apart) may
 
   -- what the frame still has to initialise is another object
-  unshared_result : (birth : ℕ) → MayFree later w birth
+  unshared_result : (birth : ℕ) → HoldsFreeable later w birth
       → IsUnshared facts next.areas.store after (frame_behind f (r.result ∷ r.below)) birth
   unshared_result birth may = record {
     in_locals = λ k item v there found live object held same.
@@ -202,7 +202,7 @@ module _ (facts : Facts) (x next : State) (colour other : Colour) (made : Made) 
     apart : IsApart facts after (frame_behind f (r.result ∷ r.below)) (cell_of r.result)
     apart = r.apart after after_is
 
-    result : MayFree next.areas.store r.result birth
+    result : HoldsFreeable next.areas.store r.result birth
     result = leads birth may
 
     same_cell : (v : Value) (object : Object) → object_at next.areas.store (cell_of v) ≡ Some object → object.birth ≡ birth → cell_of v ≡ cell_of r.result

@@ -24,7 +24,7 @@ pub data Holding (store : Store) (colour : Colour) (depth class : ℕ) (v : Valu
       → Holding store colour depth class v
 
 -- the value leads to an object of this birth that may be freed
-pub record MayFree (store : Store) (v : Value) (birth : ℕ) : Type 0 where
+pub record HoldsFreeable (store : Store) (v : Value) (birth : ℕ) : Type 0 where
   pub object : Object
   pub held : object_at store (cell_of v) ≡ Some object
   pub not_fixed : object.fixed ≡ false
@@ -51,6 +51,6 @@ holder_value code locals h = word_at locals (local_of code h)
 -- first program, on its own memory, still has to initialise.
 pub record HoldersHold (facts : Facts) (colour : Colour) (one : Store) (known : TypeState) (f : Frame) (depth : ℕ) (store : Store) (code : Code) (plan : Insertions) (locals : List Value) : Type 0 where
   pub holds : (h : ℕ) (holder : Holder) → slice_get plan.holders h ≡ Some holder → Holding store colour depth holder.class (holder_value code locals h)
-  pub apart : (h other birth : ℕ) → h < length plan.holders → other < length plan.holders → MayFree store (holder_value code locals h) birth
-      → MayFree store (holder_value code locals other) birth → h ≡ other
-  pub unshared : (h birth : ℕ) → h < length plan.holders → MayFree store (holder_value code locals h) birth → IsUnshared facts one known f birth
+  pub apart : (h other birth : ℕ) → h < length plan.holders → other < length plan.holders → HoldsFreeable store (holder_value code locals h) birth
+      → HoldsFreeable store (holder_value code locals other) birth → h ≡ other
+  pub unshared : (h birth : ℕ) → h < length plan.holders → HoldsFreeable store (holder_value code locals h) birth → IsUnshared facts one known f birth

@@ -22,7 +22,7 @@ use Rattle.fm_same.specs.Covering.{CoversAt}
 use Rattle.fm_same.specs.Resolved.{CallsNoFreeMe, IsResolved}
 use Rattle.fm_same.specs.Standing.{Stand}
 use Rattle.fm_law_sound.specs.Resolved.{StepsAreResolved}
-use Rattle.fm_law_holders.specs.Holding.{HoldersHold, Holding, IsUnshared, MayFree}
+use Rattle.fm_law_holders.specs.Holding.{HoldersHold, Holding, IsUnshared, HoldsFreeable}
 use Rattle.fm_law_holders.specs.NewResults.{frame_behind, GoesOnBehind, HasNewResult, KeepsObjects}
 use Rattle.fm_law_holders.specs.Uninitialised.{AreMade, AreMadeIn, FramesAreBelow, Made, made_after, ValueIsMade}
 use Rattle.fm_frames.specs.Runs.{Job, opening}
@@ -88,8 +88,8 @@ NewResultsAreUnheld =
     → (h : HasNewResult facts x next colour known f callers) → IsOrderly next.areas.store → AreMadeIn x.areas.store made known f
     → (store : Store) → IsOrderly store → store.births ≡ x.areas.store.births
     → (class : ℕ) (v : Value) → Holding store colour (length callers) class v
-    → ((birth : ℕ) → MayFree store v birth → IsUnshared facts x.areas.store known f birth)
-    → (birth : ℕ) → MayFree next.areas.store h.result birth → MayFree store v birth → ⊥
+    → ((birth : ℕ) → HoldsFreeable store v birth → IsUnshared facts x.areas.store known f birth)
+    → (birth : ℕ) → HoldsFreeable next.areas.store h.result birth → HoldsFreeable store v birth → ⊥
 
 -- So a holder that gets such a result in place of what it had keeps what holds of all holders of its frame, where that holds after the step of what they had
 -- before: the value that it gets leads to the result's object, or to nothing that may be freed.
@@ -105,5 +105,5 @@ KeepingKeepsHolders =
     → length locals ≡ code.max_locals + length plan.holders
     → (kept : ℕ) (holder : Holder) → slice_get plan.holders kept ≡ Some holder
     → (w : Value) → Holding later other (length callers) holder.class w
-    → ((birth : ℕ) → MayFree later w birth → MayFree next.areas.store h.result birth)
+    → ((birth : ℕ) → HoldsFreeable later w birth → HoldsFreeable next.areas.store h.result birth)
     → HoldersHold facts other next.areas.store after (frame_behind f (h.result ∷ h.below)) (length callers) later code plan (slice_set locals (local_of code kept) w)

@@ -14,7 +14,7 @@ use Rattle.fm_frames.specs.declared.values.Value.{Value}
 use Rattle.fm_frames.specs.declared.values.Value.TheVariants as value
 use Rattle.fm_law_held_objects.proofs.Holdings.{nothing_of_null}
 use Rattle.fm_law_held_objects.specs.Held.{AreHeld, FrameIsHeld, FramesAreHeld}
-use Rattle.fm_law_holders.specs.Holding.{holder_value, Holding, HoldsNull, MayFree}
+use Rattle.fm_law_holders.specs.Holding.{holder_value, Holding, HoldsNull, HoldsFreeable}
 use Rattle.fm_law_same_runs.specs.Beside.{kept_item, Marks}
 use Rattle.fm_law_sound.proofs.CallsStand.{max_locals_in}
 use Rattle.fm_law_sound.specs.Sound.{Typings}
@@ -37,8 +37,8 @@ module _ (typings : Typings) (x : State) (colour : Colour) (depth : ℕ) (store 
   held_alike locals others same had = record {
     holds = λ h holder at. subst (Holding store colour depth holder.class) (sym (same h)) (had.holds h holder at);
     apart = λ h second birth within inside one two.
-        had.apart h second birth within inside (subst (λ v. MayFree store v birth) (same h) one) (subst (λ v. MayFree store v birth) (same second) two);
-    initialised = λ h birth within may. had.initialised h birth within (subst (λ v. MayFree store v birth) (same h) may);
+        had.apart h second birth within inside (subst (λ v. HoldsFreeable store v birth) (same h) one) (subst (λ v. HoldsFreeable store v birth) (same second) two);
+    initialised = λ h birth within may. had.initialised h birth within (subst (λ v. HoldsFreeable store v birth) (same h) may);
   }
 
   -- holders that are all null hold what they may
@@ -47,8 +47,8 @@ module _ (typings : Typings) (x : State) (colour : Colour) (depth : ℕ) (store 
   nulls_held orderly locals nulls = record {
     holds = λ h holder at. HoldsNull (nulls h (slice_get_within plan.holders h holder at));
     apart = λ h second birth within inside_too one two.
-        absurd (nothing_of_null store birth orderly (subst (λ v. MayFree store v birth) (nulls h within) one));
-    initialised = λ h birth within may. absurd (nothing_of_null store birth orderly (subst (λ v. MayFree store v birth) (nulls h within) may));
+        absurd (nothing_of_null store birth orderly (subst (λ v. HoldsFreeable store v birth) (nulls h within) one));
+    initialised = λ h birth within may. absurd (nothing_of_null store birth orderly (subst (λ v. HoldsFreeable store v birth) (nulls h within) may));
   }
 
   -- where there are none, nothing is asked

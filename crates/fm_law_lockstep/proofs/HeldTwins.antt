@@ -8,7 +8,7 @@ use Rattle.fm_cells.specs.Stores.{object_at, Store}
 use Rattle.fm_frames.specs.Acts.{cell_of}
 use Rattle.fm_frames.specs.States.{null, ref}
 use Rattle.fm_frames.specs.declared.values.Value.{Value}
-use Rattle.fm_law_holders.specs.Holding.{Holding, HoldsFixed, HoldsNull, HoldsOwn, MayFree}
+use Rattle.fm_law_holders.specs.Holding.{Holding, HoldsFixed, HoldsNull, HoldsOwn, HoldsFreeable}
 use Rattle.fm_law_two_memories.proofs.Twins.{cell_same, found_same, not_null}
 use Rattle.fm_law_two_memories.specs.Pairing.{ArePaired, AreTwins, Gone, HasTwin, SameCell, SameFound, SameValue}
 use Rattle.fm_law_two_memories.specs.Seeing.{IsThere}
@@ -58,10 +58,10 @@ module _ (gone : Gone) (o : Outline) (one other : Store) (paired : ArePaired gon
         ap (λ (a : Object). a.fixed) (sym same) ∙ h.alike.fixed
 
   -- what the second one leads to may be freed where the first one's object may, if that isn't gone
-  pub there_may : (v w : Value) → SameValue gone one other v w → IsThere gone one (cell_of v) → (birth : ℕ) → MayFree other w birth → MayFree one v birth
+  pub there_may : (v w : Value) → SameValue gone one other v w → IsThere gone one (cell_of v) → (birth : ℕ) → HoldsFreeable other w birth → HoldsFreeable one v birth
   there_may v w same there birth may =
       by_found (found_same gone one other (cell_of v) (cell_of w) there (cell_same gone one other v w same)) where
-        by_found : SameFound one other (cell_of v) (cell_of w) → MayFree one v birth
+        by_found : SameFound one other (cell_of v) (cell_of w) → HoldsFreeable one v birth
         by_found (inl none) = absurd (not_null other (cell_of w) may.object paired.other_orderly may.held none.1)
         by_found (inr t) =
             let object : t.second ≡ may.object = same_Some t.second may.object (sym t.twin_held ∙ may.held) in
@@ -76,7 +76,7 @@ module _ (gone : Gone) (o : Outline) (one other : Store) (paired : ArePaired gon
     found : SameFound one other (cell_of v) (cell_of w)
     found = found_same gone one other (cell_of v) (cell_of w) (holds_there depth class v holds) (cell_same gone one other v w same)
 
-    pub twin_may : (birth : ℕ) → MayFree other w birth → MayFree one v birth
+    pub twin_may : (birth : ℕ) → HoldsFreeable other w birth → HoldsFreeable one v birth
     twin_may birth may = there_may v w same (holds_there depth class v holds) birth may
 
     -- only null is the twin of null

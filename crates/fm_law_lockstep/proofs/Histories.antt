@@ -17,7 +17,7 @@ use Rattle.fm_frames.specs.Steps.{step}
 use Rattle.fm_frames.specs.declared.ends.Ended.TheVariants as end
 use Rattle.fm_frames.specs.declared.values.Value.{Value}
 use Rattle.fm_law_held_objects.proofs.Holdings.{nothing_of_null}
-use Rattle.fm_law_holders.specs.Holding.{MayFree}
+use Rattle.fm_law_holders.specs.Holding.{HoldsFreeable}
 use Rattle.fm_law_lockstep.proofs.NothingFreed.{FreesNothing, nothing_freed}
 use Rattle.fm_law_lockstep.proofs.Paced.{at_kept, first_goes, first_printed, goes_along, inserted, is_kept, keeps_pace, reached, second_goes, second_goes_on, second_printed, want}
 use Rattle.fm_law_lockstep.proofs.Since.{FramesSince}
@@ -334,7 +334,7 @@ module _ (b : Both) (from : IsWovenFrom b.one b.other b.facts b.plans b.marks) (
   fresh_frames S store orderly (g ∷ frames) empty = (
     λ item code item_is code_is h holder is birth may.
         absurd (nothing_of_null store birth orderly
-        (subst (λ v. MayFree store v birth)
+        (subst (λ v. HoldsFreeable store v birth)
         (empty.0 item code h item_is code_is (slice_get_within (inserted_by (b.plans g.method)).holders h holder is)) may)),
     fresh_frames S store orderly frames empty.1,
   )

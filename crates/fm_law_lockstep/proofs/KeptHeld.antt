@@ -19,7 +19,7 @@ use Rattle.fm_law_held_objects.specs.Above.{NewResultsAreInitialised}
 use Rattle.fm_law_held_objects.specs.Held.{AreHeld}
 use Rattle.fm_law_held_objects.specs.Initialised.{IsInitialised}
 use Rattle.fm_law_held_objects.specs.Laws.{KeepingKeepsHeld}
-use Rattle.fm_law_holders.specs.Holding.{Holding, MayFree}
+use Rattle.fm_law_holders.specs.Holding.{Holding, HoldsFreeable}
 use Rattle.fm_law_holders.specs.Laws.{KeptResultsAreOwn, SitesGiveNew}
 use Rattle.fm_law_holders.specs.NewResults.{GoesOnBehind, HasNewResult, IsDone, IsReturnedTo, KeepsObjects}
 use Rattle.fm_law_holders.specs.Uninitialised.{AreMadeIn, FrameIsMade, Made, made_after}
@@ -110,7 +110,7 @@ module _ (new : SitesGiveNew) (own : KeptResultsAreOwn) (p : Program) (facts : F
           (own p facts linked.exact linked.without.steps x next colour on.fewer known_at.0 f callers result on.known.coloured next_stand code code_is captured)
 
       -- it is initialised
-      initialised : NewResultsAreInitialised → (birth : ℕ) → MayFree next.areas.store result.result birth → IsInitialised facts.typing next birth
+      initialised : NewResultsAreInitialised → (birth : ℕ) → HoldsFreeable next.areas.store result.result birth → IsInitialised facts.typing next birth
       initialised fresh =
           fresh p facts linked.exact linked.without.steps x next colour on.fewer (made_after x made) known_at.0 f callers behind known_at.1 result on.known.coloured
           next_stand on.known.made_at code code_is captured known.for_none_above on.known.for_none_above

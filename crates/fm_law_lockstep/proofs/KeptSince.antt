@@ -13,7 +13,7 @@ use Rattle.fm_conn.specs.Nodes.{depth_at, Slot, TypedMethod}
 use Rattle.fm_frames.specs.Acts.{cell_of}
 use Rattle.fm_frames.specs.States.{Frame, State, word_at}
 use Rattle.fm_frames.specs.declared.values.Value.{Value}
-use Rattle.fm_law_holders.specs.Holding.{MayFree}
+use Rattle.fm_law_holders.specs.Holding.{HoldsFreeable}
 use Rattle.fm_law_lockstep.proofs.HeldTwins.{there_may}
 use Rattle.fm_law_lockstep.proofs.Seen.{itself}
 use Rattle.fm_law_lockstep.specs.Both.{Both}
@@ -119,10 +119,10 @@ module _ (b : Both) (next z : State) (u : GoTogetherAt b next z) (fx : Frame) (c
     pub leads : LeadsTo b.one.outline next.areas.store value birth
 
   pub on_top : (depth class birth : ℕ) (stack : List Value) → length cx ≡ depth → b.facts.class fx.method (node_of_word fx 0) ≡ class
-      → AllZip (SameValue u.gone next.areas.store z.areas.store) fx.stack stack → 0 < length stack → MayFree z.areas.store (word_at stack 0) birth
+      → AllZip (SameValue u.gone next.areas.store z.areas.store) fx.stack stack → 0 < length stack → HoldsFreeable z.areas.store (word_at stack 0) birth
       → IsOnTop depth class birth
   on_top depth class birth stack count class_is same some may = by_stack fx.stack refl stack same some may where
-    by_value : (v w : Value) → slice_get fx.stack 0 ≡ Some v → SameValue u.gone next.areas.store z.areas.store v w → MayFree z.areas.store w birth
+    by_value : (v w : Value) → slice_get fx.stack 0 ≡ Some v → SameValue u.gone next.areas.store z.areas.store v w → HoldsFreeable z.areas.store w birth
         → IsOnTop depth class birth
     by_value v w at twin theirs =
         let root : IsRoot b.facts next.frames v = subst (λ fs. IsRoot b.facts fs v) (sym are) (inl (InWord 0 at)) in
@@ -134,7 +134,7 @@ module _ (b : Both) (next z : State) (u : GoTogetherAt b next z) (fx : Frame) (c
         }
 
     by_stack : (vs : List Value) → fx.stack ≡ vs → (ws : List Value) → AllZip (SameValue u.gone next.areas.store z.areas.store) vs ws → 0 < length ws
-        → MayFree z.areas.store (word_at ws 0) birth → IsOnTop depth class birth
+        → HoldsFreeable z.areas.store (word_at ws 0) birth → IsOnTop depth class birth
     by_stack [] is [] twins more theirs = absurd (omega (arith, more))
     by_stack [] is (w ∷ ws) twins more theirs = absurd twins
     by_stack (v ∷ vs) is [] twins more theirs = absurd twins

@@ -15,7 +15,7 @@ use Rattle.fm_frames.specs.Steps.{max_locals_of}
 use Rattle.fm_frames.specs.declared.ends.Ended.{Ended}
 use Rattle.fm_frames.specs.declared.ends.Ended.TheVariants as end
 use Rattle.fm_frames.specs.declared.values.Value.{Value}
-use Rattle.fm_law_held_objects.specs.Clean.{cleaned, IsClean}
+use Rattle.fm_law_held_objects.specs.Clean.{cleaned, ColoursAreCleaned, IsClean}
 use Rattle.fm_law_held_objects.specs.Held.{AreHeld, FrameIsHeld, FramesAreHeld}
 use Rattle.fm_law_lockstep.proofs.FramesHeld.{news_held, nulls_held}
 use Rattle.fm_law_lockstep.proofs.NullsFreed.{nulls_areas, nulls_not_lost}
@@ -23,7 +23,7 @@ use Rattle.fm_law_lockstep.proofs.OpeningWords.{IsFresh, opening_fresh}
 use Rattle.fm_law_lockstep.proofs.QuietTodos.{starts_quiet}
 use Rattle.fm_law_lockstep.specs.Both.{Both}
 use Rattle.fm_law_lockstep.specs.Known.{IsKnown, IsLinked}
-use Rattle.fm_law_lockstep.specs.Opening.{OpeningLaws, OpeningsAreTogether}
+use Rattle.fm_law_lockstep.specs.Opening.{OpeningsAreTogether}
 use Rattle.fm_law_lockstep.specs.Together.{CatchesUpAt, GoTogetherAt, HoldsNothing, OfRoom, OfWords, OpenAtEnd, OpensTogether, OpenTogether, OpenWanting}
 use Rattle.fm_law_no_fault.specs.Whole.{HasNoFault, IsWholeBy}
 use Rattle.fm_law_same_runs.specs.Beside.{kept_item, most_original_words}
@@ -41,14 +41,19 @@ use Rattle.fm_law_unwoven.proofs.HoldersGo.{started_null}
 use Rattle.fm_law_unwoven.proofs.KeptSites.{safe_at}
 use Rattle.fm_law_unwoven.proofs.TodoLocals.{after_both, length_after, null_after, old_after}
 use Rattle.fm_law_unwoven.specs.Doing.{all_areas_after, all_locals_after, all_steps_to, IsPassed, with_frame}
-use Rattle.fm_law_unwoven.specs.Kept.{Begins, BeginsOn, BothDo, BothFault, but_frames, FrameGoes, FramesGo, HasWaited, InMethod, IsAtKept, IsNew, old_frame, old_state, Resumes, StatesGo, StepsAlike}
+use Rattle.fm_law_unwoven.specs.Kept.{Begins, BeginsOn, BothDo, BothFault, but_frames, FrameGoes, FramesGo, HasWaited, InMethod, IsAtKept, IsNew, old_frame, old_state, OpeningsAreOpenings, Resumes, StatesGo, StepsAlike}
 use Rattle.fm_law_unwoven.specs.Laid.{frees_at, starts_of, Todo}
-use Rattle.fm_law_unwoven.specs.Reached.{AllReached, IsReached, jumps_ahead, OneMissed, Reached, state_reached, todos_ahead}
+use Rattle.fm_law_unwoven.specs.Reached.{AllReached, FramesReachKept, IsReached, jumps_ahead, OneMissed, Reached, state_reached, todos_ahead}
 use Rattle.fm_law_unwoven.specs.WovenFrom.{inserted_by, IsWovenFrom}
 use Rattle.fm_law_unwoven.proofs.Cleared.{none_at_first}
 use Rattle.fm_place.specs.Insertions.{before_at, Holder, Insertions}
 use Rattle.fm_place.specs.Woven.{local_of}
 use Rattle.fm_same.specs.Colours.{Colour, Coloured}
+use Rattle.fm_law_held_objects.specs.Above.{OpeningIsForNoneAbove}
+use Rattle.fm_law_holders.specs.Laws.{OpeningIsMade}
+use Rattle.fm_law_no_fault.specs.Laws.{RunsNeverFaultWhileFew}
+use Rattle.fm_law_sound.specs.Laws.{SoundRuns}
+use Rattle.fm_same.specs.Laws.{OpeningHasColours, OpeningIsCovered, ResolvedHoldsNumbers}
 
 -- ---- ends
 
@@ -65,6 +70,19 @@ end_same x none words one other (end.StoreFull made needed) e is same = same
 end_same x none words one other (end.Fault method offset cell) e is same = absurd (none method offset cell is)
 
 -- ---- the openings
+
+-- the laws of openings, each for itself
+pub record OpeningLaws : Type 0 where
+  pub sound : SoundRuns
+  pub whole : RunsNeverFaultWhileFew
+  pub numbers : ResolvedHoldsNumbers
+  pub covered : OpeningIsCovered
+  pub colours : OpeningHasColours
+  pub clean : ColoursAreCleaned
+  pub made : OpeningIsMade
+  pub for_none_above : OpeningIsForNoneAbove
+  pub opened : OpeningsAreOpenings
+  pub reach : FramesReachKept
 
 module _ (laws : OpeningLaws) (b : Both) (from : IsWovenFrom b.one b.other b.facts b.plans b.marks)
     (linked : IsLinked b.one b.facts) (few : b.words ≤ most_original_words) (other_few : b.other_words ≤ MAX_LIVE_WORDS) (first second : Choose) (job : Job)

@@ -9,7 +9,7 @@ use Rattle.fm_conn.specs.Facts.{Facts}
 use Rattle.fm_frames.specs.States.{Frame, State}
 use Rattle.fm_frames.specs.declared.values.Value.{Value}
 use Rattle.fm_law_held_objects.specs.Held.{FramesAreHeld}
-use Rattle.fm_law_holders.specs.Holding.{holder_value, Holding, MayFree}
+use Rattle.fm_law_holders.specs.Holding.{holder_value, Holding, HoldsFreeable}
 use Rattle.fm_law_lockstep.proofs.FramesHeld.{holders_same}
 use Rattle.fm_law_same_runs.specs.Beside.{kept_item, Marks}
 use Rattle.fm_law_two_memories.specs.Pairing.{FramesPaired, Gone}
@@ -26,7 +26,7 @@ module _ (p : Program) (facts : Facts) (plans : Plans) (marks : Marks) where
   -- this holds of the method, the depth, the class and the birth of what each holder of a frame holds, if it may be freed
   abbrev pub HoldersSince : (ℕ → ℕ → ℕ → ℕ → Type 0) → Store → (method depth : ℕ) → Code → List Value → Type 0
   HoldersSince S store method depth code values =
-      (h : ℕ) (holder : Holder) → slice_get (inserted_by (plans method)).holders h ≡ Some holder → (birth : ℕ) → MayFree store (holder_value code values h) birth
+      (h : ℕ) (holder : Holder) → slice_get (inserted_by (plans method)).holders h ≡ Some holder → (birth : ℕ) → HoldsFreeable store (holder_value code values h) birth
       → S method depth holder.class birth
 
   -- of a frame at a kept item
@@ -65,13 +65,13 @@ module _ (p : Program) (facts : Facts) (plans : Plans) (marks : Marks) where
     since_same depth g was code method code_is same since h holder is birth may =
         subst (λ m. S m depth holder.class birth) method
         (since h holder (ap (λ m. slice_get (inserted_by (plans m)).holders h) method ∙ is) birth
-        (subst (λ v. MayFree store v birth) (holders_same p g was code method code_is same h) may))
+        (subst (λ v. HoldsFreeable store v birth) (holders_same p g was code method code_is same h) may))
 
   -- one holder after another state
   abbrev pub GoesOn : (S T : ℕ → ℕ → ℕ → ℕ → Type 0) (x : State) (colour : Colour) (store later : Store) (all : List Frame) → Type 0
   GoesOn S T x colour store later all =
-      (method depth class birth : ℕ) (v : Value) → IsMethodAt method depth all → Holding store colour depth class v → MayFree later v birth
-      → (MayFree store v birth → S method depth class birth) → T method depth class birth
+      (method depth class birth : ℕ) (v : Value) → IsMethodAt method depth all → Holding store colour depth class v → HoldsFreeable later v birth
+      → (HoldsFreeable store v birth → S method depth class birth) → T method depth class birth
 
   -- all frames that are there
   pub since_step : (S T : ℕ → ℕ → ℕ → ℕ → Type 0) (x : State) (colour : Colour) (store later : Store) (all : List Frame) → GoesOn S T x colour store later all

@@ -20,7 +20,7 @@ use Rattle.fm_frames.specs.declared.values.Value.TheVariants as value
 use Rattle.fm_law_held_objects.proofs.Holdings.{nothing_of_null}
 use Rattle.fm_law_held_objects.proofs.Steps.{captured_class, may_before}
 use Rattle.fm_law_held_objects.specs.Held.{FramesAreHeld}
-use Rattle.fm_law_holders.specs.Holding.{holder_value, Holding, MayFree}
+use Rattle.fm_law_holders.specs.Holding.{holder_value, Holding, HoldsFreeable}
 use Rattle.fm_law_lockstep.proofs.FramesHeld.{held_below, holders_same, news_held, waits_held}
 use Rattle.fm_law_lockstep.proofs.KeptSince.{busy_behind, class_on_top, on_top, top_node}
 use Rattle.fm_law_lockstep.proofs.NothingFreed.{FreesNothing}
@@ -89,7 +89,7 @@ module _ (b : Both) (from : IsWovenFrom b.one b.other b.facts b.plans b.marks) (
     data HasValue (h : ℕ) (holder : Holder) (v : Value) : Type 0 where
       IsNull : v ≡ null → HasValue h holder v
       IsOld : Holding y.areas.store t.colour (length below) holder.class v
-          → ((birth : ℕ) → MayFree y.areas.store v birth → S g.method (length below) holder.class birth) → HasValue h holder v
+          → ((birth : ℕ) → HoldsFreeable y.areas.store v birth → S g.method (length below) holder.class birth) → HasValue h holder v
       IsGiven : v ≡ word_at g.stack 0 → 0 < length g.stack
           → b.facts.class g.method (Slot f.item (depth_at (typed_method b.one b.facts.typing g.method code) f.item - 1)) ≡ holder.class
           → is_busy b.facts (typed_method b.one b.facts.typing g.method code) holder.class f.item ≡ true → HasValue h holder v
@@ -175,7 +175,7 @@ module _ (b : Both) (from : IsWovenFrom b.one b.other b.facts b.plans b.marks) (
       locals_are = after_both code g.stack quiet (map ToFree hs) g.locals
 
       -- what may be freed there might be freed before the frees, and what a holder held already also before the step
-      back : (v : Value) (birth : ℕ) → MayFree z.areas.store v birth → MayFree following.areas.store v birth
+      back : (v : Value) (birth : ℕ) → HoldsFreeable z.areas.store v birth → HoldsFreeable following.areas.store v birth
       back v birth theirs = record {
         object = theirs.object;
         held = all_back code g.stack (quiet ++ map ToFree hs) g.locals following.areas (cell_of v) theirs.object theirs.held;
@@ -183,8 +183,8 @@ module _ (b : Both) (from : IsWovenFrom b.one b.other b.facts b.plans b.marks) (
         birth_is = theirs.birth_is;
       }
 
-      before : (depth class : ℕ) (v : Value) (birth : ℕ) → Holding y.areas.store t.colour depth class v → MayFree following.areas.store v birth
-          → MayFree y.areas.store v birth
+      before : (depth class : ℕ) (v : Value) (birth : ℕ) → Holding y.areas.store t.colour depth class v → HoldsFreeable following.areas.store v birth
+          → HoldsFreeable y.areas.store v birth
       before depth class v birth holding theirs =
           may_before y.areas.store following.areas.store paired.areas.store.other_orderly still.keeps t.colour depth class v birth holding theirs
 
@@ -212,15 +212,15 @@ module _ (b : Both) (from : IsWovenFrom b.one b.other b.facts b.plans b.marks) (
           → b.facts.class fx.method (node_of_word fx 0) ≡ class
       given_class class is = (λ k. b.facts.class (top_method k) (top_node b next z u fx cx are g.method code f.item top_method top_item k)) ∙ is
 
-      value_since : (h : ℕ) (holder : Holder) (v : Value) → HasValue h holder v → (birth : ℕ) → MayFree z.areas.store v birth
+      value_since : (h : ℕ) (holder : Holder) (v : Value) → HasValue h holder v → (birth : ℕ) → HoldsFreeable z.areas.store v birth
           → T g.method (length below) holder.class birth
       value_since h holder v (IsNull none) birth theirs =
-          absurd (nothing_of_null z.areas.store birth u.paired.areas.store.other_orderly (subst (λ w. MayFree z.areas.store w birth) none theirs))
+          absurd (nothing_of_null z.areas.store birth u.paired.areas.store.other_orderly (subst (λ w. HoldsFreeable z.areas.store w birth) none theirs))
       value_since h holder v (IsOld holding had) birth theirs =
           tells.extends g.method (length below) holder.class birth (had birth (before (length below) holder.class v birth holding (back v birth theirs))) top_there
       value_since h holder v (IsGiven is some class_is is_busy) birth theirs =
           let top = on_top b next z u fx cx are (length below) holder.class birth g.stack count (given_class holder.class class_is) pairs.0.stack some
-          (subst (λ w. MayFree z.areas.store w birth) is theirs) in
+          (subst (λ w. HoldsFreeable z.areas.store w birth) is theirs) in
           tells.begins g.method (length below) holder.class birth top.value top_there top.held top.leads
 
       -- the holders of the topmost frame
@@ -232,7 +232,7 @@ module _ (b : Both) (from : IsWovenFrom b.one b.other b.facts b.plans b.marks) (
           (λ same.
           let value : holder_value code (all_locals_after code g.stack (quiet ++ map ToFree hs) g.locals) h ≡ word_at locals (local_of code h) =
           ap (λ ls. word_at ls (local_of code h)) locals_are ∙ same in
-          value_since h holder (word_at locals (local_of code h)) (values h holder is) birth (subst (λ v. MayFree z.areas.store v birth) value theirs))
+          value_since h holder (word_at locals (local_of code h)) (values h holder is) birth (subst (λ v. HoldsFreeable z.areas.store v birth) value theirs))
           (nulled_or_same code g.stack hs locals h)
 
       -- those of the others
@@ -264,7 +264,7 @@ module _ (b : Both) (from : IsWovenFrom b.one b.other b.facts b.plans b.marks) (
       freed_is cell object some held fr holder is idle (IsGiven given more class_is is_busy_there) = absurd (false≢true (sym idle ∙ is_busy_there))
       freed_is cell object some held fr holder is idle (IsOld holding had) =
           let v = word_at locals (local_of code fr.number) in
-          let theirs : MayFree following.areas.store v object.birth =
+          let theirs : HoldsFreeable following.areas.store v object.birth =
           record { object = object; held = ap (object_at following.areas.store) fr.leads ∙ held; not_fixed = fr.loose; birth_is = refl } in
           let safe_one : IsSafeHolder b.facts m holder = AllByRecursion-at (IsSafeHolder b.facts m) plan.holders fr.number holder (safe_holders b from g.method code code_is) is in
           tells.retires g.method (length below) holder.class object.birth code code_is (captured_class b.facts m holder safe_one)

@@ -1,5 +1,5 @@
-// A program beside its rewritten form: what it means that both do the same, step for matched step, and what
-// is to be proved of both.
+// A program beside its rewritten form: what it means that both do the same, step for matched step, and how
+// their costs and budgets keep pace.
 #![tactic(auto)]
 
 mod laws;
