@@ -6,6 +6,7 @@ mod samples;
 mod stores;
 mod texts;
 
+use crate::tests::samples::{MAKES_LONGEST, MAKES_MANY_LONGEST, PRINTS_THREE};
 use crate::top_call::fmrun_run;
 use fm_base::NoMemory;
 use fm_files::{MemFiles, MemSink, SureFiles, SureSink};
@@ -157,6 +158,81 @@ fn other_cases<'a>(
     ]
 }
 
+// The case of a main that prints 1, 2 and 3, with the put of this number failing, after that was printed.
+fn put_case<'a>(sum: Case<'a>, file: &'a [u8], failing_put: u32, printed: &'a [u8]) -> Case<'a> {
+    Case {
+        file,
+        failing_put,
+        status: 75,
+        printed,
+        reported: b"",
+        ..sum
+    }
+}
+
+// An input file that can't be read: the class file comes first.
+fn input_case<'a>(sum: Case<'a>) -> Case<'a> {
+    Case {
+        words: "--input lines M M.class",
+        failing_read: 2,
+        status: 65,
+        printed: b"",
+        reported: b"refused: read lines\n",
+        ..sum
+    }
+}
+
+// Budgets at the greatest that may be given, and past it.
+fn greatest_cases<'a>(sum: Case<'a>) -> [Case<'a>; 5] {
+    let refused = Case {
+        words: "--words 134217729 M M.class",
+        status: 64,
+        printed: b"",
+        reported: b"refused: words\n",
+        ..sum
+    };
+    [
+        Case {
+            words: "--words 134217728 --steps 2147483648 --frames 100000 M M.class",
+            ..sum
+        },
+        refused,
+        Case {
+            words: "--steps 2147483649 M M.class",
+            ..refused
+        },
+        Case {
+            words: "--frames 0 M M.class",
+            ..refused
+        },
+        Case {
+            words: "--frames 100001 M M.class",
+            ..refused
+        },
+    ]
+}
+
+// Arrays of more words than any budget has.
+fn longest_cases<'a>(sum: Case<'a>, one: &'a [u8], many: &'a [u8]) -> [Case<'a>; 2] {
+    let exhausted = Case {
+        file: one,
+        status: 81,
+        printed: b"",
+        reported: b"exhausted 6 needs 2147483649; steps 1, objects 3, frees 0, freed words 0, \
+            live words 6, peak words 6, cells made 3\n",
+        ..sum
+    };
+    [
+        exhausted,
+        Case {
+            file: many,
+            reported: b"exhausted 6 needs 2147483650000002; steps 2, objects 3, frees 0, \
+                freed words 0, live words 6, peak words 6, cells made 3\n",
+            ..exhausted
+        },
+    ]
+}
+
 // The case of an interface whose main has code.
 fn interface_case<'a>(sum: Case<'a>) -> Case<'a> {
     Case {
@@ -206,6 +282,41 @@ fn each_status_has_its_output_and_its_report(rt: HostRuntime) -> Result<(), Fail
     let prints_forever = PRINTS_FOREVER.bytes(alloc)?;
     for case in other_cases(sum_case(&prints_sum), &divides_by_zero, &prints_forever) {
         assert!(rt; comes_out(alloc, case)?, "{}", case.words);
+    }
+    Ok(())
+}
+
+#[test]
+fn a_put_that_fails_ends_the_call(rt: HostRuntime) -> Result<(), Fail> {
+    let alloc = rt.alloc();
+    let prints_sum = PRINTS_SUM.bytes(alloc)?;
+    let sum = sum_case(&prints_sum);
+    let three = PRINTS_THREE.bytes(alloc)?;
+    assert!(rt; comes_out(alloc, put_case(sum, &three, 1, b""))?);
+    assert!(rt; comes_out(alloc, put_case(sum, &three, 2, b"1\n"))?);
+    assert!(rt; comes_out(alloc, put_case(sum, &three, 3, b"1\n2\n"))?);
+    assert!(rt; comes_out(alloc, input_case(sum))?);
+    Ok(())
+}
+
+#[test]
+fn a_budget_has_its_greatest_number(rt: HostRuntime) -> Result<(), Fail> {
+    let alloc = rt.alloc();
+    let prints_sum = PRINTS_SUM.bytes(alloc)?;
+    for case in greatest_cases(sum_case(&prints_sum)) {
+        assert!(rt; comes_out(alloc, case)?, "{}", case.words);
+    }
+    Ok(())
+}
+
+#[test]
+fn arrays_of_more_words_than_may_be_end_the_run(rt: HostRuntime) -> Result<(), Fail> {
+    let alloc = rt.alloc();
+    let prints_sum = PRINTS_SUM.bytes(alloc)?;
+    let one = MAKES_LONGEST.bytes(alloc)?;
+    let many = MAKES_MANY_LONGEST.bytes(alloc)?;
+    for case in longest_cases(sum_case(&prints_sum), &one, &many) {
+        assert!(rt; comes_out(alloc, case)?);
     }
     Ok(())
 }

@@ -3,6 +3,7 @@
 mod changes;
 mod checking;
 mod family;
+mod hostile;
 mod lengths;
 mod linking;
 mod malformed;
@@ -142,22 +143,72 @@ fn classes_are_written_as_they_were_read(rt: HostRuntime) -> Result<(), Fail> {
     Ok(())
 }
 
-#[test]
-fn a_failed_write_leaves_the_later_files(rt: HostRuntime) -> Result<(), Fail> {
-    let call = Call {
-        files: &[
-            ("A.class", A),
-            ("B.class", B),
-            ("M.class", M),
-            ("d/M.class", b"old"),
-        ],
+// What lies there before: the three class files, and an old file in the place of the last one written.
+const BEFORE: Contents<'static> = &[
+    ("A.class", A),
+    ("B.class", B),
+    ("M.class", M),
+    ("d/M.class", b"old"),
+];
+
+// The calls whose first, second or third write fails.
+const FAILED_WRITES: [Call<'static>; 3] = [
+    Call {
+        files: BEFORE,
+        failing: 4,
+        status: 75,
+        lines: "refused: write d/A.class\n",
+        after: &[("d/M.class", b"old")],
+        ..THREE
+    },
+    Call {
+        files: BEFORE,
         failing: 5,
         status: 75,
         lines: "refused: write d/B.class\n",
         after: &[("d/A.class", A), ("d/M.class", b"old")],
         ..THREE
-    };
-    assert!(rt; ends_so(rt.alloc(), &call)?);
+    },
+    Call {
+        files: BEFORE,
+        failing: 6,
+        status: 75,
+        lines: "refused: write d/M.class\n",
+        after: &[("d/A.class", A), ("d/B.class", B), ("d/M.class", b"old")],
+        ..THREE
+    },
+];
+
+// The calls whose first, second or third read fails.
+const FAILED_READS: [Call<'static>; 3] = [
+    Call {
+        failing: 1,
+        status: 65,
+        lines: "refused: read A.class\n",
+        after: &[],
+        ..THREE
+    },
+    Call {
+        failing: 2,
+        status: 65,
+        lines: "refused: read B.class\n",
+        after: &[],
+        ..THREE
+    },
+    Call {
+        failing: 3,
+        status: 65,
+        lines: "refused: read M.class\n",
+        after: &[],
+        ..THREE
+    },
+];
+
+#[test]
+fn a_failed_write_leaves_the_later_files(rt: HostRuntime) -> Result<(), Fail> {
+    for call in FAILED_WRITES {
+        assert!(rt; ends_so(rt.alloc(), &call)?, "{}", call.lines);
+    }
     Ok(())
 }
 
@@ -175,18 +226,15 @@ fn a_failed_put_comes_after_the_writes(rt: HostRuntime) -> Result<(), Fail> {
 
 #[test]
 fn a_file_that_fails_or_is_missing_ends_the_call(rt: HostRuntime) -> Result<(), Fail> {
-    let failing = Call {
-        failing: 2,
+    for call in FAILED_READS {
+        assert!(rt; ends_so(rt.alloc(), &call)?, "{}", call.lines);
+    }
+    let missing = Call {
+        files: &[("A.class", A), ("M.class", b"")],
         status: 65,
         lines: "refused: read B.class\n",
         after: &[],
         ..THREE
-    };
-    assert!(rt; ends_so(rt.alloc(), &failing)?);
-    let missing = Call {
-        files: &[("A.class", A), ("M.class", b"")],
-        failing: 0,
-        ..failing
     };
     assert!(rt; ends_so(rt.alloc(), &missing)?);
     Ok(())

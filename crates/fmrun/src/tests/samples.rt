@@ -157,6 +157,64 @@ pub const PRINTS_LENGTH: ClassSample<'static> = ClassSample {
     ..PRINTS_SUM
 };
 
+// Main prints 1, 2 and 3.
+pub const PRINTS_THREE: ClassSample<'static> = ClassSample {
+    methods: &[MethodSample {
+        attribute_length: b"\0\0\0\x22",
+        max_stack: b"\0\x02",
+        code_length: b"\0\0\0\x16",
+        code: &[
+            b"\xb2\0\x0d\x04\xb6\0\x13", // 0: println(1)
+            b"\xb2\0\x0d\x05\xb6\0\x13", // 7: println(2)
+            b"\xb2\0\x0d\x06\xb6\0\x13", // 14: println(3)
+            b"\xb1", // 21: return
+        ],
+        ..MAIN
+    }],
+    ..PRINTS_SUM
+};
+
+// Main makes an array of 2,147,483,647 ints.
+pub const MAKES_LONGEST: ClassSample<'static> = ClassSample {
+    pool_count: b"\0\x09",
+    more_pool: &[
+        b"\x03\x7f\xff\xff\xff", // 8: Integer 2147483647
+    ],
+    methods: &[MethodSample {
+        attribute_length: b"\0\0\0\x12",
+        max_stack: b"\0\x01",
+        code_length: b"\0\0\0\x06",
+        code: &[
+            b"\x12\x08\xbc\x0a\x57", // 0: new int[2147483647]
+            b"\xb1", // 5: return
+        ],
+        ..MAIN
+    }],
+    ..RETURNS
+};
+
+// Main makes 1,000,000 of them.
+pub const MAKES_MANY_LONGEST: ClassSample<'static> = ClassSample {
+    pool_count: b"\0\x0c",
+    more_pool: &[
+        b"\x03\x7f\xff\xff\xff", // 8: Integer 2147483647
+        b"\x03\0\x0f\x42\x40", // 9: Integer 1000000
+        b"\x01\0\x03[[I", // 10
+        b"\x07\0\x0a", // 11: Class 10
+    ],
+    methods: &[MethodSample {
+        attribute_length: b"\0\0\0\x16",
+        max_stack: b"\0\x02",
+        code_length: b"\0\0\0\x0a",
+        code: &[
+            b"\x12\x09\x12\x08\xc5\0\x0b\x02\x57", // 0: new int[1000000][2147483647]
+            b"\xb1", // 9: return
+        ],
+        ..MAIN
+    }],
+    ..RETURNS
+};
+
 // Main calls f()V of N.
 pub const CALLS_OTHER: ClassSample<'static> = ClassSample {
     pool_count: b"\0\x0e",
