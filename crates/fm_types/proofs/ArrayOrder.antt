@@ -1,6 +1,6 @@
--- The rows of arrays keep the order.
-use Rattle.std.proofs.Common.{◌≡◌, ◌⊎◌, inl, inr, refl, sym, ◌∙◌, ap, ℕ, zero, suc, ◌-◌, ◌<◌, ◌≤◌, ◌&&◌, Bool, true, false, List, [], ◌∷◌, ◌++◌, replicate, nat_eq, Option, Some, None, cond, arith}
-use Rattle.std.specs.Prelude.{nat_le, nat_lt}
+-- The rows of elements and lengths of arrays keep the order.
+use Rattle.std.proofs.Common.{◌≡◌, ◌⊎◌, inl, inr, refl, sym, ◌∙◌, ap, ℕ, ◌-◌, ◌<◌, ◌≤◌, ◌&&◌, Bool, true, false, List, [], ◌++◌, nat_eq, Option, Some, None, cond, arith}
+use Rattle.std.specs.Prelude.{nat_lt}
 use Rattle.std.proofs.lemmas.Bool.{and_from, and_parts, eqb-true, eq-eqb, false≢true, lt-ltb, ltb-true}
 use Rattle.fm_base.specs.declared.kinds.Base.{Base}
 use Rattle.fm_base.specs.declared.kinds.Base.TheVariants as base
@@ -8,16 +8,15 @@ use Rattle.fm_base.specs.declared.kinds.TypeRef.{TypeRef}
 use Rattle.fm_code.specs.declared.operations.Elem.{Elem}
 use Rattle.fm_code.specs.declared.operations.Elem.TheVariants as elem
 use Rattle.fm_types.proofs.Order.{below_objects-fits, depth-same, fits_type-cases, IsBelowObjects, IsLevel, level-fits, object-depth}
-use Rattle.fm_types.proofs.StateOrder.{IsStackUnder, IsUnder, KeepsBelow, same_top, shape_of, worked-under, worked_below-under}
+use Rattle.fm_types.proofs.StateOrder.{IsStackUnder, IsUnder, KeepsBelow, same_top, shape_of, worked_below-under}
 use Rattle.fm_types.proofs.Zips.{Follows, follows-if, follows-same}
-use Rattle.fm_types.specs.ArrayRows.{array_load_row, array_store_row, element_of, has_letter, is_array_of, length_row, multi_array_row, new_array_row, new_references_row, null_element, on_array, stored_element}
+use Rattle.fm_types.specs.ArrayRows.{array_load_row, array_store_row, element_of, has_letter, is_array_of, length_row, null_element, on_array, stored_element}
 use Rattle.fm_types.specs.Fits.{AreTree, depth_of, depth_with, fits, fits_base, fits_type, is_object_base}
 use Rattle.fm_types.specs.Named.{on_type}
 use Rattle.fm_types.specs.States.{int_word, is_whole, long_words, TypeState}
 use Rattle.fm_types.specs.declared.slots.Slot.{Slot}
 use Rattle.fm_types.specs.declared.slots.Slot.TheVariants as slot
 use Rattle.fm_world.specs.Programs.{Outline}
-use Rattle.fm_world.specs.Uses.{array_of, base_of_elem}
 use Rattle.fm_world.specs.declared.declarations.DeclaredClass.{DeclaredClass}
 use Rattle.fm_world.specs.declared.uses.Use.{Use}
 use Rattle.fm_world.specs.declared.uses.Use.TheVariants as resolved
@@ -231,33 +230,3 @@ length_row-under o tree s t h =
       given_under = λ s' t' f p. same_top o tree int_word refl;
     }))
     h
-
--- ---- new arrays
-
-pub new_array_row-under : (o : Outline) → AreTree o.classes → (e : Elem) (s t : TypeState) → IsUnder o s t
-    → Follows (IsUnder o) (new_array_row o e s) (new_array_row o e t)
-unfolding new_array_row
-new_array_row-under o tree e s t h =
-    follows-same (IsUnder o) _ _ (base_of_elem e)
-    (λ b. worked-under o tree int_word (slot.Ref (record { dims = 1; base = b }) ∷ []) s t refl refl h)
-
-pub new_references_row-under : (o : Outline) → AreTree o.classes → (u : Use) (s t : TypeState) → IsUnder o s t
-    → Follows (IsUnder o) (new_references_row o u s) (new_references_row o u t)
-unfolding new_references_row
-new_references_row-under o tree u s t h =
-    follows-on_type (IsUnder o) o u _ _
-    (λ named. follows-same (IsUnder o) _ _ (array_of named)
-    (λ array. worked-under o tree int_word (slot.Ref array ∷ []) s t refl refl h))
-
-ints-whole : (n : ℕ) → is_whole (replicate n slot.Int) ≡ true
-ints-whole zero = refl
-ints-whole (suc n) = ints-whole n
-
-pub multi_array_row-under : (o : Outline) → AreTree o.classes → (u : Use) (dimensions : ℕ) (s t : TypeState) → IsUnder o s t
-    → Follows (IsUnder o) (multi_array_row o u dimensions s) (multi_array_row o u dimensions t)
-unfolding multi_array_row
-multi_array_row-under o tree u dimensions s t h =
-    follows-on_type (IsUnder o) o u _ _
-    (λ named. follows-if (IsUnder o) (nat_lt 0 dimensions && nat_le dimensions named.dims)
-    (nat_lt 0 dimensions && nat_le dimensions named.dims) _ _ (λ e. e)
-    (λ e. worked-under o tree (replicate dimensions slot.Int) (slot.Ref named ∷ []) s t (ints-whole dimensions) refl h))

@@ -1,58 +1,28 @@
--- The rows of calls and returns keep the order.
+-- Calls of constructors keep the order.
 use Rattle.std.proofs.Common.{◌≡◌, refl, sym, ◌∙◌, ap, subst, ℕ, Bool, true, false, List, [], ◌∷◌, ◌++◌, Option, Some, None, cond}
 use Rattle.std.specs.List.{AllZip}
 use Rattle.std.proofs.lemmas.Bool.{eqb-true, false≢true}
 use Rattle.fm_base.specs.declared.kinds.Kind.{Kind}
 use Rattle.fm_base.specs.declared.kinds.TypeRef.{TypeRef}
 use Rattle.fm_code.specs.declared.operations.Reg.{Reg}
-use Rattle.fm_types.proofs.ObjectOrder.{argument_words-whole, IsMark, mark-level, replaced-fits, result_words-whole, stack_slots-whole, uninit_mark}
+use Rattle.fm_types.proofs.ObjectOrder.{argument_words-whole, IsMark, mark-level, replaced-fits, uninit_mark}
 use Rattle.fm_types.proofs.Order.{fits-refl}
-use Rattle.fm_types.proofs.StateOrder.{IsShaped, IsStackUnder, IsUnder, shape_of, Stands, taken-under, whole-append, whole-other, whole-shaped, with_stack, worked-under}
-use Rattle.fm_types.proofs.Zips.{Follows, follows-either, follows-if, follows-same, follows-then, zip-map}
-use Rattle.fm_types.specs.CallRows.{constructed, constructor_called, initialised, instance_call_row, is_constructor, is_initializer, is_type, names_own_or_above, names_own_or_parent, return_row, returned_by, same_reg, special_call_row, static_call_row}
+use Rattle.fm_types.proofs.StateOrder.{IsShaped, IsStackUnder, IsUnder, shape_of, Stands, taken-under, whole-append, whole-other, whole-shaped, with_stack}
+use Rattle.fm_types.proofs.Zips.{Follows, follows-if, follows-then, zip-map}
+use Rattle.fm_types.specs.CallRows.{constructed, constructor_called, initialised, is_type, names_own_or_parent, returned_by, same_reg}
 use Rattle.fm_types.specs.Fits.{AreTree, fits}
-use Rattle.fm_types.specs.Named.{argument_words, class_of_method, on_method, result_of, result_words}
+use Rattle.fm_types.specs.Named.{argument_words, class_of_method}
 use Rattle.fm_types.specs.States.{is_uninit, is_uninit_this, is_whole, replaced, stack_slots, taken, TypeState, worked}
 use Rattle.fm_types.specs.declared.slots.Slot.{Slot}
 use Rattle.fm_types.specs.declared.slots.Slot.TheVariants as slot
 use Rattle.fm_world.specs.Numbers.{type_of_class}
 use Rattle.fm_world.specs.Programs.{Outline}
-use Rattle.fm_world.specs.declared.uses.Use.{Use}
-use Rattle.fm_world.specs.declared.uses.Use.TheVariants as resolved
-
--- ---- methods that are named
-
-pub follows-on_method : (R : TypeState → TypeState → Type 0) (o : Outline) (u : Use) (f g : ℕ → TypeRef → Option TypeState)
-    → ((m : ℕ) (t : TypeRef) → Follows R (f m t) (g m t)) → Follows R (on_method o u f) (on_method o u g)
-follows-on_method R o (resolved.OfType i) f g each = tt
-follows-on_method R o (resolved.OfField field i) f g each = tt
-follows-on_method R o (resolved.OfMethod m i) f g each = follows-same R (f m.0) (g m.0) _ (each m.0)
-follows-on_method R o (resolved.OfInt value) f g each = tt
-follows-on_method R o (resolved.OfLong value) f g each = tt
-follows-on_method R o (resolved.OfText text) f g each = tt
-follows-on_method R o resolved.Unused f g each = tt
 
 -- ---- calls of methods
 
 -- the arguments, and below them a reference, are whole
 pub called-whole : (o : Outline) (m : ℕ) (named : TypeRef) → is_whole (argument_words o m ++ slot.Ref named ∷ []) ≡ true
 called-whole o m named = whole-append (argument_words o m) (slot.Ref named ∷ []) (argument_words-whole o m) refl
-
-pub instance_call_row-under : (o : Outline) → AreTree o.classes → (u : Use) (s t : TypeState) → IsUnder o s t
-    → Follows (IsUnder o) (instance_call_row o u s) (instance_call_row o u t)
-unfolding instance_call_row
-instance_call_row-under o tree u s t h =
-    follows-on_method (IsUnder o) o u _ _
-    (λ m named. follows-either (IsUnder o) (is_initializer o m) None None _ _ (λ e. tt)
-    (λ e. worked-under o tree (argument_words o m ++ slot.Ref named ∷ []) (result_words o m) s t (called-whole o m named) (result_words-whole o m) h))
-
-pub static_call_row-under : (o : Outline) → AreTree o.classes → (u : Use) (s t : TypeState) → IsUnder o s t
-    → Follows (IsUnder o) (static_call_row o u s) (static_call_row o u t)
-unfolding static_call_row
-static_call_row-under o tree u s t h =
-    follows-on_method (IsUnder o) o u _ _
-    (λ m named. follows-either (IsUnder o) (is_initializer o m) None None _ _ (λ e. tt)
-    (λ e. worked-under o tree (argument_words o m) (result_words o m) s t (argument_words-whole o m) (result_words-whole o m) h))
 
 -- ---- objects that are initialised
 
@@ -167,7 +137,7 @@ after_arguments-under o tree method news named s t h (x ∷ as_) (y ∷ bs) w =
     receiver-under o tree method news named x y (record s { stack = as_ }) (record t { stack = bs }) w.level.0.fitting
     (λ shape. with_stack o s t as_ bs h (record { level = w.level.1; whole = sym (whole-other y bs shape) ∙ w.whole }))
 
-constructor_called-under : (o : Outline) → AreTree o.classes → (method : ℕ) (news : ℕ → Option TypeRef) (m : ℕ) (named : TypeRef) (s t : TypeState)
+pub constructor_called-under : (o : Outline) → AreTree o.classes → (method : ℕ) (news : ℕ → Option TypeRef) (m : ℕ) (named : TypeRef) (s t : TypeState)
     → IsUnder o s t
     → Follows (IsUnder o) (constructor_called o method news m named s) (constructor_called o method news m named t)
 constructor_called-under o tree method news m named s t h =
@@ -175,23 +145,6 @@ constructor_called-under o tree method news m named s t h =
     (taken o (argument_words o m) s.stack) (taken o (argument_words o m) t.stack)
     (taken-under o tree (argument_words o m) s.stack t.stack (argument_words-whole o m) h.stack)
     (after_arguments-under o tree method news named s t h)
-
--- ---- special calls
-
-pub special_call_row-under : (o : Outline) → AreTree o.classes → (method : ℕ) (news : ℕ → Option TypeRef) (u : Use) (s t : TypeState)
-    → IsUnder o s t
-    → Follows (IsUnder o) (special_call_row o method news u s) (special_call_row o method news u t)
-unfolding special_call_row
-special_call_row-under o tree method news u s t h =
-    follows-on_method (IsUnder o) o u _ _
-    (λ m named. follows-either (IsUnder o) (is_constructor o m) _ _ _ _ (λ e. constructor_called-under o tree method news m named s t h)
-    (λ e. follows-either (IsUnder o) (is_initializer o m) None None _ _ (λ f. tt)
-    (λ f. follows-either (IsUnder o) (names_own_or_above o own named) _ _ None None
-    (λ g. worked-under o tree (argument_words o m ++ slot.Ref (type_of_class own) ∷ []) (result_words o m) s t
-    (called-whole o m (type_of_class own)) (result_words-whole o m) h)
-    (λ g. tt)))) where
-      own : ℕ
-      own = class_of_method o method
 
 -- ---- returns
 
@@ -201,17 +154,3 @@ return_by o s None None = cond s.built (Some s) None
 return_by o s None (Some k) = None
 return_by o s (Some r) None = None
 return_by o s (Some r) (Some k) = cond (same_reg r (returned_by k)) (worked o (stack_slots (k ∷ [])) [] s) None
-
-return_by-under : (o : Outline) → AreTree o.classes → (s t : TypeState) → IsUnder o s t → (value : Option Reg) (result : Option Kind)
-    → Follows (IsUnder o) (return_by o s value result) (return_by o t value result)
-return_by-under o tree s t h None None = follows-if (IsUnder o) s.built t.built (Some s) (Some t) h.built (λ e. h)
-return_by-under o tree s t h None (Some k) = tt
-return_by-under o tree s t h (Some r) None = tt
-return_by-under o tree s t h (Some r) (Some k) =
-    follows-if (IsUnder o) (same_reg r (returned_by k)) (same_reg r (returned_by k)) _ _ (λ e. e)
-    (λ e. worked-under o tree (stack_slots (k ∷ [])) [] s t (stack_slots-whole (k ∷ [])) refl h)
-
-pub return_row-under : (o : Outline) → AreTree o.classes → (method : ℕ) (value : Option Reg) (s t : TypeState) → IsUnder o s t
-    → Follows (IsUnder o) (return_row o method value s) (return_row o method value t)
-unfolding return_row
-return_row-under o tree method value s t h = return_by-under o tree s t h value (result_of o method)

@@ -8,4 +8,5 @@ pub mod NumberOrder
 pub mod ArrayOrder
 pub mod ObjectOrder
 pub mod CallOrder
+pub mod EachCheckRow
 pub mod RowOrder

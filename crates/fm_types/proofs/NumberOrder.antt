@@ -1,40 +1,22 @@
--- The rows of constants, locals, moves of the stack and numbers keep the order.
+-- The rows of locals and moves of the stack keep the order.
 use Rattle.std.proofs.Common.{◌≡◌, refl, sym, ◌∙◌, ap, ℕ, zero, suc, ◌+◌, Bool, true, false, List, [], ◌∷◌, ◌++◌, length, drop, set, Option, Some, None, option_and_then, cond}
 use Rattle.std.specs.List.{AllZip, slice_get}
 use Rattle.std.specs.Option.{option_map}
 use Rattle.std.specs.Prelude.{nat_lt}
 use Rattle.std.proofs.lemmas.Bool.{false≢true}
 use Rattle.std.proofs.lemmas.List.Elements.{length_all_zip}
-use Rattle.fm_code.specs.declared.instructions.Insn.{Insn}
-use Rattle.fm_code.specs.declared.operations.Conv.{Conv}
-use Rattle.fm_code.specs.declared.operations.Conv.TheVariants as conv
 use Rattle.fm_code.specs.declared.operations.Reg.{Reg}
 use Rattle.fm_code.specs.declared.operations.Reg.TheVariants as reg
 use Rattle.fm_types.proofs.Order.{fits-top}
-use Rattle.fm_types.proofs.StateOrder.{Fitting, IsStackUnder, IsUnder, on_top, pushed-under, shape_of, Stands, whole-level, whole-long, whole-other, with_stack, worked-under}
+use Rattle.fm_types.proofs.StateOrder.{Fitting, IsStackUnder, IsUnder, on_top, shape_of, Stands, whole-level, whole-long, whole-other, with_stack}
 use Rattle.fm_types.proofs.Zips.{Follows, follows-if, follows-map, follows-then, zip-append, zip-drop, zip-get, zip-set}
 use Rattle.fm_types.specs.Fits.{AreTree, fits}
-use Rattle.fm_types.specs.Moves.{moved, Moves, moves_of, words_at}
-use Rattle.fm_types.specs.NumberRows.{constant_row, convert_row, increment_row, is_int, load_row, loaded, move_row, store_row, stored_from, suits}
-use Rattle.fm_types.specs.States.{cut_before, int_word, is_long, is_reference, is_whole, local_at, long_words, stored, TypeState}
+use Rattle.fm_types.specs.Moves.{moved, Moves, words_at}
+use Rattle.fm_types.specs.NumberRows.{increment_row, is_int, load_row, loaded, store_row, stored_from, suits}
+use Rattle.fm_types.specs.States.{cut_before, is_long, is_reference, is_whole, local_at, stored, TypeState}
 use Rattle.fm_types.specs.declared.slots.Slot.{Slot}
 use Rattle.fm_types.specs.declared.slots.Slot.TheVariants as slot
 use Rattle.fm_world.specs.Programs.{Outline}
-use Rattle.fm_world.specs.declared.uses.Use.{Use}
-use Rattle.fm_world.specs.declared.uses.Use.TheVariants as resolved
-
--- ---- constants
-
-pub constant_row-under : (o : Outline) → AreTree o.classes → (u : Use) (s t : TypeState) → IsUnder o s t
-    → Follows (IsUnder o) (constant_row o u s) (constant_row o u t)
-unfolding constant_row
-constant_row-under o tree (resolved.OfType i) s t h = tt
-constant_row-under o tree (resolved.OfField f i) s t h = tt
-constant_row-under o tree (resolved.OfMethod m i) s t h = tt
-constant_row-under o tree (resolved.OfInt value) s t h = pushed-under o tree int_word s t refl h
-constant_row-under o tree (resolved.OfLong value) s t h = pushed-under o tree long_words s t refl h
-constant_row-under o tree (resolved.OfText text) s t h = pushed-under o tree (slot.Ref _ ∷ []) s t refl h
-constant_row-under o tree resolved.Unused s t h = tt
 
 -- ---- kinds of slots
 
@@ -256,24 +238,9 @@ moved-level o m a b h =
 abbrev pub move_by : Option Moves → TypeState → Option TypeState
 move_by m s = option_and_then (λ m. option_and_then (λ stack. cond (is_whole stack) (Some (record s { stack = stack })) None) (moved m s.stack)) m
 
-move_by-under : (o : Outline) (m : Option Moves) (s t : TypeState) → IsUnder o s t → Follows (IsUnder o) (move_by m s) (move_by m t)
+pub move_by-under : (o : Outline) (m : Option Moves) (s t : TypeState) → IsUnder o s t → Follows (IsUnder o) (move_by m s) (move_by m t)
 move_by-under o None s t h = tt
 move_by-under o (Some m) s t h =
     follows-then (AllZip (Stands o)) (IsUnder o) _ _ (moved m s.stack) (moved m t.stack) (moved-level o m s.stack t.stack h.stack.level)
     (λ a b level. follows-if (IsUnder o) (is_whole a) (is_whole b) _ _ (whole-level o a b level)
     (λ e. with_stack o s t a b h (record { level = level; whole = e })))
-
-pub move_row-under : (o : Outline) (i : Insn) (s t : TypeState) → IsUnder o s t → Follows (IsUnder o) (move_row i s) (move_row i t)
-unfolding move_row
-move_row-under o i s t h = move_by-under o (moves_of i) s t h
-
--- ---- numbers
-
-pub convert_row-under : (o : Outline) → AreTree o.classes → (c : Conv) (s t : TypeState) → IsUnder o s t
-    → Follows (IsUnder o) (convert_row o c s) (convert_row o c t)
-unfolding convert_row
-convert_row-under o tree conv.IntToLong s t h = worked-under o tree int_word long_words s t refl refl h
-convert_row-under o tree conv.LongToInt s t h = worked-under o tree long_words int_word s t refl refl h
-convert_row-under o tree conv.IntToByte s t h = worked-under o tree int_word int_word s t refl refl h
-convert_row-under o tree conv.IntToChar s t h = worked-under o tree int_word int_word s t refl refl h
-convert_row-under o tree conv.IntToShort s t h = worked-under o tree int_word int_word s t refl refl h

@@ -1,7 +1,6 @@
--- The rows of objects and fields keep the order.
-use Rattle.std.proofs.Common.{◌≡◌, refl, sym, ◌∙◌, ap, ℕ, ◌&&◌, ◌||◌, not, Bool, true, false, List, [], ◌∷◌, reverse, nat_eq, Option, Some, None, cond, arith}
+-- The rows of new objects, and what fields take, keep the order.
+use Rattle.std.proofs.Common.{◌≡◌, refl, sym, ◌∙◌, ap, ℕ, ◌&&◌, ◌||◌, not, Bool, true, false, List, [], ◌∷◌, reverse, nat_eq, Some, None, cond, arith}
 use Rattle.std.specs.List.{AllZip, flat_map, list_any}
-use Rattle.std.specs.Option.{option_to_list}
 use Rattle.std.proofs.lemmas.Bool.{eqb-true, false≢true}
 use Rattle.std.proofs.lemmas.List.{reverse-append}
 use Rattle.fm_base.specs.declared.kinds.Kind.{Kind}
@@ -9,18 +8,16 @@ use Rattle.fm_base.specs.declared.kinds.Kind.TheVariants as kind
 use Rattle.fm_base.specs.declared.kinds.TypeRef.{TypeRef}
 use Rattle.fm_types.proofs.ArrayOrder.{follows-on_type, nothing}
 use Rattle.fm_types.proofs.Order.{fits-refl, fits-top, fits-trans}
-use Rattle.fm_types.proofs.StateOrder.{Fitting, IsStackUnder, IsUnder, KeepsBelow, on_top, pushed-under, same_top, shape_of, Stands, whole-append, worked-under, worked_below-under}
-use Rattle.fm_types.proofs.Zips.{Follows, follows-if, follows-same, zip-map}
+use Rattle.fm_types.proofs.StateOrder.{Fitting, IsStackUnder, IsUnder, KeepsBelow, on_top, same_top, shape_of, Stands, whole-append}
+use Rattle.fm_types.proofs.Zips.{Follows, follows-if, zip-map}
 use Rattle.fm_types.specs.Fits.{AreTree, fits}
-use Rattle.fm_types.specs.Named.{argument_words, field_words, object_slot, on_field, parameters_of, result_of, result_words, throwable_type}
-use Rattle.fm_types.specs.ObjectRows.{cast_row, get_field_row, get_static_row, has_objects, is_a_row, new_row, put_field_row, put_static_row, takes_field, throw_row}
-use Rattle.fm_types.specs.States.{int_word, is_uninit, is_whole, local_slots, replaced, stack_slots, TypeState}
+use Rattle.fm_types.specs.Named.{argument_words, parameters_of}
+use Rattle.fm_types.specs.ObjectRows.{has_objects, new_row, takes_field}
+use Rattle.fm_types.specs.States.{is_uninit, is_whole, local_slots, replaced, stack_slots, TypeState}
 use Rattle.fm_types.specs.declared.slots.Slot.{Slot}
 use Rattle.fm_types.specs.declared.slots.Slot.TheVariants as slot
-use Rattle.fm_world.specs.Members.{field_at, field_kind}
 use Rattle.fm_world.specs.Programs.{Outline}
 use Rattle.fm_world.specs.declared.uses.Use.{Use}
-use Rattle.fm_world.specs.declared.uses.Use.TheVariants as resolved
 
 -- ---- words of kinds
 
@@ -39,26 +36,8 @@ stack_slots-whole (k ∷ kinds) =
     ap is_whole (reverse-append (local_slots k) (flat_map local_slots kinds))
     ∙ whole-append (stack_slots kinds) (reverse (local_slots k)) (stack_slots-whole kinds) (kind-whole k)
 
-pub field_words-whole : (o : Outline) (field : ℕ) → is_whole (field_words o field) ≡ true
-field_words-whole o field = stack_slots-whole (field_kind o.classes (field_at o.classes field).field ∷ [])
-
 pub argument_words-whole : (o : Outline) (m : ℕ) → is_whole (argument_words o m) ≡ true
 argument_words-whole o m = stack_slots-whole (parameters_of o m)
-
-pub result_words-whole : (o : Outline) (m : ℕ) → is_whole (result_words o m) ≡ true
-result_words-whole o m = stack_slots-whole (option_to_list (result_of o m))
-
--- ---- fields that are named
-
-pub follows-on_field : (R : TypeState → TypeState → Type 0) (o : Outline) (u : Use) (f g : ℕ → TypeRef → Option TypeState)
-    → ((field : ℕ) (t : TypeRef) → Follows R (f field t) (g field t)) → Follows R (on_field o u f) (on_field o u g)
-follows-on_field R o (resolved.OfType i) f g each = tt
-follows-on_field R o (resolved.OfField field i) f g each = follows-same R (f field.0) (g field.0) _ (each field.0)
-follows-on_field R o (resolved.OfMethod m i) f g each = tt
-follows-on_field R o (resolved.OfInt value) f g each = tt
-follows-on_field R o (resolved.OfLong value) f g each = tt
-follows-on_field R o (resolved.OfText text) f g each = tt
-follows-on_field R o resolved.Unused f g each = tt
 
 -- ---- marks of objects that aren't initialised
 
@@ -138,30 +117,11 @@ new_row-under o tree item u s t h =
 
 -- ---- fields
 
-pub get_static_row-under : (o : Outline) → AreTree o.classes → (u : Use) (s t : TypeState) → IsUnder o s t
-    → Follows (IsUnder o) (get_static_row o u s) (get_static_row o u t)
-unfolding get_static_row
-get_static_row-under o tree u s t h =
-    follows-on_field (IsUnder o) o u _ _ (λ field named. pushed-under o tree (field_words o field) s t (field_words-whole o field) h)
-
-pub put_static_row-under : (o : Outline) → AreTree o.classes → (u : Use) (s t : TypeState) → IsUnder o s t
-    → Follows (IsUnder o) (put_static_row o u s) (put_static_row o u t)
-unfolding put_static_row
-put_static_row-under o tree u s t h =
-    follows-on_field (IsUnder o) o u _ _ (λ field named. worked-under o tree (field_words o field) [] s t (field_words-whole o field) refl h)
-
-pub get_field_row-under : (o : Outline) → AreTree o.classes → (u : Use) (s t : TypeState) → IsUnder o s t
-    → Follows (IsUnder o) (get_field_row o u s) (get_field_row o u t)
-unfolding get_field_row
-get_field_row-under o tree u s t h =
-    follows-on_field (IsUnder o) o u _ _
-    (λ field named. worked-under o tree (slot.Ref named ∷ []) (field_words o field) s t refl (field_words-whole o field) h)
-
 -- where the receiver passes, it is taken and nothing is given
 no_words : (o : Outline) (p q : Bool) → (q ≡ true → p ≡ true) → Follows (IsStackUnder o) (cond p (Some []) None) (cond q (Some []) None)
 no_words o p q passes = follows-if (IsStackUnder o) p q (Some []) (Some []) passes (λ e. nothing o)
 
-takes_field-keeps : (o : Outline) → AreTree o.classes → (method field : ℕ) (named : TypeRef) → KeepsBelow o (takes_field o method field named)
+pub takes_field-keeps : (o : Outline) → AreTree o.classes → (method field : ℕ) (named : TypeRef) → KeepsBelow o (takes_field o method field named)
 unfolding fits
 takes_field-keeps o tree method field named = record { follows = λ a b w. follows a b w.fitting; other = other } where
   beneath : (a b : Slot) → fits o a b ≡ true → fits o b (slot.Ref named) ≡ true → fits o a (slot.Ref named) ≡ true
@@ -178,29 +138,3 @@ takes_field-keeps o tree method field named = record { follows = λ a b w. follo
   other slot.Top slots e = cc
   other slot.Long slots e = cc
   other b slots e = refl
-
-pub put_field_row-under : (o : Outline) → AreTree o.classes → (method : ℕ) (u : Use) (s t : TypeState) → IsUnder o s t
-    → Follows (IsUnder o) (put_field_row o method u s) (put_field_row o method u t)
-unfolding put_field_row
-put_field_row-under o tree method u s t h =
-    follows-on_field (IsUnder o) o u _ _
-    (λ field named. worked_below-under o tree (field_words o field) (takes_field o method field named) s t (field_words-whole o field)
-    (takes_field-keeps o tree method field named) h)
-
--- ---- tests of types, and throwing
-
-pub cast_row-under : (o : Outline) → AreTree o.classes → (u : Use) (s t : TypeState) → IsUnder o s t
-    → Follows (IsUnder o) (cast_row o u s) (cast_row o u t)
-unfolding cast_row
-cast_row-under o tree u s t h =
-    follows-on_type (IsUnder o) o u _ _ (λ named. worked-under o tree (object_slot o ∷ []) (slot.Ref named ∷ []) s t refl refl h)
-
-pub is_a_row-under : (o : Outline) → AreTree o.classes → (u : Use) (s t : TypeState) → IsUnder o s t
-    → Follows (IsUnder o) (is_a_row o u s) (is_a_row o u t)
-unfolding is_a_row
-is_a_row-under o tree u s t h =
-    follows-on_type (IsUnder o) o u _ _ (λ named. worked-under o tree (object_slot o ∷ []) int_word s t refl refl h)
-
-pub throw_row-under : (o : Outline) → AreTree o.classes → (s t : TypeState) → IsUnder o s t → Follows (IsUnder o) (throw_row o s) (throw_row o t)
-unfolding throw_row
-throw_row-under o tree s t h = worked-under o tree (slot.Ref (throwable_type o) ∷ []) [] s t refl refl h

@@ -86,12 +86,6 @@ follows-if R p false x y passes follows = tt
 follows-if R true true x y passes follows = follows refl
 follows-if R false true x y passes follows = absurd (false≢true (passes refl))
 
--- the same branch for both
-pub follows-either : {A B : Type 0} (R : A → B → Type 0) (p : Bool) (x : Option A) (y : Option B) (u : Option A) (v : Option B)
-    → (p ≡ true → Follows R x y) → (p ≡ false → Follows R u v) → Follows R (cond p x u) (cond p y v)
-follows-either R true x y u v first second = first refl
-follows-either R false x y u v first second = second refl
-
 -- the elements at one place
 pub zip-get : {X : Type 0} (R : X → X → Type 0) (xs ys : List X) (n : ℕ) → AllZip R xs ys → Follows R (slice_get xs n) (slice_get ys n)
 zip-get R [] [] n h = tt
