@@ -1,17 +1,15 @@
 -- Rows leave the places alone that they neither look at nor change: where states differ in such places only, so do the states after them.
-use Rattle.std.proofs.Common.{◌≡◌, ◌≢◌, refl, sym, ◌∙◌, ap, ⊎_elim, ℕ, zero, suc, ◌+◌, ◌-◌, ◌<◌, ◌≤◌, ◌&&◌, ◌||◌, not, Bool, true, false, List, [], ◌∷◌, ◌++◌, length, map, get_or, nat_eq, replicate, reverse, set, Option, Some, None, cond, subst, arith, length-append, length-set}
-use Rattle.std.specs.Prelude.{nat_le, nat_lt, slice_get}
+use Rattle.std.proofs.Common.{◌≡◌, ◌≢◌, refl, sym, ◌∙◌, ap, ⊎_elim, ℕ, zero, suc, ◌+◌, ◌-◌, ◌<◌, ◌≤◌, ◌&&◌, ◌||◌, not, Bool, true, false, List, [], ◌∷◌, ◌++◌, length, map, get_or, nat_eq, reverse, set, Option, Some, None, cond, subst, arith, length-set}
+use Rattle.std.specs.Prelude.{nat_lt, slice_get}
 use Rattle.std.specs.List.{AllZip, flat_map, list_any}
 use Rattle.std.proofs.lemmas.Bool.{and_parts, cases_eq, cases_lt, false≢true, ltb-true}
-use Rattle.std.proofs.lemmas.List.{get_or-set_other, get_or-set_same, get_or_default, get_or_past, length-map, length-replicate, length-reverse, map-append, reverse-append}
+use Rattle.std.proofs.lemmas.List.{get_or-set_other, get_or-set_same, get_or_default, get_or_past, length-map, length-reverse, map-append, reverse-append}
 use Rattle.std.proofs.lemmas.List.Folds.{list_any-from_Any, list_any_none}
 use Rattle.std.proofs.lemmas.List.Sorted.{IsPermutation-reverse, list_any-IsPermutation}
 use Rattle.std.proofs.lemmas.Option.{slice_get-get_or, slice_get_past}
 use Rattle.std.proofs.Math.ListN.{get_or-map}
-use Rattle.fm_base.specs.declared.kinds.Kind.{Kind}
-use Rattle.fm_base.specs.declared.kinds.Kind.TheVariants as kind
 use Rattle.fm_base.specs.declared.kinds.TypeRef.{TypeRef}
-use Rattle.fm_check_walk.proofs.StackFrames.{AreLow, clear-less, constant_row-carried, convert_row-carried, follows-equal, IsClear, low-given, low-of, low-push, low-size, low-top, move_of-carried, pushed-carried, Same, taken-low, with_stack, worked-carried, worked_below-carried}
+use Rattle.fm_check_walk.proofs.StackFrames.{AreLow, clear-less, follows-equal, IsClear, low-given, low-of, low-push, low-size, low-top, move_of-carried, pushed-carried, Same, taken-low, with_stack, worked-carried, worked_below-carried}
 use Rattle.fm_check_walk.specs.declared.known_state.SlotPlace.{SlotPlace}
 use Rattle.fm_check_walk.specs.declared.known_state.SlotPlace.TheVariants as place
 use Rattle.fm_check_walk.specs.inner.Risen.{are_apart, AreCarried, called_words, is_bare, IsCarried, leaves_alone, leaves_local, leaves_word, words_taken}
@@ -24,23 +22,23 @@ use Rattle.fm_code.specs.declared.operations.Elem.TheVariants as elem
 use Rattle.fm_code.specs.declared.operations.Reg.{Reg}
 use Rattle.fm_code.specs.declared.operations.Reg.TheVariants as reg
 use Rattle.fm_types.proofs.ArrayOrder.{follows-on_type}
-use Rattle.fm_types.proofs.CallOrder.{after_arguments, return_by}
+use Rattle.fm_types.proofs.CallOrder.{after_arguments}
+use Rattle.fm_types.proofs.EachCheckRow as rows
+use Rattle.fm_types.proofs.EachCheckRow.{each_check_row, Leaves, Row}
 use Rattle.fm_types.proofs.NumberOrder.{store_by, written}
-use Rattle.fm_types.proofs.ObjectOrder.{follows-on_field}
 use Rattle.fm_types.proofs.StateOrder.{IsShaped}
-use Rattle.fm_types.proofs.Zips.{Follows, follows-either, follows-if, follows-map, follows-same, follows-then}
-use Rattle.fm_types.specs.ArrayRows.{array_load_row, array_store_row, element_of, is_array_of, length_row, multi_array_row, new_array_row, new_references_row, null_element, on_array, stored_element}
-use Rattle.fm_types.specs.CallRows.{constructed, constructor_called, initialised, instance_call_row, is_constructor, is_initializer, is_type, names_own_or_above, names_own_or_parent, return_row, returned_by, same_reg, special_call_row, static_call_row}
-use Rattle.fm_types.specs.Named.{argument_words, class_of_method, field_words, object_slot, on_method, parameters_of, result_of, result_words, throwable_type}
-use Rattle.fm_types.specs.NumberRows.{increment_row, is_int, load_row, loaded, move_row, store_row, stored_from, suits}
-use Rattle.fm_types.specs.ObjectRows.{cast_row, get_field_row, get_static_row, has_objects, is_a_row, new_row, put_field_row, put_static_row, takes_field, throw_row}
+use Rattle.fm_types.proofs.Zips.{Follows, follows-if, follows-map, follows-then}
+use Rattle.fm_types.specs.ArrayRows.{array_load_row, array_store_row, element_of, is_array_of, length_row, null_element, on_array, stored_element}
+use Rattle.fm_types.specs.CallRows.{constructed, constructor_called, initialised, is_type, names_own_or_parent}
+use Rattle.fm_types.specs.Named.{argument_words, class_of_method, field_words, parameters_of}
+use Rattle.fm_types.specs.NumberRows.{increment_row, is_int, load_row, loaded, store_row, stored_from, suits}
+use Rattle.fm_types.specs.ObjectRows.{has_objects, new_row, takes_field}
 use Rattle.fm_types.specs.Rows.{row_after}
-use Rattle.fm_types.specs.States.{cut_before, int_word, is_long, is_reference, is_uninit, is_uninit_this, local_at, local_slots, long_words, replaced, stack_slots, stored, taken, TypeState}
+use Rattle.fm_types.specs.States.{cut_before, int_word, is_long, is_reference, is_uninit, is_uninit_this, local_at, local_slots, replaced, stored, taken, TypeState}
 use Rattle.fm_types.specs.declared.slots.Slot.{Slot}
 use Rattle.fm_types.specs.declared.slots.Slot.TheVariants as slot
 use Rattle.fm_world.specs.Numbers.{type_of_class}
 use Rattle.fm_world.specs.Programs.{Outline}
-use Rattle.fm_world.specs.Uses.{array_of, base_of_elem}
 use Rattle.fm_world.specs.declared.uses.Use.{Use}
 use Rattle.fm_world.specs.declared.uses.Use.TheVariants as resolved
 
@@ -352,149 +350,7 @@ constructor_called-carried P v o method news m named s t plain clear h =
     (low-of P v (length (argument_words o m) + 1) s t clear h))
     (below_arguments-carried P v o method news named s t plain h)
 
--- ---- calls and returns
-
--- what follows from a method, of which so much is known
-on_method-carried : (P : SlotPlace → Type 0) (v : SlotPlace → Slot) (o : Outline) (u : Use) (s : TypeState) (f g : ℕ → TypeRef → Option TypeState)
-    → IsClear P (called_words o u) s
-    → ((m : ℕ) (named : TypeRef) → IsClear P (length (argument_words o m) + 1) s → Follows (IsCarried P v) (f m named) (g m named))
-    → Follows (IsCarried P v) (on_method o u f) (on_method o u g)
-on_method-carried P v o (resolved.OfType i) s f g clear each = tt
-on_method-carried P v o (resolved.OfField m i) s f g clear each = tt
-on_method-carried P v o (resolved.OfInt value) s f g clear each = tt
-on_method-carried P v o (resolved.OfLong value) s f g clear each = tt
-on_method-carried P v o (resolved.OfText text) s f g clear each = tt
-on_method-carried P v o resolved.Unused s f g clear each = tt
-on_method-carried P v o (resolved.OfMethod m i) s f g clear each =
-    follows-same (IsCarried P v) (f m.0) (g m.0) (slice_get o.types i.0)
-    (λ named. each m.0 named (λ h within. let below = clear h within in let counted = arguments_counted o m.0 in omega (arith, below, counted)))
-
-called-clear : (P : SlotPlace → Type 0) (o : Outline) (m : ℕ) (receiver : Slot) (s : TypeState) → IsClear P (length (argument_words o m) + 1) s
-    → IsClear P (length (argument_words o m ++ receiver ∷ [])) s
-called-clear P o m receiver s clear =
-    let size = length-append (argument_words o m) (receiver ∷ []) in
-    clear-less P (length (argument_words o m ++ receiver ∷ [])) (length (argument_words o m) + 1) s (omega (arith, size)) clear
-
-special_call_row-carried : (P : SlotPlace → Type 0) (v : SlotPlace → Slot) (o : Outline) (method : ℕ) (news : ℕ → Option TypeRef) (u : Use) (s t : TypeState)
-    → IsPlain P v → IsClear P (called_words o u) s → IsCarried P v s t
-    → Follows (IsCarried P v) (special_call_row o method news u s) (special_call_row o method news u t)
-unfolding special_call_row
-special_call_row-carried P v o method news u s t plain clear h =
-    on_method-carried P v o u s _ _ clear
-    (λ m named enough. follows-either (IsCarried P v) (is_constructor o m) _ _ _ _
-    (λ e. constructor_called-carried P v o method news m named s t plain enough h)
-    (λ e. follows-either (IsCarried P v) (is_initializer o m) None None _ _ (λ f. tt)
-    (λ f. follows-either (IsCarried P v) (names_own_or_above o (class_of_method o method) named) _ _ None None
-    (λ g. worked-carried P v o (argument_words o m ++ slot.Ref (type_of_class (class_of_method o method)) ∷ []) (result_words o m) s t
-    (called-clear P o m (slot.Ref (type_of_class (class_of_method o method))) s enough) h)
-    (λ g. tt))))
-
-instance_call_row-carried : (P : SlotPlace → Type 0) (v : SlotPlace → Slot) (o : Outline) (u : Use) (s t : TypeState) → IsClear P (called_words o u) s
-    → IsCarried P v s t → Follows (IsCarried P v) (instance_call_row o u s) (instance_call_row o u t)
-unfolding instance_call_row
-instance_call_row-carried P v o u s t clear h =
-    on_method-carried P v o u s _ _ clear
-    (λ m named enough. follows-either (IsCarried P v) (is_initializer o m) None None _ _ (λ e. tt)
-    (λ e. worked-carried P v o (argument_words o m ++ slot.Ref named ∷ []) (result_words o m) s t (called-clear P o m (slot.Ref named) s enough) h))
-
-static_call_row-carried : (P : SlotPlace → Type 0) (v : SlotPlace → Slot) (o : Outline) (u : Use) (s t : TypeState) → IsClear P (called_words o u) s
-    → IsCarried P v s t → Follows (IsCarried P v) (static_call_row o u s) (static_call_row o u t)
-unfolding static_call_row
-static_call_row-carried P v o u s t clear h =
-    on_method-carried P v o u s _ _ clear
-    (λ m named enough. follows-either (IsCarried P v) (is_initializer o m) None None _ _ (λ e. tt)
-    (λ e. worked-carried P v o (argument_words o m) (result_words o m) s t
-    (clear-less P (length (argument_words o m)) (length (argument_words o m) + 1) s (omega arith) enough) h))
-
--- a result has the words of the value that is returned
-result_count : (r : Reg) (k : Kind) → same_reg r (returned_by k) ≡ true → length (stack_slots (k ∷ [])) ≡ reg_words r
-result_count reg.Long kind.Long same = refl
-result_count reg.Long k same = absurd (false≢true same)
-result_count reg.Int kind.Long same = absurd (false≢true same)
-result_count reg.Int k same = refl
-result_count reg.Ref kind.Long same = absurd (false≢true same)
-result_count reg.Ref k same = refl
-
-return_of-carried : (P : SlotPlace → Type 0) (v : SlotPlace → Slot) (o : Outline) (s t : TypeState) → IsCarried P v s t
-    → (value : Option Reg) (result : Option Kind) → IsClear P (insns.words_taken 2 0 (insn.Return value)) s
-    → Follows (IsCarried P v) (return_by o s value result) (return_by o t value result)
-return_of-carried P v o s t h None None clear = follows-if (IsCarried P v) s.built t.built (Some s) (Some t) (λ e. h.built ∙ e) (λ e. h)
-return_of-carried P v o s t h None (Some k) clear = tt
-return_of-carried P v o s t h (Some r) None clear = tt
-return_of-carried P v o s t h (Some r) (Some k) clear =
-    follows-if (IsCarried P v) (same_reg r (returned_by k)) (same_reg r (returned_by k)) _ _ (λ e. e)
-    (λ e. worked-carried P v o (stack_slots (k ∷ [])) [] s t (subst (λ n. IsClear P n s) (sym (result_count r k e)) clear) h)
-
-return_row-carried : (P : SlotPlace → Type 0) (v : SlotPlace → Slot) (o : Outline) (method : ℕ) (value : Option Reg) (s t : TypeState)
-    → IsClear P (insns.words_taken 2 0 (insn.Return value)) s
-    → IsCarried P v s t → Follows (IsCarried P v) (return_row o method value s) (return_row o method value t)
-unfolding return_row
-return_row-carried P v o method value s t clear h = return_of-carried P v o s t h value (result_of o method) clear
-
--- a value has two words at most
-few_of_kind : (k : Kind) → length (stack_slots (k ∷ [])) ≤ 2
-few_of_kind kind.Boolean = let size : length (stack_slots (kind.Boolean ∷ [])) ≡ 1 = refl in omega (arith, size)
-few_of_kind kind.Byte = let size : length (stack_slots (kind.Byte ∷ [])) ≡ 1 = refl in omega (arith, size)
-few_of_kind kind.Char = let size : length (stack_slots (kind.Char ∷ [])) ≡ 1 = refl in omega (arith, size)
-few_of_kind kind.Short = let size : length (stack_slots (kind.Short ∷ [])) ≡ 1 = refl in omega (arith, size)
-few_of_kind kind.Int = let size : length (stack_slots (kind.Int ∷ [])) ≡ 1 = refl in omega (arith, size)
-few_of_kind kind.Long = let size : length (stack_slots (kind.Long ∷ [])) ≡ 2 = refl in omega (arith, size)
-few_of_kind (kind.Ref t) = let size : length (stack_slots (kind.Ref t ∷ [])) ≡ 1 = refl in omega (arith, size)
-
--- ---- objects, fields and arrays
-
-get_static_row-carried : (P : SlotPlace → Type 0) (v : SlotPlace → Slot) (o : Outline) (u : Use) (s t : TypeState) → IsClear P 0 s → IsCarried P v s t
-    → Follows (IsCarried P v) (get_static_row o u s) (get_static_row o u t)
-unfolding get_static_row
-get_static_row-carried P v o u s t clear h =
-    follows-on_field (IsCarried P v) o u _ _ (λ field named. pushed-carried P v (field_words o field) s t clear h)
-
-put_static_row-carried : (P : SlotPlace → Type 0) (v : SlotPlace → Slot) (o : Outline) (u : Use) (s t : TypeState) → IsClear P 2 s → IsCarried P v s t
-    → Follows (IsCarried P v) (put_static_row o u s) (put_static_row o u t)
-unfolding put_static_row
-put_static_row-carried P v o u s t clear h =
-    follows-on_field (IsCarried P v) o u _ _
-    (λ field named. worked-carried P v o (field_words o field) [] s t (clear-less P (length (field_words o field)) 2 s (few_of_kind _) clear) h)
-
-get_field_row-carried : (P : SlotPlace → Type 0) (v : SlotPlace → Slot) (o : Outline) (u : Use) (s t : TypeState) → IsClear P 1 s → IsCarried P v s t
-    → Follows (IsCarried P v) (get_field_row o u s) (get_field_row o u t)
-unfolding get_field_row
-get_field_row-carried P v o u s t clear h =
-    follows-on_field (IsCarried P v) o u _ _ (λ field named. worked-carried P v o (slot.Ref named ∷ []) (field_words o field) s t clear h)
-
-few_more : (k : Kind) → length (stack_slots (k ∷ [])) + 1 ≤ 3
-few_more k = let few = few_of_kind k in omega (arith, few)
-
-put_field_row-carried : (P : SlotPlace → Type 0) (v : SlotPlace → Slot) (o : Outline) (method : ℕ) (u : Use) (s t : TypeState) → IsClear P 3 s
-    → IsCarried P v s t → Follows (IsCarried P v) (put_field_row o method u s) (put_field_row o method u t)
-unfolding put_field_row
-put_field_row-carried P v o method u s t clear h =
-    follows-on_field (IsCarried P v) o u _ _
-    (λ field named. worked_below-carried P v o (field_words o field) (takes_field o method field named) s t
-    (clear-less P (length (field_words o field) + 1) 3 s (few_more _) clear) h)
-
-cast_row-carried : (P : SlotPlace → Type 0) (v : SlotPlace → Slot) (o : Outline) (u : Use) (s t : TypeState) → IsClear P 1 s → IsCarried P v s t
-    → Follows (IsCarried P v) (cast_row o u s) (cast_row o u t)
-unfolding cast_row
-cast_row-carried P v o u s t clear h =
-    follows-on_type (IsCarried P v) o u _ _ (λ named. worked-carried P v o (object_slot o ∷ []) (slot.Ref named ∷ []) s t clear h)
-
-is_a_row-carried : (P : SlotPlace → Type 0) (v : SlotPlace → Slot) (o : Outline) (u : Use) (s t : TypeState) → IsClear P 1 s → IsCarried P v s t
-    → Follows (IsCarried P v) (is_a_row o u s) (is_a_row o u t)
-unfolding is_a_row
-is_a_row-carried P v o u s t clear h =
-    follows-on_type (IsCarried P v) o u _ _ (λ named. worked-carried P v o (object_slot o ∷ []) int_word s t clear h)
-
-throw_row-carried : (P : SlotPlace → Type 0) (v : SlotPlace → Slot) (o : Outline) (s t : TypeState) → IsClear P 1 s → IsCarried P v s t
-    → Follows (IsCarried P v) (throw_row o s) (throw_row o t)
-unfolding throw_row
-throw_row-carried P v o s t clear h = worked-carried P v o (slot.Ref (throwable_type o) ∷ []) [] s t clear h
-
-array_load_row-carried : (P : SlotPlace → Type 0) (v : SlotPlace → Slot) (o : Outline) (e : Elem) (s t : TypeState) → IsClear P 2 s → IsCarried P v s t
-    → Follows (IsCarried P v) (array_load_row o e s) (array_load_row o e t)
-unfolding array_load_row
-array_load_row-carried P v o e s t clear h =
-    worked_below-carried P v o int_word (on_array (is_array_of e) (null_element e) (element_of e)) s t clear h
+-- ---- elements of arrays
 
 stored_count : (o : Outline) (e : Elem) → length (stored_element o e ++ int_word) + 1 ≡ element_words e + 2
 stored_count o elem.Boolean = refl
@@ -504,43 +360,6 @@ stored_count o elem.Short = refl
 stored_count o elem.Int = refl
 stored_count o elem.Long = refl
 stored_count o elem.Ref = refl
-
-array_store_row-carried : (P : SlotPlace → Type 0) (v : SlotPlace → Slot) (o : Outline) (e : Elem) (s t : TypeState) → IsClear P (element_words e + 2) s → IsCarried P v s t
-    → Follows (IsCarried P v) (array_store_row o e s) (array_store_row o e t)
-unfolding array_store_row
-array_store_row-carried P v o e s t clear h =
-    worked_below-carried P v o (stored_element o e ++ int_word) (on_array (is_array_of e) [] (λ t. [])) s t
-    (subst (λ n. IsClear P n s) (sym (stored_count o e)) clear) h
-
-length_row-carried : (P : SlotPlace → Type 0) (v : SlotPlace → Slot) (o : Outline) (s t : TypeState) → IsClear P 1 s → IsCarried P v s t
-    → Follows (IsCarried P v) (length_row o s) (length_row o t)
-unfolding length_row
-length_row-carried P v o s t clear h = worked_below-carried P v o [] (on_array (λ t. nat_lt 0 t.dims) int_word (λ t. int_word)) s t clear h
-
-new_array_row-carried : (P : SlotPlace → Type 0) (v : SlotPlace → Slot) (o : Outline) (e : Elem) (s t : TypeState) → IsClear P 1 s → IsCarried P v s t
-    → Follows (IsCarried P v) (new_array_row o e s) (new_array_row o e t)
-unfolding new_array_row
-new_array_row-carried P v o e s t clear h =
-    follows-same (IsCarried P v) _ _ (base_of_elem e)
-    (λ b. worked-carried P v o int_word (slot.Ref (record { dims = 1; base = b }) ∷ []) s t clear h)
-
-new_references_row-carried : (P : SlotPlace → Type 0) (v : SlotPlace → Slot) (o : Outline) (u : Use) (s t : TypeState) → IsClear P 1 s → IsCarried P v s t
-    → Follows (IsCarried P v) (new_references_row o u s) (new_references_row o u t)
-unfolding new_references_row
-new_references_row-carried P v o u s t clear h =
-    follows-on_type (IsCarried P v) o u _ _
-    (λ named. follows-same (IsCarried P v) _ _ (array_of named) (λ array. worked-carried P v o int_word (slot.Ref array ∷ []) s t clear h))
-
-multi_array_row-carried : (P : SlotPlace → Type 0) (v : SlotPlace → Slot) (o : Outline) (u : Use) (dimensions : ℕ) (s t : TypeState) → IsClear P dimensions s
-    → IsCarried P v s t → Follows (IsCarried P v) (multi_array_row o u dimensions s) (multi_array_row o u dimensions t)
-unfolding multi_array_row
-multi_array_row-carried P v o u dimensions s t clear h =
-    follows-on_type (IsCarried P v) o u _ _
-    (λ named. follows-if (IsCarried P v) (nat_lt 0 dimensions && nat_le dimensions named.dims)
-    (nat_lt 0 dimensions && nat_le dimensions named.dims) _ _ (λ e. e)
-    (λ e. worked-carried P v o (replicate dimensions slot.Int) (slot.Ref named ∷ []) s t
-    (let size : length (replicate dimensions slot.Int) ≡ dimensions = length-replicate dimensions slot.Int in
-    clear-less P (length (replicate dimensions slot.Int)) dimensions s (omega (arith, size)) clear) h))
 
 -- ---- all rows
 
@@ -562,93 +381,56 @@ all_plain : (P : SlotPlace → Type 0) (v : SlotPlace → Slot) → ((k : ℕ) �
 all_plain P v locals words (place.Local k) within = locals k within
 all_plain P v locals words (place.Word h) within = words h within
 
-row-frames : (P : SlotPlace → Type 0) (v : SlotPlace → Slot) (o : Outline) (method item : ℕ) (news : ℕ → Option TypeRef) (u : Use) (i : Insn) (s t : TypeState)
-    → AllZip IsShaped s.stack t.stack → ((k : ℕ) → P (place.Local k) → leaves_local i k (v (place.Local k)) ≡ true)
-    → ((h : ℕ) → P (place.Word h) → leaves_word i (v (place.Word h)) ≡ true) → IsClear P (words_taken o u i) s → IsCarried P v s t
-    → Follows (IsCarried P v) (row_after o method item news u i s) (row_after o method item news u i t)
-unfolding row_after move_row
--- constants and locals
-row-frames P v o method item news u insn.Nop s t shaped alone plain clear h = h
-row-frames P v o method item news u insn.Null s t shaped alone plain clear h = pushed-carried P v (slot.Null ∷ []) s t clear h
-row-frames P v o method item news u (insn.Const value) s t shaped alone plain clear h = pushed-carried P v int_word s t clear h
-row-frames P v o method item news u (insn.LongConst value) s t shaped alone plain clear h = pushed-carried P v long_words s t clear h
-row-frames P v o method item news u (insn.LoadPool index) s t shaped alone plain clear h = constant_row-carried P v o u s t clear h
-row-frames P v o method item news u (insn.Load kind local) s t shaped alone plain clear h =
-    load_row-carried P v kind local s t (apart_here (λ k. P (place.Local k)) local alone) clear h
-row-frames P v o method item news u (insn.Store kind local) s t shaped alone plain clear h =
-    store_row-carried P v o kind local s t (apart_all (λ k. P (place.Local k)) local alone) clear h
-row-frames P v o method item news u (insn.Inc local by) s t shaped alone plain clear h =
-    increment_row-carried P v local s t (apart_here (λ k. P (place.Local k)) local alone) h
--- moves of the stack
-row-frames P v o method item news u insn.Pop s t shaped alone plain clear h =
-    move_of-carried P v (record { takes = 1; gives = [] }) s t tt clear shaped h
-row-frames P v o method item news u insn.Pop2 s t shaped alone plain clear h =
-    move_of-carried P v (record { takes = 2; gives = [] }) s t tt clear shaped h
-row-frames P v o method item news u insn.Dup s t shaped alone plain clear h =
-    move_of-carried P v (record { takes = 1; gives = 0 ∷ 0 ∷ [] }) s t (omega arith, (omega arith, tt)) clear shaped h
-row-frames P v o method item news u insn.DupX1 s t shaped alone plain clear h =
-    move_of-carried P v (record { takes = 2; gives = 0 ∷ 1 ∷ 0 ∷ [] }) s t (omega arith, (omega arith, (omega arith, tt))) clear shaped h
-row-frames P v o method item news u insn.DupX2 s t shaped alone plain clear h =
-    move_of-carried P v (record { takes = 3; gives = 0 ∷ 1 ∷ 2 ∷ 0 ∷ [] }) s t (omega arith, (omega arith, (omega arith, (omega arith, tt)))) clear shaped h
-row-frames P v o method item news u insn.Dup2 s t shaped alone plain clear h =
-    move_of-carried P v (record { takes = 2; gives = 0 ∷ 1 ∷ 0 ∷ 1 ∷ [] }) s t (omega arith, (omega arith, (omega arith, (omega arith, tt)))) clear shaped h
-row-frames P v o method item news u insn.Dup2X1 s t shaped alone plain clear h =
-    move_of-carried P v (record { takes = 3; gives = 0 ∷ 1 ∷ 2 ∷ 0 ∷ 1 ∷ [] }) s t (omega arith, (omega arith, (omega arith, (omega arith, (omega arith, tt))))) clear shaped h
-row-frames P v o method item news u insn.Dup2X2 s t shaped alone plain clear h =
-    move_of-carried P v (record { takes = 4; gives = 0 ∷ 1 ∷ 2 ∷ 3 ∷ 0 ∷ 1 ∷ [] }) s t (omega arith, (omega arith, (omega arith, (omega arith, (omega arith, (omega arith, tt)))))) clear shaped h
-row-frames P v o method item news u insn.Swap s t shaped alone plain clear h =
-    move_of-carried P v (record { takes = 2; gives = 1 ∷ 0 ∷ [] }) s t (omega arith, (omega arith, tt)) clear shaped h
--- numbers
-row-frames P v o method item news u (insn.IntOp op) s t shaped alone plain clear h = worked-carried P v o (int_word ++ int_word) int_word s t clear h
-row-frames P v o method item news u (insn.LongOp op) s t shaped alone plain clear h =
-    worked-carried P v o (long_words ++ long_words) long_words s t clear h
-row-frames P v o method item news u insn.IntNeg s t shaped alone plain clear h = worked-carried P v o int_word int_word s t clear h
-row-frames P v o method item news u insn.LongNeg s t shaped alone plain clear h = worked-carried P v o long_words long_words s t clear h
-row-frames P v o method item news u (insn.IntShift shift) s t shaped alone plain clear h =
-    worked-carried P v o (int_word ++ int_word) int_word s t clear h
-row-frames P v o method item news u (insn.LongShift shift) s t shaped alone plain clear h =
-    worked-carried P v o (int_word ++ long_words) long_words s t clear h
-row-frames P v o method item news u (insn.Convert conv) s t shaped alone plain clear h = convert_row-carried P v o conv s t clear h
-row-frames P v o method item news u insn.LongCompare s t shaped alone plain clear h =
-    worked-carried P v o (long_words ++ long_words) int_word s t clear h
--- jumps and returns
-row-frames P v o method item news u (insn.IfInt test target) s t shaped alone plain clear h = worked-carried P v o int_word [] s t clear h
-row-frames P v o method item news u (insn.IfPair test target) s t shaped alone plain clear h =
-    worked-carried P v o (int_word ++ int_word) [] s t clear h
-row-frames P v o method item news u (insn.IfSame same target) s t shaped alone plain clear h =
-    worked-carried P v o (object_slot o ∷ object_slot o ∷ []) [] s t clear h
-row-frames P v o method item news u (insn.IfNull null target) s t shaped alone plain clear h =
-    worked-carried P v o (object_slot o ∷ []) [] s t clear h
-row-frames P v o method item news u (insn.Goto target) s t shaped alone plain clear h = h
-row-frames P v o method item news u (insn.Table low others targets) s t shaped alone plain clear h = worked-carried P v o int_word [] s t clear h
-row-frames P v o method item news u (insn.Lookup others keys targets) s t shaped alone plain clear h = worked-carried P v o int_word [] s t clear h
-row-frames P v o method item news u (insn.Return value) s t shaped alone plain clear h = return_row-carried P v o method value s t clear h
-row-frames P v o method item news u insn.Throw s t shaped alone plain clear h = throw_row-carried P v o s t clear h
--- objects and fields
-row-frames P v o method item news u (insn.New index) s t shaped alone plain clear h =
-    new_row-carried P v o item u s t (all_plain P v alone plain) clear h
-row-frames P v o method item news u (insn.GetStatic index) s t shaped alone plain clear h = get_static_row-carried P v o u s t clear h
-row-frames P v o method item news u (insn.PutStatic index) s t shaped alone plain clear h = put_static_row-carried P v o u s t clear h
-row-frames P v o method item news u (insn.GetField index) s t shaped alone plain clear h = get_field_row-carried P v o u s t clear h
-row-frames P v o method item news u (insn.PutField index) s t shaped alone plain clear h = put_field_row-carried P v o method u s t clear h
-row-frames P v o method item news u (insn.Cast index) s t shaped alone plain clear h = cast_row-carried P v o u s t clear h
-row-frames P v o method item news u (insn.IsA index) s t shaped alone plain clear h = is_a_row-carried P v o u s t clear h
--- arrays
-row-frames P v o method item news u (insn.ArrayLoad elem) s t shaped alone plain clear h = array_load_row-carried P v o elem s t clear h
-row-frames P v o method item news u (insn.ArrayStore elem) s t shaped alone plain clear h = array_store_row-carried P v o elem s t clear h
-row-frames P v o method item news u insn.Length s t shaped alone plain clear h = length_row-carried P v o s t clear h
-row-frames P v o method item news u (insn.NewArray elem) s t shaped alone plain clear h = new_array_row-carried P v o elem s t clear h
-row-frames P v o method item news u (insn.NewRefs index) s t shaped alone plain clear h = new_references_row-carried P v o u s t clear h
-row-frames P v o method item news u (insn.MultiArray index dimensions) s t shaped alone plain clear h =
-    multi_array_row-carried P v o u dimensions s t clear h
--- calls
-row-frames P v o method item news u (insn.Virtual index) s t shaped alone plain clear h = instance_call_row-carried P v o u s t clear h
-row-frames P v o method item news u (insn.Interface index) s t shaped alone plain clear h = instance_call_row-carried P v o u s t clear h
-row-frames P v o method item news u (insn.Special index) s t shaped alone plain clear h =
-    special_call_row-carried P v o method news u s t (all_plain P v alone plain) clear h
-row-frames P v o method item news u (insn.Static index) s t shaped alone plain clear h = static_call_row-carried P v o u s t clear h
--- left out of what is supported
-row-frames P v o method item news u (insn.LeftOut opcode) s t shaped alone plain clear h = tt
+-- the words that a row takes at most
+called : (o : Outline) (u : Use) → rows.called_words o u ≡ called_words o u
+called o (resolved.OfMethod m t) = ap (λ n. n + 1) (arguments_counted o m.0)
+called o u = refl
+
+counted : (o : Outline) (u : Use) (i : Insn) → insns.words_taken 2 (rows.called_words o u) i ≡ words_taken o u i
+counted o u (insn.Virtual index) = called o u
+counted o u (insn.Interface index) = called o u
+counted o u (insn.Special index) = called o u
+counted o u (insn.Static index) = called o u
+counted o u i = refl
+
+module _ (P : SlotPlace → Type 0) (v : SlotPlace → Slot) (o : Outline) (method item : ℕ) (news : ℕ → Option TypeRef) (u : Use) (i : Insn) (s t : TypeState)
+    (shaped : AllZip IsShaped s.stack t.stack) (locals : (k : ℕ) → P (place.Local k) → leaves_local i k (v (place.Local k)) ≡ true)
+    (words : (h : ℕ) → P (place.Word h) → leaves_word i (v (place.Word h)) ≡ true) (h : IsCarried P v s t) where
+  -- the rows of the two states, where no place is among so many topmost words
+  abbrev Carries : ℕ → Row → Type 0
+  Carries n row = IsClear P n s → Follows (IsCarried P v) (row item news s) (row item news t)
+
+  leaves : (j : Insn) → i ≡ j → (k : ℕ) → P (place.Local k) → leaves_local j k (v (place.Local k)) ≡ true
+  leaves j is k within = ap (λ x. leaves_local x k (v (place.Local k))) (sym is) ∙ locals k within
+
+  leaves_words : (j : Insn) → i ≡ j → (k : ℕ) → P (place.Word k) → leaves_word j (v (place.Word k)) ≡ true
+  leaves_words j is k within = ap (λ x. leaves_word x (v (place.Word k))) (sym is) ∙ words k within
+
+  steps-carry : Leaves o method u i Carries
+  unfolding array_load_row array_store_row length_row
+  steps-carry = record {
+    more = λ m n row less carries clear. carries (clear-less P m n s less clear);
+    none = λ clear. tt;
+    kept = λ clear. h;
+    built = λ clear. follows-if (IsCarried P v) s.built t.built (Some s) (Some t) (λ e. h.built ∙ e) (λ e. h);
+    pushes = λ given are clear. pushed-carried P v given s t clear h;
+    works = λ wanted given first second clear. worked-carried P v o wanted given s t clear h;
+    moves = λ m within clear. move_of-carried P v m s t within clear shaped h;
+    loads = λ r k is clear. load_row-carried P v r k s t (apart_here (λ j. P (place.Local j)) k (leaves (insn.Load r k) is)) clear h;
+    stores = λ r k is clear. store_row-carried P v o r k s t (apart_all (λ j. P (place.Local j)) k (leaves (insn.Store r k) is)) clear h;
+    increments = λ k by is clear. increment_row-carried P v k s t (apart_here (λ j. P (place.Local j)) k (leaves (insn.Inc k by) is)) h;
+    loads_element = λ e clear. worked_below-carried P v o int_word (on_array (is_array_of e) (null_element e) (element_of e)) s t clear h;
+    stores_element = λ e clear. worked_below-carried P v o (stored_element o e ++ int_word) (on_array (is_array_of e) [] (λ t. [])) s t
+        (subst (λ n. IsClear P n s) (sym (stored_count o e)) clear) h;
+    has_length = λ clear. worked_below-carried P v o [] (on_array (λ t. nat_lt 0 t.dims) int_word (λ t. int_word)) s t clear h;
+    puts_field = λ field named clear. worked_below-carried P v o (field_words o field) (takes_field o method field named) s t clear h;
+    makes = λ index is clear. new_row-carried P v o item u s t (all_plain P v (leaves (insn.New index) is) (leaves_words (insn.New index) is)) clear h;
+    constructs = λ index m named is clear. constructor_called-carried P v o method news m named s t
+        (all_plain P v (leaves (insn.Special index) is) (leaves_words (insn.Special index) is)) clear h;
+  }
+
+  row-frames : IsClear P (words_taken o u i) s → Follows (IsCarried P v) (row_after o method item news u i s) (row_after o method item news u i t)
+  row-frames clear = each_check_row o method u i Carries steps-carry (subst (λ n. IsClear P n s) (sym (counted o u i)) clear)
 
 -- the stacks have the same longs, and the row leaves each of the places alone
 pub row-carried : (P : SlotPlace → Type 0) (v : SlotPlace → Slot) (o : Outline) (method item : ℕ) (news : ℕ → Option TypeRef) (u : Use) (i : Insn) (s t : TypeState)
@@ -656,7 +438,7 @@ pub row-carried : (P : SlotPlace → Type 0) (v : SlotPlace → Slot) (o : Outli
     → Follows (IsCarried P v) (row_after o method item news u i s) (row_after o method item news u i t)
 row-carried P v o method item news u i s t shaped alone h =
     row-frames P v o method item news u i s t shaped (λ k within. alone (place.Local k) within)
-    (λ k within. (parts k within).1)
-    (λ k within. let below = ltb-true k (length s.stack - words_taken o u i) (parts k within).0 in omega (arith, below)) h where
+    (λ k within. (parts k within).1) h
+    (λ k within. let below = ltb-true k (length s.stack - words_taken o u i) (parts k within).0 in omega (arith, below)) where
       parts : (k : ℕ) → P (place.Word k) → (nat_lt k (length s.stack - words_taken o u i) ≡ true) × (leaves_word i (v (place.Word k)) ≡ true)
       parts k within = and_parts (nat_lt k (length s.stack - words_taken o u i)) (leaves_word i (v (place.Word k))) (alone (place.Word k) within)

@@ -1,6 +1,6 @@
 -- Stacks whose words differ at places below the topmost: what rows take from them and put on them.
 use Rattle.std.proofs.Common.{◌≡◌, ◌≢◌, refl, sym, ◌∙◌, ap, ⊎_elim, ℕ, zero, suc, ◌+◌, ◌-◌, ◌<◌, ◌≤◌, Bool, true, false, List, [], ◌∷◌, ◌++◌, length, drop, reverse, Option, Some, None, option_and_then, cond, subst, arith}
-use Rattle.std.specs.Prelude.{codes, nat_lt, slice_get}
+use Rattle.std.specs.Prelude.{nat_lt, slice_get}
 use Rattle.std.specs.List.{AllByRecursion, AllZip}
 use Rattle.std.specs.Option.{option_map}
 use Rattle.std.proofs.lemmas.Bool.{cases_eq, cases_lt, false≢true}
@@ -9,21 +9,16 @@ use Rattle.std.proofs.lemmas.List.Elements.{length_all_zip}
 use Rattle.fm_check_walk.specs.declared.known_state.SlotPlace.{SlotPlace}
 use Rattle.fm_check_walk.specs.declared.known_state.SlotPlace.TheVariants as place
 use Rattle.fm_check_walk.specs.inner.Risen.{AreCarried, IsCarried}
-use Rattle.fm_code.specs.StackWords.{conv_words}
-use Rattle.fm_code.specs.declared.operations.Conv.{Conv}
 use Rattle.fm_code.specs.declared.operations.Conv.TheVariants as conv
 use Rattle.fm_types.proofs.NumberOrder.{move_by}
 use Rattle.fm_types.proofs.StateOrder.{from_below, IsShaped, whole-shaped}
 use Rattle.fm_types.proofs.Zips.{Follows, follows-if, follows-map, follows-then, zip-append, zip-drop, zip-get}
 use Rattle.fm_types.specs.Moves.{moved, Moves, words_at}
-use Rattle.fm_types.specs.Named.{built_in_type}
-use Rattle.fm_types.specs.NumberRows.{constant_row, convert_row}
 use Rattle.fm_types.specs.Fits.{fits}
-use Rattle.fm_types.specs.States.{int_word, is_whole, local_at, long_words, pushed, taken, TypeState, worked, worked_below}
+use Rattle.fm_types.specs.States.{is_whole, local_at, pushed, taken, TypeState, worked, worked_below}
 use Rattle.fm_types.specs.declared.slots.Slot.{Slot}
 use Rattle.fm_types.specs.declared.slots.Slot.TheVariants as slot
 use Rattle.fm_world.specs.Programs.{Outline}
-use Rattle.fm_world.specs.declared.uses.Use.{Use}
 use Rattle.fm_world.specs.declared.uses.Use.TheVariants as resolved
 
 -- ---- options
@@ -263,17 +258,6 @@ worked_below-carried P v o wanted given s t clear h =
     (taken-low P v o wanted 1 (length wanted + 1) refl s.stack t.stack (low-of P v (length wanted + 1) s t clear h))
     (from_below-carried P v given s t h)
 
-pub constant_row-carried : (P : SlotPlace → Type 0) (v : SlotPlace → Slot) (o : Outline) (u : Use) (s t : TypeState) → IsClear P 0 s → IsCarried P v s t
-    → Follows (IsCarried P v) (constant_row o u s) (constant_row o u t)
-unfolding constant_row
-constant_row-carried P v o (resolved.OfType i) s t clear h = tt
-constant_row-carried P v o (resolved.OfField f i) s t clear h = tt
-constant_row-carried P v o (resolved.OfMethod m i) s t clear h = tt
-constant_row-carried P v o (resolved.OfInt value) s t clear h = pushed-carried P v int_word s t clear h
-constant_row-carried P v o (resolved.OfLong value) s t clear h = pushed-carried P v long_words s t clear h
-constant_row-carried P v o (resolved.OfText text) s t clear h = pushed-carried P v (slot.Ref (built_in_type o (codes "java/lang/String")) ∷ []) s t clear h
-constant_row-carried P v o resolved.Unused s t clear h = tt
-
 pub move_of-carried : (P : SlotPlace → Type 0) (v : SlotPlace → Slot) (m : Moves) (s t : TypeState) → AllByRecursion (λ depth. depth < m.takes) m.gives
     → IsClear P m.takes s → AllZip IsShaped s.stack t.stack → IsCarried P v s t → Follows (IsCarried P v) (move_by (Some m) s) (move_by (Some m) t)
 move_of-carried P v m s t all clear shaped h =
@@ -282,12 +266,3 @@ move_of-carried P v m s t all clear shaped h =
     (moved-low P v m s.stack t.stack all (low-of P v m.takes s t clear h)) (moved-shaped m s.stack t.stack shaped))
     (λ a b both. follows-if (IsCarried P v) (is_whole a) (is_whole b) _ _ (λ e. whole-shaped a b both.second e)
     (λ e. with_stack P v 0 s t a b h both.first))
-
-pub convert_row-carried : (P : SlotPlace → Type 0) (v : SlotPlace → Slot) (o : Outline) (c : Conv) (s t : TypeState) → IsClear P (conv_words c) s → IsCarried P v s t
-    → Follows (IsCarried P v) (convert_row o c s) (convert_row o c t)
-unfolding convert_row
-convert_row-carried P v o conv.IntToLong s t clear h = worked-carried P v o int_word long_words s t clear h
-convert_row-carried P v o conv.LongToInt s t clear h = worked-carried P v o long_words int_word s t clear h
-convert_row-carried P v o conv.IntToByte s t clear h = worked-carried P v o int_word int_word s t clear h
-convert_row-carried P v o conv.IntToChar s t clear h = worked-carried P v o int_word int_word s t clear h
-convert_row-carried P v o conv.IntToShort s t clear h = worked-carried P v o int_word int_word s t clear h
