@@ -1,20 +1,18 @@
 -- The small steps that rows are made of, at a state where items have other numbers.
-use Rattle.std.proofs.Common.{◌≡◌, refl, sym, ◌∙◌, ap, subst, ℕ, zero, suc, ◌<◌, ◌≤◌, Bool, true, false, cond, List, [], ◌∷◌, ◌++◌, length, map, drop, reverse, set, Option, Some, None, option_and_then, option_map, arith}
+use Rattle.std.proofs.Common.{◌≡◌, refl, sym, ◌∙◌, ap, ℕ, zero, suc, ◌<◌, ◌≤◌, Bool, true, false, cond, List, [], ◌∷◌, ◌++◌, length, map, drop, set, Option, Some, None, option_and_then, option_map, arith}
 use Rattle.std.specs.Prelude.{nat_lt, slice_get}
-use Rattle.std.specs.List.{AllByRecursion, flat_map}
-use Rattle.std.proofs.lemmas.List.{drop-map, get_or-map, get_or_append_left, length-map, map-set, reverse-append, set-append_left}
+use Rattle.std.specs.List.{AllByRecursion}
+use Rattle.std.proofs.lemmas.List.{drop-map, get_or-map, get_or_append_left, length-map, map-set, set-append_left}
 use Rattle.std.proofs.lemmas.Option.{slice_get-map}
 use Rattle.fm_law_relinked.specs.Rows.{AreApart, slot_with, state_with}
-use Rattle.fm_base.proofs.ListFacts.{AllByRecursion-append}
-use Rattle.fm_base.specs.declared.kinds.Kind.{Kind}
-use Rattle.fm_base.specs.declared.kinds.Kind.TheVariants as kind
 use Rattle.fm_base.specs.declared.kinds.TypeRef.{TypeRef}
 use Rattle.fm_code.specs.declared.operations.Reg.{Reg}
 use Rattle.fm_code.specs.declared.operations.Reg.TheVariants as reg
+use Rattle.fm_types.proofs.EachCheckRow.{ArePlain, IsPlain}
 use Rattle.fm_types.specs.Moves.{Moves, moved, words_at}
-use Rattle.fm_types.specs.Named.{on_field, on_method, on_type}
+use Rattle.fm_types.specs.Named.{on_type}
 use Rattle.fm_types.specs.NumberRows.{is_int, suits}
-use Rattle.fm_types.specs.States.{cut_before, is_long, is_reference, is_uninit, is_uninit_this, is_whole, local_at, local_slots, pushed, replaced, stack_slots, taken, TypeState, worked, worked_below}
+use Rattle.fm_types.specs.States.{cut_before, is_long, is_reference, is_uninit, is_uninit_this, is_whole, local_at, pushed, replaced, taken, TypeState, worked, worked_below}
 use Rattle.fm_types.specs.Fits.{fits}
 use Rattle.fm_types.specs.declared.slots.Slot.{Slot}
 use Rattle.fm_types.specs.declared.slots.Slot.TheVariants as slot
@@ -34,37 +32,6 @@ pub followed : {A B C : Type 0} (g : B → C) (x : Option A) (f : A → Option B
     → option_and_then h x ≡ option_map g (option_and_then f x)
 followed g None f h same = refl
 followed g (Some a) f h same = same a
-
--- ---- slots that name no item
-
-abbrev pub IsPlain : Slot → Type 0
-IsPlain (slot.Uninit item) = ⊥
-IsPlain s = Unit {0}
-
-abbrev pub ArePlain : List Slot → Type 0
-ArePlain slots = AllByRecursion IsPlain slots
-
-plain_kind : (k : Kind) → ArePlain (local_slots k)
-plain_kind kind.Boolean = (tt, tt)
-plain_kind kind.Byte = (tt, tt)
-plain_kind kind.Char = (tt, tt)
-plain_kind kind.Short = (tt, tt)
-plain_kind kind.Int = (tt, tt)
-plain_kind kind.Long = (tt, (tt, tt))
-plain_kind (kind.Ref t) = (tt, tt)
-
-plain_kinds : (kinds : List Kind) → ArePlain (flat_map local_slots kinds)
-plain_kinds [] = tt
-plain_kinds (k ∷ kinds) = AllByRecursion-append IsPlain (local_slots k) (flat_map local_slots kinds) (plain_kind k) (plain_kinds kinds)
-
-plain_reversed : (slots : List Slot) → ArePlain slots → ArePlain (reverse slots)
-plain_reversed [] plain = tt
-plain_reversed (s ∷ slots) plain =
-    subst ArePlain (sym (reverse-append (s ∷ []) slots)) (AllByRecursion-append IsPlain (reverse slots) (s ∷ []) (plain_reversed slots plain.1) (plain.0, tt))
-
--- the slots of values are plain
-pub plain_words : (kinds : List Kind) → ArePlain (stack_slots kinds)
-plain_words kinds = plain_reversed (flat_map local_slots kinds) (plain_kinds kinds)
 
 module _ (numbers : ℕ → ℕ) where
   abbrev other : Slot → Slot
@@ -319,23 +286,3 @@ module _ (to : TypeState → TypeState) where
   type_with o (resolved.OfLong value) f h same = refl
   type_with o (resolved.OfText text) f h same = refl
   type_with o resolved.Unused f h same = refl
-
-  pub field_with : (o : Outline) (u : Use) (f h : ℕ → TypeRef → Option TypeState) → ((field : ℕ) (t : TypeRef) → h field t ≡ option_map to (f field t))
-      → on_field o u h ≡ option_map to (on_field o u f)
-  field_with o (resolved.OfType t) f h same = refl
-  field_with o (resolved.OfField field t) f h same = followed to (slice_get o.types t.0) (f field.0) (h field.0) (same field.0)
-  field_with o (resolved.OfMethod m t) f h same = refl
-  field_with o (resolved.OfInt value) f h same = refl
-  field_with o (resolved.OfLong value) f h same = refl
-  field_with o (resolved.OfText text) f h same = refl
-  field_with o resolved.Unused f h same = refl
-
-  pub method_with : (o : Outline) (u : Use) (f h : ℕ → TypeRef → Option TypeState) → ((m : ℕ) (t : TypeRef) → h m t ≡ option_map to (f m t))
-      → on_method o u h ≡ option_map to (on_method o u f)
-  method_with o (resolved.OfType t) f h same = refl
-  method_with o (resolved.OfField field t) f h same = refl
-  method_with o (resolved.OfMethod m t) f h same = followed to (slice_get o.types t.0) (f m.0) (h m.0) (same m.0)
-  method_with o (resolved.OfInt value) f h same = refl
-  method_with o (resolved.OfLong value) f h same = refl
-  method_with o (resolved.OfText text) f h same = refl
-  method_with o resolved.Unused f h same = refl

@@ -1,40 +1,35 @@
 -- The rows of the checker don't look at the numbers of items, nor at locals behind those that an instruction names.
-use Rattle.std.proofs.Common.{◌≡◌, refl, sym, ◌∙◌, ap, subst, ℕ, zero, suc, ◌+◌, ◌<◌, ◌≤◌, ◌==◌, ◌&&◌, ◌||◌, not, Bool, true, false, cond, List, [], ◌∷◌, ◌++◌, length, length-append, map, replicate, set, Option, Some, None, option_and_then, option_map, option_to_list, arith, codes}
-use Rattle.std.specs.Prelude.{nat_lt, nat_le, slice_get}
+use Rattle.std.proofs.Common.{◌≡◌, refl, sym, ◌∙◌, ap, subst, ℕ, zero, suc, ◌+◌, ◌<◌, ◌≤◌, ◌==◌, ◌&&◌, ◌||◌, not, Bool, true, false, cond, List, [], ◌∷◌, ◌++◌, length, length-append, map, set, Option, Some, None, option_and_then, option_map, arith}
+use Rattle.std.specs.Prelude.{nat_lt, slice_get}
 use Rattle.std.specs.List.{AllByRecursion, list_any}
 use Rattle.std.proofs.lemmas.Bool.{le-ltb}
 use Rattle.std.proofs.lemmas.List.{length-map, length-set}
-use Rattle.fm_law_relinked.proofs.RowSteps.{ArePlain, below_with, cut_with, field_with, followed, is_int_with, is_long_with, is_reference_with, IsPlain, local_here, local_kept, local_set, method_with, moved_with, plain_words, pushed_with, replaced_stack, replaced_with, suits_with, taken_with, tested, type_with, uninit_this_with, uninit_with, whole_with, with_stack, worked_with}
+use Rattle.fm_law_relinked.proofs.RowSteps.{below_with, cut_with, is_int_with, is_long_with, is_reference_with, local_here, local_kept, local_set, moved_with, pushed_with, replaced_stack, replaced_with, suits_with, taken_with, tested, type_with, uninit_this_with, uninit_with, whole_with, with_stack, worked_with}
 use Rattle.fm_law_relinked.specs.Rows.{AreApart, IsReady, RowsAreBlind, slot_with, state_with}
 use Rattle.fm_base.proofs.ListFacts.{AllByRecursion-append, AllByRecursion-weaker}
-use Rattle.fm_base.specs.declared.kinds.Kind.{Kind}
 use Rattle.fm_base.specs.declared.kinds.TypeRef.{TypeRef}
 use Rattle.fm_code.specs.SpellsCode.{LocalsFit}
 use Rattle.fm_code.specs.declared.instructions.Insn.{Insn}
 use Rattle.fm_code.specs.declared.instructions.Insn.TheVariants as insn
-use Rattle.fm_code.specs.declared.operations.Conv.{Conv}
-use Rattle.fm_code.specs.declared.operations.Conv.TheVariants as conv
 use Rattle.fm_code.specs.declared.operations.Elem.{Elem}
 use Rattle.fm_code.specs.declared.operations.Elem.TheVariants as elem
 use Rattle.fm_code.specs.declared.operations.Reg.{Reg}
 use Rattle.fm_code.specs.declared.operations.Reg.TheVariants as reg
-use Rattle.fm_types.specs.ArrayRows.{array_load_row, array_store_row, element_of, element_words, is_array_of, length_row, multi_array_row, new_array_row, new_references_row, null_element, on_array, stored_element}
-use Rattle.fm_types.specs.CallRows.{constructed, constructor_called, initialised, instance_call_row, is_constructor, is_initializer, is_type, names_own_or_above, names_own_or_parent, return_row, returned_by, same_reg, special_call_row, static_call_row}
+use Rattle.fm_types.proofs.EachCheckRow.{ArePlain, each_check_row, IsPlain, Leaves, of_field, plain_words, Row}
+use Rattle.fm_types.proofs.NumberOrder.{move_by}
+use Rattle.fm_types.specs.ArrayRows.{array_load_row, array_store_row, element_of, element_words, is_array_of, length_row, null_element, on_array, stored_element}
+use Rattle.fm_types.specs.CallRows.{constructed, constructor_called, initialised, is_type, names_own_or_parent}
 use Rattle.fm_types.specs.Fits.{fits}
-use Rattle.fm_types.specs.Moves.{Moves, moved, moves_of}
-use Rattle.fm_types.specs.Named.{argument_words, built_in_type, class_of_method, field_words, object_slot, parameters_of, result_of, result_words, throwable_type}
-use Rattle.fm_types.specs.NumberRows.{constant_row, convert_row, increment_row, is_int, load_row, loaded, move_row, store_row, stored_from, suits}
-use Rattle.fm_types.specs.ObjectRows.{cast_row, get_field_row, get_static_row, has_objects, is_a_row, new_row, put_field_row, put_static_row, takes_field, throw_row}
-use Rattle.fm_types.specs.Rows.{row_after}
-use Rattle.fm_types.specs.States.{cut_before, int_word, is_long, is_reference, is_uninit, is_uninit_this, is_whole, local_at, long_words, pushed, replaced, stack_slots, taken, TypeState, worked, worked_below}
+use Rattle.fm_types.specs.Moves.{Moves, moved}
+use Rattle.fm_types.specs.Named.{argument_words, class_of_method, field_words, parameters_of}
+use Rattle.fm_types.specs.NumberRows.{increment_row, is_int, load_row, loaded, store_row, stored_from, suits}
+use Rattle.fm_types.specs.ObjectRows.{has_objects, new_row, takes_field}
+use Rattle.fm_types.specs.States.{cut_before, int_word, is_long, is_reference, is_uninit, is_uninit_this, is_whole, local_at, pushed, replaced, taken, TypeState, worked_below}
 use Rattle.fm_types.specs.declared.slots.Slot.{Slot}
 use Rattle.fm_types.specs.declared.slots.Slot.TheVariants as slot
-use Rattle.fm_world.specs.Members.{field_at, field_kind}
 use Rattle.fm_world.specs.Numbers.{type_of_class}
 use Rattle.fm_world.specs.Programs.{Outline}
-use Rattle.fm_world.specs.Uses.{array_of, base_of_elem}
 use Rattle.fm_world.specs.declared.uses.Use.{Use}
-use Rattle.fm_world.specs.declared.uses.Use.TheVariants as resolved
 
 -- ---- plain words
 
@@ -61,16 +56,6 @@ plain_stored : (o : Outline) (e : Elem) → ArePlain (stored_element o e)
 plain_stored o elem.Ref = (tt, tt)
 plain_stored o elem.Long = (tt, (tt, tt))
 plain_stored o e = (tt, tt)
-
-plain_ints : (n : ℕ) → ArePlain (replicate n slot.Int)
-plain_ints zero = tt
-plain_ints (suc n) = (tt, plain_ints n)
-
-plain_field : (o : Outline) (field : ℕ) → ArePlain (field_words o field)
-plain_field o field = plain_words (field_kind o.classes (field_at o.classes field).field ∷ [])
-
-plain_result : (o : Outline) (m : ℕ) → ArePlain (result_words o m)
-plain_result o m = plain_words (option_to_list (result_of o m))
 
 -- what an array gives is plain
 array_plain : (passes : TypeRef → Bool) (null : List Slot) (given : TypeRef → List Slot) → ArePlain null → ((t : TypeRef) → ArePlain (given t))
@@ -248,63 +233,18 @@ module _ (numbers : ℕ → ℕ) (more : List Slot) (apart : AreApart numbers) (
       ∙ ap (λ b. cond b (Some (to s)) None) (is_int_with numbers (local_at s.locals k))
       ∙ tested to (is_int (local_at s.locals k)) (Some (to s)) (Some s) refl
 
-  -- ---- moves and numbers
+  -- ---- moves
 
   abbrev stack_of : TypeState → List Slot → Option TypeState
   stack_of s stack = cond (is_whole stack) (Some (record s { stack = stack })) None
 
-  move_with : (i : Insn) (s : TypeState) → move_row i (to s) ≡ option_map to (move_row i s)
-  unfolding move_row
-  move_with i s =
-      followed to (moves_of i) (λ m. option_and_then (stack_of s) (moved m s.stack)) (λ m. option_and_then (stack_of (to s)) (moved m (map other s.stack))) each where
-        by_stack : (l : Option (List Slot)) → option_and_then (stack_of (to s)) (option_map (map other) l) ≡ option_map to (option_and_then (stack_of s) l)
-        by_stack None = refl
-        by_stack (Some stack) =
-            ap (λ b. cond b (Some (record (to s) { stack = map other stack })) None) (whole_with numbers stack)
-            ∙ tested to (is_whole stack) (Some (record (to s) { stack = map other stack })) (Some (record s { stack = stack })) refl
-
-        each : (m : Moves) → option_and_then (stack_of (to s)) (moved m (map other s.stack)) ≡ option_map to (option_and_then (stack_of s) (moved m s.stack))
-        each m = ap (option_and_then (stack_of (to s))) (moved_with numbers m s.stack) ∙ by_stack (moved m s.stack)
-
-  constant_with : (o : Outline) (u : Use) (s : TypeState) → constant_row o u (to s) ≡ option_map to (constant_row o u s)
-  unfolding constant_row
-  constant_with o (resolved.OfType t) s = refl
-  constant_with o (resolved.OfField f t) s = refl
-  constant_with o (resolved.OfMethod m t) s = refl
-  constant_with o (resolved.OfInt value) s = ap Some (pushed_with numbers more int_word (tt, tt) s)
-  constant_with o (resolved.OfLong value) s = ap Some (pushed_with numbers more long_words (tt, (tt, tt)) s)
-  constant_with o (resolved.OfText text) s = ap Some (pushed_with numbers more (slot.Ref (built_in_type o (codes "java/lang/String")) ∷ []) (tt, tt) s)
-  constant_with o resolved.Unused s = refl
-
-  convert_with : (o : Outline) (c : Conv) (s : TypeState) → convert_row o c (to s) ≡ option_map to (convert_row o c s)
-  unfolding convert_row
-  convert_with o conv.IntToLong s = worked_with numbers more o int_word long_words (tt, tt) (tt, (tt, tt)) s
-  convert_with o conv.LongToInt s = worked_with numbers more o long_words int_word (tt, (tt, tt)) (tt, tt) s
-  convert_with o conv.IntToByte s = worked_with numbers more o int_word int_word (tt, tt) (tt, tt) s
-  convert_with o conv.IntToChar s = worked_with numbers more o int_word int_word (tt, tt) (tt, tt) s
-  convert_with o conv.IntToShort s = worked_with numbers more o int_word int_word (tt, tt) (tt, tt) s
-
-  abbrev return_of : Outline → TypeState → Option Reg → Option Kind → Option TypeState
-  return_of o s None None = cond s.built (Some s) None
-  return_of o s None (Some k) = None
-  return_of o s (Some r) None = None
-  return_of o s (Some r) (Some k) = cond (same_reg r (returned_by k)) (worked o (stack_slots (k ∷ [])) [] s) None
-
-  returned_with : (o : Outline) (s : TypeState) (value : Option Reg) (result : Option Kind) → return_of o (to s) value result ≡ option_map to (return_of o s value result)
-  returned_with o s None None = tested to s.built (Some (to s)) (Some s) refl
-  returned_with o s None (Some k) = refl
-  returned_with o s (Some r) None = refl
-  returned_with o s (Some r) (Some k) =
-      tested to (same_reg r (returned_by k)) (worked o (stack_slots (k ∷ [])) [] (to s)) (worked o (stack_slots (k ∷ [])) [] s)
-      (worked_with numbers more o (stack_slots (k ∷ [])) [] (plain_words (k ∷ [])) tt s)
-
-  return_by : (o : Outline) (method : ℕ) (value : Option Reg) (s : TypeState) → return_row o method value s ≡ return_of o s value (result_of o method)
-  unfolding return_row
-  return_by o method value s = refl
-
-  return_with : (o : Outline) (method : ℕ) (value : Option Reg) (s : TypeState) → return_row o method value (to s) ≡ option_map to (return_row o method value s)
-  return_with o method value s =
-      return_by o method value (to s) ∙ returned_with o s value (result_of o method) ∙ sym (ap (option_map to) (return_by o method value s))
+  move_with : (m : Moves) (s : TypeState) → move_by (Some m) (to s) ≡ option_map to (move_by (Some m) s)
+  move_with m s = ap (option_and_then (stack_of (to s))) (moved_with numbers m s.stack) ∙ by_stack (moved m s.stack) where
+    by_stack : (l : Option (List Slot)) → option_and_then (stack_of (to s)) (option_map (map other) l) ≡ option_map to (option_and_then (stack_of s) l)
+    by_stack None = refl
+    by_stack (Some stack) =
+        ap (λ b. cond b (Some (record (to s) { stack = map other stack })) None) (whole_with numbers stack)
+        ∙ tested to (is_whole stack) (Some (record (to s) { stack = map other stack })) (Some (record s { stack = stack })) refl
 
   -- ---- objects
 
@@ -331,24 +271,6 @@ module _ (numbers : ℕ → ℕ) (more : List Slot) (apart : AreApart numbers) (
   unfolding new_row
   new_with o item u s = type_with to o u (made_of o item s) (made_of o (numbers item) (to s)) (made_with o item s)
 
-  get_static_with : (o : Outline) (u : Use) (s : TypeState) → get_static_row o u (to s) ≡ option_map to (get_static_row o u s)
-  unfolding get_static_row
-  get_static_with o u s =
-      field_with to o u (λ field named. Some (pushed (field_words o field) s)) (λ field named. Some (pushed (field_words o field) (to s)))
-      (λ field named. ap Some (pushed_with numbers more (field_words o field) (plain_field o field) s))
-
-  put_static_with : (o : Outline) (u : Use) (s : TypeState) → put_static_row o u (to s) ≡ option_map to (put_static_row o u s)
-  unfolding put_static_row
-  put_static_with o u s =
-      field_with to o u (λ field named. worked o (field_words o field) [] s) (λ field named. worked o (field_words o field) [] (to s))
-      (λ field named. worked_with numbers more o (field_words o field) [] (plain_field o field) tt s)
-
-  get_field_with : (o : Outline) (u : Use) (s : TypeState) → get_field_row o u (to s) ≡ option_map to (get_field_row o u s)
-  unfolding get_field_row
-  get_field_with o u s =
-      field_with to o u (λ field named. worked o (slot.Ref named ∷ []) (field_words o field) s) (λ field named. worked o (slot.Ref named ∷ []) (field_words o field) (to s))
-      (λ field named. worked_with numbers more o (slot.Ref named ∷ []) (field_words o field) (tt, tt) (plain_field o field) s)
-
   takes_alike : (o : Outline) (method field : ℕ) (named : TypeRef) (s : Slot) → takes_field o method field named (other s) ≡ takes_field o method field named s
   unfolding fits
   takes_alike o method field named slot.Top = refl
@@ -358,30 +280,6 @@ module _ (numbers : ℕ → ℕ) (more : List Slot) (apart : AreApart numbers) (
   takes_alike o method field named (slot.Ref t) = refl
   takes_alike o method field named (slot.Uninit item) = refl
   takes_alike o method field named slot.UninitThis = refl
-
-  put_field_with : (o : Outline) (method : ℕ) (u : Use) (s : TypeState) → put_field_row o method u (to s) ≡ option_map to (put_field_row o method u s)
-  unfolding put_field_row
-  put_field_with o method u s =
-      field_with to o u (λ field named. worked_below o (field_words o field) (takes_field o method field named) s)
-      (λ field named. worked_below o (field_words o field) (takes_field o method field named) (to s))
-      (λ field named. below_with numbers more o (field_words o field) (takes_field o method field named) (plain_field o field) (takes_alike o method field named)
-      (λ receiver slots is. nothing_plain _ slots is) s)
-
-  cast_with : (o : Outline) (u : Use) (s : TypeState) → cast_row o u (to s) ≡ option_map to (cast_row o u s)
-  unfolding cast_row
-  cast_with o u s =
-      type_with to o u (λ t. worked o (object_slot o ∷ []) (slot.Ref t ∷ []) s) (λ t. worked o (object_slot o ∷ []) (slot.Ref t ∷ []) (to s))
-      (λ t. worked_with numbers more o (object_slot o ∷ []) (slot.Ref t ∷ []) (tt, tt) (tt, tt) s)
-
-  is_a_with : (o : Outline) (u : Use) (s : TypeState) → is_a_row o u (to s) ≡ option_map to (is_a_row o u s)
-  unfolding is_a_row
-  is_a_with o u s =
-      type_with to o u (λ t. worked o (object_slot o ∷ []) int_word s) (λ t. worked o (object_slot o ∷ []) int_word (to s))
-      (λ t. worked_with numbers more o (object_slot o ∷ []) int_word (tt, tt) (tt, tt) s)
-
-  throw_with : (o : Outline) (s : TypeState) → throw_row o (to s) ≡ option_map to (throw_row o s)
-  unfolding throw_row
-  throw_with o s = worked_with numbers more o (slot.Ref (throwable_type o) ∷ []) [] (tt, tt) tt s
 
   -- ---- arrays
 
@@ -414,61 +312,6 @@ module _ (numbers : ℕ → ℕ) (more : List Slot) (apart : AreApart numbers) (
   length_with : (o : Outline) (s : TypeState) → length_row o (to s) ≡ option_map to (length_row o s)
   unfolding length_row
   length_with o s = array_below o [] (λ t. nat_lt 0 t.dims) int_word (λ t. int_word) tt (tt, tt) (λ t. (tt, tt)) s
-
-  new_array_with : (o : Outline) (e : Elem) (s : TypeState) → new_array_row o e (to s) ≡ option_map to (new_array_row o e s)
-  unfolding new_array_row
-  new_array_with o e s =
-      followed to (base_of_elem e) (λ b. worked o int_word (slot.Ref (record { dims = 1; base = b }) ∷ []) s)
-      (λ b. worked o int_word (slot.Ref (record { dims = 1; base = b }) ∷ []) (to s))
-      (λ b. worked_with numbers more o int_word (slot.Ref (record { dims = 1; base = b }) ∷ []) (tt, tt) (tt, tt) s)
-
-  new_references_with : (o : Outline) (u : Use) (s : TypeState) → new_references_row o u (to s) ≡ option_map to (new_references_row o u s)
-  unfolding new_references_row
-  new_references_with o u s =
-      type_with to o u (λ t. option_and_then (λ array. worked o int_word (slot.Ref array ∷ []) s) (array_of t))
-      (λ t. option_and_then (λ array. worked o int_word (slot.Ref array ∷ []) (to s)) (array_of t))
-      (λ t. followed to (array_of t) (λ array. worked o int_word (slot.Ref array ∷ []) s) (λ array. worked o int_word (slot.Ref array ∷ []) (to s))
-      (λ array. worked_with numbers more o int_word (slot.Ref array ∷ []) (tt, tt) (tt, tt) s))
-
-  multi_array_with : (o : Outline) (u : Use) (n : ℕ) (s : TypeState) → multi_array_row o u n (to s) ≡ option_map to (multi_array_row o u n s)
-  unfolding multi_array_row
-  multi_array_with o u n s =
-      type_with to o u (λ t. cond (nat_lt 0 n && nat_le n t.dims) (worked o (replicate n slot.Int) (slot.Ref t ∷ []) s) None)
-      (λ t. cond (nat_lt 0 n && nat_le n t.dims) (worked o (replicate n slot.Int) (slot.Ref t ∷ []) (to s)) None)
-      (λ t. tested to (nat_lt 0 n && nat_le n t.dims) (worked o (replicate n slot.Int) (slot.Ref t ∷ []) (to s)) (worked o (replicate n slot.Int) (slot.Ref t ∷ []) s)
-      (worked_with numbers more o (replicate n slot.Int) (slot.Ref t ∷ []) (plain_ints n) (tt, tt) s))
-
-  -- ---- calls
-
-  abbrev instance_of : Outline → TypeState → ℕ → TypeRef → Option TypeState
-  instance_of o s m named = cond (is_initializer o m) None (worked o (argument_words o m ++ slot.Ref named ∷ []) (result_words o m) s)
-
-  unless : (b : Bool) (x y : Option TypeState) → x ≡ option_map to y → cond b None x ≡ option_map to (cond b None y)
-  unless true x y same = refl
-  unless false x y same = same
-
-  plain_receiver : (o : Outline) (m : ℕ) (t : TypeRef) → ArePlain (argument_words o m ++ slot.Ref t ∷ [])
-  plain_receiver o m t = AllByRecursion-append IsPlain (argument_words o m) (slot.Ref t ∷ []) (plain_words (parameters_of o m)) (tt, tt)
-
-  instance_with : (o : Outline) (u : Use) (s : TypeState) → instance_call_row o u (to s) ≡ option_map to (instance_call_row o u s)
-  unfolding instance_call_row
-  instance_with o u s =
-      method_with to o u (instance_of o s) (instance_of o (to s))
-      (λ m named.
-      unless (is_initializer o m) (worked o (argument_words o m ++ slot.Ref named ∷ []) (result_words o m) (to s))
-      (worked o (argument_words o m ++ slot.Ref named ∷ []) (result_words o m) s)
-      (worked_with numbers more o (argument_words o m ++ slot.Ref named ∷ []) (result_words o m) (plain_receiver o m named) (plain_result o m) s))
-
-  abbrev static_of : Outline → TypeState → ℕ → TypeRef → Option TypeState
-  static_of o s m named = cond (is_initializer o m) None (worked o (argument_words o m) (result_words o m) s)
-
-  static_with : (o : Outline) (u : Use) (s : TypeState) → static_call_row o u (to s) ≡ option_map to (static_call_row o u s)
-  unfolding static_call_row
-  static_with o u s =
-      method_with to o u (static_of o s) (static_of o (to s))
-      (λ m named.
-      unless (is_initializer o m) (worked o (argument_words o m) (result_words o m) (to s)) (worked o (argument_words o m) (result_words o m) s)
-      (worked_with numbers more o (argument_words o m) (result_words o m) (plain_words (parameters_of o m)) (plain_result o m) s))
 
   -- ---- constructors
 
@@ -514,106 +357,45 @@ module _ (numbers : ℕ → ℕ) (more : List Slot) (apart : AreApart numbers) (
           by_rest (Some []) = refl
           by_rest (Some (receiver ∷ stack)) = constructed_with o method named receiver (record s { stack = stack })
 
-    abbrev special_of : Outline → ℕ → (ℕ → Option TypeRef) → TypeState → ℕ → TypeRef → Option TypeState
-    special_of o method made s m named =
-        cond (is_constructor o m) (constructor_called o method made m named s)
-        (cond (is_initializer o m) None
-        (cond (names_own_or_above o (class_of_method o method) named)
-        (worked o (argument_words o m ++ slot.Ref (type_of_class (class_of_method o method)) ∷ []) (result_words o m) s) None))
-
-    either : (b : Bool) (x x' y y' : Option TypeState) → x ≡ option_map to y → x' ≡ option_map to y' → cond b x x' ≡ option_map to (cond b y y')
-    either true x x' y y' first second = first
-    either false x x' y y' first second = second
-
-    special_with : (o : Outline) (method : ℕ) (u : Use) (s : TypeState)
-        → special_call_row o method others u (to s) ≡ option_map to (special_call_row o method news u s)
-    unfolding special_call_row
-    special_with o method u s =
-        method_with to o u (special_of o method news s) (special_of o method others (to s))
-        (λ m named.
-        let wanted = argument_words o m ++ slot.Ref (type_of_class (class_of_method o method)) ∷ [] in
-        let above = names_own_or_above o (class_of_method o method) named in
-        let own =
-        tested to above (worked o wanted (result_words o m) (to s)) (worked o wanted (result_words o m) s)
-        (worked_with numbers more o wanted (result_words o m) (plain_receiver o m (type_of_class (class_of_method o method))) (plain_result o m) s) in
-        either (is_constructor o m) (constructor_called o method others m named (to s))
-        (cond (is_initializer o m) None (cond above (worked o wanted (result_words o m) (to s)) None)) (constructor_called o method news m named s)
-        (cond (is_initializer o m) None (cond above (worked o wanted (result_words o m) s) None)) (constructor_with o method m named s)
-        (unless (is_initializer o m) (cond above (worked o wanted (result_words o m) (to s)) None) (cond above (worked o wanted (result_words o m) s) None) own))
-
     -- ---- all rows
 
-    module _ (o : Outline) (method item : ℕ) (u : Use) (s : TypeState) where
-      abbrev Blind : Insn → Type 0
-      Blind i = row_after o method (numbers item) others u i (to s) ≡ option_map to (row_after o method item news u i s)
+    module _ (o : Outline) (method item : ℕ) (u : Use) (i : Insn) (s : TypeState) (fit : LocalsFit (length s.locals) i) where
+      -- the row is the same at the item's other number
+      abbrev IsBlind : ℕ → Row → Type 0
+      IsBlind n row = row (numbers item) others (to s) ≡ option_map to (row item news s)
 
-      int_int : (given : List Slot) → ArePlain given → worked o (int_word ++ int_word) given (to s) ≡ option_map to (worked o (int_word ++ int_word) given s)
-      int_int given plain = worked_with numbers more o (int_word ++ int_word) given (tt, (tt, tt)) plain s
+      loads_with : (r : Reg) (k : ℕ) → LocalsFit (length s.locals) (insn.Load r k) → load_row r k (to s) ≡ option_map to (load_row r k s)
+      loads_with reg.Int k within = load_with reg.Int k s within
+      loads_with reg.Long k within = load_with reg.Long k s (omega (arith, within))
+      loads_with reg.Ref k within = load_with reg.Ref k s within
 
-      one_int : (given : List Slot) → ArePlain given → worked o int_word given (to s) ≡ option_map to (worked o int_word given s)
-      one_int given plain = worked_with numbers more o int_word given (tt, tt) plain s
+      stores_with : (r : Reg) (k : ℕ) → LocalsFit (length s.locals) (insn.Store r k) → store_row o r k (to s) ≡ option_map to (store_row o r k s)
+      stores_with reg.Int k within = store_with o reg.Int k s within
+      stores_with reg.Long k within = store_with o reg.Long k s within
+      stores_with reg.Ref k within = store_with o reg.Ref k s within
 
-      long_long : (given : List Slot) → ArePlain given → worked o (long_words ++ long_words) given (to s) ≡ option_map to (worked o (long_words ++ long_words) given s)
-      long_long given plain = worked_with numbers more o (long_words ++ long_words) given (tt, (tt, (tt, (tt, tt)))) plain s
-
-      blind : (i : Insn) → LocalsFit (length s.locals) i → Blind i
-      unfolding row_after
-      blind insn.Nop within = refl
-      blind insn.Null within = ap Some (pushed_with numbers more (slot.Null ∷ []) (tt, tt) s)
-      blind (insn.Const value) within = ap Some (pushed_with numbers more int_word (tt, tt) s)
-      blind (insn.LongConst value) within = ap Some (pushed_with numbers more long_words (tt, (tt, tt)) s)
-      blind (insn.LoadPool index) within = constant_with o u s
-      blind (insn.Load reg.Int k) within = load_with reg.Int k s within
-      blind (insn.Load reg.Long k) within = load_with reg.Long k s (omega (arith, within))
-      blind (insn.Load reg.Ref k) within = load_with reg.Ref k s within
-      blind (insn.Store reg.Int k) within = store_with o reg.Int k s within
-      blind (insn.Store reg.Long k) within = store_with o reg.Long k s within
-      blind (insn.Store reg.Ref k) within = store_with o reg.Ref k s within
-      blind (insn.Inc k by) within = increment_with k s within
-      blind insn.Pop within = move_with insn.Pop s
-      blind insn.Pop2 within = move_with insn.Pop2 s
-      blind insn.Dup within = move_with insn.Dup s
-      blind insn.DupX1 within = move_with insn.DupX1 s
-      blind insn.DupX2 within = move_with insn.DupX2 s
-      blind insn.Dup2 within = move_with insn.Dup2 s
-      blind insn.Dup2X1 within = move_with insn.Dup2X1 s
-      blind insn.Dup2X2 within = move_with insn.Dup2X2 s
-      blind insn.Swap within = move_with insn.Swap s
-      blind (insn.IntOp op) within = int_int int_word (tt, tt)
-      blind (insn.LongOp op) within = long_long long_words (tt, (tt, tt))
-      blind insn.IntNeg within = one_int int_word (tt, tt)
-      blind insn.LongNeg within = worked_with numbers more o long_words long_words (tt, (tt, tt)) (tt, (tt, tt)) s
-      blind (insn.IntShift shift) within = int_int int_word (tt, tt)
-      blind (insn.LongShift shift) within = worked_with numbers more o (int_word ++ long_words) long_words (tt, (tt, (tt, tt))) (tt, (tt, tt)) s
-      blind (insn.Convert c) within = convert_with o c s
-      blind insn.LongCompare within = long_long int_word (tt, tt)
-      blind (insn.IfInt test target) within = one_int [] tt
-      blind (insn.IfPair test target) within = int_int [] tt
-      blind (insn.IfSame same target) within = worked_with numbers more o (object_slot o ∷ object_slot o ∷ []) [] (tt, (tt, tt)) tt s
-      blind (insn.IfNull null target) within = worked_with numbers more o (object_slot o ∷ []) [] (tt, tt) tt s
-      blind (insn.Goto target) within = refl
-      blind (insn.Table low rest targets) within = one_int [] tt
-      blind (insn.Lookup rest keys targets) within = one_int [] tt
-      blind (insn.Return value) within = return_with o method value s
-      blind insn.Throw within = throw_with o s
-      blind (insn.New index) within = new_with o item u s
-      blind (insn.GetStatic index) within = get_static_with o u s
-      blind (insn.PutStatic index) within = put_static_with o u s
-      blind (insn.GetField index) within = get_field_with o u s
-      blind (insn.PutField index) within = put_field_with o method u s
-      blind (insn.Cast index) within = cast_with o u s
-      blind (insn.IsA index) within = is_a_with o u s
-      blind (insn.ArrayLoad e) within = array_load_with o e s
-      blind (insn.ArrayStore e) within = array_store_with o e s
-      blind insn.Length within = length_with o s
-      blind (insn.NewArray e) within = new_array_with o e s
-      blind (insn.NewRefs index) within = new_references_with o u s
-      blind (insn.MultiArray index dimensions) within = multi_array_with o u dimensions s
-      blind (insn.Virtual index) within = instance_with o u s
-      blind (insn.Interface index) within = instance_with o u s
-      blind (insn.Special index) within = special_with o method u s
-      blind (insn.Static index) within = static_with o u s
-      blind (insn.LeftOut opcode) within = refl
+      steps_blind : Leaves o method u i IsBlind
+      steps_blind = record {
+        more = λ m n row less blind. blind;
+        none = refl;
+        kept = refl;
+        built = tested to s.built (Some (to s)) (Some s) refl;
+        pushes = λ given words. ap Some (pushed_with numbers more given words.plain s);
+        works = λ wanted given first second. worked_with numbers more o wanted given first.plain second.plain s;
+        moves = λ m within. move_with m s;
+        loads = λ r k is. loads_with r k (subst (LocalsFit (length s.locals)) is fit);
+        stores = λ r k is. stores_with r k (subst (LocalsFit (length s.locals)) is fit);
+        increments = λ k by is. increment_with k s (subst (LocalsFit (length s.locals)) is fit);
+        loads_element = λ e. array_load_with o e s;
+        stores_element = λ e. array_store_with o e s;
+        has_length = length_with o s;
+        puts_field = λ field named. below_with numbers more o (field_words o field) (takes_field o method field named) (of_field o field).plain
+            (takes_alike o method field named) (λ receiver slots is. nothing_plain _ slots is) s;
+        makes = λ index is. new_with o item u s;
+        constructs = λ index m named is. constructor_with o method m named s;
+      }
 
 pub rows_blind : RowsAreBlind
-rows_blind numbers more apart ready o method item news others same_news u i s within = blind numbers more apart ready news others same_news o method item u s i within
+rows_blind numbers more apart ready o method item news others same_news u i s within =
+    each_check_row o method u i (IsBlind numbers more apart ready news others same_news o method item u i s within)
+    (steps_blind numbers more apart ready news others same_news o method item u i s within)
