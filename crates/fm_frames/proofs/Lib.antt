@@ -27,3 +27,4 @@ pub mod OpeningArguments
 pub mod OpeningObjects
 pub mod OpeningMain
 pub mod StepCounts
+pub mod NativeCases

@@ -17,7 +17,7 @@ use Rattle.fm_world.specs.BuiltIns.{string_name}
 use Rattle.fm_world.specs.Chains.{class_at}
 use Rattle.fm_world.specs.Programs.{Outline}
 use Rattle.fm_frames.specs.Effects.{Effect, Plain, OfOperand, OfPlace, OfMade, SameOperands, Action, Make, Put, Free, SetChain, FreeChain, Exits, words, acting, making, printing, going, stuck, int_word}
-use Rattle.fm_frames.specs.Natives.{Shown, ShownInt, ShownLong, ShownChar, ShownBoolean, ShownText, Native, ObjectInit, ObjectHashCode, ObjectEquals, ObjectToString, StringLength, CharAt, StringEquals, StringHashCode, CompareTo, StringToString, Substring, ValueOf, BuilderInit, Append, BuilderLength, BuilderToString, BufferInitOf, Exit, Print, Println, PrintlnNothing, Read, ThrowableInit, ThrowableInitOf, GetMessage, ThrowableToString, FreeMeFree, FreeMeLink, FreeMeFreeChain}
+use Rattle.fm_frames.specs.Natives.{AnObject, AShown, Given, has_receiver, native_type, Shown, ShownInt, ShownLong, ShownChar, ShownBoolean, ShownText, Native, ObjectInit, ObjectHashCode, ObjectEquals, ObjectToString, StringLength, CharAt, StringEquals, StringHashCode, CompareTo, StringToString, Substring, ValueOf, BuilderInit, Append, BuilderLength, BuilderToString, BufferInitOf, Exit, Print, Println, PrintlnNothing, Read, ThrowableInit, ThrowableInitOf, GetMessage, ThrowableToString, FreeMeFree, FreeMeLink, FreeMeFreeChain}
 use Rattle.fm_frames.specs.Operands.{on_any, on_held, on_inner, on_int, on_long, on_object, on_passing, on_text, on_text_or_null, thrown}
 use Rattle.fm_frames.specs.Sights.{Sight, Looks}
 use Rattle.fm_frames.specs.States.{null}
@@ -70,6 +70,22 @@ shown_words ShownLong = 2
 shown_words ShownChar = 1
 shown_words ShownBoolean = 1
 shown_words ShownText = 1
+
+-- the number of the words of a value
+abbrev pub given_words : Given → ℕ
+given_words (AShown shown) = shown_words shown
+given_words AnObject = 1
+
+-- of all arguments
+abbrev pub arguments_words : List Given → ℕ
+arguments_words [] = 0
+arguments_words (argument ∷ []) = given_words argument
+arguments_words (argument ∷ next ∷ arguments) = given_words argument + arguments_words (next ∷ arguments)
+
+-- the words that a row takes, with the receiver
+abbrev pub native_words : Native → ℕ
+native_words row =
+    if has_receiver row then arguments_words (native_type row).arguments + 1 else arguments_words (native_type row).arguments
 
 -- its units: a char by its lowest 16 bits, each boolean but 0 as true
 abbrev pub on_shown : Outline → Shown → List Sight → (List ℕ → Effect) → Effect

@@ -165,3 +165,12 @@ abbrev pub from_top : {X : Type 0} → (Given → List X) → List Given → Lis
 from_top words_of [] = []
 from_top words_of (argument ∷ []) = words_of argument
 from_top words_of (argument ∷ next ∷ arguments) = from_top words_of (next ∷ arguments) ++ words_of argument
+
+-- ---- the methods of FreeMe
+
+-- the row is one of FreeMe's
+abbrev pub is_free_me : Native → Bool
+is_free_me FreeMeFree = true
+is_free_me FreeMeLink = true
+is_free_me FreeMeFreeChain = true
+is_free_me row = false

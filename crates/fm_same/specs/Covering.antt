@@ -1,6 +1,6 @@
 -- What is required of calls: the method that a call leads to is among its targets, and a built-in
 -- method has the words and the ends that its row works on.
-use Rattle.std.specs.Prelude.{◌≡◌, ℕ, ◌+◌, ◌-◌, ◌≤◌, Bool, true, false, Some, List, [], ◌∷◌, length, Contains, slice_get, if◌then◌else◌}
+use Rattle.std.specs.Prelude.{◌≡◌, ℕ, ◌+◌, ◌-◌, ◌≤◌, Bool, true, false, Some, List, [], ◌∷◌, length, Contains, slice_get}
 use Rattle.fm_base.specs.declared.ids.MethodId.{MethodId}
 use Rattle.fm_base.specs.declared.ids.TypeId.{TypeId}
 use Rattle.fm_base.specs.declared.kinds.TypeRef.{TypeRef}
@@ -23,8 +23,9 @@ use Rattle.fm_world.specs.declared.calls.Call.{Call}
 use Rattle.fm_world.specs.declared.uses.Use.{Use}
 use Rattle.fm_world.specs.declared.uses.Use.TheVariants as resolved
 use Rattle.fm_frames.specs.CallRows.{native_of, receiver_class, words_of_arguments}
-use Rattle.fm_frames.specs.NativeRows.{shown_words}
-use Rattle.fm_frames.specs.Natives.{AnObject, Append, AShown, FreeMeFree, FreeMeFreeChain, FreeMeLink, GetMessage, Given, has_receiver, Native, native_of_row, native_type, StringToString, ThrowableInitOf}
+pub use Rattle.fm_frames.specs.NativeRows.{arguments_words, given_words, native_words}
+pub use Rattle.fm_frames.specs.Natives.{is_free_me}
+use Rattle.fm_frames.specs.Natives.{Append, FreeMeFree, FreeMeFreeChain, FreeMeLink, GetMessage, Native, native_of_row, StringToString, ThrowableInitOf}
 use Rattle.fm_frames.specs.Sights.{Looks, Sight, sights, Thing}
 use Rattle.fm_frames.specs.States.{Frame, State}
 use Rattle.fm_frames.specs.Steps.{effect_at}
@@ -71,22 +72,6 @@ Enters o caller u s other target = ⊥
 
 -- ---- built-in methods
 
--- the number of the words of a value
-abbrev pub given_words : Given → ℕ
-given_words (AShown shown) = shown_words shown
-given_words AnObject = 1
-
--- of all arguments
-abbrev pub arguments_words : List Given → ℕ
-arguments_words [] = 0
-arguments_words (argument ∷ []) = given_words argument
-arguments_words (argument ∷ next ∷ arguments) = given_words argument + arguments_words (next ∷ arguments)
-
--- the words that a row takes, with the receiver
-abbrev pub native_words : Native → ℕ
-native_words row =
-    if has_receiver row then arguments_words (native_type row).arguments + 1 else arguments_words (native_type row).arguments
-
 -- the ends that a row works on are references; and nothing is freed or chained
 abbrev pub NativeEnds : Outline → (method : ℕ) → Native → Type 0
 NativeEnds o method StringToString = IsEnd o method end.Return × IsEnd o method (end.Parameter 0)
@@ -97,13 +82,6 @@ NativeEnds o method FreeMeFree = ⊥
 NativeEnds o method FreeMeLink = ⊥
 NativeEnds o method FreeMeFreeChain = ⊥
 NativeEnds o method row = Unit {0}
-
--- the row is one of FreeMe's
-abbrev pub is_free_me : Native → Bool
-is_free_me FreeMeFree = true
-is_free_me FreeMeLink = true
-is_free_me FreeMeFreeChain = true
-is_free_me row = false
 
 -- a call of a built-in method: it is among the targets, the words that are taken are its row's, and its parameters that are references got words that are
 pub record CallsNative (p : Program) (facts : Facts) (f : Frame) (code : Code) (i : Insn) (target : ℕ) (row : Native) : Type 0 where
