@@ -14,7 +14,7 @@ use Rattle.fm_world.specs.declared.uses.Use.{Use}
 use Rattle.fm_world.specs.declared.uses.Use.TheVariants as resolved
 use Rattle.fm_frames.specs.Runnable.{IsUseIn}
 use Rattle.fm_exec_nests.specs.inner.Costs.{nest_of}
-use Rattle.fm_law_sound.proofs.EachRow.{each_row, Leaves}
+use Rattle.fm_frames.proofs.EachRow.{each_row, Leaves}
 
 -- no object is made that lives for ever, but for literals of texts that are there
 abbrev pub IsMade : Outline → Action → Type 0

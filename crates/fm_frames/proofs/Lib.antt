@@ -28,3 +28,11 @@ pub mod OpeningObjects
 pub mod OpeningMain
 pub mod StepCounts
 pub mod NativeCases
+pub mod Cases
+pub mod Failures
+pub mod NestedActions
+pub mod SwitchTargets
+pub mod EachInsn
+pub mod EachCall
+pub mod UsualAsks
+pub mod EachRow

@@ -1,20 +1,19 @@
 -- No instruction both makes and frees: its actions free nothing, or they do nothing else.
-use Rattle.std.proofs.Common.{◌≡◌, ◌⊎◌, inl, inr, ℕ, ◌+◌, ◌*◌, List, [], ◌∷◌, ◌++◌, Option, refl, sym, subst}
-use Rattle.std.specs.List.{AllByRecursion, range_with_len}
+use Rattle.std.proofs.Common.{◌≡◌, ◌⊎◌, inl, inr, ℕ, List, [], ◌∷◌, Option, refl, sym, subst}
+use Rattle.std.specs.List.{AllByRecursion}
 use Rattle.fm_base.specs.declared.kinds.TypeRef.{TypeRef}
 use Rattle.fm_code.specs.declared.instructions.Insn.{Insn}
-use Rattle.fm_frames.specs.ArrayRows.{array_actions, arrays_made, element_kind, element_type}
-use Rattle.fm_frames.specs.Effects.{Action, Effect, Free, FreeChain, Make, MakeLiteral, OfMade, Put, SetChain, SetStatic}
+use Rattle.fm_frames.specs.ArrayRows.{array_actions}
+use Rattle.fm_frames.specs.Effects.{Action, Effect, Free, FreeChain, Make, MakeLiteral, Put, SetChain, SetStatic}
 use Rattle.fm_frames.specs.NativeRows.{has_text, text_made}
 use Rattle.fm_frames.specs.Operands.{thrown}
 use Rattle.fm_frames.specs.Rows.{effect_of}
 use Rattle.fm_frames.specs.Sights.{Sight}
 use Rattle.fm_world.specs.Programs.{Outline}
 use Rattle.fm_world.specs.declared.uses.Use.{Use}
-use Rattle.fm_base.proofs.ListFacts.{AllByRecursion-append}
-use Rattle.fm_law_sound.proofs.Opening.{all_flat}
 use Rattle.fm_law_cells_made.proofs.Acts.{IsFreeing, IsGrowing, own_content}
-use Rattle.fm_law_sound.proofs.EachRow.{each_row, IsOfRow, Leaves}
+use Rattle.fm_frames.proofs.EachRow.{each_row, IsOfRow, Leaves}
+use Rattle.fm_frames.proofs.NestedActions.{nested_actions}
 
 -- the actions of an effect free nothing; or they do nothing else, and before it at most the class of a built-in method has to be started
 pub record IsApart (o : Outline) (e : Effect) : Type 0 where
@@ -22,20 +21,7 @@ pub record IsApart (o : Outline) (e : Effect) : Type 0 where
 
 -- the arrays of arrays that one instruction makes
 pub arrays_grow : (t : TypeRef) (counts : List ℕ) (first : ℕ) → AllByRecursion IsGrowing (array_actions t counts first)
-unfolding array_actions
-arrays_grow t [] first = tt
-arrays_grow t (count ∷ []) first = (tt, tt)
-arrays_grow t (count ∷ next ∷ counts) first = (
-  tt,
-  all_flat IsGrowing
-      (λ place. array_actions (element_type t) (next ∷ counts) (first + 1 + place * arrays_made (next ∷ counts))
-      ++ Put (OfMade first) place (element_kind t) (OfMade (first + 1 + place * arrays_made (next ∷ counts))) ∷ [])
-      (range_with_len 0 count)
-      (λ place. AllByRecursion-append IsGrowing
-      (array_actions (element_type t) (next ∷ counts) (first + 1 + place * arrays_made (next ∷ counts)))
-      (Put (OfMade first) place (element_kind t) (OfMade (first + 1 + place * arrays_made (next ∷ counts))) ∷ [])
-      (arrays_grow (element_type t) (next ∷ counts) (first + 1 + place * arrays_made (next ∷ counts))) (tt, tt)),
-)
+arrays_grow t counts first = nested_actions IsGrowing (λ t count. tt) (λ first place inner k. tt) t counts first
 
 module _ (o : Outline) where
   keeps : (e : Effect) (actions : List Action) → AllByRecursion IsGrowing actions → e.actions ≡ actions → IsApart o e

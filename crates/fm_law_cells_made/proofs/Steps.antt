@@ -19,7 +19,7 @@ use Rattle.fm_law_sound.proofs.Opening.{IsOfStart, start_made}
 use Rattle.fm_law_sound.specs.Leading.{sources_of}
 use Rattle.fm_law_cells_made.proofs.Acts.{acts_grow, acts_shrink, choice, IsFreeing, IsGrowing, leads_follow, LeadsBy}
 use Rattle.fm_law_cells_made.proofs.Counts.{Follows, Grows, grows_follow, same_grows, same_shrinks, Shrinks, shrinks_follow}
-use Rattle.fm_law_sound.proofs.EachRow.{IsOfRow}
+use Rattle.fm_frames.proofs.EachRow.{IsOfRow}
 use Rattle.fm_law_cells_made.proofs.Rows.{IsApart, rows_apart}
 
 -- ---- the start of classes

@@ -1,6 +1,5 @@
 pub mod KindLemmas
 pub mod Cases
-pub mod EachRow
 pub mod Leaving
 pub mod NumberRows
 pub mod JumpRows

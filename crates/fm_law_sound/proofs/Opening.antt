@@ -5,7 +5,6 @@ use Rattle.std.specs.List.{AllByRecursion, flat_map}
 use Rattle.std.specs.FinMap.{gets}
 use Rattle.std.proofs.lemmas.Bool.Decides.{nat_tests}
 use Rattle.std.proofs.lemmas.List.{length-append, length-map}
-use Rattle.fm_base.proofs.ListFacts.{AllByRecursion-append}
 use Rattle.fm_base.specs.Texts.{units}
 use Rattle.fm_base.specs.declared.kinds.Kind.TheVariants as kind
 use Rattle.fm_base.specs.declared.kinds.TypeRef.{TypeRef}
@@ -40,6 +39,7 @@ use Rattle.fm_frames.specs.Steps.{is_over, words_made, new_frame, start_frames, 
 use Rattle.fm_frames.specs.declared.ends.Ended.{Ended}
 use Rattle.fm_frames.specs.declared.ends.Ended.TheVariants as end
 use Rattle.fm_frames.specs.declared.values.Value.{Value}
+pub use Rattle.fm_frames.proofs.NestedActions.{all_flat}
 use Rattle.fm_law_sound.specs.Acting.{ActsFit, MakeFits}
 use Rattle.fm_law_sound.specs.Laws.{no_frame}
 use Rattle.fm_law_sound.specs.Leading.{sources_of}
@@ -71,10 +71,6 @@ IsOfStart (MakeLiteral text) = Unit {0}
 IsOfStart (SetStatic slot k v) = Unit {0}
 IsOfStart (Start class) = Unit {0}
 IsOfStart action = ⊥
-
-pub all_flat : {A B : Type 0} (P : B → Type 0) (g : A → List B) (xs : List A) → ((x : A) → AllByRecursion P (g x)) → AllByRecursion P (flat_map g xs)
-all_flat P g [] h = tt
-all_flat P g (x ∷ xs) h = AllByRecursion-append P (g x) (flat_map g xs) (h x) (all_flat P g xs h)
 
 abbrev pub with_text : Outline → ℕ → Option ℕ → List Action
 with_text o field None = []
