@@ -1,31 +1,21 @@
 -- Places are read and put by their kinds: what an instruction sees of an object passes its test, so the object's place has the kind that the row goes by.
-use Rattle.std.proofs.Common.{◌≡◌, ℕ, pos, ◌+◌, ◌-◌, ◌*◌, ◌<◌, ◌==◌, ◌&&◌, ◌||◌, not, int_lt, Bool, true, List, [], ◌∷◌, ◌++◌, map, Some, codes, unsigned_abs, sym, ◌∙◌, ap, slice_get, arith}
-use Rattle.std.specs.List.{AllByRecursion, range_with_len}
+use Rattle.std.proofs.Common.{◌≡◌, ℕ, List, ◌++◌, map, Some, sym, ◌∙◌, ap, slice_get}
+use Rattle.std.specs.List.{AllByRecursion}
 use Rattle.std.proofs.lemmas.Option.{same_Some}
-use Rattle.fm_base.proofs.ListFacts.{AllByRecursion-append}
 use Rattle.fm_base.specs.declared.kinds.Kind.{Kind}
 use Rattle.fm_base.specs.declared.kinds.Kind.TheVariants as kind
-use Rattle.fm_base.specs.declared.kinds.TypeRef.{TypeRef}
 use Rattle.fm_cells.specs.Objects.{Object}
 use Rattle.fm_cells.specs.Stores.{object_at, Store}
-use Rattle.fm_code.specs.declared.operations.Elem.{Elem}
-use Rattle.fm_code.specs.declared.operations.Elem.TheVariants as elem
-use Rattle.fm_types.specs.ArrayRows.{is_array_of}
 use Rattle.fm_world.specs.Programs.{kind_at, Outline}
 use Rattle.fm_frames.specs.Acts.{cell_of}
-use Rattle.fm_frames.specs.ArrayRows.{array_actions, array_load_effect, array_store_effect, arrays_made, element_kind, element_type, on_element, put_element, put_reference}
-use Rattle.fm_frames.specs.Effects.{Effect, faulty, loaded, OfMade, OfOperand, OfPlace, Put, SetStatic, Source, stuck, words}
-use Rattle.fm_frames.specs.Operands.{thrown, thrown_null}
-use Rattle.fm_frames.specs.Sights.{Looks, Sight, sights, Thing}
+use Rattle.fm_frames.specs.Effects.{Effect, faulty, loaded, OfMade, OfOperand, OfPlace, Put, SetStatic, Source, stuck}
+use Rattle.fm_frames.specs.Operands.{thrown}
+use Rattle.fm_frames.specs.Sights.{Looks, sights, Thing}
 use Rattle.fm_frames.specs.States.{word_at}
 use Rattle.fm_frames.specs.declared.values.Value.{Value}
 use Rattle.fm_law_sound.specs.Placing.{kind_in, PlacesAgree, PutAgrees, ReadAgrees, sources_in, thrown_in}
-use Rattle.fm_law_sound.proofs.Cases.{by_held, by_if, by_int, by_passing}
-use Rattle.fm_law_sound.proofs.InsnActs.{elements_deep}
-use Rattle.fm_law_sound.proofs.Opening.{all_flat}
 use Rattle.fm_law_sound.proofs.SeenObjects.{seen_at}
 use Rattle.fm_law_sound.proofs.StartActs.{all_after}
-use Rattle.fm_law_sound.proofs.NestedArrays.{array_kind}
 
 -- ---- the object that is seen
 
@@ -97,7 +87,7 @@ pub gives_agree : (o : Outline) (store : Store) (stack : List Value) (e : Effect
 gives_agree o store stack e h =
     all_after (ReadAgrees o store stack) (thrown_in e.next ++ map (λ (w : ℕ × Source). w.1) e.writes) e.gives h.reads
 
--- ---- arrays
+-- ---- effects that read and put no place
 
 module _ (o : Outline) (store : Store) (stack : List Value) where
   abbrev pub Agrees : Effect → Type 0
@@ -105,9 +95,6 @@ module _ (o : Outline) (store : Store) (stack : List Value) where
 
   pub bare : (e : Effect) → AllByRecursion (PutAgrees o store stack) e.actions → AllByRecursion (ReadAgrees o store stack) (sources_in e) → Agrees e
   bare e puts reads = record { puts = puts; reads = reads }
-
-  pub nulls : Agrees (thrown_null o)
-  nulls = record { puts = (tt, tt); reads = (tt, tt) }
 
   pub throws : (name : List ℕ) → Agrees (thrown o name)
   throws name = record { puts = (tt, tt); reads = (tt, tt) }
@@ -117,62 +104,3 @@ module _ (o : Outline) (store : Store) (stack : List Value) where
 
   pub gone : (n : ℕ) → Agrees (faulty n)
   gone n = record { puts = tt; reads = tt }
-
-  abbrev s : List Sight
-  s = sights o store stack
-
-  by_element : (e : Elem) (index : ℕ) (follows : Looks → ℕ → Effect)
-      → ((it : Looks) (place : ℕ) → HasPlace o store stack (index + 1) place (element_kind it.type) → Agrees (follows it place))
-      → Agrees (on_element o e s index follows)
-  by_element e index follows some =
-      by_passing Agrees o (λ it. is_array_of e it.type) s (index + 1) _ nulls stucks (gone (index + 1))
-      (λ it seen passes. by_int Agrees s index _ stucks
-      (λ i. by_if Agrees (int_lt i (pos 0) || not (int_lt i (pos it.len))) (thrown o (codes "java/lang/ArrayIndexOutOfBoundsException"))
-      (follows it (unsigned_abs i)) (λ out. throws (codes "java/lang/ArrayIndexOutOfBoundsException"))
-      (λ inside. some it (unsigned_abs i)
-      (seen_place o store stack (index + 1) (unsigned_abs i) (element_kind it.type) it seen
-      (array_kind o.classes it.type (unsigned_abs i) (elements_deep e it.type passes))))))
-
-  pub array_load_agrees : (e : Elem) → Agrees (array_load_effect o e s)
-  unfolding array_load_effect
-  array_load_agrees e =
-      by_element e 0 (λ it place. words 2 (loaded (element_kind it.type) (OfPlace 1 place (element_kind it.type))))
-      (λ it place h. bare (words 2 (loaded (element_kind it.type) (OfPlace 1 place (element_kind it.type)))) tt
-      (loaded_agrees o store stack 1 place (element_kind it.type) h))
-
-  element_agrees : (n : ℕ) (it : Looks) (place : ℕ) → HasPlace o store stack (n + 1) place (element_kind it.type) → Agrees (put_element n it place)
-  element_agrees n it place h = bare (put_element n it place) (put_agrees o store stack (n + 1) place (element_kind it.type) (OfOperand (n - 1)) tt h, tt) tt
-
-  reference_agrees : (it : Looks) (place : ℕ) → HasPlace o store stack 2 place (element_kind it.type) → Agrees (put_reference o s it place)
-  reference_agrees it place h =
-      by_held Agrees (put_element 1 it place) s 0 _ (element_agrees 1 it place h) stucks (gone 0)
-      (λ v seen. by_if Agrees _ (put_element 1 it place) (thrown o (codes "java/lang/ArrayStoreException")) (λ fits. element_agrees 1 it place h)
-      (λ fails. throws (codes "java/lang/ArrayStoreException")))
-
-  pub array_store_agrees : (e : Elem) → Agrees (array_store_effect o e s)
-  unfolding array_store_effect
-  array_store_agrees elem.Ref = by_element elem.Ref 1 (λ it place. put_reference o s it place) reference_agrees
-  array_store_agrees elem.Boolean = by_element elem.Boolean 1 (put_element 1) (element_agrees 1)
-  array_store_agrees elem.Byte = by_element elem.Byte 1 (put_element 1) (element_agrees 1)
-  array_store_agrees elem.Char = by_element elem.Char 1 (put_element 1) (element_agrees 1)
-  array_store_agrees elem.Short = by_element elem.Short 1 (put_element 1) (element_agrees 1)
-  array_store_agrees elem.Int = by_element elem.Int 1 (put_element 1) (element_agrees 1)
-  array_store_agrees elem.Long = by_element elem.Long 2 (put_element 2) (element_agrees 2)
-
-  -- arrays of arrays are put into what the step made
-  pub arrays_agree : (t : TypeRef) (counts : List ℕ) (first : ℕ) → AllByRecursion (PutAgrees o store stack) (array_actions t counts first)
-  unfolding array_actions
-  arrays_agree t [] first = tt
-  arrays_agree t (count ∷ []) first = (tt, tt)
-  arrays_agree t (count ∷ next ∷ counts) first = (
-    tt,
-    all_flat (PutAgrees o store stack)
-        (λ place. array_actions (element_type t) (next ∷ counts) (first + 1 + place * arrays_made (next ∷ counts))
-        ++ Put (OfMade first) place (element_kind t) (OfMade (first + 1 + place * arrays_made (next ∷ counts))) ∷ [])
-        (range_with_len 0 count)
-        (λ place. AllByRecursion-append (PutAgrees o store stack)
-        (array_actions (element_type t) (next ∷ counts) (first + 1 + place * arrays_made (next ∷ counts)))
-        (Put (OfMade first) place (element_kind t) (OfMade (first + 1 + place * arrays_made (next ∷ counts))) ∷ [])
-        (arrays_agree (element_type t) (next ∷ counts) (first + 1 + place * arrays_made (next ∷ counts)))
-        (made_agrees o store stack first place (element_kind t) (OfMade (first + 1 + place * arrays_made (next ∷ counts))) tt, tt)),
-  )
