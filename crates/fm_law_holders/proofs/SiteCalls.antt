@@ -1,6 +1,6 @@
 -- What the effects of calls that are sites give, where a built-in method is called and control goes on: the object that the step made, or nothing of a
 -- constructor.
-use Rattle.std.proofs.Common.{◌≡◌, ℕ, ◌+◌, ◌&&◌, not, Bool, true, List, [], ◌∷◌, length, map, Option, Some, None, codes, refl, sym, ◌∙◌, ap, subst, Contains}
+use Rattle.std.proofs.Common.{◌≡◌, ℕ, ◌&&◌, not, Bool, true, List, [], ◌∷◌, length, map, Option, Some, None, refl, sym, ◌∙◌, ap, subst, Contains}
 use Rattle.std.specs.Prelude.{nat_lt, option_map, option_to_list}
 use Rattle.std.specs.List.{list_any}
 use Rattle.std.proofs.lemmas.Bool.{false≢true, not-true}
@@ -18,25 +18,23 @@ use Rattle.fm_types.specs.CallRows.{is_constructor}
 use Rattle.fm_types.specs.Named.{class_of_method, result_of, result_words}
 use Rattle.fm_types.specs.States.{stack_slots}
 use Rattle.fm_types.specs.Typed.{use_by}
-use Rattle.fm_world.specs.Chains.{is_sub}
 use Rattle.fm_world.specs.Descriptors.{result_kind}
-use Rattle.fm_world.specs.Lookups.{select, special_target}
-use Rattle.fm_world.specs.Programs.{class_id, class_of_type, Outline, Program, targets}
+use Rattle.fm_world.specs.Programs.{class_id, Outline, Program, targets}
 use Rattle.fm_world.specs.declared.calls.Call.{Call}
 use Rattle.fm_world.specs.declared.calls.CallKind.{CallKind}
 use Rattle.fm_world.specs.declared.calls.CallKind.TheVariants as kinds
 use Rattle.fm_world.specs.declared.uses.Use.{Use}
 use Rattle.fm_world.specs.declared.uses.Use.TheVariants as resolved
-use Rattle.fm_frames.specs.CallRows.{entered, entered_as, interface_effect, native_of, receiver_class, special_effect, static_effect, virtual_effect, words_of_arguments}
+use Rattle.fm_frames.specs.CallRows.{entered_as, native_of, words_of_arguments}
 use Rattle.fm_frames.specs.Effects.{Effect, Source}
 use Rattle.fm_frames.specs.NativeRows.{native_effect}
 use Rattle.fm_frames.specs.Natives.{Native}
-use Rattle.fm_frames.specs.Operands.{thrown, thrown_null}
 use Rattle.fm_frames.specs.Rows.{effect_of}
 use Rattle.fm_frames.specs.Sights.{Sight}
 use Rattle.fm_frames.specs.States.{Frame}
+use Rattle.fm_frames.proofs.EachCall.{entered_cases, interface_row, special_row, static_row, virtual_row}
+use Rattle.fm_frames.proofs.Failures.{Failures, name_of}
 use Rattle.fm_law_sound.proofs.BuiltInMethods.{has_row, plain}
-use Rattle.fm_law_sound.proofs.Cases.{by_any, by_if, by_object, by_on_method, by_reference}
 use Rattle.fm_law_sound.specs.BuiltIns.{native_result, reference}
 use Rattle.fm_law_sound.specs.Going.{ConstructorsGiveNothing}
 use Rattle.fm_law_sound.specs.Leading.{is_call}
@@ -52,83 +50,41 @@ use Rattle.fm_law_holders.proofs.SiteEffects.{first_made, gives_fault, gives_stu
 
 -- ---- all that a call leads to
 
-module _ (p : Program) (facts : Facts) (f : Frame) (code : Code) (i : Insn) (byte : Option ℕ) (s : List Sight) (given : List Source) where
-  abbrev P : Effect → Type 0
-  P e = GivesJust given e
-
-  -- each row of a built-in method to which it may lead
-  abbrev RowsGive : Type 0
-  RowsGive =
-      (target : ℕ) (row : Native) → native_of p.outline target ≡ Some row → MeetsTarget p facts f code i target → P (native_effect p.outline row byte s)
-
-  by_native : RowsGive → (words target : ℕ) (found : Option Native) → native_of p.outline target ≡ found → MeetsTarget p facts f code i target
-      → P (entered_as p.outline words target byte s found)
-  by_native rows words target None is meets = λ falls. absurd (cc)
-  by_native rows words target (Some row) is meets = rows target row is meets
-
-  pub by_entered : RowsGive → (words : ℕ) (found : Option ℕ) → ((target : ℕ) → found ≡ Some target → MeetsTarget p facts f code i target)
-      → P (entered p.outline words found byte s)
-  by_entered rows words None meets = gives_stuck given
-  by_entered rows words (Some target) meets = by_native rows words target (native_of p.outline target) refl (meets target refl)
-
 module _ (p : Program) (facts : Facts) (f : Frame) (code : Code) (byte : Option ℕ) (s : List Sight) (given : List Source) where
   abbrev Q : Effect → Type 0
   Q e = GivesJust given e
 
-  null : Q (thrown_null p.outline)
-  null = gives_thrown given p.outline (codes "java/lang/NullPointerException")
+  failures : Failures p.outline Q
+  failures = record { raised = λ x. gives_thrown given p.outline (name_of x); none = gives_stuck given; lost = λ n. gives_fault given n }
 
-  virtual_gives : (index : ℕ) → CoversTargets p facts f code (insn.Virtual index) s → RowsGive p facts f code (insn.Virtual index) byte s given
-      → Q (virtual_effect p.outline (use_by p f.method (insn.Virtual index)) byte s)
-  unfolding virtual_effect
-  virtual_gives index covers rows =
-      by_on_method Q p.outline (use_by p f.method (insn.Virtual index)) _ (gives_stuck given) (λ m n t is there.
-      by_object Q p.outline t s (words_of_arguments p.outline m.0) _ null (gives_stuck given) (gives_fault given (words_of_arguments p.outline m.0))
-      (λ it seen fits_it. by_entered p facts f code (insn.Virtual index) byte s given rows (words_of_arguments p.outline m.0 + 1)
-      (select p.outline.classes (receiver_class p.outline it) m.0)
-      (λ target selected. covers target
-      (record { method = m; type = n; named = is; of = t; of_is = there; receiver = it; seen = seen; passes = fits_it; selected = selected }))))
+  -- each row of a built-in method to which the instruction may lead
+  abbrev RowsGive : Insn → Type 0
+  RowsGive i =
+      (target : ℕ) (row : Native) → native_of p.outline target ≡ Some row → MeetsTarget p facts f code i target → Q (native_effect p.outline row byte s)
 
-  interface_gives : (index : ℕ) → CoversTargets p facts f code (insn.Interface index) s → RowsGive p facts f code (insn.Interface index) byte s given
-      → Q (interface_effect p.outline (use_by p f.method (insn.Interface index)) byte s)
-  unfolding interface_effect
-  interface_gives index covers rows =
-      by_on_method Q p.outline (use_by p f.method (insn.Interface index)) _ (gives_stuck given) (λ m n t is there.
-      by_any Q p.outline s (words_of_arguments p.outline m.0) _ null (gives_stuck given) (gives_fault given (words_of_arguments p.outline m.0))
-      (λ it seen. by_if Q (is_sub p.outline.classes it.type t) _ (thrown p.outline (codes "java/lang/IncompatibleClassChangeError"))
-      (λ implements. by_entered p facts f code (insn.Interface index) byte s given rows (words_of_arguments p.outline m.0 + 1)
-      (select p.outline.classes (receiver_class p.outline it) m.0)
-      (λ target selected. covers target
-      (record { method = m; type = n; named = is; of = t; of_is = there; receiver = it; seen = seen; passes = implements; selected = selected })))
-      (λ lacks. gives_thrown given p.outline (codes "java/lang/IncompatibleClassChangeError"))))
+  by_native : (i : Insn) → RowsGive i → (words target : ℕ) → MeetsTarget p facts f code i target
+      → Q (entered_as p.outline words target byte s (native_of p.outline target))
+  by_native i rows words target meets = entered_cases p.outline s byte Q words target (λ falls. absurd (cc)) (λ row is. rows target row is meets)
 
-  special_gives : (index : ℕ) → CoversTargets p facts f code (insn.Special index) s → RowsGive p facts f code (insn.Special index) byte s given
-      → Q (special_effect p.outline f.method (use_by p f.method (insn.Special index)) byte s)
-  unfolding special_effect
-  special_gives index covers rows =
-      by_on_method Q p.outline (use_by p f.method (insn.Special index)) _ (gives_stuck given) (λ m n t is there.
-      let target : ℕ = special_target p.outline.classes (class_of_method p.outline f.method) (class_of_type t) m.0 in
-      by_reference Q s (words_of_arguments p.outline m.0) _ (gives_stuck given) (λ is_null.
-      by_if Q is_null (thrown_null p.outline) _ (λ missing. null) (λ present.
-      by_entered p facts f code (insn.Special index) byte s given rows (words_of_arguments p.outline m.0 + 1) (Some target)
-      (λ other same. covers other
-      (record { method = m; type = n; named = is; of = t; of_is = there; is = same_Some target other same })))))
-
-  static_gives : (index : ℕ) → CoversTargets p facts f code (insn.Static index) s → RowsGive p facts f code (insn.Static index) byte s given
-      → Q (static_effect p.outline (use_by p f.method (insn.Static index)) byte s)
-  unfolding static_effect
-  static_gives index covers rows =
-      by_on_method Q p.outline (use_by p f.method (insn.Static index)) _ (gives_stuck given) (λ m n t is there.
-      by_entered p facts f code (insn.Static index) byte s given rows (words_of_arguments p.outline m.0) (Some m.0)
-      (λ target same. covers target (record { method = m; type = n; named = is; is = same_Some m.0 target same })))
-
-  pub call_gives : (i : Insn) → is_call i ≡ true → CoversTargets p facts f code i s → RowsGive p facts f code i byte s given
+  pub call_gives : (i : Insn) → is_call i ≡ true → CoversTargets p facts f code i s → RowsGive i
       → Q (effect_of p.outline f.method (use_by p f.method i) i byte s)
   unfolding effect_of
-  call_gives (insn.Virtual index) is covers rows = virtual_gives index covers rows
-  call_gives (insn.Interface index) is covers rows = interface_gives index covers rows
-  call_gives (insn.Special index) is covers rows = special_gives index covers rows
-  call_gives (insn.Static index) is covers rows = static_gives index covers rows
+  call_gives (insn.Virtual index) is covers rows =
+      virtual_row p.outline s f.method (use_by p f.method (insn.Virtual index)) byte Q failures
+      (λ m n t it target used there seen fits_it selected. by_native (insn.Virtual index) rows _ target
+      (covers target (record { method = m; type = n; named = used; of = t; of_is = there; receiver = it; seen = seen; passes = fits_it; selected = selected })))
+  call_gives (insn.Interface index) is covers rows =
+      interface_row p.outline s f.method (use_by p f.method (insn.Interface index)) byte Q failures
+      (λ m n t it target used there seen implements selected. by_native (insn.Interface index) rows _ target
+      (covers target (record { method = m; type = n; named = used; of = t; of_is = there; receiver = it; seen = seen; passes = implements; selected = selected })))
+  call_gives (insn.Special index) is covers rows =
+      special_row p.outline s f.method (use_by p f.method (insn.Special index)) byte Q failures
+      (λ m n t target used there special. by_native (insn.Special index) rows _ target
+      (covers target (record { method = m; type = n; named = used; of = t; of_is = there; is = special })))
+  call_gives (insn.Static index) is covers rows =
+      static_row p.outline s f.method (use_by p f.method (insn.Static index)) byte Q failures
+      (λ m n t used there. by_native (insn.Static index) rows (words_of_arguments p.outline m.0) m.0
+      (covers m.0 (record { method = m; type = n; named = used; is = refl })))
   call_gives i is covers rows = absurd (false≢true is)
 
 -- ---- what a target gives

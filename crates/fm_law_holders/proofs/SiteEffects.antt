@@ -1,24 +1,26 @@
 -- What the effects of sites give, where they go on to the next item: the object that the step made, or nothing.
-use Rattle.std.proofs.Common.{◌≡◌, ℕ, ℤ, pos, int_lt, ◌||◌, Bool, true, false, List, [], ◌∷◌, reverse, Option, Some, None, codes, length, refl, sym}
+use Rattle.std.proofs.Common.{◌≡◌, ℕ, ℤ, pos, int_lt, Bool, true, false, List, [], ◌∷◌, reverse, Option, Some, None, codes, refl, sym, ◌∙◌, ap}
 use Rattle.std.specs.Prelude.{unsigned_abs}
 use Rattle.std.specs.List.{list_any, range_with_len}
 use Rattle.std.proofs.lemmas.Bool.{false≢true}
 use Rattle.fm_base.specs.declared.kinds.TypeRef.{TypeRef}
 use Rattle.fm_code.specs.declared.instructions.Insn.{Insn}
 use Rattle.fm_code.specs.declared.instructions.Insn.TheVariants as insn
-use Rattle.fm_types.specs.Named.{throwable_type}
+use Rattle.fm_types.specs.declared.slots.Slot.TheVariants as slot
 use Rattle.fm_world.specs.Programs.{Outline}
 use Rattle.fm_world.specs.Uses.{array_of}
 use Rattle.fm_world.specs.declared.uses.Use.{Use}
 use Rattle.fm_frames.specs.ArrayRows.{array_made, arrays_of, ints_at, multi_array_effect, new_array_effect, new_references_effect, thrown_negative}
-use Rattle.fm_frames.specs.Effects.{Effect, Falls, faulty, making, Make, OfMade, Source, stuck, words}
-use Rattle.fm_frames.specs.NativeRows as table
-use Rattle.fm_frames.specs.Natives.{Shown, Native, ObjectInit, ObjectHashCode, ObjectEquals, ObjectToString, StringLength, CharAt, StringEquals, StringHashCode, CompareTo, StringToString, Substring, ValueOf, BuilderInit, Append, BuilderLength, BuilderToString, BufferInitOf, Exit, Print, Println, PrintlnNothing, Read, ThrowableInit, ThrowableInitOf, GetMessage, ThrowableToString, FreeMeFree, FreeMeLink, FreeMeFreeChain}
+use Rattle.fm_frames.specs.Effects.{Effect, Falls, faulty, making, Make, OfMade, Source, stuck}
+use Rattle.fm_frames.specs.NativeRows.{native_effect}
+use Rattle.fm_frames.specs.Natives.{Append, FreeMeLink, GetMessage, Native, Shown, ShownLong, ShownText, StringToString}
 use Rattle.fm_frames.specs.Operands.{thrown}
 use Rattle.fm_frames.specs.Rows.{effect_of}
 use Rattle.fm_frames.specs.Sights.{Sight}
-use Rattle.fm_law_sound.proofs.Cases.{by_any, by_builder, by_built, by_held, by_if, by_inner, by_int, by_object, by_on_type, by_shown, by_text}
-use Rattle.fm_law_sound.specs.BuiltIns.{native_result, reference}
+use Rattle.fm_frames.proofs.Cases.{by_if, by_int, by_on_type}
+use Rattle.fm_frames.proofs.NativeCases.{is_int}
+use Rattle.fm_frames.proofs.UsualAsks.{each_native}
+use Rattle.fm_law_sound.specs.BuiltIns.{native_result, reference, returned_slots, shown_slots}
 use Rattle.fm_place.specs.Sites.{makes_array}
 
 -- where the effect goes on to the next item, it gives just this and writes no local
@@ -80,148 +82,62 @@ gives_operand GetMessage = true
 gives_operand FreeMeLink = true
 gives_operand row = false
 
-module _ (o : Outline) (byte : Option ℕ) (s : List Sight) where
-  abbrev Makes : Effect → Type 0
-  Makes e = GivesJust first_made e
+-- what a row gives where it goes on: nothing, an int, what it made, or what it had
+data Given (row : Native) (gives : List Source) : Type 0 where
+  NoWords : native_result row ≡ [] → gives ≡ [] → Given row gives
+  AnInt : native_result row ≡ slot.Int ∷ [] → Given row gives
+  AMade : native_result row ≡ reference ∷ [] → gives ≡ first_made → Given row gives
+  AnOld : native_result row ≡ reference ∷ [] → gives_operand row ≡ true → Given row gives
 
-  abbrev Nothing : Effect → Type 0
-  Nothing e = GivesJust [] e
+int_slots : (shown : Shown) → is_int shown ≡ true → shown_slots shown ≡ slot.Int ∷ []
+int_slots ShownLong is = absurd (false≢true is)
+int_slots ShownText is = absurd (false≢true is)
+int_slots shown is = refl
 
-  makes_null : Makes (thrown o (codes "java/lang/NullPointerException"))
-  makes_null = gives_thrown first_made o (codes "java/lang/NullPointerException")
+module _ (o : Outline) (byte : Option ℕ) (s : List Sight) (row : Native) where
+  abbrev Gives : Effect → Type 0
+  Gives e = e.next ≡ Falls → Given row e.gives × (e.writes ≡ [])
 
-  null_nothing : Nothing (thrown o (codes "java/lang/NullPointerException"))
-  null_nothing = gives_thrown [] o (codes "java/lang/NullPointerException")
-
-  -- ---- a result that is new
-
-  object_text_made : Makes (table.object_native o ObjectToString s)
-  unfolding table.object_native
-  object_text_made = by_any Makes o s 0 _ makes_null (gives_stuck first_made) (gives_fault first_made 0) (λ it seen falls. (refl, refl))
-
-  part_made : Makes (table.string_native o Substring s)
-  unfolding table.string_native
-  part_made =
-      by_text Makes o s 2 _ makes_null (gives_stuck first_made) (gives_fault first_made 2) (λ units.
-      by_int Makes s 1 _ (gives_stuck first_made) (λ begin. by_int Makes s 0 _ (gives_stuck first_made) (λ end.
-      by_if Makes (int_lt begin (pos 0) || int_lt end begin || int_lt (pos (length units)) end) (table.thrown_outside o) _
-      (λ out. gives_thrown first_made o (codes "java/lang/StringIndexOutOfBoundsException")) (λ within falls. (refl, refl)))))
-
-  value_made : (shown : Shown) → Makes (table.string_native o (ValueOf shown) s)
-  unfolding table.string_native
-  value_made shown = by_shown Makes o shown s _ (gives_stuck first_made) (gives_fault first_made 0) (λ units falls. (refl, refl))
-
-  built_made : Makes (table.builder_native o BuilderToString s)
-  unfolding table.builder_native
-  built_made =
-      by_built Makes o s 0 (λ units. making 1 (table.text_made o units)) makes_null (gives_stuck first_made) (gives_fault first_made 0) (λ falls. absurd (cc)) (λ units falls. (refl, refl))
-
-  throwable_text_made : Makes (table.throwable_native o ThrowableToString s)
-  unfolding table.throwable_native
-  throwable_text_made =
-      by_object Makes o (throwable_type o) s 0 _ makes_null (gives_stuck first_made) (gives_fault first_made 0) (λ it seen passes.
-      by_inner Makes o 0 it _ (gives_fault first_made 0) (λ falls. absurd (cc)) (λ message falls. (refl, refl)))
+  native_gives : Gives (native_effect o row byte s)
+  native_gives =
+      each_native o s Gives (record { raised = λ x falls. absurd (cc); none = λ falls. absurd (cc); lost = λ n falls. absurd (cc) })
+      (λ n it seen hides falls. absurd (cc)) row
+      (record {
+        nothing = λ n takes is falls. (NoWords (ap returned_slots is) refl, refl);
+        number = λ n shown int takes is z falls. (AnInt (ap returned_slots is ∙ int_slots shown int), refl);
+        same = λ n takes is falls. (AnInt (ap returned_slots is), refl);
+        text_given = λ n takes is units fit falls. (AMade (ap returned_slots is) refl, refl);
+        byte = λ n takes is z falls. (AnInt (ap returned_slots is), refl);
+        printed = λ n takes is bytes falls. (NoWords (ap returned_slots is) refl, refl);
+        exits = λ n takes z falls. absurd (cc);
+        outside = λ falls. absurd (cc);
+        begun = λ it seen hides takes is falls. (NoWords (ap returned_slots is) refl, refl);
+        text_put = λ n operand it seen hides takes is units fit falls. (NoWords (ap returned_slots is) refl, refl);
+        itself = λ is falls. (AnOld (ap native_result is) (ap gives_operand is), refl);
+        appended = λ shown is it seen builds units fit falls. (AnOld (ap native_result is) (ap gives_operand is), refl);
+        message_put = λ is it seen fits falls. (NoWords (ap native_result is) refl, refl);
+        message_given = λ is it seen fits falls. (AnOld (ap native_result is) (ap gives_operand is), refl);
+        freed = λ is it seen falls. (NoWords (ap native_result is) refl, refl);
+        unlinked = λ is falls. (AnOld (ap native_result is) (ap gives_operand is), refl);
+        linked = λ is it seen loose falls. (AnOld (ap native_result is) (ap gives_operand is), refl);
+        chain_freed = λ is falls. (NoWords (ap native_result is) refl, refl);
+      })
+      byte
 
   -- a row that gives a reference, and neither an operand nor what it led to, gives what it made
-  pub native_makes : (row : Native) → native_result row ≡ reference ∷ [] → gives_operand row ≡ false → Makes (table.native_effect o row byte s)
-  unfolding table.native_effect
-  native_makes ObjectToString result new = object_text_made
-  native_makes Substring result new = part_made
-  native_makes (ValueOf shown) result new = value_made shown
-  native_makes BuilderToString result new = built_made
-  native_makes ThrowableToString result new = throwable_text_made
-  native_makes StringToString result new = absurd (false≢true (sym new))
-  native_makes (Append shown) result new = absurd (false≢true (sym new))
-  native_makes GetMessage result new = absurd (false≢true (sym new))
-  native_makes FreeMeLink result new = absurd (false≢true (sym new))
-  native_makes ObjectInit result new = absurd (cc)
-  native_makes ObjectHashCode result new = absurd (cc)
-  native_makes ObjectEquals result new = absurd (cc)
-  native_makes StringLength result new = absurd (cc)
-  native_makes CharAt result new = absurd (cc)
-  native_makes StringEquals result new = absurd (cc)
-  native_makes StringHashCode result new = absurd (cc)
-  native_makes CompareTo result new = absurd (cc)
-  native_makes BuilderInit result new = absurd (cc)
-  native_makes BuilderLength result new = absurd (cc)
-  native_makes BufferInitOf result new = absurd (cc)
-  native_makes Exit result new = absurd (cc)
-  native_makes (Print shown) result new = absurd (cc)
-  native_makes (Println shown) result new = absurd (cc)
-  native_makes PrintlnNothing result new = absurd (cc)
-  native_makes Read result new = absurd (cc)
-  native_makes ThrowableInit result new = absurd (cc)
-  native_makes ThrowableInitOf result new = absurd (cc)
-  native_makes FreeMeFree result new = absurd (cc)
-  native_makes FreeMeFreeChain result new = absurd (cc)
-
-  -- ---- no result
-
-  builder_begun : Nothing (table.builder_native o BuilderInit s)
-  unfolding table.builder_native
-  builder_begun = by_builder Nothing o s 0 _ null_nothing (gives_stuck []) (gives_fault [] 0) (λ it falls. (refl, refl))
-
-  buffer_begun : Nothing (table.builder_native o BufferInitOf s)
-  unfolding table.builder_native
-  buffer_begun =
-      by_builder Nothing o s 1 _ null_nothing (gives_stuck []) (gives_fault [] 1) (λ it.
-      by_text Nothing o s 0 _ null_nothing (gives_stuck []) (gives_fault [] 0) (λ units falls. (refl, refl)))
-
-  exit_gives : Nothing (table.stream_native o Exit byte s)
-  unfolding table.stream_native
-  exit_gives = by_int Nothing s 0 _ (gives_stuck []) (λ n falls. absurd (cc))
-
-  print_gives : (shown : Shown) → Nothing (table.stream_native o (Print shown) byte s)
-  unfolding table.stream_native
-  print_gives shown = by_shown Nothing o shown s _ (gives_stuck []) (gives_fault [] 0) (λ units falls. (refl, refl))
-
-  println_gives : (shown : Shown) → Nothing (table.stream_native o (Println shown) byte s)
-  unfolding table.stream_native
-  println_gives shown = by_shown Nothing o shown s _ (gives_stuck []) (gives_fault [] 0) (λ units falls. (refl, refl))
-
-  throwable_begun : Nothing (table.throwable_native o ThrowableInit s)
-  unfolding table.throwable_native
-  throwable_begun =
-      by_object Nothing o (throwable_type o) s 0 _ null_nothing (gives_stuck []) (gives_fault [] 0) (λ it seen passes falls. (refl, refl))
-
-  message_begun : Nothing (table.throwable_native o ThrowableInitOf s)
-  unfolding table.throwable_native
-  message_begun =
-      by_object Nothing o (throwable_type o) s 1 _ null_nothing (gives_stuck []) (gives_fault [] 1) (λ it seen passes falls. (refl, refl))
-
-  free_gives : Nothing (table.free_native o FreeMeFree s)
-  unfolding table.free_native
-  free_gives = by_held Nothing (words 1 []) s 0 _ (λ falls. (refl, refl)) (gives_stuck []) (gives_fault [] 0) (λ it seen falls. (refl, refl))
+  pub native_makes : native_result row ≡ reference ∷ [] → gives_operand row ≡ false → GivesJust first_made (native_effect o row byte s)
+  native_makes result new falls = by_given (native_gives falls) where
+    by_given : {gives : List Source} {writes : List (ℕ × Source)} → Given row gives × (writes ≡ []) → (gives ≡ first_made) × (writes ≡ [])
+    by_given (AMade is made, none) = (made, none)
+    by_given (AnOld is old, none) = absurd (false≢true (sym new ∙ old))
+    by_given (AnInt is, none) = let same : slot.Int ∷ [] ≡ reference ∷ [] = sym is ∙ result in absurd (cc)
+    by_given (NoWords is empty, none) = let same : [] ≡ reference ∷ [] = sym is ∙ result in absurd (cc)
 
   -- a row without a result gives nothing
-  pub native_gives_nothing : (row : Native) → native_result row ≡ [] → Nothing (table.native_effect o row byte s)
-  unfolding table.native_effect table.object_native table.stream_native table.free_native
-  native_gives_nothing ObjectInit result = λ falls. (refl, refl)
-  native_gives_nothing BuilderInit result = builder_begun
-  native_gives_nothing BufferInitOf result = buffer_begun
-  native_gives_nothing Exit result = exit_gives
-  native_gives_nothing (Print shown) result = print_gives shown
-  native_gives_nothing (Println shown) result = println_gives shown
-  native_gives_nothing PrintlnNothing result = λ falls. (refl, refl)
-  native_gives_nothing ThrowableInit result = throwable_begun
-  native_gives_nothing ThrowableInitOf result = message_begun
-  native_gives_nothing FreeMeFree result = free_gives
-  native_gives_nothing FreeMeFreeChain result = λ falls. (refl, refl)
-  native_gives_nothing ObjectToString result = absurd (cc)
-  native_gives_nothing Substring result = absurd (cc)
-  native_gives_nothing (ValueOf shown) result = absurd (cc)
-  native_gives_nothing BuilderToString result = absurd (cc)
-  native_gives_nothing ThrowableToString result = absurd (cc)
-  native_gives_nothing StringToString result = absurd (cc)
-  native_gives_nothing (Append shown) result = absurd (cc)
-  native_gives_nothing GetMessage result = absurd (cc)
-  native_gives_nothing FreeMeLink result = absurd (cc)
-  native_gives_nothing ObjectHashCode result = absurd (cc)
-  native_gives_nothing ObjectEquals result = absurd (cc)
-  native_gives_nothing StringLength result = absurd (cc)
-  native_gives_nothing CharAt result = absurd (cc)
-  native_gives_nothing StringEquals result = absurd (cc)
-  native_gives_nothing StringHashCode result = absurd (cc)
-  native_gives_nothing CompareTo result = absurd (cc)
-  native_gives_nothing BuilderLength result = absurd (cc)
-  native_gives_nothing Read result = absurd (cc)
+  pub native_gives_nothing : native_result row ≡ [] → GivesJust [] (native_effect o row byte s)
+  native_gives_nothing result falls = by_given (native_gives falls) where
+    by_given : {gives : List Source} {writes : List (ℕ × Source)} → Given row gives × (writes ≡ []) → (gives ≡ []) × (writes ≡ [])
+    by_given (NoWords is empty, none) = (empty, none)
+    by_given (AnInt is, none) = let same : slot.Int ∷ [] ≡ [] = sym is ∙ result in absurd (cc)
+    by_given (AMade is made, none) = let same : reference ∷ [] ≡ [] = sym is ∙ result in absurd (cc)
+    by_given (AnOld is old, none) = let same : reference ∷ [] ≡ [] = sym is ∙ result in absurd (cc)
