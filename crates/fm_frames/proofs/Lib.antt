@@ -36,3 +36,4 @@ pub mod EachInsn
 pub mod EachCall
 pub mod UsualAsks
 pub mod EachRow
+pub mod NativeWords

@@ -1,6 +1,6 @@
 -- The rows of built-in methods: what they give or keep is joined through the ends that they link, and a new text's home is the word that it becomes, or the
 -- object that it is put into.
-use Rattle.std.proofs.Common.{◌≡◌, ℕ, ℤ, pos, int_lt, not, ◌||◌, zero, suc, ◌+◌, ◌-◌, ◌≤◌, ◌==◌, ◌&&◌, Bool, true, false, List, [], ◌∷◌, ◌++◌, length, Option, Some, None, codes, cond, Contains, refl, sym, ◌∙◌, ap, subst, inl, inr, slice_get, arith, eqb-true}
+use Rattle.std.proofs.Common.{◌≡◌, ℕ, not, ◌||◌, zero, suc, ◌+◌, ◌-◌, ◌≤◌, ◌==◌, ◌&&◌, Bool, true, false, List, [], ◌∷◌, length, Option, Some, cond, Contains, refl, sym, ◌∙◌, ap, subst, inl, inr, slice_get, arith, eqb-true}
 use Rattle.std.proofs.lemmas.Bool.{and_parts}
 use Rattle.std.proofs.lemmas.Option.{same_Some}
 use Rattle.fm_base.proofs.OptionFacts.{IsSomeAnd-from_some}
@@ -17,25 +17,25 @@ use Rattle.fm_world.specs.BuiltIns.{built_in}
 use Rattle.fm_world.specs.Chains.{chain_of}
 use Rattle.fm_world.specs.Members.{method_at, methods_of}
 use Rattle.fm_world.specs.Programs.{Program}
-use Rattle.fm_frames.specs.Effects.{Put, Effect, OfMade, OfOperand, OfPlace, Plain, acting, Exits, faulty, Faults, going, int_word, making, printing, stuck, words}
+use Rattle.fm_frames.specs.Effects.{Put, Effect, OfMade, OfOperand, OfPlace, Plain, acting, Exits, Faults, going, int_word, making, printing, words}
 use Rattle.fm_frames.specs.NativeRows as table
-use Rattle.fm_frames.specs.Natives.{Shown, ShownInt, ShownLong, ShownChar, ShownBoolean, ShownText, Native, ObjectInit, ObjectHashCode, ObjectEquals, ObjectToString, StringLength, CharAt, StringEquals, StringHashCode, CompareTo, StringToString, Substring, ValueOf, BuilderInit, Append, BuilderLength, BuilderToString, BufferInitOf, Exit, Print, Println, PrintlnNothing, Read, ThrowableInit, ThrowableInitOf, GetMessage, ThrowableToString, FreeMeFree, FreeMeLink, FreeMeFreeChain, natives, native_of_row}
+use Rattle.fm_frames.specs.Natives.{Append, FreeMeFree, FreeMeFreeChain, FreeMeLink, GetMessage, Native, native_of_row, natives, Shown, ShownBoolean, ShownChar, ShownInt, ShownLong, ShownText, StringToString, ThrowableInitOf}
 use Rattle.fm_frames.specs.States.{Frame}
 use Rattle.fm_frames.specs.Effects.{SameOperands, Source}
 use Rattle.fm_conn.specs.Pairs.{depth_below}
 use Rattle.std.specs.List.{AllByRecursion}
 use Rattle.fm_frames.specs.States.{null}
-use Rattle.fm_frames.specs.Operands.{on_int, on_text, thrown_null}
 use Rattle.fm_frames.specs.Sights.{Sight}
-use Rattle.fm_types.specs.Named.{throwable_type}
-use Rattle.fm_law_sound.proofs.Cases.{by_any, by_builder, by_built, by_held, by_if, by_inner, by_int, by_object, by_shown, by_text}
-use Rattle.fm_same.specs.Covering.{CallsNative, native_words}
+use Rattle.fm_frames.proofs.Failures.{Failures, name_of, TextOutside}
+use Rattle.fm_frames.proofs.NativeCases.{NativeLeaves, Takes}
+use Rattle.fm_frames.proofs.UsualAsks.{Any, each_native}
+use Rattle.fm_same.specs.Covering.{CallsNative, native_words, NativeEnds}
 use Rattle.fm_same.specs.Evenness.{EndsEvenly, given, LeadsRight, word}
 use Rattle.fm_same.proofs.EdgesKeep.{call_falls, call_keeps, call_no_targets}
 use Rattle.fm_same.proofs.ItemFacts.{AtInsn, depth_level, goes_obey, pair_at, point, x}
 use Rattle.fm_same.proofs.MoveRows.{given_stands, gives_one}
 use Rattle.fm_same.proofs.ObjectRows.{home_of, only_next}
-use Rattle.fm_same.proofs.PlainRows.{fault_obeys, faulty_obeys, IsPlainSource, null_obeys, Owes, plain_obeys, stuck_obeys, thrown_obeys, words_obey}
+use Rattle.fm_same.proofs.PlainRows.{fault_obeys, faulty_obeys, IsPlainSource, Owes, plain_obeys, stuck_obeys, thrown_obeys, words_obey}
 
 -- ---- rows by number
 
@@ -227,231 +227,111 @@ module _ (p : Program) (facts : Facts) (exact : AreFacts p facts) (f : Frame) (i
       (λ next edge there node. receiver_given e home next n edge refl place place result receiver link there node))
       tt (λ k unwritten. keeps k) (omega (arith, taken, place))
 
-  -- ---- what rows require of operands
+  -- ---- how rows end
 
-  nulls : Row (thrown_null p.outline)
-  nulls = null_obeys p facts exact f i h keeps
+  failures : Failures p.outline Row
+  failures = record {
+    raised = λ name. thrown_obeys p facts exact f i h keeps (name_of name);
+    none = stuck_obeys p facts exact f i h;
+    lost = λ n. faulty_obeys p facts exact f i h n;
+  }
 
-  stucks : Row stuck
-  stucks = stuck_obeys p facts exact f i h
+  lost_inside : (n : ℕ) → Row (going 0 (Faults (OfPlace n 0 (table.text_kind p.outline))))
+  lost_inside n = fault_obeys p facts exact f i h 0 (OfPlace n 0 (table.text_kind p.outline))
 
-  gone : (n : ℕ) → Row (faulty n)
-  gone n = faulty_obeys p facts exact f i h n
+  enough : (n : ℕ) → Takes row n → native_words row ≤ n
+  enough n takes = omega (arith, takes)
 
-  lost : (n : ℕ) → Row (going 0 (Faults (OfPlace n 0 (table.text_kind p.outline))))
-  lost n = fault_obeys p facts exact f i h 0 (OfPlace n 0 (table.text_kind p.outline))
+  -- ---- what only one row does
 
-  outside : Row (table.thrown_outside p.outline)
-  outside = thrown_obeys p facts exact f i h keeps (codes "java/lang/StringIndexOutOfBoundsException")
+  ends_of : (one : Native) → row ≡ one → NativeEnds p.outline target one
+  ends_of one is = subst (λ r. NativeEnds p.outline target r) is c.ends
 
-  on_text_of : (s : List Sight) (n : ℕ) (k : List ℕ → Effect) → ((units : List ℕ) → Row (k units)) → Row (on_text p.outline s n k)
-  on_text_of s n k some = by_text Row p.outline s n k nulls stucks (gone n) some
+  link_of : (one : Native) → row ≡ one → same_linking one one ≡ true → (a b : End2) → IsNativeLink (place_of one) a b → IsNativeLink c.number a b
+  link_of one is links a b link =
+      subst (λ n. IsNativeLink n a b) (sym (number_of c.number one links (c.row_is ∙ ap Some is))) link
 
-  on_int_of : (s : List Sight) (n : ℕ) (k : ℤ → Effect) → ((z : ℤ) → Row (k z)) → Row (on_int s n k)
-  on_int_of s n k some = by_int Row s n k stucks some
-
-  on_shown_of : (shown : Shown) (s : List Sight) (k : List ℕ → Effect) → ((units : List ℕ) → Row (k units)) → Row (table.on_shown p.outline shown s k)
-  on_shown_of shown s k some = by_shown Row p.outline shown s k stucks (gone 0) some
-
-  on_built_of : (s : List Sight) (n : ℕ) (k : List ℕ → Effect) → ((units : List ℕ) → Row (k units)) → Row (table.on_built p.outline s n k)
-  on_built_of s n k some = by_built Row p.outline s n k nulls stucks (gone n) (lost n) some
-
-  -- ---- rows of objects and texts
-
-  object_rows : (s : List Sight) → native_words row ≤ 1 → Row (table.object_native p.outline ObjectHashCode s)
-  unfolding table.object_native
-  object_rows s le = by_any Row p.outline s 0 _ nulls stucks (gone 0) (λ it seen. words_of 1 _ le (tt, tt))
-
-  to_string_rows : (s : List Sight) → native_words row ≤ 1 → Row (table.object_native p.outline ObjectToString s)
-  unfolding table.object_native
-  to_string_rows s le = by_any Row p.outline s 0 _ nulls stucks (gone 0) (λ it seen. text_of 1 _ le)
-
-  length_rows : (s : List Sight) → native_words row ≤ 1 → Row (table.string_native p.outline StringLength s)
-  unfolding table.string_native
-  length_rows s le = on_text_of s 0 _ (λ units. words_of 1 _ le (tt, tt))
-
-  char_rows : (s : List Sight) → native_words row ≤ 2 → Row (table.string_native p.outline CharAt s)
-  unfolding table.string_native
-  char_rows s le =
-      on_text_of s 1 _ (λ units. on_int_of s 0 _ (λ n.
-      by_if Row (int_lt n (pos 0) || not (int_lt n (pos (length units)))) (table.thrown_outside p.outline) _ (λ out. outside)
-      (λ within. words_of 2 _ le (tt, tt))))
-
-  equals_rows : (s : List Sight) → native_words row ≤ 2 → Row (table.string_native p.outline StringEquals s)
-  unfolding table.string_native
-  equals_rows s le =
-      on_text_of s 1 _ (λ units. by_held Row _ s 0 _ (words_of 2 _ le (tt, tt)) stucks (gone 0) (λ it seen. words_of 2 _ le (tt, tt)))
-
-  hash_rows : (s : List Sight) → native_words row ≤ 1 → Row (table.string_native p.outline StringHashCode s)
-  unfolding table.string_native
-  hash_rows s le = on_text_of s 0 _ (λ units. words_of 1 _ le (tt, tt))
-
-  compare_rows : (s : List Sight) → native_words row ≤ 2 → Row (table.string_native p.outline CompareTo s)
-  unfolding table.string_native
-  compare_rows s le = on_text_of s 1 _ (λ units. on_text_of s 0 _ (λ others. words_of 2 _ le (tt, tt)))
-
-  self_rows : (s : List Sight) → 1 ≡ native_words row → IsEnd p.outline target end.Return → IsEnd p.outline target (end.Parameter 0)
-      → IsNativeLink c.number end.Return (end.Parameter 0) → Row (table.string_native p.outline StringToString s)
-  unfolding table.string_native
-  self_rows s one result receiver link =
+  itself_given : row ≡ StringToString → Row (words 1 (OfOperand 0 ∷ []))
+  itself_given is =
       let taken = c.words in
-      on_text_of s 0 _ (λ units.
+      let one : 1 ≡ native_words row = sym (ap native_words is) in
+      let ends = ends_of StringToString is in
       let e : Effect = words 1 (OfOperand 0 ∷ []) in
       goes_obey p facts exact f i h e 0 tt falls tt
       (gives_one p facts exact f i h e 0 (OfOperand 0) refl
-      (λ next edge there node. receiver_given e 0 next 0 edge refl one (omega (arith, one)) result receiver link there node))
-      tt (λ k unwritten. keeps k) (omega (arith, taken, one)))
+      (λ next edge there node. receiver_given e 0 next 0 edge refl one (omega (arith, one)) ends.0 ends.1
+      (link_of StringToString is refl end.Return (end.Parameter 0) to_string_link) there node))
+      tt (λ k unwritten. keeps k) (omega (arith, taken, one))
 
-  part_rows : (s : List Sight) → native_words row ≤ 3 → Row (table.string_native p.outline Substring s)
-  unfolding table.string_native
-  part_rows s le =
-      on_text_of s 2 _ (λ units. on_int_of s 1 _ (λ begin. on_int_of s 0 _ (λ end.
-      by_if Row (int_lt begin (pos 0) || int_lt end begin || int_lt (pos (length units)) end) (table.thrown_outside p.outline) _ (λ out. outside)
-      (λ within. text_of 3 _ le))))
+  message_given : row ≡ GetMessage → Row (words 1 (OfPlace 0 0 (table.text_kind p.outline) ∷ []))
+  message_given is =
+      let taken = c.words in
+      let one : 1 ≡ native_words row = sym (ap native_words is) in
+      let ends = ends_of GetMessage is in
+      let e : Effect = words 1 (OfPlace 0 0 (table.text_kind p.outline) ∷ []) in
+      goes_obey p facts exact f i h e 0 tt falls tt
+      (gives_one p facts exact f i h e 0 (OfPlace 0 0 (table.text_kind p.outline)) refl
+      (λ next edge there node. receiver_given e 0 next 0 edge refl one (omega (arith, one)) ends.0 ends.1
+      (link_of GetMessage is refl end.Return (end.Parameter 0) get_message_link) there node))
+      tt (λ k unwritten. keeps k) (omega (arith, taken, one))
 
-  value_rows : (shown : Shown) (s : List Sight) → native_words row ≤ table.shown_words shown → Row (table.string_native p.outline (ValueOf shown) s)
-  unfolding table.string_native
-  value_rows shown s le = on_shown_of shown s _ (λ units. text_of (table.shown_words shown) units le)
+  appended : (shown : Shown) → row ≡ Append shown → (units : List ℕ)
+      → Row (record (acting (table.shown_words shown + 1) (table.has_text p.outline (table.shown_words shown) units)) { gives = OfOperand (table.shown_words shown) ∷ [] })
+  appended shown is units =
+      let ends = ends_of (Append shown) is in
+      append_put (table.shown_words shown) units (sym (ap native_words is)) ends.0 ends.1
+      (link_of (Append shown) is (itself shown) end.Return (end.Parameter 0) (append_link shown))
 
-  -- ---- rows of builders, streams and throwables
-
-  builder_init_rows : (s : List Sight) → native_words row ≤ 1 → Row (table.builder_native p.outline BuilderInit s)
-  unfolding table.builder_native
-  builder_init_rows s le = by_builder Row p.outline s 0 _ nulls stucks (gone 0) (λ it. null_put 1 le)
-
-  append_rows : (shown : Shown) (s : List Sight) → table.shown_words shown + 1 ≡ native_words row → IsEnd p.outline target end.Return
-      → IsEnd p.outline target (end.Parameter 0) → IsNativeLink c.number end.Return (end.Parameter 0)
-      → Row (table.builder_native p.outline (Append shown) s)
-  unfolding table.builder_native
-  append_rows shown s place result receiver link =
-      on_built_of s (table.shown_words shown) _ (λ units. on_shown_of shown s _ (λ added.
-      append_put (table.shown_words shown) (units ++ added) place result receiver link))
-
-  builder_length_rows : (s : List Sight) → native_words row ≤ 1 → Row (table.builder_native p.outline BuilderLength s)
-  unfolding table.builder_native
-  builder_length_rows s le = on_built_of s 0 _ (λ units. words_of 1 (int_word (pos (length units))) le (tt, tt))
-
-  builder_string_rows : (s : List Sight) → native_words row ≤ 1 → Row (table.builder_native p.outline BuilderToString s)
-  unfolding table.builder_native
-  builder_string_rows s le = on_built_of s 0 _ (λ units. text_of 1 units le)
-
-  buffer_init_rows : (s : List Sight) → native_words row ≤ 2 → Row (table.builder_native p.outline BufferInitOf s)
-  unfolding table.builder_native
-  buffer_init_rows s le = by_builder Row p.outline s 1 _ nulls stucks (gone 1) (λ it. on_text_of s 0 _ (λ units. text_put 2 1 units le))
-
-  exit_rows : (byte : Option ℕ) (s : List Sight) → native_words row ≤ 1 → Row (table.stream_native p.outline Exit byte s)
-  unfolding table.stream_native
-  exit_rows byte s le = on_int_of s 0 _ (λ n. plain_of (going 1 (Exits n)) refl refl tt tt tt le)
-
-  print_rows : (shown : Shown) (byte : Option ℕ) (s : List Sight) → native_words row ≤ table.shown_words shown + 1
-      → Row (table.stream_native p.outline (Print shown) byte s)
-  unfolding table.stream_native
-  print_rows shown byte s le = on_shown_of shown s _ (λ units. plain_of (printing (table.shown_words shown + 1) _) refl refl tt falls tt le)
-
-  println_rows : (shown : Shown) (byte : Option ℕ) (s : List Sight) → native_words row ≤ table.shown_words shown + 1
-      → Row (table.stream_native p.outline (Println shown) byte s)
-  unfolding table.stream_native
-  println_rows shown byte s le = on_shown_of shown s _ (λ units. plain_of (printing (table.shown_words shown + 1) _) refl refl tt falls tt le)
-
-  line_rows : (byte : Option ℕ) (s : List Sight) → native_words row ≤ 1 → Row (table.stream_native p.outline PrintlnNothing byte s)
-  unfolding table.stream_native
-  line_rows byte s le = plain_of (printing 1 _) refl refl tt falls tt le
-
-  read_rows : (byte : Option ℕ) (s : List Sight) → native_words row ≤ 1 → Row (table.stream_native p.outline Read byte s)
-  unfolding table.stream_native
-  read_rows None s le = words_of 1 _ le (tt, tt)
-  read_rows (Some byte) s le = plain_of (record (words 1 (int_word (pos byte))) { reads = true }) refl refl (tt, tt) falls tt le
-
-  throwable_init_rows : (s : List Sight) → native_words row ≤ 1 → Row (table.throwable_native p.outline ThrowableInit s)
-  unfolding table.throwable_native
-  throwable_init_rows s le =
-      by_object Row p.outline (throwable_type p.outline) s 0 _ nulls stucks (gone 0) (λ it seen passes. null_put 1 le)
-
-  message_rows : (s : List Sight) → 2 ≡ native_words row → IsEnd p.outline target (end.Parameter 0) → IsEnd p.outline target (end.Parameter 1)
-      → IsNativeLink c.number (end.Parameter 0) (end.Parameter 1) → Row (table.throwable_native p.outline ThrowableInitOf s)
-  unfolding table.throwable_native
-  message_rows s two receiver message link =
+  message_put : row ≡ ThrowableInitOf → Row (acting 2 (Put (OfOperand 1) 0 (table.text_kind p.outline) (OfOperand 0) ∷ []))
+  message_put is =
       let taken = c.words in
       let deep = c.deep in
+      let two : 2 ≡ native_words row = sym (ap native_words is) in
+      let ends = ends_of ThrowableInitOf is in
       let level : length f.stack - native_words row + 1 ≡ length f.stack - 1 - 0 = omega (arith, two) in
       let node : IsNode (x p facts exact f i h) (word (point p facts exact f i h) 0) =
-      subst (λ d. IsNode (x p facts exact f i h) (Slot f.item d)) level (c.arguments 1 message) in
-      by_object Row p.outline (throwable_type p.outline) s 1 _ nulls stucks (gone 1)
-      (λ it seen passes. goes_obey p facts exact f i h (acting 2 (Put (OfOperand 1) 0 (table.text_kind p.outline) (OfOperand 0) ∷ [])) 0 (
+      subst (λ d. IsNode (x p facts exact f i h) (Slot f.item d)) level (c.arguments 1 ends.1) in
+      goes_obey p facts exact f i h (acting 2 (Put (OfOperand 1) 0 (table.text_kind p.outline) (OfOperand 0) ∷ [])) 0 (
         (
           facts.class f.method (word (point p facts exact f i h) 0),
           tt,
-          (λ there. native_class (end.Parameter 0) (end.Parameter 1) (word (point p facts exact f i h) 1) (word (point p facts exact f i h) 0) receiver message link
+          (λ there. native_class (end.Parameter 0) (end.Parameter 1) (word (point p facts exact f i h) 1) (word (point p facts exact f i h) 0) ends.0 ends.1
+              (link_of ThrowableInitOf is refl (end.Parameter 0) (end.Parameter 1) message_link)
               (parameter_word 1 0 (omega (arith, two))) (parameter_word 0 1 (omega (arith, two))) there node),
           (λ there. refl),
           (node, omega (arith, two)),
         ),
         tt,
       )
-      falls tt (λ next edge q s at there. absurd (cc)) tt (λ k unwritten. keeps k) (omega (arith, taken, two)))
+      falls tt (λ next edge q s at there. absurd (cc)) tt (λ k unwritten. keeps k) (omega (arith, taken, two))
 
-  get_message_rows : (s : List Sight) → 1 ≡ native_words row → IsEnd p.outline target end.Return → IsEnd p.outline target (end.Parameter 0)
-      → IsNativeLink c.number end.Return (end.Parameter 0) → Row (table.throwable_native p.outline GetMessage s)
-  unfolding table.throwable_native
-  get_message_rows s one result receiver link =
-      let taken = c.words in
-      by_object Row p.outline (throwable_type p.outline) s 0 _ nulls stucks (gone 0)
-      (λ it seen passes.
-      let e : Effect = words 1 (OfPlace 0 0 (table.text_kind p.outline) ∷ []) in
-      goes_obey p facts exact f i h e 0 tt falls tt
-      (gives_one p facts exact f i h e 0 (OfPlace 0 0 (table.text_kind p.outline)) refl
-      (λ next edge there node. receiver_given e 0 next 0 edge refl one (omega (arith, one)) result receiver link there node))
-      tt (λ k unwritten. keeps k) (omega (arith, taken, one)))
+  -- ---- all rows: those of FreeMe have no ends
 
-  throwable_string_rows : (s : List Sight) → native_words row ≤ 1 → Row (table.throwable_native p.outline ThrowableToString s)
-  unfolding table.throwable_native
-  throwable_string_rows s le =
-      by_object Row p.outline (throwable_type p.outline) s 0 _ nulls stucks (gone 0)
-      (λ it seen passes. by_inner Row p.outline 0 it _ (gone 0) (lost 0) (λ message. text_of 1 _ le))
-
--- ---- all rows
-
-link_at : (number place : ℕ) (a b : End2) → number ≡ place → IsNativeLink place a b → IsNativeLink number a b
-link_at number place a b is link = subst (λ n. IsNativeLink n a b) (sym is) link
+  leaves : (s : List Sight) → NativeLeaves p.outline s row Any Row
+  leaves s = record {
+    nothing = λ n takes returns. words_of n [] (enough n takes) tt;
+    number = λ n shown is takes returns z. words_of n (int_word z) (enough n takes) (tt, tt);
+    same = λ n takes returns. words_of n (SameOperands ∷ []) (enough n takes) (tt, tt);
+    text_given = λ n takes returns units fit. text_of n units (enough n takes);
+    byte = λ n takes returns z. plain_of (record (words n (int_word z)) { reads = true }) refl refl (tt, tt) falls tt (enough n takes);
+    printed = λ n takes returns bytes. plain_of (printing n bytes) refl refl tt falls tt (enough n takes);
+    exits = λ n takes z. plain_of (going n (Exits z)) refl refl tt tt tt (enough n takes);
+    outside = failures.raised TextOutside;
+    begun = λ it seen hides takes returns. null_put 1 (enough 1 takes);
+    text_put = λ n operand it seen hides takes returns units fit. text_put n operand units (enough n takes);
+    itself = λ is. itself_given is;
+    appended = λ shown is it seen builds units fit. appended shown is units;
+    message_put = λ is it seen may. message_put is;
+    message_given = λ is it seen may. message_given is;
+    freed = λ is it seen. absurd (ends_of FreeMeFree is);
+    unlinked = λ is. absurd (ends_of FreeMeLink is);
+    linked = λ is it seen loose. absurd (ends_of FreeMeLink is);
+    chain_freed = λ is. absurd (ends_of FreeMeFreeChain is);
+  }
 
 module _ (p : Program) (facts : Facts) (exact : AreFacts p facts) (f : Frame) (i : Insn) (h : AtInsn p facts f i) (target : ℕ) where
   pub native_obeys : (row : Native) (c : CallsNative p facts f h.code i target row) (byte : Option ℕ) (s : List Sight)
       → Owes p facts exact f i h (table.native_effect p.outline row byte s)
-  unfolding table.native_effect table.object_native
-  native_obeys ObjectInit c byte s = words_of p facts exact f i h target ObjectInit c 1 [] (omega arith) tt
-  native_obeys ObjectHashCode c byte s = object_rows p facts exact f i h target ObjectHashCode c s (omega arith)
-  native_obeys ObjectEquals c byte s = words_of p facts exact f i h target ObjectEquals c 2 (SameOperands ∷ []) (omega arith) (tt, tt)
-  native_obeys ObjectToString c byte s = to_string_rows p facts exact f i h target ObjectToString c s (omega arith)
-  native_obeys StringLength c byte s = length_rows p facts exact f i h target StringLength c s (omega arith)
-  native_obeys CharAt c byte s = char_rows p facts exact f i h target CharAt c s (omega arith)
-  native_obeys StringEquals c byte s = equals_rows p facts exact f i h target StringEquals c s (omega arith)
-  native_obeys StringHashCode c byte s = hash_rows p facts exact f i h target StringHashCode c s (omega arith)
-  native_obeys CompareTo c byte s = compare_rows p facts exact f i h target CompareTo c s (omega arith)
-  native_obeys StringToString c byte s =
-      self_rows p facts exact f i h target StringToString c s refl c.ends.0 c.ends.1
-      (link_at c.number (place_of StringToString) end.Return (end.Parameter 0) (number_of c.number StringToString refl c.row_is) to_string_link)
-  native_obeys Substring c byte s = part_rows p facts exact f i h target Substring c s (omega arith)
-  native_obeys (ValueOf shown) c byte s = value_rows p facts exact f i h target (ValueOf shown) c shown s (omega arith)
-  native_obeys BuilderInit c byte s = builder_init_rows p facts exact f i h target BuilderInit c s (omega arith)
-  native_obeys (Append shown) c byte s =
-      append_rows p facts exact f i h target (Append shown) c shown s refl c.ends.0 c.ends.1
-      (link_at c.number (place_of (Append shown)) end.Return (end.Parameter 0) (number_of c.number (Append shown) (itself shown) c.row_is) (append_link shown))
-  native_obeys BuilderLength c byte s = builder_length_rows p facts exact f i h target BuilderLength c s (omega arith)
-  native_obeys BuilderToString c byte s = builder_string_rows p facts exact f i h target BuilderToString c s (omega arith)
-  native_obeys BufferInitOf c byte s = buffer_init_rows p facts exact f i h target BufferInitOf c s (omega arith)
-  native_obeys Exit c byte s = exit_rows p facts exact f i h target Exit c byte s (omega arith)
-  native_obeys (Print shown) c byte s = print_rows p facts exact f i h target (Print shown) c shown byte s (omega arith)
-  native_obeys (Println shown) c byte s = println_rows p facts exact f i h target (Println shown) c shown byte s (omega arith)
-  native_obeys PrintlnNothing c byte s = line_rows p facts exact f i h target PrintlnNothing c byte s (omega arith)
-  native_obeys Read c byte s = read_rows p facts exact f i h target Read c byte s (omega arith)
-  native_obeys ThrowableInit c byte s = throwable_init_rows p facts exact f i h target ThrowableInit c s (omega arith)
-  native_obeys ThrowableInitOf c byte s =
-      message_rows p facts exact f i h target ThrowableInitOf c s refl c.ends.0 c.ends.1
-      (link_at c.number (place_of ThrowableInitOf) (end.Parameter 0) (end.Parameter 1) (number_of c.number ThrowableInitOf refl c.row_is) message_link)
-  native_obeys GetMessage c byte s =
-      get_message_rows p facts exact f i h target GetMessage c s refl c.ends.0 c.ends.1
-      (link_at c.number (place_of GetMessage) end.Return (end.Parameter 0) (number_of c.number GetMessage refl c.row_is) get_message_link)
-  native_obeys ThrowableToString c byte s = throwable_string_rows p facts exact f i h target ThrowableToString c s (omega arith)
-  native_obeys FreeMeFree c byte s = absurd c.ends
-  native_obeys FreeMeLink c byte s = absurd c.ends
-  native_obeys FreeMeFreeChain c byte s = absurd c.ends
+  native_obeys row c byte s =
+      each_native p.outline s (Row p facts exact f i h target row c) (failures p facts exact f i h target row c)
+      (λ n it seen hides. lost_inside p facts exact f i h target row c n) row (leaves p facts exact f i h target row c s) byte
