@@ -141,14 +141,15 @@ pub record InsnLeaves (o : Outline) (s : List Sight) (method : ℕ) (i : Insn) (
       → is_array_of e it.type ≡ true → A (put_element (element_words e) it place)
   pub calls : IsCall i → CallRows o s method u byte A
 
-loaded_named : (i : Insn) (k : Kind) (source : Source) → IsNamed i source → AllByRecursion (IsNamed i) (loaded k source)
-loaded_named i kind.Long source named = (tt, (named, tt))
-loaded_named i kind.Boolean source named = (named, tt)
-loaded_named i kind.Byte source named = (named, tt)
-loaded_named i kind.Char source named = (named, tt)
-loaded_named i kind.Short source named = (named, tt)
-loaded_named i kind.Int source named = (named, tt)
-loaded_named i (kind.Ref t) source named = (named, tt)
+-- what holds of a value, and of the second half of a long, holds of the words of a value of each kind
+pub loaded_all : (P : Source → Type 0) → P (Plain value.Top) → (k : Kind) (source : Source) → P source → AllByRecursion P (loaded k source)
+loaded_all P half kind.Long source holds = (half, (holds, tt))
+loaded_all P half kind.Boolean source holds = (holds, tt)
+loaded_all P half kind.Byte source holds = (holds, tt)
+loaded_all P half kind.Char source holds = (holds, tt)
+loaded_all P half kind.Short source holds = (holds, tt)
+loaded_all P half kind.Int source holds = (holds, tt)
+loaded_all P half (kind.Ref t) source holds = (holds, tt)
 
 module _ (o : Outline) (s : List Sight) (method : ℕ) (byte : Option ℕ) (A : Effect → Type 0) where
   abbrev L : Insn → Use → Type 0
@@ -238,7 +239,7 @@ module _ (o : Outline) (s : List Sight) (method : ℕ) (byte : Option ℕ) (A : 
         by_on_field A o u _ l.failures.none
         (λ f n t used at. l.plain (objects.starting (objects.class_of_field o f.0) (words 0 []))
         (loaded (objects.kind_of_field o f.0) (OfStatic (slot_of o.classes f.0))) []
-        (loaded_named i (objects.kind_of_field o f.0) (OfStatic (slot_of o.classes f.0)) tt) tt)
+        (loaded_all (IsNamed i) tt (objects.kind_of_field o f.0) (OfStatic (slot_of o.classes f.0)) tt) tt)
 
     put_static_row : (index : ℕ) → i ≡ insn.PutStatic index → A (objects.put_static_effect o u)
     unfolding objects.put_static_effect

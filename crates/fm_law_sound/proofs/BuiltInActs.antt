@@ -1,5 +1,5 @@
 -- The actions of the built-in methods fit: the texts that they make are of 16-bit units, and go where texts are kept.
-use Rattle.std.proofs.Common.{◌≡◌, inl, inr, ℕ, zero, suc, ◌^◌, ◌<◌, cond, Bool, true, false, List, [], ◌∷◌, length, take, Option, Some, None, codes, refl, sym, ◌∙◌, ap, subst, slice_get, slice_index_or, arith}
+use Rattle.std.proofs.Common.{◌≡◌, ℕ, zero, suc, ◌^◌, ◌<◌, cond, Bool, true, false, List, [], ◌∷◌, length, take, Option, Some, None, codes, refl, sym, ◌∙◌, ap, subst, slice_get, slice_index_or, arith}
 use Rattle.std.proofs.lemmas.Option.{slice_get-get_or}
 use Rattle.fm_alu.proofs.TwosComplementLemmas.{low_bits-lt}
 use Rattle.fm_cells.specs.Objects.{Object}
@@ -15,7 +15,7 @@ use Rattle.fm_frames.specs.Sights.{led_to, Looks, looks, Lost, NoField, Sight, s
 use Rattle.fm_frames.specs.States.{Frame, word_at}
 use Rattle.fm_frames.specs.declared.values.Value.{Value}
 use Rattle.fm_frames.proofs.Failures.{TextOutside}
-use Rattle.fm_frames.proofs.NativeCases.{HidesText, IsAt, KeepsUnits, native_cases}
+use Rattle.fm_frames.proofs.NativeCases.{IsAt, KeepsUnits, native_cases}
 use Rattle.fm_frames.proofs.UsualAsks.{SeesUnits, usual_asks}
 use Rattle.fm_law_sound.specs.Acting.{ActsFit, PlaceFits}
 use Rattle.fm_law_sound.specs.BuiltIns.{native_slots}
@@ -23,6 +23,7 @@ use Rattle.fm_law_sound.specs.Making.{AreFew, AreUnits, HaveTextFirst, HoldsObje
 use Rattle.fm_law_sound.specs.Sound.{HaveKinds, IsObjectIn}
 use Rattle.fm_law_sound.proofs.BuiltInRows.{two_references}
 use Rattle.fm_law_sound.proofs.InsnActs.{failures, Fits, quiet}
+use Rattle.fm_law_sound.proofs.KindsAgree.{hidden_place}
 use Rattle.fm_law_sound.proofs.MadeObjects.{length_few, no_text, text_fits}
 use Rattle.fm_law_sound.proofs.SeenObjects.{seen_at}
 use Rattle.fm_law_sound.proofs.TextUnits.{units-append, units-drop, units-each, units-hex, units-signed, units-take}
@@ -126,10 +127,6 @@ module _ (p : Program) (ready : IsMakeable p) (names : NamesAreUnits p.outline) 
 
   -- ---- the text of a builder, and the message of a throwable
 
-  first_place : (it : Looks) → HidesText o it → kind_at o.classes it.type 0 ≡ Some (text_kind o)
-  first_place it (inl builds) = first.builders it.type builds
-  first_place it (inr fits) = first.throwables it.type fits
-
   placed : (n : ℕ) (it : Looks) → slice_get s n ≡ Some (Thing it) → kind_at o.classes it.type 0 ≡ Some (text_kind o)
       → (object : Object) × (object_at store (cell_of (word_at f.stack n)) ≡ Some object) × PlaceFits o (type_numbered o object.class) 0 (text_kind o)
   placed n it seen at =
@@ -159,9 +156,9 @@ module _ (p : Program) (ready : IsMakeable p) (names : NamesAreUnits p.outline) 
         printed = λ n takes result bytes. bare (printing n bytes) refl;
         exits = λ n takes z. bare (going n (Exits z)) refl;
         outside = (failures p ready store f).raised TextOutside;
-        begun = λ it at hides takes result. record { fits = λ few. (placed 0 it at (first_place it hides), (λ areas cells statics. tt), tt) };
+        begun = λ it at hides takes result. record { fits = λ few. (placed 0 it at (hidden_place o first it hides), (λ areas cells statics. tt), tt) };
         text_put = λ n operand it at hides takes result units fit.
-            text_put operand it units (acting n (has_text o operand units)) refl at (first_place it hides) fit;
+            text_put operand it units (acting n (has_text o operand units)) refl at (hidden_place o first it hides) fit;
         itself = λ is. bare _ refl;
         appended = λ shown is it at builds units fit. text_put (shown_words shown) it units _ refl at (first.builders it.type builds) fit;
         message_put = λ is it at fits.

@@ -1,5 +1,5 @@
 -- Places are read and put by their kinds: what an instruction sees of an object passes its test, so the object's place has the kind that the row goes by.
-use Rattle.std.proofs.Common.{◌≡◌, ℕ, List, ◌++◌, map, Some, sym, ◌∙◌, ap, slice_get}
+use Rattle.std.proofs.Common.{◌≡◌, inl, inr, ℕ, List, ◌++◌, map, Some, sym, ◌∙◌, ap, slice_get}
 use Rattle.std.specs.List.{AllByRecursion}
 use Rattle.std.proofs.lemmas.Option.{same_Some}
 use Rattle.fm_base.specs.declared.kinds.Kind.{Kind}
@@ -9,15 +9,23 @@ use Rattle.fm_cells.specs.Stores.{object_at, Store}
 use Rattle.fm_world.specs.Programs.{kind_at, Outline}
 use Rattle.fm_frames.specs.Acts.{cell_of}
 use Rattle.fm_frames.specs.Effects.{Effect, faulty, loaded, OfMade, OfOperand, OfPlace, Put, SetStatic, Source, stuck}
+use Rattle.fm_frames.specs.NativeRows.{text_kind}
 use Rattle.fm_frames.specs.Operands.{thrown}
 use Rattle.fm_frames.specs.Sights.{Looks, sights, Thing}
 use Rattle.fm_frames.specs.States.{word_at}
 use Rattle.fm_frames.specs.declared.values.Value.{Value}
+use Rattle.fm_frames.proofs.NativeCases.{HidesText}
+use Rattle.fm_law_sound.specs.Making.{HaveTextFirst}
 use Rattle.fm_law_sound.specs.Placing.{kind_in, PlacesAgree, PutAgrees, ReadAgrees, sources_in, thrown_in}
 use Rattle.fm_law_sound.proofs.SeenObjects.{seen_at}
 use Rattle.fm_law_sound.proofs.StartActs.{all_after}
 
 -- ---- the object that is seen
+
+-- an object that builds a text, and one that may be thrown, has it at its first place
+pub hidden_place : (o : Outline) → HaveTextFirst o → (it : Looks) → HidesText o it → kind_at o.classes it.type 0 ≡ Some (text_kind o)
+hidden_place o first it (inl builds) = first.builders it.type builds
+hidden_place o first it (inr fits) = first.throwables it.type fits
 
 module _ (o : Outline) (store : Store) (stack : List Value) where
   -- the operand is an object that is held, and has a place of the kind

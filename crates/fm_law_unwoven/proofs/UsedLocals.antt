@@ -2,12 +2,10 @@
 use Rattle.std.proofs.Common.{ℕ, ◌<◌, ◌≤◌, arith, List, [], ◌∷◌, length, Option}
 use Rattle.std.specs.List.{AllByRecursion}
 use Rattle.fm_base.proofs.ListFacts.{AllByRecursion-weaker}
-use Rattle.fm_base.specs.declared.kinds.Kind.{Kind}
-use Rattle.fm_base.specs.declared.kinds.Kind.TheVariants as kind
 use Rattle.fm_code.specs.SpellsCode.{LocalsFit, targets_of}
 use Rattle.fm_code.specs.declared.instructions.Insn.{Insn}
 use Rattle.fm_frames.specs.ArrayRows.{element_kind}
-use Rattle.fm_frames.specs.Effects.{Effect, Enters, Faults, int_word, Jumps, JumpsIfSame, loaded, LocalPlus, Next, OfLocal, OfOperand, OfPlace, SameOperands, Source, Throws, words}
+use Rattle.fm_frames.specs.Effects.{Effect, Enters, Faults, int_word, Jumps, JumpsIfSame, LocalPlus, Next, OfLocal, OfOperand, OfPlace, SameOperands, Source, Throws, words}
 use Rattle.fm_frames.specs.NativeRows.{native_effect, text_kind}
 use Rattle.fm_frames.specs.Natives.{Native}
 use Rattle.fm_frames.specs.ObjectRows.{kind_of_field}
@@ -17,20 +15,11 @@ use Rattle.fm_world.specs.Members.{slot_of}
 use Rattle.fm_world.specs.Programs.{Outline}
 use Rattle.fm_world.specs.declared.uses.Use.{Use}
 use Rattle.fm_frames.proofs.EachCall.{any_calls}
-use Rattle.fm_frames.proofs.EachInsn.{each_insn, IsNamed, LeadsOn, magnitudes, WritesNamed}
+use Rattle.fm_frames.proofs.EachInsn.{each_insn, IsNamed, LeadsOn, loaded_all, magnitudes, WritesNamed}
 use Rattle.fm_frames.proofs.Failures.{Failures, TextOutside}
 use Rattle.fm_frames.proofs.NestedActions.{nested_actions}
 use Rattle.fm_frames.proofs.UsualAsks.{each_native}
 use Rattle.fm_law_unwoven.specs.UnseenCode.{ActsWithout, GoesWithin, IsWithin, UsesNamed}
-
-loaded_within : (max : ℕ) (k : Kind) (source : Source) → IsWithin max source → AllByRecursion (IsWithin max) (loaded k source)
-loaded_within max kind.Long source within = (tt, (within, tt))
-loaded_within max kind.Boolean source within = (within, tt)
-loaded_within max kind.Byte source within = (within, tt)
-loaded_within max kind.Char source within = (within, tt)
-loaded_within max kind.Short source within = (within, tt)
-loaded_within max kind.Int source within = (within, tt)
-loaded_within max (kind.Ref t) source within = (within, tt)
 
 -- a local that the instruction names is one of its method's
 named_within : (max : ℕ) (i : Insn) → LocalsFit max i → (source : Source) → IsNamed i source → IsWithin max source
@@ -114,9 +103,9 @@ module _ (max targets : ℕ) (o : Outline) where
         };
         put_static = λ index f n t it_is used at. record { acts = (tt, tt); gives = tt; writes = tt; next = tt };
         get_field = λ index f n t it it_is used at seen fits.
-            words_of 1 _ (loaded_within max (kind_of_field o f.0) (OfPlace 0 (slot_of o.classes f.0) (kind_of_field o f.0)) tt);
+            words_of 1 _ (loaded_all (IsWithin max) tt (kind_of_field o f.0) (OfPlace 0 (slot_of o.classes f.0) (kind_of_field o f.0)) tt);
         put_field = λ index f n t it it_is used at seen fits. record { acts = ((tt, tt), tt); gives = tt; writes = tt; next = tt };
-        get_element = λ e it place it_is seen passes. words_of 2 _ (loaded_within max (element_kind it.type) (OfPlace 1 place (element_kind it.type)) tt);
+        get_element = λ e it place it_is seen passes. words_of 2 _ (loaded_all (IsWithin max) tt (element_kind it.type) (OfPlace 1 place (element_kind it.type)) tt);
         put_element = λ e it place it_is seen passes. record { acts = ((tt, tt), tt); gives = tt; writes = tt; next = tt };
         calls = λ is. any_calls o s method u byte A failures (λ class e h. record { acts = h.acts; gives = h.gives; writes = h.writes; next = h.next })
             (λ count target. record { acts = tt; gives = tt; writes = tt; next = tt }) (λ row. native_rows s row byte);
