@@ -9,16 +9,11 @@ use Rattle.fm_world.specs.Programs.{Outline}
 use Rattle.fm_world.specs.declared.uses.Use.{Use}
 use Rattle.fm_world.specs.declared.uses.Use.TheVariants as resolved
 use Rattle.fm_types.specs.Fits.{fits_type}
-use Rattle.fm_types.specs.Named.{built_in_type}
-use Rattle.fm_world.specs.BuiltIns.{string_name}
-use Rattle.fm_frames.specs.Effects.{Effect, faulty, Faults, going, OfPlace, stuck}
-use Rattle.fm_frames.specs.Operands.{on_any, on_held, on_held_of, on_inner, on_inner_of, on_int, on_int_of, on_long, on_long_of, on_object, on_passing, on_reference, on_reference_of, on_text, on_text_or_null, or_thrown, thrown, thrown_null}
-use Rattle.fm_frames.specs.NativeRows.{is_builder, on_builder, on_built, on_shown}
-use Rattle.fm_frames.specs.Natives.{Shown, ShownBoolean, ShownChar, ShownInt, ShownLong, ShownText}
-use Rattle.fm_frames.specs.Sights.{Gone, Inner, Looks, Lost, Missing, NoField, Null, Sight, Text, Thing, Word}
+use Rattle.fm_frames.specs.Effects.{Effect, faulty, stuck}
+use Rattle.fm_frames.specs.Operands.{on_any, on_held, on_held_of, on_int, on_int_of, on_long, on_long_of, on_object, on_passing, on_reference, on_reference_of, or_thrown, thrown, thrown_null}
+use Rattle.fm_frames.specs.Sights.{Gone, Looks, Null, Sight, Thing, Word}
 use Rattle.fm_frames.specs.Uses.{by_type, on_field, on_method, on_type}
 use Rattle.fm_frames.specs.declared.values.Value.TheVariants as value
-use Rattle.fm_base.specs.declared.kinds.Kind.TheVariants as kind
 
 module _ (P : Effect → Type 0) where
   pub by_if : (b : Bool) (one other : Effect) → (b ≡ true → P one) → (b ≡ false → P other) → P (cond b one other)
@@ -77,55 +72,10 @@ module _ (P : Effect → Type 0) where
       → P (on_object o t sights operand k)
   by_object o t sights operand k null none gone some = by_passing o (λ it. fits_type o.classes it.type t) sights operand k null none gone some
 
-  by_inner_of : (o : Outline) (operand : ℕ) (inner : Inner) (k : Option (List ℕ) → Effect) → P (faulty operand)
-      → P (going 0 (Faults (OfPlace operand 0 (kind.Ref (built_in_type o string_name))))) → ((units : Option (List ℕ)) → P (k units))
-      → P (on_inner_of o operand inner k)
-  by_inner_of o operand NoField k gone lost some = gone
-  by_inner_of o operand Missing k gone lost some = some None
-  by_inner_of o operand (Text units) k gone lost some = some (Some units)
-  by_inner_of o operand Lost k gone lost some = lost
-
-  pub by_inner : (o : Outline) (operand : ℕ) (it : Looks) (k : Option (List ℕ) → Effect) → P (faulty operand)
-      → P (going 0 (Faults (OfPlace operand 0 (kind.Ref (built_in_type o string_name))))) → ((units : Option (List ℕ)) → P (k units))
-      → P (on_inner o operand it k)
-  by_inner o operand it k gone lost some = by_inner_of o operand it.inner k gone lost some
-
   pub by_thrown : (o : Outline) (r : Option ℤ) (k : ℤ → Effect) → P (thrown o (codes "java/lang/ArithmeticException")) → ((n : ℤ) → P (k n))
       → P (or_thrown o r k)
   by_thrown o None k none some = none
   by_thrown o (Some n) k none some = some n
-
-  -- ---- texts
-
-  pub by_text_or_null : (o : Outline) (sights : List Sight) (operand : ℕ) (k : List ℕ → Effect) → P stuck → P (faulty operand)
-      → ((units : List ℕ) → P (k units)) → P (on_text_or_null o sights operand k)
-  by_text_or_null o sights operand k none gone some =
-      by_held (k (codes "null")) sights operand _ (some (codes "null")) none gone
-      (λ it seen. by_if (fits_type o.classes it.type (built_in_type o string_name)) (k it.units) (faulty operand) (λ passes. some it.units) (λ fails. gone))
-
-  pub by_text : (o : Outline) (sights : List Sight) (operand : ℕ) (k : List ℕ → Effect) → P (thrown_null o) → P stuck → P (faulty operand)
-      → ((units : List ℕ) → P (k units)) → P (on_text o sights operand k)
-  by_text o sights operand k null none gone some =
-      by_object o (built_in_type o string_name) sights operand (λ it. k it.units) null none gone (λ it seen passes. some it.units)
-
-  pub by_shown : (o : Outline) (shown : Shown) (sights : List Sight) (k : List ℕ → Effect) → P stuck → P (faulty 0)
-      → ((units : List ℕ) → P (k units)) → P (on_shown o shown sights k)
-  by_shown o ShownInt sights k none gone some = by_int sights 0 _ none (λ n. some _)
-  by_shown o ShownLong sights k none gone some = by_long sights 1 _ none (λ n. some _)
-  by_shown o ShownChar sights k none gone some = by_int sights 0 _ none (λ n. some _)
-  by_shown o ShownBoolean sights k none gone some = by_int sights 0 _ none (λ n. some _)
-  by_shown o ShownText sights k none gone some = by_text_or_null o sights 0 k none gone some
-
-  pub by_builder : (o : Outline) (sights : List Sight) (operand : ℕ) (k : Looks → Effect) → P (thrown_null o) → P stuck → P (faulty operand)
-      → ((it : Looks) → P (k it)) → P (on_builder o sights operand k)
-  by_builder o sights operand k null none gone some =
-      by_passing o (is_builder o) sights operand k null none gone (λ it seen passes. some it)
-
-  pub by_built : (o : Outline) (sights : List Sight) (operand : ℕ) (k : List ℕ → Effect) → P (thrown_null o) → P stuck → P (faulty operand)
-      → P (going 0 (Faults (OfPlace operand 0 (kind.Ref (built_in_type o string_name))))) → ((units : List ℕ) → P (k units))
-      → P (on_built o sights operand k)
-  by_built o sights operand k null none gone lost some =
-      by_builder o sights operand _ null none gone (λ it. by_inner o operand it _ gone lost (λ units. some _))
 
   -- ---- what an instruction names
 
