@@ -21,7 +21,8 @@ use Rattle.fm_fast.specs.Operands.{AsksOf, AsksOfConversion, AsksOfPut, AsksOfSt
 use Rattle.fm_frames.specs.States.{Frame, word_at}
 use Rattle.fm_frames.specs.declared.values.Value.{Value}
 use Rattle.fm_frames.specs.declared.values.Value.TheVariants as value
-use Rattle.fm_law_sound.proofs.KindLemmas.{as_local, int_local, local_kind, local_kind_or, taken_rest, taken_words}
+use Rattle.fm_law_sound.proofs.KindLemmas.{as_local, int_local, local_kind_or, taken_rest, taken_words}
+use Rattle.fm_law_sound.proofs.FramesLeft.{related_at}
 use Rattle.fm_law_sound.specs.Sound.{FrameHasKinds, HasKind, HaveKinds, IsReference, LocalHasKind}
 use Rattle.fm_types.specs.ArrayRows.{array_load_row, array_store_row, element_of, is_array_of, length_row, null_element, on_array}
 use Rattle.fm_types.specs.Fits.{fits, object_of}
@@ -169,7 +170,7 @@ module _ (o : Outline) (s : TypeState) (f : Frame) (callers : List Frame) (h : F
   unfolding load_row
   local-loaded r k row =
       let found = option_and_then-some (λ found. cond (suits r found) (Some (pushed (loaded r found) s)) None) (slice_get s.locals k) after row in
-      (found.0, (cond-some_then (suits r found.0) _ after found.2).0, local_kind s.locals f.locals k found.0 h.in_locals found.1)
+      (found.0, (cond-some_then (suits r found.0) _ after found.2).0, related_at LocalHasKind s.locals f.locals k found.0 h.in_locals found.1)
 
   loads : (r : Reg) (k : ℕ) → load_row r k s ≡ Some after → HasLocalOf r (f ∷ callers) k
   loads reg.Int k row = let found = local-loaded reg.Int k row in int_local found.0 (word_at f.locals k) found.1 found.2

@@ -23,8 +23,8 @@ use Rattle.fm_frames.specs.declared.values.Value.{Value}
 use Rattle.fm_same.proofs.CallsKeep.{no_words}
 use Rattle.fm_law_sound.specs.Going.{ConstructorsGiveNothing}
 use Rattle.fm_law_sound.specs.Sound.{words_of_call}
-use Rattle.fm_law_sound.proofs.Leaving.{dropped}
-use Rattle.fm_law_sound.proofs.ReturnsStand.{arguments_count, method_in, row_of_method, taken_drop}
+use Rattle.fm_law_sound.proofs.CallsLeft.{arguments_count, method_in, row_of_method}
+use Rattle.fm_law_sound.proofs.FramesLeft.{dropped, taken_drop}
 use Rattle.fm_law_no_fault.proofs.FramesKeep.{zip_appended}
 use Rattle.fm_law_holders.specs.Uninitialised.{Made}
 use Rattle.fm_law_holders.proofs.PlainRows.{kind_other}

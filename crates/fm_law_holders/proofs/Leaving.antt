@@ -20,8 +20,7 @@ use Rattle.fm_frames.specs.declared.values.Value.{Value}
 use Rattle.fm_frames.specs.declared.values.Value.TheVariants as value
 use Rattle.fm_law_sound.specs.Leading.{LeadsAs, LeavesAs, sources_of}
 use Rattle.fm_law_sound.specs.Sound.{FrameHasKinds, HasKind, HaveKinds, static_slots}
-use Rattle.fm_law_sound.proofs.Leaving.{dropped}
-use Rattle.fm_law_sound.proofs.ReturnsStand.{taken_drop}
+use Rattle.fm_law_sound.proofs.FramesLeft.{dropped, taken_drop}
 use Rattle.fm_law_no_fault.proofs.FramesKeep.{zip_appended}
 use Rattle.fm_law_no_fault.proofs.WaitingFrames.{zip_dropped}
 use Rattle.fm_law_holders.specs.Uninitialised.{Made}

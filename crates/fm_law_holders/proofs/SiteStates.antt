@@ -41,8 +41,8 @@ use Rattle.fm_world.specs.declared.uses.Use.{Use}
 use Rattle.fm_world.specs.declared.uses.Use.TheVariants as resolved
 use Rattle.fm_frames.specs.CallRows.{words_of_arguments}
 use Rattle.fm_law_sound.specs.Going.{ConstructorsGiveNothing}
-use Rattle.fm_law_sound.proofs.Leaving.{dropped}
-use Rattle.fm_law_sound.proofs.ReturnsStand.{arguments_count, taken_drop}
+use Rattle.fm_law_sound.proofs.CallsLeft.{arguments_count}
+use Rattle.fm_law_sound.proofs.FramesLeft.{dropped, taken_drop}
 use Rattle.fm_place.proofs.BusyLemmas.{depth_of}
 use Rattle.fm_place.specs.Sites.{constructs, has_reference_result, is_doubled, makes_array, may_give_old, names_constructor, new_item, receives_new}
 use Rattle.fm_same.proofs.CallWords.{tested, untested}

@@ -60,9 +60,10 @@ use Rattle.fm_law_sound.specs.Going.{CallLeads, is_static_call, StandsAtRow}
 use Rattle.fm_law_sound.specs.Leading.{is_call, sources_of}
 use Rattle.fm_law_sound.specs.Resolved.{IsNamed, StepsAreResolved}
 use Rattle.fm_law_sound.specs.Sound.{AreasAreSound, AreTyped, IsReference, StandsWithout, Typings, words_of_call}
+use Rattle.fm_law_sound.proofs.CallsLeft.{arguments_count, method_in}
 use Rattle.fm_law_sound.proofs.Cases.{by_if}
 use Rattle.fm_law_sound.proofs.FoundMethods.{IsAlike, select_alike, special_alike}
-use Rattle.fm_law_sound.proofs.ReturnsStand.{arguments_count, method_in, taken_drop}
+use Rattle.fm_law_sound.proofs.FramesLeft.{taken_drop}
 use Rattle.fm_law_sound.proofs.SeenObjects.{IsSeen, seen_at}
 use Rattle.fm_law_no_fault.specs.CellsResolved.{arguments_asked, CellsAreResolved, IsMet, result_given, Selects, special_of, TakesAsAsked}
 use Rattle.fm_law_no_fault.specs.Whole.{AreasAreWhole, FrameIsWhole, HoldsA, is_below, LeadsToA, WordFits}

@@ -17,8 +17,7 @@ use Rattle.fm_frames.specs.Steps as steps
 use Rattle.fm_frames.specs.declared.values.Value.{Value}
 use Rattle.fm_same.proofs.StoreChanges.{Extends}
 use Rattle.fm_law_sound.specs.Leading.{sources_of}
-use Rattle.fm_law_sound.proofs.Leaving.{dropped}
-use Rattle.fm_law_sound.proofs.ReturnsStand.{taken_drop}
+use Rattle.fm_law_sound.proofs.FramesLeft.{dropped, taken_drop}
 use Rattle.fm_law_no_fault.specs.Whole.{LocalFits, WordFits}
 use Rattle.fm_law_no_fault.proofs.ActsKeep.{types_after, Went}
 use Rattle.fm_law_no_fault.proofs.FramesKeep.{zip_appended}

@@ -36,9 +36,10 @@ use Rattle.fm_frames.specs.Steps.{is_start, returned}
 use Rattle.fm_frames.specs.declared.values.Value.{Value}
 use Rattle.fm_law_sound.specs.Going.{ConstructorsGiveNothing, StandsAtRow}
 use Rattle.fm_law_sound.specs.Sound.{AreTyped, Calling, FrameHasKinds, HasKind, HaveKinds, LocalHasKind, StandBelow, Starting, Typings, words_of_call}
+use Rattle.fm_law_sound.proofs.CallsLeft.{arguments_count, method_in, row_of_method}
+use Rattle.fm_law_sound.proofs.FramesLeft.{dropped, taken_drop}
 use Rattle.fm_law_sound.proofs.FramesStand.{after_whole, edge_fits, next_edge, typing_of}
-use Rattle.fm_law_sound.proofs.Leaving.{dropped}
-use Rattle.fm_law_sound.proofs.ReturnsStand.{arguments_count, call_falls, call_kinds, call_targets, method_in, row_of_method, taken_drop}
+use Rattle.fm_law_sound.proofs.ReturnsStand.{call_falls, call_kinds, call_targets}
 use Rattle.fm_law_no_fault.specs.Whole.{FrameFits, FrameIsWhole, is_below, LocalFits, lowest, WordFits}
 use Rattle.fm_law_no_fault.proofs.ActsSuits.{holds_weaker}
 use Rattle.fm_law_no_fault.proofs.CellsLeave.{local_cells, stack_cells}

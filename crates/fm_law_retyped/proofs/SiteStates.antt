@@ -28,8 +28,8 @@ use Rattle.fm_place.specs.Sites.{constructs, Constructs, has_reference_result, i
 use Rattle.fm_law_retyped.specs.Retyped.{AreInitialised}
 use Rattle.fm_same.proofs.CallWords.{taken_off}
 use Rattle.fm_same.proofs.SiteNodes.{chosen, doubled-stack, doubled_in, refers, word_above}
-use Rattle.fm_law_sound.proofs.ReturnsStand.{arguments_count}
 use Rattle.fm_law_sound.specs.Going.{ConstructorsGiveNothing}
+use Rattle.fm_law_sound.proofs.CallsLeft.{arguments_count}
 use Rattle.fm_types.specs.ArrayRows.{multi_array_row, new_array_row, new_references_row}
 use Rattle.fm_types.specs.CallRows.{constructed, constructor_called, initialised, instance_call_row, is_constructor, is_initializer, is_type, names_own_or_above, special_call_row, static_call_row}
 use Rattle.fm_types.specs.Named.{argument_words, class_of_method, on_method, on_type, result_of, result_words}

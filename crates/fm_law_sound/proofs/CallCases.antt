@@ -48,11 +48,11 @@ use Rattle.fm_law_sound.specs.Leading.{is_call}
 use Rattle.fm_law_sound.specs.Resolved.{CallsAreResolved}
 use Rattle.fm_law_sound.specs.Sound.{AreasAreSound, FrameHasKinds, HasObjects, HaveKinds, method_named, Typings, words_of_call}
 use Rattle.fm_law_sound.proofs.BuiltInMethods.{has_row, HasRow, plain, receiver_slot, to_plain}
+use Rattle.fm_law_sound.proofs.CallsLeft.{arguments_count, method_in, row_of_method}
 use Rattle.fm_law_sound.proofs.CallsStand.{call_takes, IsReceiver, Takes}
 use Rattle.fm_law_sound.proofs.Cases.{by_any, by_if, by_object, by_on_method, by_reference}
 use Rattle.fm_law_sound.proofs.ClassStarts.{not_start}
 use Rattle.fm_law_sound.proofs.FoundMethods.{IsAlike, select_alike, select_inside, special_alike, special_inside}
-use Rattle.fm_law_sound.proofs.ReturnsStand.{arguments_count, method_in, row_of_method}
 use Rattle.fm_law_sound.proofs.SeenObjects.{IsSeen, seen_at}
 
 -- ---- the name of the method that is named

@@ -4,6 +4,7 @@ use Rattle.fm_code.specs.declared.instructions.Insn.{Insn}
 use Rattle.fm_types.specs.Named.{result_words}
 use Rattle.fm_types.specs.States.{is_whole, TypeState}
 use Rattle.fm_types.specs.Typed.{IsTypingOf, made_at, use_by}
+use Rattle.fm_types.proofs.Zips.{zip-drop}
 use Rattle.fm_world.specs.Programs.{Program}
 use Rattle.fm_frames.specs.Acts.{value_of}
 use Rattle.fm_frames.specs.Effects.{Calls, Effect, Enters, Exits, Falls, Faults, Jumps, JumpsIfSame, Next, Returns, Throws}
@@ -19,12 +20,11 @@ use Rattle.fm_law_sound.specs.BuiltIns.{native_slots, NativeLeads}
 use Rattle.fm_law_sound.specs.Going.{CallLeads, StandsAtRow}
 use Rattle.fm_law_sound.specs.Leading.{is_call, LeavesAs, sources_of}
 use Rattle.fm_law_sound.specs.Resolved.{CallsAreResolved}
-use Rattle.fm_law_sound.specs.Sound.{AreasAreSound, AreTyped, FrameHasKinds, HaveKinds, Typings}
+use Rattle.fm_law_sound.specs.Sound.{AreasAreSound, AreTyped, FrameHasKinds, HasKind, HaveKinds, Typings}
 use Rattle.fm_law_sound.proofs.BuiltInMethods.{from_plain}
 use Rattle.fm_law_sound.proofs.BuiltInRows.{native_leads}
 use Rattle.fm_law_sound.proofs.CallCases.{by_call, CallsRow}
 use Rattle.fm_law_sound.proofs.FramesStand.{typing_of}
-use Rattle.fm_law_sound.proofs.KindLemmas.{kinds-drop}
 use Rattle.fm_law_sound.proofs.ReturnsStand.{call_falls, call_kinds}
 
 module _ (p : Program) (ready : CallsAreResolved p) (typings : Typings) (f : Frame) (i : Insn) (after : TypeState) (h : StandsAtRow p typings f i after) (kinds : FrameHasKinds h.known f.locals f.stack) where
@@ -49,7 +49,7 @@ module _ (p : Program) (ready : CallsAreResolved p) (typings : Typings) (f : Fra
       from_plain (result_words p.outline called.named) result (subst (λ xs. HaveKinds xs result) (sym called.result) (leads.2 areas made statics)) in
       let after_call : FrameHasKinds after f.locals (result ++ drop count f.stack) =
       call_kinds p.outline ready.constructors h.known called.named f.locals (drop count f.stack) result kinds.in_locals given i f.method f.item count
-      (made_at p f.method h.code) (use_by p f.method i) after called.takes called.names (kinds-drop count h.known.stack f.stack kinds.in_stack) h.row in
+      (made_at p f.method h.code) (use_by p f.method i) after called.takes called.names (zip-drop HasKind count h.known.stack f.stack kinds.in_stack) h.row in
       let taken : FrameHasKinds after f.locals (stack_after (sources_of f areas made) e f.stack) =
       subst (λ k. FrameHasKinds after f.locals (result ++ drop k f.stack)) (sym leads.0) after_call in
       subst (λ ws. FrameHasKinds after (written (sources_of f areas made) ws f.locals) (stack_after (sources_of f areas made) e f.stack)) (sym leads.1) taken

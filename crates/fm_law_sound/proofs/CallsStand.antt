@@ -14,6 +14,7 @@ use Rattle.fm_code.specs.declared.instructions.Insn.{Insn}
 use Rattle.fm_code.specs.declared.instructions.Insn.TheVariants as insn
 use Rattle.fm_types.proofs.ObjectOrder.{argument_words-whole}
 use Rattle.fm_types.proofs.StateOrder.{whole-append}
+use Rattle.fm_types.proofs.Zips.{zip-append, zip-drop}
 use Rattle.fm_types.specs.CallRows.{constructed, constructor_called, instance_call_row, is_constructor, is_initializer, names_own_or_above, special_call_row, static_call_row}
 use Rattle.fm_types.specs.Named.{argument_words, class_of_method, parameters_of, result_words}
 use Rattle.fm_types.specs.Rows.{row_after}
@@ -33,9 +34,9 @@ use Rattle.fm_frames.specs.declared.values.Value.{Value}
 use Rattle.fm_frames.specs.declared.values.Value.TheVariants as value
 use Rattle.fm_law_sound.specs.Going.{is_static_call, IsCalled, StandsAtRow, StartsClass}
 use Rattle.fm_law_sound.specs.Sound.{AreTyped, FrameHasKinds, HasKind, HaveKinds, IsReference, LocalsHaveKinds, Stand, StandBelow, StandsWithout, Typings, words_of_call}
+use Rattle.fm_law_sound.proofs.CallsLeft.{arguments_count, method_in, row_of_method}
 use Rattle.fm_law_sound.proofs.FramesStand.{below_same, typing_of}
-use Rattle.fm_law_sound.proofs.KindLemmas.{as_local, kinds-append, kinds-drop, taken_rest, taken_words}
-use Rattle.fm_law_sound.proofs.ReturnsStand.{arguments_count, method_in, row_of_method}
+use Rattle.fm_law_sound.proofs.KindLemmas.{as_local, taken_rest, taken_words}
 
 -- ---- lists
 
@@ -46,7 +47,7 @@ kinds-reverse (x ∷ xs) [] h = absurd h
 kinds-reverse (x ∷ xs) (v ∷ words) h =
     subst (λ ys. HaveKinds ys (reverse (v ∷ words))) (sym (reverse-append (x ∷ []) xs))
     (subst (λ ys. HaveKinds (reverse xs ++ x ∷ []) ys) (sym (reverse-append (v ∷ []) words))
-    (kinds-append (reverse xs) (x ∷ []) (reverse words) (v ∷ []) (kinds-reverse xs words h.1) (h.0, tt)))
+    (zip-append HasKind (reverse xs) (reverse words) (x ∷ []) (v ∷ []) (kinds-reverse xs words h.1) (h.0, tt)))
 
 kinds-length : (xs : List Slot) (words : List Value) → HaveKinds xs words → length xs ≡ length words
 kinds-length [] [] h = refl
@@ -213,7 +214,7 @@ module _ (o : Outline) (s : TypeState) (stack : List Value) (in_stack : HaveKind
         is_receiver = (r, refl, constructed_reference method news t r (record s { stack = rest }) after row);
         have = subst (λ n. HaveKinds (argument_words o named ++ r ∷ []) (take n stack)) more
             (subst (λ ys. HaveKinds (argument_words o named ++ r ∷ []) ys) (take_more (length (argument_words o named)) stack first.1 first.0 first.2)
-            (kinds-append (argument_words o named) (r ∷ []) (take (length (argument_words o named)) stack) (first.0 ∷ []) arguments (first.3, tt)));
+            (zip-append HasKind (argument_words o named) (take (length (argument_words o named)) stack) (r ∷ []) (first.0 ∷ []) arguments (first.3, tt)));
       }
 
   special_cases : (method : ℕ) (news : ℕ → Option TypeRef) (t : TypeRef) (b : Bool) (after : TypeState)
@@ -314,7 +315,7 @@ called_stand p typings typed f callers i after h kinds below target words call =
             known = h.known;
             at = h.at;
             locals = kinds.in_locals;
-            stack = kinds-drop words h.known.stack f.stack kinds.in_stack;
+            stack = zip-drop HasKind words h.known.stack f.stack kinds.in_stack;
           };
         }),
         below_same p typings f (record f { stack = drop words f.stack }) callers refl below,

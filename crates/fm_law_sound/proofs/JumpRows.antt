@@ -16,6 +16,7 @@ use Rattle.fm_code.specs.declared.operations.Reg.TheVariants as reg
 use Rattle.fm_code.specs.declared.operations.Test.{Test}
 use Rattle.fm_types.specs.CallRows.{return_row, returned_by, same_reg}
 use Rattle.fm_types.specs.Named.{object_slot, result_of, throwable_type}
+use Rattle.fm_types.specs.Moves.{Moves, moves_of}
 use Rattle.fm_types.specs.NumberRows.{move_row}
 use Rattle.fm_types.specs.ObjectRows.{throw_row}
 use Rattle.fm_types.specs.States.{is_whole, stack_slots, taken, TypeState, worked}
@@ -23,13 +24,14 @@ use Rattle.fm_types.specs.declared.slots.Slot.TheVariants as slot
 use Rattle.fm_world.specs.Programs.{Outline}
 use Rattle.fm_frames.specs.Effects.{Falls, going, Jumps}
 use Rattle.fm_frames.specs.JumpRows.{int_jump_effect, jumps_if, null_jump_effect, pair_jump_effect, key_target, lookup_effect, return_effect, same_jump_effect, table_effect, table_target, throw_effect}
-use Rattle.fm_frames.specs.NumberRows.{move_effect}
+use Rattle.fm_frames.specs.NumberRows.{move_effect, moved_words}
 use Rattle.fm_frames.specs.Sights.{Sight}
 use Rattle.fm_frames.specs.States.{Frame}
 pub use Rattle.fm_frames.proofs.SwitchTargets.{between, few_keys, key_within, table_if, table_within, within_if}
 use Rattle.fm_law_sound.specs.Leading.{LeavesAs}
 use Rattle.fm_law_sound.specs.Sound.{FrameHasKinds, HaveKinds}
 use Rattle.fm_law_sound.proofs.Cases.{by_int, by_object, by_reference}
+use Rattle.fm_law_sound.proofs.FramesLeft.{moved_row}
 use Rattle.fm_law_sound.proofs.InsnActs.{kind_is_whole}
 use Rattle.fm_law_sound.proofs.KindLemmas.{taken_words}
 use Rattle.fm_law_sound.proofs.Leaving.{moved_leaves, reference_taken, same_leaves, worked_leaves}
@@ -65,41 +67,10 @@ plain_return_is o method s = refl
 module _ (o : Outline) (s : TypeState) (f : Frame) (h : FrameHasKinds s f.locals f.stack) (after : TypeState) where
   -- ---- moves
 
-  pub pop_leads : move_row insn.Pop s ≡ Some after → Leads o s f h after insn.Pop (move_effect insn.Pop)
-  unfolding move_row move_effect
-  pop_leads row = (refl, moved_leaves o s f h (record { takes = 1; gives = [] }) after row)
-
-  pub pop2_leads : move_row insn.Pop2 s ≡ Some after → Leads o s f h after insn.Pop2 (move_effect insn.Pop2)
-  unfolding move_row move_effect
-  pop2_leads row = (refl, moved_leaves o s f h (record { takes = 2; gives = [] }) after row)
-
-  pub dup_leads : move_row insn.Dup s ≡ Some after → Leads o s f h after insn.Dup (move_effect insn.Dup)
-  unfolding move_row move_effect
-  dup_leads row = (refl, moved_leaves o s f h (record { takes = 1; gives = 0 ∷ 0 ∷ [] }) after row)
-
-  pub dup_x1_leads : move_row insn.DupX1 s ≡ Some after → Leads o s f h after insn.DupX1 (move_effect insn.DupX1)
-  unfolding move_row move_effect
-  dup_x1_leads row = (refl, moved_leaves o s f h (record { takes = 2; gives = 0 ∷ 1 ∷ 0 ∷ [] }) after row)
-
-  pub dup_x2_leads : move_row insn.DupX2 s ≡ Some after → Leads o s f h after insn.DupX2 (move_effect insn.DupX2)
-  unfolding move_row move_effect
-  dup_x2_leads row = (refl, moved_leaves o s f h (record { takes = 3; gives = 0 ∷ 1 ∷ 2 ∷ 0 ∷ [] }) after row)
-
-  pub dup2_leads : move_row insn.Dup2 s ≡ Some after → Leads o s f h after insn.Dup2 (move_effect insn.Dup2)
-  unfolding move_row move_effect
-  dup2_leads row = (refl, moved_leaves o s f h (record { takes = 2; gives = 0 ∷ 1 ∷ 0 ∷ 1 ∷ [] }) after row)
-
-  pub dup2_x1_leads : move_row insn.Dup2X1 s ≡ Some after → Leads o s f h after insn.Dup2X1 (move_effect insn.Dup2X1)
-  unfolding move_row move_effect
-  dup2_x1_leads row = (refl, moved_leaves o s f h (record { takes = 3; gives = 0 ∷ 1 ∷ 2 ∷ 0 ∷ 1 ∷ [] }) after row)
-
-  pub dup2_x2_leads : move_row insn.Dup2X2 s ≡ Some after → Leads o s f h after insn.Dup2X2 (move_effect insn.Dup2X2)
-  unfolding move_row move_effect
-  dup2_x2_leads row = (refl, moved_leaves o s f h (record { takes = 4; gives = 0 ∷ 1 ∷ 2 ∷ 3 ∷ 0 ∷ 1 ∷ [] }) after row)
-
-  pub swap_leads : move_row insn.Swap s ≡ Some after → Leads o s f h after insn.Swap (move_effect insn.Swap)
-  unfolding move_row move_effect
-  swap_leads row = (refl, moved_leaves o s f h (record { takes = 2; gives = 1 ∷ 0 ∷ [] }) after row)
+  pub move_leads : (i : Insn) (m : Moves) → moves_of i ≡ Some m → falls_through i ≡ true → move_row i s ≡ Some after → Leads o s f h after i (move_effect i)
+  unfolding move_effect
+  move_leads i m is falls row =
+      subst (λ found. Leads o s f h after i (moved_words found)) (sym is) (falls, moved_leaves o s f h m after (moved_row s after i m is row))
 
   -- ---- jumps
 

@@ -1,22 +1,23 @@
 -- Kinds of values: along the order of slots, and in the lists that rows make of a stack and of locals.
-use Rattle.std.proofs.Common.{◌≡◌, ℕ, ℤ, zero, suc, true, false, List, [], ◌∷◌, ◌++◌, length, drop, take, cond, Bool, Some, refl, sym, ◌∙◌, ap, subst, slice_get, slice_set, arith}
+use Rattle.std.proofs.Common.{◌≡◌, ℕ, ℤ, zero, suc, true, List, [], ◌∷◌, length, drop, take, Some, refl, sym, ◌∙◌, ap, subst, arith}
 use Rattle.std.specs.List.{AllZip}
 use Rattle.std.proofs.lemmas.Bool.{false≢true}
-use Rattle.std.proofs.lemmas.Option.{same_Some}
 use Rattle.fm_base.proofs.OptionFacts.{cond-some_then}
 use Rattle.fm_code.specs.declared.operations.Reg.{Reg}
 use Rattle.fm_code.specs.declared.operations.Reg.TheVariants as reg
 use Rattle.fm_types.specs.Fits.{fits}
 use Rattle.fm_types.specs.NumberRows.{is_int, suits}
-use Rattle.fm_types.specs.States.{cut_before, is_long, is_whole, local_at, state_fits, taken, TypeState}
+use Rattle.fm_types.specs.States.{is_whole, local_at, state_fits, taken, TypeState}
 use Rattle.fm_types.specs.declared.slots.Slot.{Slot}
 use Rattle.fm_types.specs.declared.slots.Slot.TheVariants as slot
+use Rattle.fm_types.proofs.Zips.{zip-drop}
 use Rattle.fm_types.proofs.StateOrder.{Fitting, IsUnder, long_below, other_below, shape_of, Stands, under-parts, whole-long, whole-other}
 use Rattle.fm_world.specs.Programs.{Outline}
 use Rattle.fm_frames.specs.States.{word_at}
 use Rattle.fm_frames.specs.declared.values.Value.{Value}
 use Rattle.fm_frames.specs.declared.values.Value.TheVariants as value
 use Rattle.fm_law_sound.specs.Sound.{FrameHasKinds, HasKind, HaveKinds, LocalHasKind, LocalsHaveKinds}
+use Rattle.fm_law_sound.proofs.FramesLeft.{taken_drop}
 
 -- ---- along the order of slots
 
@@ -71,19 +72,6 @@ kinds_along o s other whole other_whole fitting locals stack h =
 
 -- ---- one place of a list
 
-pub kind_at : (xs : List Slot) (words : List Value) (n : ℕ) (s : Slot) → HaveKinds xs words → slice_get xs n ≡ Some s → HasKind s (word_at words n)
-kind_at [] words n s h at = absurd (cc)
-kind_at (x ∷ xs) [] n s h at = absurd h
-kind_at (x ∷ xs) (v ∷ words) zero s h at = subst (λ t. HasKind t v) (same_Some x s at) h.0
-kind_at (x ∷ xs) (v ∷ words) (suc n) s h at = kind_at xs words n s h.1 at
-
-pub local_kind : (xs : List Slot) (locals : List Value) (k : ℕ) (s : Slot) → LocalsHaveKinds xs locals → slice_get xs k ≡ Some s
-    → LocalHasKind s (word_at locals k)
-local_kind [] locals k s h at = absurd (cc)
-local_kind (x ∷ xs) [] k s h at = absurd h
-local_kind (x ∷ xs) (v ∷ locals) zero s h at = subst (λ t. LocalHasKind t v) (same_Some x s at) h.0
-local_kind (x ∷ xs) (v ∷ locals) (suc k) s h at = local_kind xs locals k s h.1 at
-
 pub local_kind_or : (xs : List Slot) (locals : List Value) (k : ℕ) → LocalsHaveKinds xs locals → LocalHasKind (local_at xs k) (word_at locals k)
 local_kind_or [] [] k h = tt
 local_kind_or [] (v ∷ locals) k h = absurd h
@@ -111,55 +99,6 @@ pub from_int : (s : Slot) (v : Value) → is_int s ≡ true → (n : ℤ) × (v 
 from_int slot.Int v is h = h
 from_int s v is h = absurd (false≢true is)
 
--- ---- lists
-
-pub kinds-append : (xs others : List Slot) (words more : List Value) → HaveKinds xs words → HaveKinds others more
-    → HaveKinds (xs ++ others) (words ++ more)
-kinds-append [] others [] more h rest = rest
-kinds-append [] others (v ∷ words) more h rest = absurd h
-kinds-append (x ∷ xs) others [] more h rest = absurd h
-kinds-append (x ∷ xs) others (v ∷ words) more h rest = (h.0, kinds-append xs others words more h.1 rest)
-
-pub kinds-drop : (n : ℕ) (xs : List Slot) (words : List Value) → HaveKinds xs words → HaveKinds (drop n xs) (drop n words)
-kinds-drop zero xs words h = h
-kinds-drop (suc n) [] [] h = tt
-kinds-drop (suc n) [] (v ∷ words) h = absurd h
-kinds-drop (suc n) (x ∷ xs) [] h = absurd h
-kinds-drop (suc n) (x ∷ xs) (v ∷ words) h = kinds-drop n xs words h.1
-
-pub locals-set : (k : ℕ) (s : Slot) (v : Value) (xs : List Slot) (locals : List Value) → LocalHasKind s v → LocalsHaveKinds xs locals
-    → LocalsHaveKinds (slice_set xs k s) (slice_set locals k v)
-locals-set k s v [] [] new h = tt
-locals-set k s v [] (w ∷ locals) new h = absurd h
-locals-set k s v (x ∷ xs) [] new h = absurd h
-locals-set zero s v (x ∷ xs) (w ∷ locals) new h = (new, h.1)
-locals-set (suc k) s v (x ∷ xs) (w ∷ locals) new h = (h.0, locals-set k s v xs locals new h.1)
-
--- where only a value changes, or only a slot becomes Top
-pub locals-written : (k : ℕ) (v : Value) (xs : List Slot) (locals : List Value) → LocalHasKind (local_at xs k) v → LocalsHaveKinds xs locals
-    → LocalsHaveKinds xs (slice_set locals k v)
-locals-written k v [] [] new h = tt
-locals-written k v [] (w ∷ locals) new h = absurd h
-locals-written k v (x ∷ xs) [] new h = absurd h
-locals-written zero v (x ∷ xs) (w ∷ locals) new h = (new, h.1)
-locals-written (suc k) v (x ∷ xs) (w ∷ locals) new h = (h.0, locals-written k v xs locals new h.1)
-
-locals-cut : (k : ℕ) (xs : List Slot) (locals : List Value) → LocalsHaveKinds xs locals → LocalsHaveKinds (slice_set xs k slot.Top) locals
-locals-cut k [] [] h = tt
-locals-cut k [] (w ∷ locals) h = absurd h
-locals-cut k (x ∷ xs) [] h = absurd h
-locals-cut zero (x ∷ xs) (w ∷ locals) h = (tt, h.1)
-locals-cut (suc k) (x ∷ xs) (w ∷ locals) h = (h.0, locals-cut k xs locals h.1)
-
-locals-cut_if : (b : Bool) (k : ℕ) (xs : List Slot) (locals : List Value) → LocalsHaveKinds xs locals
-    → LocalsHaveKinds (cond b (slice_set xs k slot.Top) xs) locals
-locals-cut_if true k xs locals h = locals-cut k xs locals h
-locals-cut_if false k xs locals h = h
-
-pub locals-cut_before : (k : ℕ) (xs : List Slot) (locals : List Value) → LocalsHaveKinds xs locals → LocalsHaveKinds (cut_before k xs) locals
-locals-cut_before zero xs locals h = h
-locals-cut_before (suc k) xs locals h = locals-cut_if (is_long (local_at xs k)) k xs locals h
-
 -- ---- what is taken from the top
 
 taken_more : (o : Outline) (s wanted : Slot) (more stack rest : List Slot) → taken o (wanted ∷ more) (s ∷ stack) ≡ Some rest
@@ -169,11 +108,8 @@ taken_more o s wanted more stack rest is = cond-some_then (fits o s wanted) (tak
 -- what is left has its kinds
 pub taken_rest : (o : Outline) (wanted stack rest : List Slot) (words : List Value) → taken o wanted stack ≡ Some rest → HaveKinds stack words
     → HaveKinds rest (drop (length wanted) words)
-taken_rest o [] stack rest words is h = subst (λ xs. HaveKinds xs words) (same_Some stack rest is) h
-taken_rest o (w ∷ more) [] rest words is h = absurd (cc)
-taken_rest o (w ∷ more) (s ∷ stack) rest [] is h = absurd h
-taken_rest o (w ∷ more) (s ∷ stack) rest (v ∷ words) is h =
-    taken_rest o more stack rest words (taken_more o s w more stack rest is).1 h.1
+taken_rest o wanted stack rest words is h =
+    subst (λ xs. HaveKinds xs (drop (length wanted) words)) (taken_drop o wanted stack rest is) (zip-drop HasKind (length wanted) stack words h)
 
 other_words : (o : Outline) (w s : Slot) (v : Value) → fits o s w ≡ true → shape_of w ≡ 2 → HasKind s v → HasKind w v
 other_words o w s v f shape h = kind_along o s w v f (other_below o s w f shape ∙ sym shape) h

@@ -41,3 +41,5 @@ pub mod HeldStays
 pub mod CellsKeep
 pub mod StepCells
 pub mod OpeningCells
+pub mod FramesLeft
+pub mod CallsLeft

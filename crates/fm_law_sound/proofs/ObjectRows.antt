@@ -33,7 +33,7 @@ use Rattle.fm_frames.specs.declared.values.Value.{Value}
 use Rattle.fm_law_sound.specs.Leading.{LeavesAs, NamesField}
 use Rattle.fm_law_sound.specs.Sound.{field_slot, FrameHasKinds, HasKind, HaveKinds, LocalsHaveKinds, static_slots}
 use Rattle.fm_law_sound.proofs.Cases.{by_held, by_if, by_object, by_on_field, by_on_type}
-use Rattle.fm_law_sound.proofs.KindLemmas.{kind_at}
+use Rattle.fm_law_sound.proofs.FramesLeft.{related_at}
 use Rattle.fm_law_sound.proofs.Leaving.{kind_slots, leaves_stack, loaded_gives, pushed_leaves, read_kind, reference_taken, worked_below_leaves, worked_leaves}
 use Rattle.fm_law_sound.proofs.NumberRows.{int_gives, Leads, thrown_leads}
 use Rattle.fm_law_sound.specs.BuiltIns.{GivesSlots}
@@ -88,7 +88,7 @@ static_slot_at o g within is =
 
 pub static_kind : (o : Outline) (g : ℕ) (statics : List Value) → g < length (fields_of o.classes) → is_static (field_at o.classes g).field.flags ≡ true
     → HaveKinds (static_slots o) statics → HasKind (field_slot (kind_of_field o g)) (word_at statics (slot_of o.classes g))
-static_kind o g statics within is h = kind_at (static_slots o) statics (slot_of o.classes g) (field_slot (kind_of_field o g)) h (static_slot_at o g within is)
+static_kind o g statics within is h = related_at HasKind (static_slots o) statics (slot_of o.classes g) (field_slot (kind_of_field o g)) h (static_slot_at o g within is)
 
 -- ---- locals that lose what they knew
 

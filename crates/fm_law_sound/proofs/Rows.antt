@@ -17,7 +17,7 @@ use Rattle.fm_frames.specs.States.{Frame}
 use Rattle.fm_law_sound.specs.Leading.{is_call, LeavesAs, NamesField}
 use Rattle.fm_law_sound.specs.Sound.{FrameHasKinds}
 use Rattle.fm_law_sound.proofs.ArrayRows.{array_load_leads, array_store_leads, length_leads, multi_array_leads, new_array_leads, new_references_leads}
-use Rattle.fm_law_sound.proofs.JumpRows.{dup2_leads, dup2_x1_leads, dup2_x2_leads, dup_leads, dup_x1_leads, dup_x2_leads, goto_leads, int_jump_leads, lookup_leads, null_jump_leads, pair_jump_leads, pop2_leads, pop_leads, return_leads, same_jump_leads, swap_leads, table_leads, throw_leads}
+use Rattle.fm_law_sound.proofs.JumpRows.{goto_leads, int_jump_leads, lookup_leads, move_leads, null_jump_leads, pair_jump_leads, return_leads, same_jump_leads, table_leads, throw_leads}
 use Rattle.fm_law_sound.proofs.Leaving.{pushed_leaves, same_leaves}
 use Rattle.fm_law_sound.proofs.NumberRows.{compare_leads, constant_leads, convert_leads, increment_leads, int_gives, int_negate_leads, int_op_leads, int_shift_leads, Leads, load_leads, long_gives, long_negate_leads, long_op_leads, long_shift_leads, store_leads}
 use Rattle.fm_law_sound.proofs.ObjectRows.{cast_leads, get_field_leads, get_static_leads, is_a_leads, new_leads, put_field_leads, put_static_leads}
@@ -39,15 +39,15 @@ module _ (o : Outline) (s : TypeState) (f : Frame) (h : FrameHasKinds s f.locals
   effect_leads (insn.Load r k) u news byte sights whole names call row = load_leads o s f h after r k row
   effect_leads (insn.Store r k) u news byte sights whole names call row = store_leads o s f h after r k row
   effect_leads (insn.Inc k by) u news byte sights whole names call row = increment_leads o s f h after k by row
-  effect_leads insn.Pop u news byte sights whole names call row = pop_leads o s f h after row
-  effect_leads insn.Pop2 u news byte sights whole names call row = pop2_leads o s f h after row
-  effect_leads insn.Dup u news byte sights whole names call row = dup_leads o s f h after row
-  effect_leads insn.DupX1 u news byte sights whole names call row = dup_x1_leads o s f h after row
-  effect_leads insn.DupX2 u news byte sights whole names call row = dup_x2_leads o s f h after row
-  effect_leads insn.Dup2 u news byte sights whole names call row = dup2_leads o s f h after row
-  effect_leads insn.Dup2X1 u news byte sights whole names call row = dup2_x1_leads o s f h after row
-  effect_leads insn.Dup2X2 u news byte sights whole names call row = dup2_x2_leads o s f h after row
-  effect_leads insn.Swap u news byte sights whole names call row = swap_leads o s f h after row
+  effect_leads insn.Pop u news byte sights whole names call row = move_leads o s f h after insn.Pop _ refl refl row
+  effect_leads insn.Pop2 u news byte sights whole names call row = move_leads o s f h after insn.Pop2 _ refl refl row
+  effect_leads insn.Dup u news byte sights whole names call row = move_leads o s f h after insn.Dup _ refl refl row
+  effect_leads insn.DupX1 u news byte sights whole names call row = move_leads o s f h after insn.DupX1 _ refl refl row
+  effect_leads insn.DupX2 u news byte sights whole names call row = move_leads o s f h after insn.DupX2 _ refl refl row
+  effect_leads insn.Dup2 u news byte sights whole names call row = move_leads o s f h after insn.Dup2 _ refl refl row
+  effect_leads insn.Dup2X1 u news byte sights whole names call row = move_leads o s f h after insn.Dup2X1 _ refl refl row
+  effect_leads insn.Dup2X2 u news byte sights whole names call row = move_leads o s f h after insn.Dup2X2 _ refl refl row
+  effect_leads insn.Swap u news byte sights whole names call row = move_leads o s f h after insn.Swap _ refl refl row
   effect_leads (insn.IntOp op) u news byte sights whole names call row = int_op_leads o s f h after op sights row
   effect_leads (insn.LongOp op) u news byte sights whole names call row = long_op_leads o s f h after op sights row
   effect_leads insn.IntNeg u news byte sights whole names call row = int_negate_leads o s f h after sights row

@@ -32,7 +32,7 @@ use Rattle.fm_world.specs.Numbers.{type_of_class}
 use Rattle.fm_world.specs.Programs.{Outline}
 use Rattle.fm_world.specs.declared.uses.Use.TheVariants as resolved
 use Rattle.fm_frames.specs.CallRows.{words_of_arguments}
-use Rattle.fm_law_sound.proofs.ReturnsStand.{arguments_count}
+use Rattle.fm_law_sound.proofs.CallsLeft.{arguments_count}
 
 -- ---- shapes
 

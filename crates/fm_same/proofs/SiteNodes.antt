@@ -46,9 +46,9 @@ use Rattle.fm_world.specs.declared.calls.CallKind.TheVariants as call
 use Rattle.fm_world.specs.declared.uses.Use.{Use}
 use Rattle.fm_world.specs.declared.uses.Use.TheVariants as resolved
 use Rattle.fm_frames.specs.CallRows.{words_of_arguments}
-use Rattle.fm_law_sound.proofs.ReturnsStand.{arguments_count}
 use Rattle.fm_law_sound.specs.Going.{ConstructorsGiveNothing}
 use Rattle.fm_law_sound.specs.Resolved.{StepsAreResolved}
+use Rattle.fm_law_sound.proofs.CallsLeft.{arguments_count}
 use Rattle.fm_place.proofs.BusyLemmas.{depth_of, words_keep_busy}
 use Rattle.fm_place.specs.Sites.{constructs, has_reference_result, is_doubled, Constructs, kind_of_site, makes_array, MakesArray, may_give_old, names_constructor, new_item, receives_new, ReceivesNew, site_kind, site_node}
 use Rattle.fm_same.proofs.CallWords.{alike_other, slice_after, taken_off, tested, untested}

@@ -29,8 +29,8 @@ use Rattle.fm_frames.specs.Runnable.{IsUseIn}
 use Rattle.fm_frames.specs.States.{Frame}
 use Rattle.fm_frames.specs.Steps.{next_insn}
 use Rattle.fm_frames.specs.declared.values.Value.{Value}
-use Rattle.fm_law_sound.proofs.ReturnsStand.{named_in}
 use Rattle.fm_law_sound.specs.Sound as sound
+use Rattle.fm_law_sound.proofs.CallsLeft.{named_in}
 use Rattle.fm_same.specs.Regions.{argument}
 use Rattle.fm_same.specs.Resolved.{IsResolved}
 use Rattle.fm_same.specs.Standing.{Called, Goes, method_of, Stand, StandBelow, StandsAt}

@@ -10,26 +10,28 @@ pub zip-refl : {X : Type 0} (R : X → X → Type 0) → ((x : X) → R x x) →
 zip-refl R same [] = tt
 zip-refl R same (x ∷ xs) = (same x, zip-refl R same xs)
 
-pub zip-implied : {X : Type 0} (R S : X → X → Type 0) → ((x y : X) → R x y → S x y) → (xs ys : List X) → AllZip R xs ys → AllZip S xs ys
+pub zip-implied : {X Y : Type 0} (R S : X → Y → Type 0) → ((x : X) (y : Y) → R x y → S x y) → (xs : List X) (ys : List Y) → AllZip R xs ys → AllZip S xs ys
 zip-implied R S implies [] [] h = tt
 zip-implied R S implies [] (y ∷ ys) h = absurd h
 zip-implied R S implies (x ∷ xs) [] h = absurd h
 zip-implied R S implies (x ∷ xs) (y ∷ ys) h = (implies x y h.0, zip-implied R S implies xs ys h.1)
 
-pub zip-append : {X : Type 0} (R : X → X → Type 0) (xs ys us vs : List X) → AllZip R xs ys → AllZip R us vs → AllZip R (xs ++ us) (ys ++ vs)
+pub zip-append : {X Y : Type 0} (R : X → Y → Type 0) (xs : List X) (ys : List Y) (us : List X) (vs : List Y) → AllZip R xs ys → AllZip R us vs
+    → AllZip R (xs ++ us) (ys ++ vs)
 zip-append R [] [] us vs h rest = rest
 zip-append R [] (y ∷ ys) us vs h rest = absurd h
 zip-append R (x ∷ xs) [] us vs h rest = absurd h
 zip-append R (x ∷ xs) (y ∷ ys) us vs h rest = (h.0, zip-append R xs ys us vs h.1 rest)
 
-pub zip-drop : {X : Type 0} (R : X → X → Type 0) (n : ℕ) (xs ys : List X) → AllZip R xs ys → AllZip R (drop n xs) (drop n ys)
+pub zip-drop : {X Y : Type 0} (R : X → Y → Type 0) (n : ℕ) (xs : List X) (ys : List Y) → AllZip R xs ys → AllZip R (drop n xs) (drop n ys)
 zip-drop R zero xs ys h = h
 zip-drop R (suc n) [] [] h = tt
 zip-drop R (suc n) [] (y ∷ ys) h = absurd h
 zip-drop R (suc n) (x ∷ xs) [] h = absurd h
 zip-drop R (suc n) (x ∷ xs) (y ∷ ys) h = zip-drop R n xs ys h.1
 
-pub zip-set : {X : Type 0} (R : X → X → Type 0) (n : ℕ) (x y : X) (xs ys : List X) → R x y → AllZip R xs ys → AllZip R (set xs n x) (set ys n y)
+pub zip-set : {X Y : Type 0} (R : X → Y → Type 0) (n : ℕ) (x : X) (y : Y) (xs : List X) (ys : List Y) → R x y → AllZip R xs ys
+    → AllZip R (set xs n x) (set ys n y)
 zip-set R n x y [] [] r h = tt
 zip-set R n x y [] (b ∷ ys) r h = absurd h
 zip-set R n x y (a ∷ xs) [] r h = absurd h
