@@ -1,17 +1,18 @@
 -- The rows of arrays: an element is of the array's class, and all arrays that one step makes have one home.
-use Rattle.std.proofs.Common.{◌≡◌, ◌≢◌, ℕ, ℤ, pos, suc, ◌+◌, ◌-◌, ◌*◌, ◌<◌, ◌≤◌, ◌==◌, ◌&&◌, ◌||◌, not, int_lt, Bool, true, false, cond, List, [], ◌∷◌, ◌++◌, length, reverse, Option, Some, None, codes, unsigned_abs, nat_lt, nat_le, Contains, refl, sym, ◌∙◌, ap, subst, inl, slice_get, arith, eqb-true, ne_eqb, leb-true}
-use Rattle.std.specs.List.{AllByRecursion, flat_map, list_any, range_with_len}
+use Rattle.std.proofs.Common.{◌≡◌, ◌≢◌, ℕ, ℤ, pos, ◌+◌, ◌-◌, ◌*◌, ◌<◌, ◌≤◌, ◌==◌, ◌&&◌, ◌||◌, not, int_lt, Bool, true, false, cond, List, [], ◌∷◌, ◌++◌, length, reverse, Option, Some, None, codes, unsigned_abs, nat_lt, nat_le, Contains, refl, sym, ◌∙◌, ap, subst, inl, slice_get, arith, eqb-true, ne_eqb, leb-true}
+use Rattle.std.specs.List.{AllByRecursion, list_any, range_with_len}
 use Rattle.std.proofs.lemmas.Bool.{and_parts, false≢true}
 use Rattle.std.proofs.lemmas.List.{length-reverse}
 use Rattle.std.proofs.lemmas.List.FromFn.{length-range_with_len}
 use Rattle.std.proofs.lemmas.Option.{same_Some}
-use Rattle.fm_base.proofs.OptionFacts.{cond-some_then, option_and_then-some, Some-from_some_and}
+use Rattle.fm_base.proofs.ListFacts.{AllByRecursion-append}
+use Rattle.fm_base.proofs.OptionFacts.{cond-some_then, option_and_then-some}
 use Rattle.fm_base.specs.declared.kinds.Base.{Base}
 use Rattle.fm_base.specs.declared.kinds.Base.TheVariants as base
 use Rattle.fm_base.specs.declared.kinds.Kind.{Kind}
 use Rattle.fm_base.specs.declared.kinds.Kind.TheVariants as kind
 use Rattle.fm_base.specs.declared.kinds.TypeRef.{TypeRef}
-use Rattle.fm_code.specs.Edges.{falls_through, IsNormalEdge}
+use Rattle.fm_code.specs.Edges.{falls_through}
 use Rattle.fm_code.specs.Live.{stores_over}
 use Rattle.fm_code.specs.SpellsCode.{targets_of}
 use Rattle.fm_base.specs.declared.ids.TypeId.{TypeId}
@@ -25,7 +26,6 @@ use Rattle.fm_types.specs.ArrayRows.{array_store_row, has_letter, is_array_of, m
 use Rattle.fm_types.specs.Fits.{object_of}
 use Rattle.fm_types.specs.Rows.{row_after}
 use Rattle.fm_types.specs.States.{is_reference, taken, TypeState}
-use Rattle.fm_types.specs.Typed.{FitsAt}
 use Rattle.fm_types.specs.declared.slots.Slot as slots
 use Rattle.fm_types.specs.declared.slots.Slot.TheVariants as slot
 use Rattle.fm_world.specs.Chains.{is_sub}
@@ -37,15 +37,16 @@ use Rattle.fm_world.specs.declared.uses.Use.{Use}
 use Rattle.fm_world.specs.declared.uses.Use.TheVariants as resolved
 use Rattle.fm_code.specs.StackWords.{element_words}
 use Rattle.fm_frames.specs.ArrayRows.{array_actions, array_load_effect, array_made, array_store_effect, arrays_made, arrays_of, element_kind, element_type, ints_at, length_effect, multi_array_effect, new_array_effect, new_references_effect, on_element, put_element, thrown_negative}
-use Rattle.fm_frames.specs.Effects.{Action, Make, Put, Effect, OfMade, faulty, making, stuck, words}
+use Rattle.fm_frames.specs.Effects.{Make, Put, Effect, OfMade, faulty, making, stuck, words}
 use Rattle.fm_frames.specs.Operands.{thrown, thrown_null}
 use Rattle.fm_frames.specs.Sights.{Looks, Sight}
 use Rattle.fm_frames.specs.States.{Frame}
 use Rattle.fm_same.specs.Evenness.{ActsEvenly, given, Point, PutsEvenly}
 use Rattle.fm_law_sound.proofs.Cases.{by_held, by_if, by_int, by_on_type, by_passing}
+use Rattle.fm_law_sound.proofs.Opening.{all_flat}
 use Rattle.fm_law_sound.proofs.InsnActs.{ints_many, magnitudes, magnitudes_many}
 use Rattle.fm_same.proofs.ItemFacts.{AtInsn, goes_obey, point, row, used, x}
-use Rattle.fm_same.proofs.MoveRows.{gives_one}
+use Rattle.fm_same.proofs.MoveRows.{gives_one, row_gives}
 use Rattle.fm_same.proofs.ObjectRows.{home_of, leads_operand, loaded_obeys, making_obeys, only_next, put_obeys, reference_on_top}
 use Rattle.fm_same.proofs.PlainRows.{faulty_obeys, null_obeys, Owes, stuck_obeys, thrown_obeys, words_obey}
 
@@ -119,8 +120,7 @@ module _ (p : Program) (facts : Facts) (exact : AreFacts p facts) (f : Frame) wh
   unfolding pairs.words_taken pairs.joined_by row_after
   stored_reference h it place =
       let i : Insn = insn.ArrayStore elem.Ref in
-      let after = Some-from_some_and (array_store_row p.outline elem.Ref h.state)
-      (λ s. (next : ℕ) → IsNormalEdge h.code f.item next → FitsAt p (facts.typing f.method) next s) (row p facts exact f i h) in
+      let after = row_gives p facts exact f i h (array_store_row p.outline elem.Ref h.state) (row p facts exact f i h) in
       let top = store_top p.outline h.state after.0 after.1 in
       put_obeys p facts exact f i h (λ k. refl) refl 3 2 place 0 (element_kind it.type) (omega arith)
       (λ v is. ((0, omega arith, refl), leads_operand p facts exact f i h 0 top.0 top.1 top.2))
@@ -194,14 +194,6 @@ module _ (p : Program) (facts : Facts) (exact : AreFacts p facts) (f : Frame) wh
 
 -- ---- arrays of arrays
 
-all_append : (P : Action → Type 0) (xs ys : List Action) → AllByRecursion P xs → AllByRecursion P ys → AllByRecursion P (xs ++ ys)
-all_append P [] ys h rest = rest
-all_append P (x ∷ xs) ys h rest = (h.0, all_append P xs ys h.1 rest)
-
-all_flat : (P : Action → Type 0) (f : ℕ → List Action) (xs : List ℕ) → ((n : ℕ) → AllByRecursion P (f n)) → AllByRecursion P (flat_map f xs)
-all_flat P f [] h = tt
-all_flat P f (x ∷ xs) h = all_append P (f x) (flat_map f xs) (h x) (all_flat P f xs h)
-
 -- arrays with more than one dimension have references for elements
 pub cond_no : (c : Bool) (a b : Kind) → c ≡ false → cond c a b ≡ b
 cond_no true a b e = absurd (false≢true (sym e))
@@ -228,7 +220,7 @@ arrays_even o x home (count ∷ next ∷ counts) t first le =
           (λ place. array_actions (element_type t) (next ∷ counts) (first + 1 + place * size)
           ++ Put (OfMade first) place (element_kind t) (OfMade (first + 1 + place * size)) ∷ [])
           (range_with_len 0 count)
-          (λ place. all_append (ActsEvenly o x home) (array_actions (element_type t) (next ∷ counts) (first + 1 + place * size)) _
+          (λ place. AllByRecursion-append (ActsEvenly o x home) (array_actions (element_type t) (next ∷ counts) (first + 1 + place * size)) _
           (arrays_even o x home (next ∷ counts) (element_type t) (first + 1 + place * size) (omega arith))
           (put_made x home first (first + 1 + place * size) (element_kind t) deep.0 deep.1, tt)),
     )
@@ -281,8 +273,7 @@ module _ (p : Program) (facts : Facts) (exact : AreFacts p facts) (f : Frame) wh
       let u : Use = used p facts exact f i h in
       by_on_type (Owes p facts exact f i h) p.outline u _ (stuck_obeys p facts exact f i h)
       (λ n t is there.
-      let after = Some-from_some_and (multi_array_row p.outline u dimensions h.state)
-      (λ q. (next : ℕ) → IsNormalEdge h.code f.item next → FitsAt p (facts.typing f.method) next q) (row p facts exact f i h) in
+      let after = row_gives p facts exact f i h (multi_array_row p.outline u dimensions h.state) (row p facts exact f i h) in
       let le : dimensions ≤ t.dims =
       multi_dims p.outline n t dimensions h.state after.0 there (ap (λ v. multi_array_row p.outline v dimensions h.state) (sym is) ∙ after.1) in
       arrays_of_obeys index dimensions h t le (ints_at s (reverse (range_with_len 0 dimensions)))

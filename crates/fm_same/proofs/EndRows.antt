@@ -1,10 +1,7 @@
 -- The rows of casts, athrow, returns and switches.
-use Rattle.std.proofs.Common.{◌≡◌, ◌≢◌, ℕ, ℤ, pos, suc, ◌+◌, ◌-◌, ◌<◌, ◌≤◌, ◌||◌, ◌+ℤ◌, ◌-ℤ◌, not, int_lt, int_le, unsigned_abs, Bool, true, false, cond, List, [], ◌∷◌, length, length-take, take, position, nat_lt, Option, Some, None, codes, refl, sym, ◌∙◌, ap, subst, inl, slice_get, arith, ltb-true, ⊎_elim}
+use Rattle.std.proofs.Common.{◌≡◌, ◌≢◌, ℕ, ◌+◌, ◌-◌, ◌<◌, true, false, List, [], ◌∷◌, length, Option, Some, None, codes, refl, sym, ◌∙◌, ap, subst, inl, slice_get, arith, ⊎_elim}
 use Rattle.std.proofs.lemmas.Bool.{cases_eq, false≢true}
-use Rattle.std.specs.Ordering.{int_eq}
-use Rattle.std.specs.List.{prefix_len}
-use Rattle.std.proofs.lemmas.Int.{ints}
-use Rattle.fm_base.proofs.OptionFacts.{cond-some_then, IsSomeAnd-from_some, Some-from_some_and}
+use Rattle.fm_base.proofs.OptionFacts.{cond-some_then, IsSomeAnd-from_some}
 use Rattle.fm_base.specs.declared.kinds.Kind.{Kind}
 use Rattle.fm_base.specs.declared.kinds.Kind.TheVariants as kind
 use Rattle.fm_code.specs.Edges.{IsNormalEdge}
@@ -22,27 +19,26 @@ use Rattle.fm_types.specs.Fits.{fits}
 use Rattle.fm_types.specs.Named.{result_of, throwable_type}
 use Rattle.fm_types.specs.Rows.{row_after}
 use Rattle.fm_types.specs.States.{is_reference, is_whole, stack_slots, taken, TypeState, worked}
-use Rattle.fm_types.specs.Typed.{FitsAt}
 use Rattle.fm_types.specs.declared.slots.Slot as slots
 use Rattle.fm_types.specs.declared.slots.Slot.TheVariants as slot
 use Rattle.fm_types.proofs.StateOrder.{long_below, whole-long}
 use Rattle.fm_world.specs.Chains.{is_sub}
 use Rattle.fm_world.specs.Programs.{Outline, Program}
 use Rattle.fm_world.specs.declared.uses.Use.{Use}
-use Rattle.fm_frames.specs.Effects.{Jumps, Returns, going, words}
-use Rattle.fm_frames.specs.JumpRows.{key_target, lookup_effect, return_effect, table_effect, table_target, throw_effect}
-use Rattle.fm_frames.specs.ObjectRows.{cast_effect, is_a_effect}
+use Rattle.fm_frames.specs.Effects.{Returns, going, words}
+use Rattle.fm_frames.specs.JumpRows.{return_effect, throw_effect}
+use Rattle.fm_frames.specs.ObjectRows.{cast_effect}
 use Rattle.fm_frames.specs.Operands.{thrown}
 use Rattle.fm_frames.specs.Sights.{Sight}
 use Rattle.fm_frames.specs.States.{Frame}
 use Rattle.fm_same.specs.Evenness.{word}
-use Rattle.fm_law_sound.proofs.Cases.{by_held, by_if, by_int, by_object, by_on_type}
+use Rattle.fm_law_sound.proofs.Cases.{by_held, by_if, by_object, by_on_type}
 use Rattle.fm_same.proofs.EdgesKeep.{live_before}
 use Rattle.fm_same.proofs.ItemFacts.{AtInsn, given_word, joined_class, point, row, stays_class, taken_word, x}
-use Rattle.fm_same.proofs.MoveRows.{not_taken}
+use Rattle.fm_same.proofs.MoveRows.{not_taken, row_gives}
 use Rattle.fm_same.proofs.ObjectRows.{mapped_some, taken_top}
-use Rattle.fm_same.proofs.PlainRows.{faulty_obeys, null_obeys, Owes, plain_obeys, stuck_obeys, thrown_obeys, words_obey}
-use Rattle.fm_law_sound.proofs.JumpRows.{table_within, key_within, table_if, within_if, return_by, return_is, between, few_keys}
+use Rattle.fm_same.proofs.PlainRows.{faulty_obeys, null_obeys, Owes, stuck_obeys, thrown_obeys}
+use Rattle.fm_law_sound.proofs.JumpRows.{return_by, return_is}
 
 module _ (p : Program) (facts : Facts) (exact : AreFacts p facts) (f : Frame) where
   -- ---- casts
@@ -91,16 +87,6 @@ module _ (p : Program) (facts : Facts) (exact : AreFacts p facts) (f : Frame) wh
       (λ it seen. by_if (Owes p facts exact f i h) (is_sub p.outline.classes it.type t) (words 0 []) (thrown p.outline (codes "java/lang/ClassCastException"))
       (λ passes. cast_words index h)
       (λ fails. thrown_obeys p facts exact f i h (λ k. refl) (codes "java/lang/ClassCastException"))))
-
-  pub is_a_obeys : (index : ℕ) (h : AtInsn p facts f (insn.IsA index)) (u : Use) (s : List Sight)
-      → Owes p facts exact f (insn.IsA index) h (is_a_effect p.outline u s)
-  unfolding is_a_effect pairs.words_taken
-  is_a_obeys index h u s =
-      let i : Insn = insn.IsA index in
-      by_on_type (Owes p facts exact f i h) p.outline u _ (stuck_obeys p facts exact f i h)
-      (λ n t is there. by_held (Owes p facts exact f i h) _ s 0 _ (words_obey p facts exact f i h (λ k. refl) refl 1 _ (tt, tt) (omega arith))
-      (stuck_obeys p facts exact f i h) (faulty_obeys p facts exact f i h 0)
-      (λ it seen. words_obey p facts exact f i h (λ k. refl) refl 1 _ (tt, tt) (omega arith)))
 
   -- ---- athrow
 
@@ -193,8 +179,7 @@ module _ (p : Program) (facts : Facts) (exact : AreFacts p facts) (f : Frame) wh
   typed_return : (r : Reg) (h : AtInsn p facts f (insn.Return (Some r))) → IsReturned p.outline f.method r h.state
   unfolding row_after
   typed_return r h =
-      let after = Some-from_some_and (return_row p.outline f.method (Some r) h.state)
-      (λ s. (next : ℕ) → IsNormalEdge h.code f.item next → FitsAt p (facts.typing f.method) next s) (row p facts exact f (insn.Return (Some r)) h) in
+      let after = row_gives p facts exact f (insn.Return (Some r)) h (return_row p.outline f.method (Some r) h.state) (row p facts exact f (insn.Return (Some r)) h) in
       returned_from p.outline f.method r h.state after.0 after.1
 
   return_int : (h : AtInsn p facts f (insn.Return (Some reg.Int))) → Owes p facts exact f (insn.Return (Some reg.Int)) h (going 0 (Returns 1))
@@ -246,25 +231,3 @@ module _ (p : Program) (facts : Facts) (exact : AreFacts p facts) (f : Frame) wh
   return_obeys (Some reg.Int) h = return_int h
   return_obeys (Some reg.Long) h = return_long h
   return_obeys (Some reg.Ref) h = return_reference h
-
--- ---- switches
-
-module _ (p : Program) (facts : Facts) (exact : AreFacts p facts) (f : Frame) where
-  pub table_obeys : (low : ℤ) (others : ℕ) (targets : List ℕ) (h : AtInsn p facts f (insn.Table low others targets)) (s : List Sight)
-      → Owes p facts exact f (insn.Table low others targets) h (table_effect low (length targets) s)
-  unfolding table_effect pairs.words_taken
-  table_obeys low others targets h s =
-      let i : Insn = insn.Table low others targets in
-      by_int (Owes p facts exact f i h) s 0 _ (stuck_obeys p facts exact f i h)
-      (λ key. plain_obeys p facts exact f i h (λ k. refl) (going 1 (Jumps (table_target low (length targets) key))) refl refl tt
-      (table_within low (length targets) key) tt (omega arith))
-
-  -- as many keys as there are targets are looked through
-  pub lookup_obeys : (others : ℕ) (keys : List ℤ) (targets : List ℕ) (h : AtInsn p facts f (insn.Lookup others keys targets)) (s : List Sight)
-      → Owes p facts exact f (insn.Lookup others keys targets) h (lookup_effect keys (length targets) s)
-  unfolding lookup_effect pairs.words_taken
-  lookup_obeys others keys targets h s =
-      let i : Insn = insn.Lookup others keys targets in
-      by_int (Owes p facts exact f i h) s 0 _ (stuck_obeys p facts exact f i h)
-      (λ key. plain_obeys p facts exact f i h (λ k. refl) (going 1 (Jumps (key_target (position (int_eq key) (take (length targets) keys))))) refl refl tt
-      (key_within (take (length targets) keys) key (length targets) (few_keys keys (length targets))) tt (omega arith))

@@ -1,5 +1,5 @@
 -- The rows of constants, locals and moves of the stack: what they give is of the class of what they take or load.
-use Rattle.std.proofs.Common.{◌≡◌, ℕ, ℤ, zero, suc, ◌+◌, ◌-◌, ◌<◌, ◌==◌, ◌||◌, Bool, true, false, cond, List, [], ◌∷◌, ◌++◌, length, map, Option, Some, None, option_and_then, Contains, refl, sym, ◌∙◌, ap, subst, slice_get, arith}
+use Rattle.std.proofs.Common.{◌≡◌, ℕ, zero, suc, ◌+◌, ◌-◌, ◌<◌, ◌==◌, ◌||◌, Bool, true, false, cond, List, [], ◌∷◌, ◌++◌, length, map, Option, Some, None, option_and_then, IsSomeAnd, Contains, refl, sym, ◌∙◌, ap, subst, slice_get, arith}
 use Rattle.std.proofs.lemmas.Bool.{false≢true}
 use Rattle.std.proofs.lemmas.List.{length-map}
 use Rattle.std.proofs.lemmas.Option.{same_Some}
@@ -14,7 +14,7 @@ use Rattle.fm_conn.specs.Facts.{AreFacts, Facts}
 use Rattle.fm_conn.specs.Nodes.{IsNode, Local, Slot}
 use Rattle.fm_conn.specs.Pairs.{StandsAt}
 use Rattle.fm_conn.specs.Rows as pairs
-use Rattle.fm_types.specs.Moves.{Moves}
+use Rattle.fm_types.specs.Moves.{Moves, moves_of}
 use Rattle.fm_types.specs.NumberRows.{is_int, load_row, loaded, store_row, suits}
 use Rattle.fm_types.specs.Rows.{row_after}
 use Rattle.fm_types.specs.States.{is_long, is_reference, pushed, TypeState}
@@ -24,8 +24,8 @@ use Rattle.fm_types.specs.declared.slots.Slot.TheVariants as slot
 use Rattle.fm_world.specs.Programs.{Program}
 use Rattle.fm_world.specs.declared.uses.Use.{Use}
 use Rattle.fm_world.specs.declared.uses.Use.TheVariants as resolved
-use Rattle.fm_frames.specs.Effects.{Effect, Source, Plain, OfOperand, OfLocal, OfLiteral, int_word, long_words, null_word, words}
-use Rattle.fm_frames.specs.NumberRows.{constant_effect, load_effect, move_effect, store_effect}
+use Rattle.fm_frames.specs.Effects.{Effect, Source, Plain, OfOperand, OfLocal, OfLiteral, int_word, long_words, words}
+use Rattle.fm_frames.specs.NumberRows.{constant_effect, load_effect, move_effect, moved_words, store_effect}
 use Rattle.fm_frames.specs.States.{Frame}
 use Rattle.fm_frames.specs.declared.values.Value.TheVariants as value
 use Rattle.fm_same.specs.Evenness.{ComesFrom, depth_after, given, word}
@@ -89,25 +89,17 @@ module _ (p : Program) (facts : Facts) (exact : AreFacts p facts) (f : Frame) (i
   gives_two e home g other is first second next edge q s at node =
       two_given (λ q s. GivesOne e home next q s) g other (first next edge) (second next edge) q s (ap (λ gives. slice_get gives q) (sym is) ∙ at) node
 
+  -- the state after the item's row
+  abbrev pub RowGives : Option TypeState → Type 0
+  RowGives given_by = (s : TypeState) × (given_by ≡ Some s) × ((next : ℕ) → IsNormalEdge h.code f.item next → FitsAt p (facts.typing f.method) next s)
+
+  pub row_gives : (given_by : Option TypeState)
+      → IsSomeAnd given_by (λ s. (next : ℕ) → IsNormalEdge h.code f.item next → FitsAt p (facts.typing f.method) next s) → RowGives given_by
+  row_gives given_by is = Some-from_some_and given_by (λ s. (next : ℕ) → IsNormalEdge h.code f.item next → FitsAt p (facts.typing f.method) next s) is
+
 -- ---- constants
 
 module _ (p : Program) (facts : Facts) (exact : AreFacts p facts) (f : Frame) where
-  pub nop_obeys : (h : AtInsn p facts f insn.Nop) → Owes p facts exact f insn.Nop h (words 0 [])
-  unfolding pairs.words_taken
-  nop_obeys h = words_obey p facts exact f insn.Nop h (λ k. refl) refl 0 [] tt (omega arith)
-
-  pub null_constant_obeys : (h : AtInsn p facts f insn.Null) → Owes p facts exact f insn.Null h (words 0 null_word)
-  unfolding pairs.words_taken
-  null_constant_obeys h = words_obey p facts exact f insn.Null h (λ k. refl) refl 0 null_word (refl, tt) (omega arith)
-
-  pub const_obeys : (n : ℤ) (h : AtInsn p facts f (insn.Const n)) → Owes p facts exact f (insn.Const n) h (words 0 (int_word n))
-  unfolding pairs.words_taken
-  const_obeys n h = words_obey p facts exact f (insn.Const n) h (λ k. refl) refl 0 (int_word n) (tt, tt) (omega arith)
-
-  pub long_const_obeys : (n : ℤ) (h : AtInsn p facts f (insn.LongConst n)) → Owes p facts exact f (insn.LongConst n) h (words 0 (long_words n))
-  unfolding pairs.words_taken
-  long_const_obeys n h = words_obey p facts exact f (insn.LongConst n) h (λ k. refl) refl 0 (long_words n) (tt, (tt, tt)) (omega arith)
-
   pub constant_obeys : (index : ℕ) (h : AtInsn p facts f (insn.LoadPool index)) (u : Use) → Owes p facts exact f (insn.LoadPool index) h (constant_effect u)
   unfolding constant_effect pairs.words_taken
   constant_obeys index h (resolved.OfType t) = stuck_obeys p facts exact f (insn.LoadPool index) h
@@ -171,9 +163,7 @@ module _ (p : Program) (facts : Facts) (exact : AreFacts p facts) (f : Frame) wh
   load_int k h =
       let i : Insn = insn.Load reg.Int k in
       let e : Effect = words 0 (OfLocal k ∷ []) in
-      let after : (s : TypeState) × (load_row reg.Int k h.state ≡ Some s) × ((next : ℕ) → IsNormalEdge h.code f.item next → FitsAt p (facts.typing f.method) next s) =
-      Some-from_some_and (load_row reg.Int k h.state) (λ s. (next : ℕ) → IsNormalEdge h.code f.item next → FitsAt p (facts.typing f.method) next s)
-      (row p facts exact f i h) in
+      let after = row_gives p facts exact f i h (load_row reg.Int k h.state) (row p facts exact f i h) in
       let pushed_by : IsLoaded reg.Int h.state after.0 = load_state reg.Int k h after.0 after.1 in
       goes_obey p facts exact f i h e 0 tt refl tt
       (gives_one p facts exact f i h e 0 (OfLocal k) refl
@@ -188,9 +178,7 @@ module _ (p : Program) (facts : Facts) (exact : AreFacts p facts) (f : Frame) wh
   load_long k h =
       let i : Insn = insn.Load reg.Long k in
       let e : Effect = words 0 (Plain value.Top ∷ OfLocal k ∷ []) in
-      let after : (s : TypeState) × (load_row reg.Long k h.state ≡ Some s) × ((next : ℕ) → IsNormalEdge h.code f.item next → FitsAt p (facts.typing f.method) next s) =
-      Some-from_some_and (load_row reg.Long k h.state) (λ s. (next : ℕ) → IsNormalEdge h.code f.item next → FitsAt p (facts.typing f.method) next s)
-      (row p facts exact f i h) in
+      let after = row_gives p facts exact f i h (load_row reg.Long k h.state) (row p facts exact f i h) in
       let pushed_by : IsLoaded reg.Long h.state after.0 = load_state reg.Long k h after.0 after.1 in
       goes_obey p facts exact f i h e 0 tt refl tt
       (gives_two p facts exact f i h e 0 (Plain value.Top) (OfLocal k) refl (λ next edge there. tt)
@@ -250,9 +238,7 @@ module _ (p : Program) (facts : Facts) (exact : AreFacts p facts) (f : Frame) wh
   unfolding pairs.words_taken row_after store_effect
   store_int k h =
       let i : Insn = insn.Store reg.Int k in
-      let after : (s : TypeState) × (store_row p.outline reg.Int k h.state ≡ Some s) × ((next : ℕ) → IsNormalEdge h.code f.item next → FitsAt p (facts.typing f.method) next s) =
-      Some-from_some_and (store_row p.outline reg.Int k h.state) (λ s. (next : ℕ) → IsNormalEdge h.code f.item next → FitsAt p (facts.typing f.method) next s)
-      (row p facts exact f i h) in
+      let after = row_gives p facts exact f i h (store_row p.outline reg.Int k h.state) (row p facts exact f i h) in
       let top : (s : slots.Slot) × (slice_get h.state.stack 0 ≡ Some s) × (is_int s ≡ true) =
       store_int_slot k h.state.locals h.state.stack h.state.built after.0 after.1 in
       goes_obey p facts exact f i h (store_effect reg.Int k) 0 tt refl tt (λ next edge q s at node. absurd (cc))
@@ -263,9 +249,7 @@ module _ (p : Program) (facts : Facts) (exact : AreFacts p facts) (f : Frame) wh
   unfolding pairs.words_taken row_after store_effect
   store_long k h =
       let i : Insn = insn.Store reg.Long k in
-      let after : (s : TypeState) × (store_row p.outline reg.Long k h.state ≡ Some s) × ((next : ℕ) → IsNormalEdge h.code f.item next → FitsAt p (facts.typing f.method) next s) =
-      Some-from_some_and (store_row p.outline reg.Long k h.state) (λ s. (next : ℕ) → IsNormalEdge h.code f.item next → FitsAt p (facts.typing f.method) next s)
-      (row p facts exact f i h) in
+      let after = row_gives p facts exact f i h (store_row p.outline reg.Long k h.state) (row p facts exact f i h) in
       let below : (s : slots.Slot) × (slice_get h.state.stack 1 ≡ Some s) × (is_long s ≡ true) =
       store_long_slot k h.state.locals h.state.stack h.state.built after.0 after.1 in
       goes_obey p facts exact f i h (store_effect reg.Long k) 0 tt refl tt (λ next edge q s at node. absurd (cc))
@@ -311,38 +295,9 @@ module _ (p : Program) (facts : Facts) (exact : AreFacts p facts) (f : Frame) wh
       (taken_word p facts exact f i h found.0) (given_stands p facts exact f i h e next q pair.0 edge (sym takes) place) there node))
       tt (λ k unwritten. keeps k) (omega (arith, takes))
 
-  pub pop_obeys : (h : AtInsn p facts f insn.Pop) → Owes p facts exact f insn.Pop h (move_effect insn.Pop)
-  unfolding move_effect pairs.words_taken pairs.joined_by
-  pop_obeys h = moves_obey insn.Pop h (record { takes = 1; gives = [] }) (λ k. refl) refl refl refl
-
-  pub pop2_obeys : (h : AtInsn p facts f insn.Pop2) → Owes p facts exact f insn.Pop2 h (move_effect insn.Pop2)
-  unfolding move_effect pairs.words_taken pairs.joined_by
-  pop2_obeys h = moves_obey insn.Pop2 h (record { takes = 2; gives = [] }) (λ k. refl) refl refl refl
-
-  pub dup_obeys : (h : AtInsn p facts f insn.Dup) → Owes p facts exact f insn.Dup h (move_effect insn.Dup)
-  unfolding move_effect pairs.words_taken pairs.joined_by
-  dup_obeys h = moves_obey insn.Dup h (record { takes = 1; gives = 0 ∷ 0 ∷ [] }) (λ k. refl) refl refl refl
-
-  pub dup_x1_obeys : (h : AtInsn p facts f insn.DupX1) → Owes p facts exact f insn.DupX1 h (move_effect insn.DupX1)
-  unfolding move_effect pairs.words_taken pairs.joined_by
-  dup_x1_obeys h = moves_obey insn.DupX1 h (record { takes = 2; gives = 0 ∷ 1 ∷ 0 ∷ [] }) (λ k. refl) refl refl refl
-
-  pub dup_x2_obeys : (h : AtInsn p facts f insn.DupX2) → Owes p facts exact f insn.DupX2 h (move_effect insn.DupX2)
-  unfolding move_effect pairs.words_taken pairs.joined_by
-  dup_x2_obeys h = moves_obey insn.DupX2 h (record { takes = 3; gives = 0 ∷ 1 ∷ 2 ∷ 0 ∷ [] }) (λ k. refl) refl refl refl
-
-  pub dup2_obeys : (h : AtInsn p facts f insn.Dup2) → Owes p facts exact f insn.Dup2 h (move_effect insn.Dup2)
-  unfolding move_effect pairs.words_taken pairs.joined_by
-  dup2_obeys h = moves_obey insn.Dup2 h (record { takes = 2; gives = 0 ∷ 1 ∷ 0 ∷ 1 ∷ [] }) (λ k. refl) refl refl refl
-
-  pub dup2_x1_obeys : (h : AtInsn p facts f insn.Dup2X1) → Owes p facts exact f insn.Dup2X1 h (move_effect insn.Dup2X1)
-  unfolding move_effect pairs.words_taken pairs.joined_by
-  dup2_x1_obeys h = moves_obey insn.Dup2X1 h (record { takes = 3; gives = 0 ∷ 1 ∷ 2 ∷ 0 ∷ 1 ∷ [] }) (λ k. refl) refl refl refl
-
-  pub dup2_x2_obeys : (h : AtInsn p facts f insn.Dup2X2) → Owes p facts exact f insn.Dup2X2 h (move_effect insn.Dup2X2)
-  unfolding move_effect pairs.words_taken pairs.joined_by
-  dup2_x2_obeys h = moves_obey insn.Dup2X2 h (record { takes = 4; gives = 0 ∷ 1 ∷ 2 ∷ 3 ∷ 0 ∷ 1 ∷ [] }) (λ k. refl) refl refl refl
-
-  pub swap_obeys : (h : AtInsn p facts f insn.Swap) → Owes p facts exact f insn.Swap h (move_effect insn.Swap)
-  unfolding move_effect pairs.words_taken pairs.joined_by
-  swap_obeys h = moves_obey insn.Swap h (record { takes = 2; gives = 1 ∷ 0 ∷ [] }) (λ k. refl) refl refl refl
+  pub move_obeys : (i : Insn) (h : AtInsn p facts f i) (m : Moves) → moves_of i ≡ Some m → ((k : ℕ) → stores_over k i ≡ false) → falls_through i ≡ true
+      → pairs.words_taken p.outline (used p facts exact f i h) i ≡ m.takes → pairs.joined_by p.outline (used p facts exact f i h) i ≡ pairs.moved_words m.gives
+      → Owes p facts exact f i h (move_effect i)
+  unfolding move_effect
+  move_obeys i h m is keeps falls takes joins =
+      subst (λ found. Owes p facts exact f i h (moved_words found)) (sym is) (moves_obey i h m keeps falls takes joins)

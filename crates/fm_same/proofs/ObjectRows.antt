@@ -1,6 +1,6 @@
 -- The rows of objects, fields, casts and arrays: what is read from an object is of its class, and so is what is put into it; a new object's home is the word
 -- that it becomes.
-use Rattle.std.proofs.Common.{◌≡◌, ℕ, zero, suc, ◌+◌, ◌-◌, ◌<◌, ◌≤◌, Bool, true, false, cond, List, [], ◌∷◌, ◌++◌, length, Option, Some, None, option_map, IsSomeAnd, Contains, refl, sym, ◌∙◌, ap, subst, inl, slice_get, arith, ⊎_elim, length-append}
+use Rattle.std.proofs.Common.{◌≡◌, ℕ, zero, suc, ◌+◌, ◌-◌, ◌<◌, ◌≤◌, Bool, true, false, cond, List, [], ◌∷◌, ◌++◌, length, Option, Some, None, option_map, Contains, refl, sym, ◌∙◌, ap, subst, inl, slice_get, arith, ⊎_elim, length-append}
 use Rattle.std.proofs.lemmas.Bool.{false≢true}
 use Rattle.std.proofs.lemmas.Option.{same_Some, slice_get_within}
 use Rattle.fm_base.proofs.OptionFacts.{cond-some_then, option_and_then-some, Some-from_some_and}
@@ -23,7 +23,6 @@ use Rattle.fm_types.specs.Named as named_rows
 use Rattle.fm_types.specs.ObjectRows.{get_static_row, put_field_row, put_static_row}
 use Rattle.fm_types.specs.Rows.{row_after}
 use Rattle.fm_types.specs.States.{is_reference, stack_slots, taken, TypeState}
-use Rattle.fm_types.specs.Typed.{FitsAt}
 use Rattle.fm_types.specs.declared.slots.Slot as slots
 use Rattle.fm_types.specs.declared.slots.Slot.TheVariants as slot
 use Rattle.fm_base.specs.Kinds.{kind_words}
@@ -40,7 +39,7 @@ use Rattle.fm_frames.specs.declared.values.Value.TheVariants as value
 use Rattle.fm_same.specs.Evenness.{given, LeadsOn, word}
 use Rattle.fm_law_sound.proofs.Cases.{by_object, by_on_field, by_on_type}
 use Rattle.fm_same.proofs.ItemFacts.{AtInsn, goes_obey, joined_class, node_of_slot, point, row, taken_word, used, x}
-use Rattle.fm_same.proofs.MoveRows.{given_stands, gives_one, gives_two, not_given}
+use Rattle.fm_same.proofs.MoveRows.{given_stands, gives_one, gives_two, not_given, row_gives}
 use Rattle.fm_same.proofs.PlainRows.{faulty_obeys, null_obeys, Owes, stuck_obeys, words_obey}
 
 -- ---- uses
@@ -240,17 +239,6 @@ module _ (p : Program) (facts : Facts) (exact : AreFacts p facts) (f : Frame) wh
       (λ it seen fits_it. loaded_obeys p facts exact f i h (λ k. refl) refl 1 0 (slot_of p.outline.classes m.0) (kind_of_field p.outline m.0) refl
       (λ ref kind_is. row_there (pairs.is_reference_field p.outline u) _ _ (reference_field p.outline u m n ref is kind_is) (0, omega arith, refl))))
 
-  -- the state after the item's row
-  abbrev RowGives : (i : Insn) (h : AtInsn p facts f i) → Option TypeState → Type 0
-  RowGives i h given_by = (s : TypeState) × (given_by ≡ Some s) × ((next : ℕ) → IsNormalEdge h.code f.item next → FitsAt p (facts.typing f.method) next s)
-
-  row_gives : (i : Insn) (h : AtInsn p facts f i) (given_by : Option TypeState)
-      → IsSomeAnd given_by (λ s. (next : ℕ) → IsNormalEdge h.code f.item next → FitsAt p (facts.typing f.method) next s) → RowGives i h given_by
-  row_gives i h given_by is = Some-from_some_and given_by (λ s. (next : ℕ) → IsNormalEdge h.code f.item next → FitsAt p (facts.typing f.method) next s) is
-
-  words_of_reference : (m : ℕ) (ref : TypeRef) → kind_of_field p.outline m ≡ kind.Ref ref → kind_words (kind_of_field p.outline m) ≡ 1
-  words_of_reference m ref is = ap kind_words is
-
   -- the value of a field that is put: the object lies below the words of the value
   put_by_kind : (index : ℕ) (h : AtInsn p facts f (insn.PutField index)) (m : FieldId) (n : TypeId)
       → used p facts exact f (insn.PutField index) h ≡ resolved.OfField m n → (k : Kind) → kind_of_field p.outline m.0 ≡ k
@@ -264,8 +252,7 @@ module _ (p : Program) (facts : Facts) (exact : AreFacts p facts) (f : Frame) wh
       put_obeys p facts exact f i h (λ l. refl) refl (kind_words k + 1) (kind_words k) (slot_of p.outline.classes m.0) (kind_words k - 1) k
       (omega (arith, count))
       (λ ref k_is.
-      let after : RowGives i h (put_field_row p.outline f.method u h.state) =
-      row_gives i h (put_field_row p.outline f.method u h.state) (row p facts exact f i h) in
+      let after = row_gives p facts exact f i h (put_field_row p.outline f.method u h.state) (row p facts exact f i h) in
       let top : (s : slots.Slot) × (slice_get h.state.stack 0 ≡ Some s) × (is_reference s ≡ true) =
       put_field_top p.outline f.method m n ref h.state after.0 (kind_is ∙ k_is)
       (ap (λ v. put_field_row p.outline f.method v h.state) (sym is) ∙ after.1) in
@@ -299,8 +286,7 @@ module _ (p : Program) (facts : Facts) (exact : AreFacts p facts) (f : Frame) wh
       let i : Insn = insn.PutStatic index in
       let u : Use = used p facts exact f i h in
       let count : pairs.field_word_count p.outline u ≡ 1 = field_words_is p.outline u m n is ∙ ap kind_words kind_is in
-      let after : RowGives i h (put_static_row p.outline u h.state) =
-      row_gives i h (put_static_row p.outline u h.state) (row p facts exact f i h) in
+      let after = row_gives p facts exact f i h (put_static_row p.outline u h.state) (row p facts exact f i h) in
       let top : (s : slots.Slot) × (slice_get h.state.stack 0 ≡ Some s) × (is_reference s ≡ true) =
       put_static_top p.outline m n ref h.state after.0 kind_is (ap (λ v. put_static_row p.outline v h.state) (sym is) ∙ after.1) in
       goes_obey p facts exact f i h (acting 1 (SetStatic (slot_of p.outline.classes m.0) (kind.Ref ref) (OfOperand 0) ∷ [])) 0 (
@@ -339,7 +325,7 @@ module _ (p : Program) (facts : Facts) (exact : AreFacts p facts) (f : Frame) wh
   number_given index h m n is e q s at plain size none next edge node =
       let i : Insn = insn.GetStatic index in
       let u : Use = used p facts exact f i h in
-      let after : RowGives i h (get_static_row p.outline u h.state) = row_gives i h (get_static_row p.outline u h.state) (row p facts exact f i h) in
+      let after = row_gives p facts exact f i h (get_static_row p.outline u h.state) (row p facts exact f i h) in
       let stack : after.0.stack ≡ named_rows.field_words p.outline m.0 ++ h.state.stack =
       get_static_stack p.outline m n h.state after.0 (ap (λ v. get_static_row p.outline v h.state) (sym is) ∙ after.1) in
       let sizes : length after.0.stack ≡ length (named_rows.field_words p.outline m.0) + length h.state.stack = ap length stack ∙ simp length-append in

@@ -1,7 +1,11 @@
 -- Each effect of the table owes to the classes what it should: all rows together, and what the start of a class makes of them.
-use Rattle.std.proofs.Common.{◌≡◌, ℕ, ◌+◌, List, Option, Some, None, codes, refl, Contains}
+use Rattle.std.proofs.Common.{◌≡◌, ℕ, ◌+◌, List, [], length, take, position, Option, Some, None, codes, refl, Contains, arith}
+use Rattle.std.specs.Ordering.{int_eq}
 use Rattle.fm_code.specs.declared.instructions.Insn.{Insn}
 use Rattle.fm_code.specs.declared.instructions.Insn.TheVariants as insn
+use Rattle.fm_code.specs.declared.operations.Conv.{Conv}
+use Rattle.fm_code.specs.declared.operations.Conv.TheVariants as conv
+use Rattle.fm_conn.specs.Rows as pairs
 use Rattle.fm_conn.specs.Facts.{AreFacts, Facts}
 use Rattle.fm_types.specs.Named.{class_of_method}
 use Rattle.fm_types.specs.Typed.{use_by}
@@ -12,21 +16,25 @@ use Rattle.fm_world.specs.declared.calls.Call.{Call}
 use Rattle.fm_same.specs.Standing.{method_of}
 use Rattle.fm_world.specs.Chains.{is_sub}
 use Rattle.fm_frames.specs.CallRows.{entered, entered_as, interface_effect, native_of, receiver_class, special_effect, static_effect, virtual_effect, words_of_arguments}
-use Rattle.fm_frames.specs.Effects.{Calls, going}
+use Rattle.fm_frames.specs.Effects.{Calls, going, int_word, Jumps, JumpsIfSame, long_words, null_word}
+use Rattle.fm_frames.specs.JumpRows.{int_jump_effect, key_target, lookup_effect, null_jump_effect, pair_jump_effect, table_effect, table_target}
 use Rattle.fm_frames.specs.Natives.{Native}
+use Rattle.fm_frames.specs.NumberRows.{compare_effect, convert_effect, increment_effect, int_negate_effect, int_op_effect, int_shift_effect, long_negate_effect, long_op_effect, long_shift_effect}
+use Rattle.fm_frames.specs.ObjectRows.{is_a_effect}
 use Rattle.fm_frames.specs.Rows.{effect_of}
 use Rattle.fm_frames.specs.Operands.{thrown, thrown_null}
 use Rattle.fm_frames.specs.Sights.{Sight}
 use Rattle.fm_frames.specs.States.{Frame}
 use Rattle.fm_same.specs.Covering.{CoversTargets, MeetsTarget}
-use Rattle.fm_law_sound.proofs.Cases.{by_any, by_if, by_object, by_on_method, by_reference}
-use Rattle.fm_same.proofs.ItemFacts.{AtInsn, used}
+use Rattle.fm_law_sound.proofs.Cases.{by_any, by_held, by_if, by_object, by_on_method, by_on_type, by_reference, by_thrown}
+use Rattle.fm_law_sound.proofs.JumpRows.{few_keys, key_within, table_within}
+use Rattle.fm_same.proofs.ItemFacts.{AtInsn, goes_obey, used}
 use Rattle.fm_same.proofs.NativeRows.{native_obeys}
 use Rattle.fm_same.proofs.ArrayRows.{array_load_obeys, array_store_obeys, length_obeys, multi_array_obeys, new_array_obeys, new_references_obeys}
-use Rattle.fm_same.proofs.EndRows.{cast_obeys, is_a_obeys, lookup_obeys, return_obeys, table_obeys, throw_obeys}
-use Rattle.fm_same.proofs.MoveRows.{const_obeys, constant_obeys, dup2_obeys, dup2_x1_obeys, dup2_x2_obeys, dup_obeys, dup_x1_obeys, dup_x2_obeys, load_obeys, long_const_obeys, nop_obeys, null_constant_obeys, pop2_obeys, pop_obeys, store_obeys, swap_obeys}
+use Rattle.fm_same.proofs.EndRows.{cast_obeys, return_obeys, throw_obeys}
+use Rattle.fm_same.proofs.MoveRows.{constant_obeys, load_obeys, move_obeys, store_obeys}
 use Rattle.fm_same.proofs.ObjectRows.{get_field_obeys, get_static_obeys, new_obeys, put_field_obeys, put_static_obeys, started_obeys}
-use Rattle.fm_same.proofs.PlainRows.{compare_obeys, convert_obeys, faulty_obeys, goto_obeys, increment_obeys, int_jump_obeys, int_negate_obeys, int_op_obeys, int_shift_obeys, long_negate_obeys, long_op_obeys, long_shift_obeys, null_jump_obeys, null_obeys, Owes, pair_jump_obeys, same_jump_obeys, stuck_obeys, thrown_obeys}
+use Rattle.fm_same.proofs.PlainRows.{faulty_obeys, going_obeys, int_obeys, jump_obeys, long_obeys, null_obeys, Owes, stuck_obeys, thrown_obeys, words_obey}
 
 module _ (p : Program) (facts : Facts) (exact : AreFacts p facts) (f : Frame) (i : Insn) (h : AtInsn p facts f i) where
   -- a method with code is entered
@@ -102,43 +110,95 @@ module _ (p : Program) (facts : Facts) (exact : AreFacts p facts) (f : Frame) wh
       (entered_obeys p facts exact f i h (words_of_arguments p.outline m.0) m.0 byte s _ refl
       (covers m.0 (record { method = m; type = n; named = is; is = refl }))))
 
+  -- ---- conversions
+
+  convert_obeys : (to : Conv) (h : AtInsn p facts f (insn.Convert to)) (s : List Sight) → Owes p facts exact f (insn.Convert to) h (convert_effect to s)
+  unfolding convert_effect pairs.words_taken
+  convert_obeys conv.IntToLong h s =
+      let i : Insn = insn.Convert conv.IntToLong in
+      int_obeys p facts exact f i h s 0 _ (λ a. words_obey p facts exact f i h (λ k. refl) refl 1 _ (tt, (tt, tt)) (omega arith))
+  convert_obeys conv.LongToInt h s =
+      let i : Insn = insn.Convert conv.LongToInt in
+      long_obeys p facts exact f i h s 1 _ (λ a. words_obey p facts exact f i h (λ k. refl) refl 2 _ (tt, tt) (omega arith))
+  convert_obeys conv.IntToByte h s =
+      let i : Insn = insn.Convert conv.IntToByte in
+      int_obeys p facts exact f i h s 0 _ (λ a. words_obey p facts exact f i h (λ k. refl) refl 1 _ (tt, tt) (omega arith))
+  convert_obeys conv.IntToChar h s =
+      let i : Insn = insn.Convert conv.IntToChar in
+      int_obeys p facts exact f i h s 0 _ (λ a. words_obey p facts exact f i h (λ k. refl) refl 1 _ (tt, tt) (omega arith))
+  convert_obeys conv.IntToShort h s =
+      let i : Insn = insn.Convert conv.IntToShort in
+      int_obeys p facts exact f i h s 0 _ (λ a. words_obey p facts exact f i h (λ k. refl) refl 1 _ (tt, tt) (omega arith))
+
   -- ---- the whole table
 
   pub effect_obeys : (i : Insn) (h : AtInsn p facts f i) (byte : Option ℕ) (s : List Sight) → CoversTargets p facts f h.code i s
       → Owes p facts exact f i h (effect_of p.outline f.method (use_by p f.method i) i byte s)
-  unfolding effect_of
-  effect_obeys insn.Nop h byte s covers = nop_obeys p facts exact f h
-  effect_obeys insn.Null h byte s covers = null_constant_obeys p facts exact f h
-  effect_obeys (insn.Const n) h byte s covers = const_obeys p facts exact f n h
-  effect_obeys (insn.LongConst n) h byte s covers = long_const_obeys p facts exact f n h
+  unfolding effect_of compare_effect int_jump_effect int_negate_effect int_op_effect int_shift_effect is_a_effect long_negate_effect long_op_effect long_shift_effect lookup_effect null_jump_effect pair_jump_effect table_effect pairs.joined_by pairs.words_taken
+  effect_obeys insn.Nop h byte s covers = words_obey p facts exact f insn.Nop h (λ k. refl) refl 0 [] tt (omega arith)
+  effect_obeys insn.Null h byte s covers = words_obey p facts exact f insn.Null h (λ k. refl) refl 0 null_word (refl, tt) (omega arith)
+  effect_obeys (insn.Const n) h byte s covers = words_obey p facts exact f (insn.Const n) h (λ k. refl) refl 0 (int_word n) (tt, tt) (omega arith)
+  effect_obeys (insn.LongConst n) h byte s covers = words_obey p facts exact f (insn.LongConst n) h (λ k. refl) refl 0 (long_words n) (tt, (tt, tt)) (omega arith)
   effect_obeys (insn.LoadPool index) h byte s covers = constant_obeys p facts exact f index h (use_by p f.method (insn.LoadPool index))
   effect_obeys (insn.Load r k) h byte s covers = load_obeys p facts exact f r k h
   effect_obeys (insn.Store r k) h byte s covers = store_obeys p facts exact f r k h
-  effect_obeys (insn.Inc k by) h byte s covers = increment_obeys p facts exact f k by h
-  effect_obeys insn.Pop h byte s covers = pop_obeys p facts exact f h
-  effect_obeys insn.Pop2 h byte s covers = pop2_obeys p facts exact f h
-  effect_obeys insn.Dup h byte s covers = dup_obeys p facts exact f h
-  effect_obeys insn.DupX1 h byte s covers = dup_x1_obeys p facts exact f h
-  effect_obeys insn.DupX2 h byte s covers = dup_x2_obeys p facts exact f h
-  effect_obeys insn.Dup2 h byte s covers = dup2_obeys p facts exact f h
-  effect_obeys insn.Dup2X1 h byte s covers = dup2_x1_obeys p facts exact f h
-  effect_obeys insn.Dup2X2 h byte s covers = dup2_x2_obeys p facts exact f h
-  effect_obeys insn.Swap h byte s covers = swap_obeys p facts exact f h
-  effect_obeys (insn.IntOp op) h byte s covers = int_op_obeys p facts exact f op h s
-  effect_obeys (insn.LongOp op) h byte s covers = long_op_obeys p facts exact f op h s
-  effect_obeys insn.IntNeg h byte s covers = int_negate_obeys p facts exact f h s
-  effect_obeys insn.LongNeg h byte s covers = long_negate_obeys p facts exact f h s
-  effect_obeys (insn.IntShift shift) h byte s covers = int_shift_obeys p facts exact f shift h s
-  effect_obeys (insn.LongShift shift) h byte s covers = long_shift_obeys p facts exact f shift h s
-  effect_obeys (insn.Convert to) h byte s covers = convert_obeys p facts exact f to h s
-  effect_obeys insn.LongCompare h byte s covers = compare_obeys p facts exact f h s
-  effect_obeys (insn.IfInt test target) h byte s covers = int_jump_obeys p facts exact f test target h s
-  effect_obeys (insn.IfPair test target) h byte s covers = pair_jump_obeys p facts exact f test target h s
-  effect_obeys (insn.IfSame same target) h byte s covers = same_jump_obeys p facts exact f same target h
-  effect_obeys (insn.IfNull null target) h byte s covers = null_jump_obeys p facts exact f null target h s
-  effect_obeys (insn.Goto target) h byte s covers = goto_obeys p facts exact f target h
-  effect_obeys (insn.Table low others targets) h byte s covers = table_obeys p facts exact f low others targets h s
-  effect_obeys (insn.Lookup others found targets) h byte s covers = lookup_obeys p facts exact f others found targets h s
+  effect_obeys (insn.Inc k by) h byte s covers =
+      goes_obey p facts exact f (insn.Inc k by) h (increment_effect k by) 0 tt refl tt (λ next edge q s at node. absurd (cc)) (tt, tt) (λ local unwritten. refl)
+      (omega arith)
+  effect_obeys insn.Pop h byte s covers = move_obeys p facts exact f insn.Pop h _ refl (λ k. refl) refl refl refl
+  effect_obeys insn.Pop2 h byte s covers = move_obeys p facts exact f insn.Pop2 h _ refl (λ k. refl) refl refl refl
+  effect_obeys insn.Dup h byte s covers = move_obeys p facts exact f insn.Dup h _ refl (λ k. refl) refl refl refl
+  effect_obeys insn.DupX1 h byte s covers = move_obeys p facts exact f insn.DupX1 h _ refl (λ k. refl) refl refl refl
+  effect_obeys insn.DupX2 h byte s covers = move_obeys p facts exact f insn.DupX2 h _ refl (λ k. refl) refl refl refl
+  effect_obeys insn.Dup2 h byte s covers = move_obeys p facts exact f insn.Dup2 h _ refl (λ k. refl) refl refl refl
+  effect_obeys insn.Dup2X1 h byte s covers = move_obeys p facts exact f insn.Dup2X1 h _ refl (λ k. refl) refl refl refl
+  effect_obeys insn.Dup2X2 h byte s covers = move_obeys p facts exact f insn.Dup2X2 h _ refl (λ k. refl) refl refl refl
+  effect_obeys insn.Swap h byte s covers = move_obeys p facts exact f insn.Swap h _ refl (λ k. refl) refl refl refl
+  effect_obeys (insn.IntOp op) h byte s covers =
+      let i : Insn = insn.IntOp op in
+      int_obeys p facts exact f i h s 0 _ (λ b. int_obeys p facts exact f i h s 1 _ (λ a. by_thrown (Owes p facts exact f i h) p.outline _ _
+      (thrown_obeys p facts exact f i h (λ k. refl) (codes "java/lang/ArithmeticException"))
+      (λ n. words_obey p facts exact f i h (λ k. refl) refl 2 (int_word n) (tt, tt) (omega arith))))
+  effect_obeys (insn.LongOp op) h byte s covers =
+      let i : Insn = insn.LongOp op in
+      long_obeys p facts exact f i h s 1 _ (λ b. long_obeys p facts exact f i h s 3 _ (λ a. by_thrown (Owes p facts exact f i h) p.outline _ _
+      (thrown_obeys p facts exact f i h (λ k. refl) (codes "java/lang/ArithmeticException"))
+      (λ n. words_obey p facts exact f i h (λ k. refl) refl 4 (long_words n) (tt, (tt, tt)) (omega arith))))
+  effect_obeys insn.IntNeg h byte s covers =
+      let i : Insn = insn.IntNeg in
+      int_obeys p facts exact f i h s 0 _ (λ a. words_obey p facts exact f i h (λ k. refl) refl 1 _ (tt, tt) (omega arith))
+  effect_obeys insn.LongNeg h byte s covers =
+      let i : Insn = insn.LongNeg in
+      long_obeys p facts exact f i h s 1 _ (λ a. words_obey p facts exact f i h (λ k. refl) refl 2 _ (tt, (tt, tt)) (omega arith))
+  effect_obeys (insn.IntShift shift) h byte s covers =
+      let i : Insn = insn.IntShift shift in
+      int_obeys p facts exact f i h s 0 _ (λ n. int_obeys p facts exact f i h s 1 _ (λ a. words_obey p facts exact f i h (λ k. refl) refl 2 _ (tt, tt) (omega arith)))
+  effect_obeys (insn.LongShift shift) h byte s covers =
+      let i : Insn = insn.LongShift shift in
+      int_obeys p facts exact f i h s 0 _ (λ n. long_obeys p facts exact f i h s 2 _ (λ a. words_obey p facts exact f i h (λ k. refl) refl 3 _ (tt, (tt, tt)) (omega arith)))
+  effect_obeys (insn.Convert to) h byte s covers = convert_obeys to h s
+  effect_obeys insn.LongCompare h byte s covers =
+      let i : Insn = insn.LongCompare in
+      long_obeys p facts exact f i h s 1 _ (λ b. long_obeys p facts exact f i h s 3 _ (λ a. words_obey p facts exact f i h (λ k. refl) refl 4 _ (tt, tt) (omega arith)))
+  effect_obeys (insn.IfInt test target) h byte s covers =
+      let i : Insn = insn.IfInt test target in
+      int_obeys p facts exact f i h s 0 _ (λ a. jump_obeys p facts exact f i h (λ k. refl) (omega arith) refl 1 (omega arith) _)
+  effect_obeys (insn.IfPair test target) h byte s covers =
+      let i : Insn = insn.IfPair test target in
+      int_obeys p facts exact f i h s 0 _ (λ b. int_obeys p facts exact f i h s 1 _ (λ a. jump_obeys p facts exact f i h (λ k. refl) (omega arith) refl 2 (omega arith) _))
+  effect_obeys (insn.IfSame same target) h byte s covers = going_obeys p facts exact f (insn.IfSame same target) h (λ k. refl) 2 (JumpsIfSame same) (omega arith, refl) tt (omega arith)
+  effect_obeys (insn.IfNull null target) h byte s covers =
+      let i : Insn = insn.IfNull null target in
+      by_reference (Owes p facts exact f i h) s 0 _ (stuck_obeys p facts exact f i h) (λ b. jump_obeys p facts exact f i h (λ k. refl) (omega arith) refl 1 (omega arith) _)
+  effect_obeys (insn.Goto target) h byte s covers = going_obeys p facts exact f (insn.Goto target) h (λ k. refl) 0 (Jumps 0) (omega arith) tt (omega arith)
+  effect_obeys (insn.Table low others targets) h byte s covers =
+      let i : Insn = insn.Table low others targets in
+      int_obeys p facts exact f i h s 0 _ (λ key. going_obeys p facts exact f i h (λ k. refl) 1 (Jumps (table_target low (length targets) key)) (table_within low (length targets) key) tt (omega arith))
+  effect_obeys (insn.Lookup others found targets) h byte s covers =
+      let i : Insn = insn.Lookup others found targets in
+      int_obeys p facts exact f i h s 0 _
+      (λ key. going_obeys p facts exact f i h (λ k. refl) 1 (Jumps (key_target (position (int_eq key) (take (length targets) found))))
+      (key_within (take (length targets) found) key (length targets) (few_keys found (length targets))) tt (omega arith))
   effect_obeys (insn.Return value) h byte s covers = return_obeys p facts exact f value h
   effect_obeys insn.Throw h byte s covers = throw_obeys p facts exact f h s
   effect_obeys (insn.New index) h byte s covers = new_obeys p facts exact f index h (use_by p f.method (insn.New index))
@@ -147,7 +207,11 @@ module _ (p : Program) (facts : Facts) (exact : AreFacts p facts) (f : Frame) wh
   effect_obeys (insn.GetField index) h byte s covers = get_field_obeys p facts exact f index h s
   effect_obeys (insn.PutField index) h byte s covers = put_field_obeys p facts exact f index h s
   effect_obeys (insn.Cast index) h byte s covers = cast_obeys p facts exact f index h (use_by p f.method (insn.Cast index)) s
-  effect_obeys (insn.IsA index) h byte s covers = is_a_obeys p facts exact f index h (use_by p f.method (insn.IsA index)) s
+  effect_obeys (insn.IsA index) h byte s covers =
+      let i : Insn = insn.IsA index in
+      by_on_type (Owes p facts exact f i h) p.outline (use_by p f.method i) _ (stuck_obeys p facts exact f i h)
+      (λ n t is there. by_held (Owes p facts exact f i h) _ s 0 _ (words_obey p facts exact f i h (λ k. refl) refl 1 _ (tt, tt) (omega arith)) (stuck_obeys p facts exact f i h) (faulty_obeys p facts exact f i h 0)
+      (λ it seen. words_obey p facts exact f i h (λ k. refl) refl 1 _ (tt, tt) (omega arith)))
   effect_obeys (insn.ArrayLoad e) h byte s covers = array_load_obeys p facts exact f e h s
   effect_obeys (insn.ArrayStore e) h byte s covers = array_store_obeys p facts exact f e h s
   effect_obeys insn.Length h byte s covers = length_obeys p facts exact f h s

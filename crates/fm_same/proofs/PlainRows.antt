@@ -1,5 +1,5 @@
 -- The rows that give no reference owe nothing; and what a row throws, or where it faults, is alike for all.
-use Rattle.std.proofs.Common.{◌≡◌, ℕ, ℤ, zero, suc, ◌<◌, ◌≤◌, Bool, true, false, List, [], ◌∷◌, length, Some, codes, refl, sym, subst, inl, slice_get, arith}
+use Rattle.std.proofs.Common.{◌≡◌, ℕ, ℤ, zero, suc, ◌<◌, ◌≤◌, Bool, true, false, List, [], ◌∷◌, length, Some, codes, refl, sym, subst, inl, slice_get}
 use Rattle.std.specs.List.{AllByRecursion}
 use Rattle.fm_base.specs.declared.kinds.Kind.{Kind}
 use Rattle.fm_base.specs.declared.kinds.Kind.TheVariants as kind
@@ -7,25 +7,18 @@ use Rattle.fm_code.specs.Edges.{falls_through}
 use Rattle.fm_code.specs.Live.{stores_over}
 use Rattle.fm_code.specs.SpellsCode.{targets_of}
 use Rattle.fm_code.specs.declared.instructions.Insn.{Insn}
-use Rattle.fm_code.specs.declared.instructions.Insn.TheVariants as insn
-use Rattle.fm_code.specs.declared.operations.Conv.{Conv}
-use Rattle.fm_code.specs.declared.operations.Conv.TheVariants as conv
-use Rattle.fm_code.specs.declared.operations.Op.{Op}
-use Rattle.fm_code.specs.declared.operations.Shift.{Shift}
-use Rattle.fm_code.specs.declared.operations.Test.{Test}
 use Rattle.fm_conn.specs.Facts.{AreFacts, Facts}
 use Rattle.fm_conn.specs.Nodes.{Global, Local}
 use Rattle.fm_conn.specs.Rows as pairs
 use Rattle.fm_world.specs.Programs.{Program}
-use Rattle.fm_frames.specs.Effects.{Effect, Next, Falls, Jumps, JumpsIfSame, Faults, going, Source, Plain, OfOperand, OfLocal, LocalPlus, OfPlace, OfStatic, OfMade, OfLiteral, SameOperands, stuck, words, faulty, int_word, long_words}
-use Rattle.fm_frames.specs.JumpRows.{int_jump_effect, jumps_if, null_jump_effect, pair_jump_effect, same_jump_effect}
-use Rattle.fm_frames.specs.NumberRows.{compare_effect, convert_effect, increment_effect, int_negate_effect, int_op_effect, int_shift_effect, long_negate_effect, long_op_effect, long_shift_effect}
-use Rattle.fm_frames.specs.Operands.{thrown, thrown_null}
+use Rattle.fm_frames.specs.Effects.{Effect, Next, Falls, Jumps, Faults, going, Source, Plain, OfOperand, OfLocal, LocalPlus, OfPlace, OfStatic, OfMade, OfLiteral, SameOperands, stuck, words, faulty}
+use Rattle.fm_frames.specs.JumpRows.{jumps_if}
+use Rattle.fm_frames.specs.Operands.{on_int, on_long, thrown, thrown_null}
 use Rattle.fm_frames.specs.Sights.{Sight}
 use Rattle.fm_frames.specs.States.{Frame}
 use Rattle.fm_same.specs.Evenness.{ActsEvenly, ComesFrom, EndsEvenly, IsPlainKind, LeadsRight, Obeys, Point, WritesFrom}
 use Rattle.fm_law_sound.specs.Placing.{IsPlain}
-use Rattle.fm_law_sound.proofs.Cases.{by_int, by_long, by_reference, by_thrown}
+use Rattle.fm_law_sound.proofs.Cases.{by_int, by_long}
 use Rattle.fm_same.proofs.ItemFacts.{AtInsn, goes_obey, point, used}
 
 -- a value that leads to nothing that has a region
@@ -100,128 +93,22 @@ module _ (p : Program) (facts : Facts) (exact : AreFacts p facts) (f : Frame) (i
       → pairs.words_taken p.outline (used p facts exact f i h) i ≤ takes → Owes (words takes gives)
   words_obey keeps falls takes gives plain taken = plain_obeys keeps (words takes gives) refl refl plain falls tt taken
 
--- ---- numbers
+  -- ---- operands
 
-module _ (p : Program) (facts : Facts) (exact : AreFacts p facts) (f : Frame) where
-  pub int_op_obeys : (op : Op) (h : AtInsn p facts f (insn.IntOp op)) (s : List Sight)
-      → Owes p facts exact f (insn.IntOp op) h (int_op_effect p.outline op s)
-  unfolding int_op_effect pairs.words_taken
-  int_op_obeys op h s =
-      by_int (Owes p facts exact f (insn.IntOp op) h) s 0 _ (stuck_obeys p facts exact f (insn.IntOp op) h) (λ b.
-      by_int (Owes p facts exact f (insn.IntOp op) h) s 1 _ (stuck_obeys p facts exact f (insn.IntOp op) h) (λ a.
-      by_thrown (Owes p facts exact f (insn.IntOp op) h) p.outline _ _
-      (thrown_obeys p facts exact f (insn.IntOp op) h (λ k. refl) (codes "java/lang/ArithmeticException"))
-      (λ n. words_obey p facts exact f (insn.IntOp op) h (λ k. refl) refl 2 (int_word n) (tt, tt) (omega arith))))
+  pub int_obeys : (s : List Sight) (n : ℕ) (k : ℤ → Effect) → ((a : ℤ) → Owes (k a)) → Owes (on_int s n k)
+  int_obeys s n k some = by_int Owes s n k stuck_obeys some
 
-  pub long_op_obeys : (op : Op) (h : AtInsn p facts f (insn.LongOp op)) (s : List Sight)
-      → Owes p facts exact f (insn.LongOp op) h (long_op_effect p.outline op s)
-  unfolding long_op_effect pairs.words_taken
-  long_op_obeys op h s =
-      by_long (Owes p facts exact f (insn.LongOp op) h) s 1 _ (stuck_obeys p facts exact f (insn.LongOp op) h) (λ b.
-      by_long (Owes p facts exact f (insn.LongOp op) h) s 3 _ (stuck_obeys p facts exact f (insn.LongOp op) h) (λ a.
-      by_thrown (Owes p facts exact f (insn.LongOp op) h) p.outline _ _
-      (thrown_obeys p facts exact f (insn.LongOp op) h (λ k. refl) (codes "java/lang/ArithmeticException"))
-      (λ n. words_obey p facts exact f (insn.LongOp op) h (λ k. refl) refl 4 (long_words n) (tt, (tt, tt)) (omega arith))))
-
-  pub int_negate_obeys : (h : AtInsn p facts f insn.IntNeg) (s : List Sight) → Owes p facts exact f insn.IntNeg h (int_negate_effect s)
-  unfolding int_negate_effect pairs.words_taken
-  int_negate_obeys h s =
-      by_int (Owes p facts exact f insn.IntNeg h) s 0 _ (stuck_obeys p facts exact f insn.IntNeg h)
-      (λ a. words_obey p facts exact f insn.IntNeg h (λ k. refl) refl 1 _ (tt, tt) (omega arith))
-
-  pub long_negate_obeys : (h : AtInsn p facts f insn.LongNeg) (s : List Sight) → Owes p facts exact f insn.LongNeg h (long_negate_effect s)
-  unfolding long_negate_effect pairs.words_taken
-  long_negate_obeys h s =
-      by_long (Owes p facts exact f insn.LongNeg h) s 1 _ (stuck_obeys p facts exact f insn.LongNeg h)
-      (λ a. words_obey p facts exact f insn.LongNeg h (λ k. refl) refl 2 _ (tt, (tt, tt)) (omega arith))
-
-  pub int_shift_obeys : (shift : Shift) (h : AtInsn p facts f (insn.IntShift shift)) (s : List Sight)
-      → Owes p facts exact f (insn.IntShift shift) h (int_shift_effect shift s)
-  unfolding int_shift_effect pairs.words_taken
-  int_shift_obeys shift h s =
-      by_int (Owes p facts exact f (insn.IntShift shift) h) s 0 _ (stuck_obeys p facts exact f (insn.IntShift shift) h) (λ n.
-      by_int (Owes p facts exact f (insn.IntShift shift) h) s 1 _ (stuck_obeys p facts exact f (insn.IntShift shift) h) (λ a.
-      words_obey p facts exact f (insn.IntShift shift) h (λ k. refl) refl 2 _ (tt, tt) (omega arith)))
-
-  pub long_shift_obeys : (shift : Shift) (h : AtInsn p facts f (insn.LongShift shift)) (s : List Sight)
-      → Owes p facts exact f (insn.LongShift shift) h (long_shift_effect shift s)
-  unfolding long_shift_effect pairs.words_taken
-  long_shift_obeys shift h s =
-      by_int (Owes p facts exact f (insn.LongShift shift) h) s 0 _ (stuck_obeys p facts exact f (insn.LongShift shift) h) (λ n.
-      by_long (Owes p facts exact f (insn.LongShift shift) h) s 2 _ (stuck_obeys p facts exact f (insn.LongShift shift) h) (λ a.
-      words_obey p facts exact f (insn.LongShift shift) h (λ k. refl) refl 3 _ (tt, (tt, tt)) (omega arith)))
-
-  pub convert_obeys : (to : Conv) (h : AtInsn p facts f (insn.Convert to)) (s : List Sight)
-      → Owes p facts exact f (insn.Convert to) h (convert_effect to s)
-  unfolding convert_effect pairs.words_taken
-  convert_obeys conv.IntToLong h s =
-      by_int (Owes p facts exact f (insn.Convert conv.IntToLong) h) s 0 _ (stuck_obeys p facts exact f (insn.Convert conv.IntToLong) h)
-      (λ a. words_obey p facts exact f (insn.Convert conv.IntToLong) h (λ k. refl) refl 1 _ (tt, (tt, tt)) (omega arith))
-  convert_obeys conv.LongToInt h s =
-      by_long (Owes p facts exact f (insn.Convert conv.LongToInt) h) s 1 _ (stuck_obeys p facts exact f (insn.Convert conv.LongToInt) h)
-      (λ a. words_obey p facts exact f (insn.Convert conv.LongToInt) h (λ k. refl) refl 2 _ (tt, tt) (omega arith))
-  convert_obeys conv.IntToByte h s =
-      by_int (Owes p facts exact f (insn.Convert conv.IntToByte) h) s 0 _ (stuck_obeys p facts exact f (insn.Convert conv.IntToByte) h)
-      (λ a. words_obey p facts exact f (insn.Convert conv.IntToByte) h (λ k. refl) refl 1 _ (tt, tt) (omega arith))
-  convert_obeys conv.IntToChar h s =
-      by_int (Owes p facts exact f (insn.Convert conv.IntToChar) h) s 0 _ (stuck_obeys p facts exact f (insn.Convert conv.IntToChar) h)
-      (λ a. words_obey p facts exact f (insn.Convert conv.IntToChar) h (λ k. refl) refl 1 _ (tt, tt) (omega arith))
-  convert_obeys conv.IntToShort h s =
-      by_int (Owes p facts exact f (insn.Convert conv.IntToShort) h) s 0 _ (stuck_obeys p facts exact f (insn.Convert conv.IntToShort) h)
-      (λ a. words_obey p facts exact f (insn.Convert conv.IntToShort) h (λ k. refl) refl 1 _ (tt, tt) (omega arith))
-
-  pub compare_obeys : (h : AtInsn p facts f insn.LongCompare) (s : List Sight) → Owes p facts exact f insn.LongCompare h (compare_effect s)
-  unfolding compare_effect pairs.words_taken
-  compare_obeys h s =
-      by_long (Owes p facts exact f insn.LongCompare h) s 1 _ (stuck_obeys p facts exact f insn.LongCompare h) (λ b.
-      by_long (Owes p facts exact f insn.LongCompare h) s 3 _ (stuck_obeys p facts exact f insn.LongCompare h) (λ a.
-      words_obey p facts exact f insn.LongCompare h (λ k. refl) refl 4 _ (tt, tt) (omega arith)))
-
-  pub increment_obeys : (local : ℕ) (by : ℤ) (h : AtInsn p facts f (insn.Inc local by)) → Owes p facts exact f (insn.Inc local by) h (increment_effect local by)
-  unfolding pairs.words_taken
-  increment_obeys local by h =
-      goes_obey p facts exact f (insn.Inc local by) h (increment_effect local by) 0 tt refl tt (λ next edge q s at node. absurd (cc)) (tt, tt) (λ k unwritten. refl)
-      (omega arith)
+  pub long_obeys : (s : List Sight) (n : ℕ) (k : ℤ → Effect) → ((a : ℤ) → Owes (k a)) → Owes (on_long s n k)
+  long_obeys s n k some = by_long Owes s n k stuck_obeys some
 
   -- ---- jumps
 
-  going_obeys : (i : Insn) (h : AtInsn p facts f i) → ((k : ℕ) → stores_over k i ≡ false) → (takes : ℕ) (nx : Next) → LeadsRight i nx
-      → EndsEvenly p.outline (point p facts exact f i h) 0 i nx → pairs.words_taken p.outline (used p facts exact f i h) i ≤ takes
-      → Owes p facts exact f i h (going takes nx)
-  going_obeys i h keeps takes nx leads ends taken = plain_obeys p facts exact f i h keeps (going takes nx) refl refl tt leads ends taken
+  pub going_obeys : ((k : ℕ) → stores_over k i ≡ false) → (takes : ℕ) (nx : Next) → LeadsRight i nx → EndsEvenly p.outline (point p facts exact f i h) 0 i nx
+      → pairs.words_taken p.outline (used p facts exact f i h) i ≤ takes → Owes (going takes nx)
+  going_obeys keeps takes nx leads ends taken = plain_obeys keeps (going takes nx) refl refl tt leads ends taken
 
   -- to the one target of the instruction, or on
-  jump_obeys : (i : Insn) (h : AtInsn p facts f i) → ((k : ℕ) → stores_over k i ≡ false) → 0 < length (targets_of i) → falls_through i ≡ true → (takes : ℕ)
-      → pairs.words_taken p.outline (used p facts exact f i h) i ≤ takes → (b : Bool) → Owes p facts exact f i h (going takes (jumps_if b))
-  jump_obeys i h keeps some falls takes taken true = going_obeys i h keeps takes (Jumps 0) some tt taken
-  jump_obeys i h keeps some falls takes taken false = going_obeys i h keeps takes Falls falls tt taken
-
-  pub int_jump_obeys : (test : Test) (target : ℕ) (h : AtInsn p facts f (insn.IfInt test target)) (s : List Sight)
-      → Owes p facts exact f (insn.IfInt test target) h (int_jump_effect test s)
-  unfolding int_jump_effect pairs.words_taken
-  int_jump_obeys test target h s =
-      by_int (Owes p facts exact f (insn.IfInt test target) h) s 0 _ (stuck_obeys p facts exact f (insn.IfInt test target) h)
-      (λ a. jump_obeys (insn.IfInt test target) h (λ k. refl) (omega arith) refl 1 (omega arith) _)
-
-  pub pair_jump_obeys : (test : Test) (target : ℕ) (h : AtInsn p facts f (insn.IfPair test target)) (s : List Sight)
-      → Owes p facts exact f (insn.IfPair test target) h (pair_jump_effect test s)
-  unfolding pair_jump_effect pairs.words_taken
-  pair_jump_obeys test target h s =
-      by_int (Owes p facts exact f (insn.IfPair test target) h) s 0 _ (stuck_obeys p facts exact f (insn.IfPair test target) h) (λ b.
-      by_int (Owes p facts exact f (insn.IfPair test target) h) s 1 _ (stuck_obeys p facts exact f (insn.IfPair test target) h) (λ a.
-      jump_obeys (insn.IfPair test target) h (λ k. refl) (omega arith) refl 2 (omega arith) _))
-
-  pub same_jump_obeys : (same : Bool) (target : ℕ) (h : AtInsn p facts f (insn.IfSame same target)) → Owes p facts exact f (insn.IfSame same target) h (same_jump_effect same)
-  unfolding pairs.words_taken
-  same_jump_obeys same target h = going_obeys (insn.IfSame same target) h (λ k. refl) 2 (JumpsIfSame same) (omega arith, refl) tt (omega arith)
-
-  pub null_jump_obeys : (null : Bool) (target : ℕ) (h : AtInsn p facts f (insn.IfNull null target)) (s : List Sight)
-      → Owes p facts exact f (insn.IfNull null target) h (null_jump_effect null s)
-  unfolding null_jump_effect pairs.words_taken
-  null_jump_obeys null target h s =
-      by_reference (Owes p facts exact f (insn.IfNull null target) h) s 0 _ (stuck_obeys p facts exact f (insn.IfNull null target) h)
-      (λ b. jump_obeys (insn.IfNull null target) h (λ k. refl) (omega arith) refl 1 (omega arith) _)
-
-  pub goto_obeys : (target : ℕ) (h : AtInsn p facts f (insn.Goto target)) → Owes p facts exact f (insn.Goto target) h (going 0 (Jumps 0))
-  unfolding pairs.words_taken
-  goto_obeys target h = going_obeys (insn.Goto target) h (λ k. refl) 0 (Jumps 0) (omega arith) tt (omega arith)
+  pub jump_obeys : ((k : ℕ) → stores_over k i ≡ false) → 0 < length (targets_of i) → falls_through i ≡ true → (takes : ℕ)
+      → pairs.words_taken p.outline (used p facts exact f i h) i ≤ takes → (b : Bool) → Owes (going takes (jumps_if b))
+  jump_obeys keeps some falls takes taken true = going_obeys keeps takes (Jumps 0) some tt taken
+  jump_obeys keeps some falls takes taken false = going_obeys keeps takes Falls falls tt taken
