@@ -1,5 +1,5 @@
 -- All rows but those of calls: the effect of each leads on to cells that fit, and none is a fault.
-use Rattle.std.proofs.Common.{◌≡◌, ℕ, false, List, length, Option, Some, sym}
+use Rattle.std.proofs.Common.{◌≡◌, ℕ, false, List, length, Option, Some, refl, sym}
 use Rattle.std.proofs.lemmas.Bool.{false≢true}
 use Rattle.fm_code.specs.declared.instructions.Insn.{Insn}
 use Rattle.fm_code.specs.declared.instructions.Insn.TheVariants as insn
@@ -13,7 +13,7 @@ use Rattle.fm_law_sound.specs.Leading.{is_call, NamesField}
 use Rattle.fm_law_sound.specs.Resolved.{IsNamed}
 use Rattle.fm_law_no_fault.proofs.ArrayRows.{array_load_whole, array_store_whole, length_whole, new_array_whole, new_references_whole}
 use Rattle.fm_law_no_fault.proofs.JumpRows.{goto_whole, int_jump_whole, lookup_whole, null_jump_whole, pair_jump_whole, return_whole, same_jump_whole, table_whole, throw_whole}
-use Rattle.fm_law_no_fault.proofs.MoveRows.{const_whole, constant_whole, dup2_whole, dup2_x1_whole, dup2_x2_whole, dup_whole, dup_x1_whole, dup_x2_whole, increment_whole, load_whole, long_const_whole, nop_whole, null_constant_whole, pop2_whole, pop_whole, store_whole, swap_whole}
+use Rattle.fm_law_no_fault.proofs.MoveRows.{const_whole, constant_whole, increment_whole, load_whole, long_const_whole, move_whole, nop_whole, null_constant_whole, store_whole}
 use Rattle.fm_law_no_fault.proofs.NestedSuits.{multi_array_whole}
 use Rattle.fm_law_no_fault.proofs.NumberRows.{compare_whole, convert_whole, int_negate_whole, int_op_whole, int_shift_whole, long_negate_whole, long_op_whole, long_shift_whole}
 use Rattle.fm_law_no_fault.proofs.ObjectRows.{cast_whole, get_field_whole, get_static_whole, is_a_whole, new_whole, put_field_whole, put_static_whole}
@@ -42,15 +42,15 @@ module _ (r : Row) where
   plain_whole (insn.Load q k) u byte names named makes call row = load_whole r q k row
   plain_whole (insn.Store q k) u byte names named makes call row = store_whole r q k row
   plain_whole (insn.Inc k by) u byte names named makes call row = increment_whole r k by row
-  plain_whole insn.Pop u byte names named makes call row = pop_whole r row
-  plain_whole insn.Pop2 u byte names named makes call row = pop2_whole r row
-  plain_whole insn.Dup u byte names named makes call row = dup_whole r row
-  plain_whole insn.DupX1 u byte names named makes call row = dup_x1_whole r row
-  plain_whole insn.DupX2 u byte names named makes call row = dup_x2_whole r row
-  plain_whole insn.Dup2 u byte names named makes call row = dup2_whole r row
-  plain_whole insn.Dup2X1 u byte names named makes call row = dup2_x1_whole r row
-  plain_whole insn.Dup2X2 u byte names named makes call row = dup2_x2_whole r row
-  plain_whole insn.Swap u byte names named makes call row = swap_whole r row
+  plain_whole insn.Pop u byte names named makes call row = move_whole r insn.Pop _ refl row
+  plain_whole insn.Pop2 u byte names named makes call row = move_whole r insn.Pop2 _ refl row
+  plain_whole insn.Dup u byte names named makes call row = move_whole r insn.Dup _ refl row
+  plain_whole insn.DupX1 u byte names named makes call row = move_whole r insn.DupX1 _ refl row
+  plain_whole insn.DupX2 u byte names named makes call row = move_whole r insn.DupX2 _ refl row
+  plain_whole insn.Dup2 u byte names named makes call row = move_whole r insn.Dup2 _ refl row
+  plain_whole insn.Dup2X1 u byte names named makes call row = move_whole r insn.Dup2X1 _ refl row
+  plain_whole insn.Dup2X2 u byte names named makes call row = move_whole r insn.Dup2X2 _ refl row
+  plain_whole insn.Swap u byte names named makes call row = move_whole r insn.Swap _ refl row
   plain_whole (insn.IntOp op) u byte names named makes call row = int_op_whole r op row
   plain_whole (insn.LongOp op) u byte names named makes call row = long_op_whole r op row
   plain_whole insn.IntNeg u byte names named makes call row = int_negate_whole r row

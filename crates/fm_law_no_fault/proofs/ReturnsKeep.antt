@@ -3,10 +3,8 @@ use Rattle.std.proofs.Common.{◌≡◌, ℕ, ◌+◌, Bool, true, false, cond, 
 use Rattle.std.specs.List.{AllByRecursion, AllZip}
 use Rattle.std.proofs.lemmas.Bool.{false≢true}
 use Rattle.std.proofs.lemmas.Bool.Decides.{nat_tests}
-use Rattle.std.proofs.lemmas.List.{length-append}
-use Rattle.std.proofs.lemmas.Option.{same_Some}
 use Rattle.std.proofs.lemmas.Slice.Zip.{AllZip-long}
-use Rattle.fm_base.proofs.OptionFacts.{cond-some_else, cond-some_then, option_and_then-some, option_map-some, Some-from_some_and}
+use Rattle.fm_base.proofs.OptionFacts.{Some-from_some_and}
 use Rattle.fm_base.specs.declared.kinds.Kind.{Kind}
 use Rattle.fm_base.specs.declared.kinds.Kind.TheVariants as kind
 use Rattle.fm_base.specs.declared.kinds.TypeRef.{TypeRef}
@@ -14,12 +12,11 @@ use Rattle.fm_cells.specs.Stores.{Store}
 use Rattle.fm_code.specs.Edges.{falls_through, insn_of, IsNormalEdge}
 use Rattle.fm_code.specs.declared.code_array.Code.{Code}
 use Rattle.fm_code.specs.declared.instructions.Insn.{Insn}
-use Rattle.fm_code.specs.declared.instructions.Insn.TheVariants as insn
-use Rattle.fm_types.specs.CallRows.{constructed, constructor_called, initialised, instance_call_row, is_constructor, is_initializer, is_type, names_own_or_above, names_own_or_parent, special_call_row, static_call_row}
+use Rattle.fm_types.specs.CallRows.{is_type}
 use Rattle.fm_types.specs.Fits.{AreTree, fits_type}
-use Rattle.fm_types.specs.Named.{argument_words, class_of_method, result_of, result_words}
+use Rattle.fm_types.specs.Named.{class_of_method, result_of, result_words}
 use Rattle.fm_types.specs.Rows.{row_after}
-use Rattle.fm_types.specs.States.{is_uninit, is_uninit_this, replaced, stack_slots, taken, TypeState, worked}
+use Rattle.fm_types.specs.States.{is_uninit, is_uninit_this, stack_slots, TypeState}
 use Rattle.fm_types.specs.Typed.{after_item, FitsAt, made_at, use_by}
 use Rattle.fm_types.specs.declared.slots.Slot.{Slot}
 use Rattle.fm_types.specs.declared.slots.Slot.TheVariants as slot
@@ -30,20 +27,18 @@ use Rattle.fm_world.specs.Numbers.{type_of_class}
 use Rattle.fm_world.specs.Programs.{Outline, Program}
 use Rattle.fm_world.specs.declared.uses.Use.{Use}
 use Rattle.fm_frames.specs.Acts.{cell_of}
-use Rattle.fm_frames.specs.CallRows.{words_of_arguments}
 use Rattle.fm_frames.specs.States.{Frame, State}
 use Rattle.fm_frames.specs.Steps.{is_start, returned}
 use Rattle.fm_frames.specs.declared.values.Value.{Value}
 use Rattle.fm_law_sound.specs.Going.{ConstructorsGiveNothing, StandsAtRow}
 use Rattle.fm_law_sound.specs.Sound.{AreTyped, Calling, FrameHasKinds, HasKind, HaveKinds, LocalHasKind, StandBelow, Starting, Typings, words_of_call}
-use Rattle.fm_law_sound.proofs.CallsLeft.{arguments_count, method_in, row_of_method}
-use Rattle.fm_law_sound.proofs.FramesLeft.{dropped, taken_drop}
+use Rattle.fm_law_sound.proofs.CallsLeft.{call_left, IsMarked, method_in}
 use Rattle.fm_law_sound.proofs.FramesStand.{after_whole, edge_fits, next_edge, typing_of}
 use Rattle.fm_law_sound.proofs.ReturnsStand.{call_falls, call_kinds, call_targets}
 use Rattle.fm_law_no_fault.specs.Whole.{FrameFits, FrameIsWhole, is_below, LocalFits, lowest, WordFits}
 use Rattle.fm_law_no_fault.proofs.ActsSuits.{holds_weaker}
 use Rattle.fm_law_no_fault.proofs.CellsLeave.{local_cells, stack_cells}
-use Rattle.fm_law_no_fault.proofs.FramesKeep.{brought_whole, zip_appended}
+use Rattle.fm_law_no_fault.proofs.FramesKeep.{brought_whole}
 use Rattle.fm_law_no_fault.proofs.ObjectRows.{below_fits}
 use Rattle.fm_law_no_fault.proofs.Owing.{Cell, CellsFit}
 use Rattle.fm_law_no_fault.proofs.WaitingFrames.{lowest_all, lowest_drop}
@@ -102,15 +97,11 @@ module _ (o : Outline) (store : Store) (own other : ℕ) (news others : ℕ → 
 -- ---- objects that are initialised
 
 module _ (o : Outline) (tree : AreTree o.classes) (store : Store) (own : ℕ) (news : ℕ → Option TypeRef) where
-  -- what the test picks out fits the type
-  abbrev IsMarked : (Slot → Bool) → TypeRef → Type 0
-  IsMarked test t = (s : Slot) (v : Value) → test s ≡ true → Cell o store own news s v → Cell o store own news (slot.Ref t) v
-
   made_type : (t u : TypeRef) (found : Option TypeRef) → is_type t found ≡ true → is_type u found ≡ true → u ≡ t
   made_type t u None is other = absurd (false≢true is)
   made_type t u (Some w) is other = same_type-eq u w other ∙ sym (same_type-eq t w is)
 
-  uninit_marked : (item : ℕ) (t : TypeRef) → is_type t (news item) ≡ true → IsMarked (is_uninit item) t
+  uninit_marked : (item : ℕ) (t : TypeRef) → is_type t (news item) ≡ true → IsMarked (Cell o store own news) (is_uninit item) t
   uninit_marked item t named (slot.Uninit other) v is h =
       let same : item ≡ other = grind (arith, nat_tests, is) in
       inr (holds_weaker o store (λ u. is_type u (news other)) (λ u. fits_type o.classes u t)
@@ -119,153 +110,23 @@ module _ (o : Outline) (tree : AreTree o.classes) (store : Store) (own : ℕ) (n
       (cell_of v) h)
   uninit_marked item t named s v is h = absurd (false≢true is)
 
-  this_marked : IsMarked is_uninit_this (type_of_class own)
+  this_marked : IsMarked (Cell o store own news) is_uninit_this (type_of_class own)
   this_marked slot.UninitThis v is h =
       inr (holds_weaker o store (is_below o own) (λ u. fits_type o.classes u (type_of_class own)) (λ u found. below_fits o u own found) (cell_of v) h)
   this_marked s v is h = absurd (false≢true is)
 
-  marked_if : (b : Bool) (s : Slot) (t : TypeRef) (v : Value) → (b ≡ true → Cell o store own news (slot.Ref t) v) → Cell o store own news s v
-      → Cell o store own news (cond b (slot.Ref t) s) v
-  marked_if true s t v marked h = marked refl
-  marked_if false s t v marked h = h
-
-  all_marked : (test : Slot → Bool) (t : TypeRef) → IsMarked test t → (xs : List Slot) (words : List Value) → AllZip (Cell o store own news) xs words
-      → AllZip (Cell o store own news) (replaced test (slot.Ref t) xs) words
-  all_marked test t marked [] [] h = tt
-  all_marked test t marked [] (v ∷ words) h = absurd h
-  all_marked test t marked (x ∷ xs) [] h = absurd h
-  all_marked test t marked (x ∷ xs) (v ∷ words) h =
-      (marked_if (test x) x t v (λ is. marked x v is h.0) h.0, all_marked test t marked xs words h.1)
-
-  -- a copy of an object becomes one of its class
-  constructed_cells : (method : ℕ) → own ≡ class_of_method o method → (named : TypeRef) (receiver : Slot) (s after : TypeState) (locals words : List Value)
-      → constructed o method news named receiver s ≡ Some after → CellsFit o store own news s locals words → CellsFit o store own news after locals words
-  constructed_cells method own_is named slot.Top s after locals words row h = absurd (cc)
-  constructed_cells method own_is named slot.Int s after locals words row h = absurd (cc)
-  constructed_cells method own_is named slot.Long s after locals words row h = absurd (cc)
-  constructed_cells method own_is named slot.Null s after locals words row h = absurd (cc)
-  constructed_cells method own_is named (slot.Ref t) s after locals words row h = absurd (cc)
-  constructed_cells method own_is named (slot.Uninit item) s after locals words row h =
-      let parts = cond-some_then (is_type named (news item)) (Some (initialised (is_uninit item) named s)) after row in
-      subst (λ (t : TypeState). CellsFit o store own news t locals words) (same_Some _ after parts.1)
-      (record {
-        in_locals = all_marked (is_uninit item) named (uninit_marked item named parts.0) s.locals locals h.in_locals;
-        in_stack = all_marked (is_uninit item) named (uninit_marked item named parts.0) s.stack words h.in_stack;
-      })
-  constructed_cells method own_is named slot.UninitThis s after locals words row h =
-      let t : TypeRef = type_of_class (class_of_method o method) in
-      let parts = cond-some_then (names_own_or_parent o (class_of_method o method) named) (Some (record (initialised is_uninit_this t s) { built = true })) after row in
-      let marked : IsMarked is_uninit_this t = subst (λ c. IsMarked is_uninit_this (type_of_class c)) own_is this_marked in
-      subst (λ (t : TypeState). CellsFit o store own news t locals words) (same_Some _ after parts.1)
-      (record {
-        in_locals = all_marked is_uninit_this t marked s.locals locals h.in_locals;
-        in_stack = all_marked is_uninit_this t marked s.stack words h.in_stack;
-      })
-
   -- ---- the state after a call
 
   module _ (nothing_given : ConstructorsGiveNothing o) (s : TypeState) (named : ℕ) (locals words result : List Value) (in_locals : AllZip (Cell o store own news) s.locals locals) (has : AllZip (Cell o store own news) (result_words o named) result) where
-    abbrev Goes : TypeState → Type 0
-    Goes after = CellsFit o store own news after locals (result ++ words)
-
-    abbrev Left : ℕ → Type 0
-    Left count = AllZip (Cell o store own news) (drop count s.stack) words
-
-    worked_returned : (wanted : List Slot) (count : ℕ) (after : TypeState) → worked o wanted (result_words o named) s ≡ Some after → length wanted ≡ count
-        → Left count → Goes after
-    worked_returned wanted count after row same in_stack =
-        let parts = option_map-some (λ stack. record s { stack = result_words o named ++ stack }) (taken o wanted s.stack) after row in
-        let left : drop count s.stack ≡ parts.0 = ap (λ n. drop n s.stack) (sym same) ∙ taken_drop o wanted s.stack parts.0 parts.1 in
-        subst (λ (t : TypeState). CellsFit o store own news t locals (result ++ words)) parts.2
-        (record {
-          in_locals = in_locals;
-          in_stack = zip_appended (Cell o store own news) (result_words o named) parts.0 result words has
-              (subst (λ xs. AllZip (Cell o store own news) xs words) left in_stack);
-        })
-
-    with_receiver : (t : Slot) → length (argument_words o named ++ t ∷ []) ≡ words_of_arguments o named + 1
-    with_receiver t = length-append (argument_words o named) (t ∷ []) ∙ ap (λ n. n + 1) (arguments_count o named)
-
-    instance_cells : (u : Use) (after : TypeState) → method_in u ≡ Some named → Left (words_of_arguments o named + 1) → instance_call_row o u s ≡ Some after
-        → Goes after
-    unfolding instance_call_row
-    instance_cells u after names in_stack row =
-        let found = row_of_method o u _ named after names row in
-        let parts = cond-some_else (is_initializer o named) (worked o (argument_words o named ++ slot.Ref found.0 ∷ []) (result_words o named) s) after found.1 in
-        worked_returned (argument_words o named ++ slot.Ref found.0 ∷ []) (words_of_arguments o named + 1) after parts.1 (with_receiver (slot.Ref found.0)) in_stack
-
-    static_cells : (u : Use) (after : TypeState) → method_in u ≡ Some named → Left (words_of_arguments o named) → static_call_row o u s ≡ Some after → Goes after
-    unfolding static_call_row
-    static_cells u after names in_stack row =
-        let found = row_of_method o u _ named after names row in
-        let parts = cond-some_else (is_initializer o named) (worked o (argument_words o named) (result_words o named) s) after found.1 in
-        worked_returned (argument_words o named) (words_of_arguments o named) after parts.1 (arguments_count o named) in_stack
-
-    -- a constructor gives nothing
-    no_result : (given : Option Kind) → given ≡ None → AllZip (Cell o store own news) (stack_slots (option_to_list given)) result → result ≡ []
-    no_result None is h = empty_of result h where
-      empty_of : (values : List Value) → AllZip (Cell o store own news) [] values → values ≡ []
-      empty_of [] h = refl
-      empty_of (v ∷ values) h = absurd h
-    no_result (Some k) is h = absurd (cc)
-
-    -- the state where the receiver is initialised
-    abbrev receiver_state : (method : ℕ) (t : TypeRef) → List Slot → Option TypeState
-    receiver_state method t [] = None
-    receiver_state method t (receiver ∷ stack) = constructed o method news t receiver (record s { stack = stack })
-
-    receiver_cells : (method : ℕ) → own ≡ class_of_method o method → (t : TypeRef) (rest : List Slot) (after : TypeState)
-        → receiver_state method t rest ≡ Some after → AllZip (Cell o store own news) (drop 1 rest) words → CellsFit o store own news after locals words
-    receiver_cells method own_is t [] after row in_stack = absurd (cc)
-    receiver_cells method own_is t (receiver ∷ stack) after row in_stack =
-        constructed_cells method own_is t receiver (record s { stack = stack }) after locals words row (record { in_locals = in_locals; in_stack = in_stack })
-
-    constructor_cells : (method : ℕ) → own ≡ class_of_method o method → (t : TypeRef) (after : TypeState) → is_constructor o named ≡ true
-        → Left (words_of_arguments o named + 1) → constructor_called o method news named t s ≡ Some after → Goes after
-    constructor_cells method own_is t after is in_stack row =
-        let found = option_and_then-some (receiver_state method t) (taken o (argument_words o named) s.stack) after row in
-        let left : drop (words_of_arguments o named) s.stack ≡ found.0 =
-        ap (λ n. drop n s.stack) (sym (arguments_count o named)) ∙ taken_drop o (argument_words o named) s.stack found.0 found.1 in
-        let below : drop (words_of_arguments o named + 1) s.stack ≡ drop 1 found.0 =
-        sym (dropped (words_of_arguments o named) s.stack) ∙ ap (λ xs. drop 1 xs) left in
-        let empty : result ≡ [] = no_result (result_of o named) (nothing_given named is) has in
-        subst (λ given. CellsFit o store own news after locals (given ++ words)) (sym empty)
-        (receiver_cells method own_is t found.0 after found.2 (subst (λ xs. AllZip (Cell o store own news) xs words) below in_stack))
-
-    special_cases : (method : ℕ) → own ≡ class_of_method o method → (t : TypeRef) (b : Bool) (after : TypeState) → is_constructor o named ≡ b
-        → Left (words_of_arguments o named + 1)
-        → cond b (constructor_called o method news named t s) (cond (is_initializer o named) None
-        (cond (names_own_or_above o (class_of_method o method) t)
-        (worked o (argument_words o named ++ slot.Ref (type_of_class (class_of_method o method)) ∷ []) (result_words o named) s) None)) ≡ Some after
-        → Goes after
-    special_cases method own_is t true after is in_stack row = constructor_cells method own_is t after is in_stack row
-    special_cases method own_is t false after is in_stack row =
-        let receiver : Slot = slot.Ref (type_of_class (class_of_method o method)) in
-        let first = cond-some_else (is_initializer o named) (cond (names_own_or_above o (class_of_method o method) t)
-        (worked o (argument_words o named ++ receiver ∷ []) (result_words o named) s) None) after row in
-        let second = cond-some_then (names_own_or_above o (class_of_method o method) t)
-        (worked o (argument_words o named ++ receiver ∷ []) (result_words o named) s) after first.1 in
-        worked_returned (argument_words o named ++ receiver ∷ []) (words_of_arguments o named + 1) after second.1 (with_receiver receiver) in_stack
-
-    special_cells : (method : ℕ) → own ≡ class_of_method o method → (u : Use) (after : TypeState) → method_in u ≡ Some named
-        → Left (words_of_arguments o named + 1) → special_call_row o method news u s ≡ Some after → Goes after
-    unfolding special_call_row
-    special_cells method own_is u after names in_stack row =
-        let found = row_of_method o u _ named after names row in
-        special_cases method own_is found.0 (is_constructor o named) after refl in_stack found.1
-
     pub call_cells : (i : Insn) (method item count : ℕ) → own ≡ class_of_method o method → (u : Use) (after : TypeState)
-        → words_of_call o i named ≡ Some count → method_in u ≡ Some named → Left count → row_after o method item news u i s ≡ Some after → Goes after
-    unfolding row_after
-    call_cells (insn.Virtual index) method item count own_is u after takes names in_stack row =
-        instance_cells u after names (subst Left (sym (same_Some (words_of_arguments o named + 1) count takes)) in_stack) row
-    call_cells (insn.Interface index) method item count own_is u after takes names in_stack row =
-        instance_cells u after names (subst Left (sym (same_Some (words_of_arguments o named + 1) count takes)) in_stack) row
-    call_cells (insn.Special index) method item count own_is u after takes names in_stack row =
-        special_cells method own_is u after names (subst Left (sym (same_Some (words_of_arguments o named + 1) count takes)) in_stack) row
-    call_cells (insn.Static index) method item count own_is u after takes names in_stack row =
-        static_cells u after names (subst Left (sym (same_Some (words_of_arguments o named) count takes)) in_stack) row
-    call_cells i method item count own_is u after takes names in_stack row = absurd (cc)
+        → words_of_call o i named ≡ Some count → method_in u ≡ Some named → AllZip (Cell o store own news) (drop count s.stack) words
+        → row_after o method item news u i s ≡ Some after → CellsFit o store own news after locals (result ++ words)
+    call_cells i method item count own_is u after takes names in_stack row =
+        let this = subst (λ c. IsMarked (Cell o store own news) is_uninit_this (type_of_class c)) own_is this_marked in
+        let are = call_left (Cell o store own news) (Cell o store own news) o method news
+        (λ item t made. (uninit_marked item t made, uninit_marked item t made)) (this, this) nothing_given s named locals words result in_locals has i item count u
+        after takes names in_stack row in
+        record { in_locals = are.in_locals; in_stack = are.in_stack }
 
 -- ---- the frame below
 
