@@ -19,9 +19,10 @@ use Rattle.fm_same.specs.Colours.{AreFramesColoured, Colour, Coloured, HasColour
 use Rattle.fm_same.specs.Laws.{IsWithin}
 use Rattle.fm_same.specs.Regions.{Region}
 use Rattle.fm_same.proofs.RegionLemmas.{region_within}
+use Rattle.fm_law_sound.proofs.FramesLeft.{related_at}
 use Rattle.fm_law_no_fault.specs.Whole.{lowest}
 use Rattle.fm_law_holders.specs.Uninitialised.{AreMade, AreMadeIn, FrameIsMade, FramesAreBelow, IsBelow, IsMadeAt, Made}
-use Rattle.fm_law_holders.proofs.Slots.{Are, is_at}
+use Rattle.fm_law_holders.proofs.Slots.{Are, Is}
 
 module _ (o : Outline) (facts : Facts) (store : Store) (colour : Colour) (made : Made) (orderly : IsOrderly store) where
   -- an object that has the region of a node is below
@@ -50,7 +51,7 @@ module _ (o : Outline) (facts : Facts) (store : Store) (colour : Colour) (made :
       → slice_get values n ≡ Some v → IsMadeAt store made item (cell_of v)
   made_at_place xs values n item v are at found =
       subst (λ w. IsMadeAt store made item (cell_of w)) (get_or_from_slice_get values n v value.Top found)
-      (is_at store made xs values n (slot.Uninit item) are at)
+      (related_at (Is store made) xs values n (slot.Uninit item) are at)
 
   frames_below : (frames : List Frame) → AreFramesColoured o facts store colour frames → AllByRecursion (FrameIsMade facts.typing store made) frames
       → FramesAreBelow facts store colour frames

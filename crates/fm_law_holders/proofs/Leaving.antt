@@ -1,30 +1,26 @@
 -- The frame that an effect leaves is as the state that the row of the checker gives: one lemma for each way in which rows are made.
-use Rattle.std.proofs.Common.{◌≡◌, ℕ, ◌+◌, List, [], ◌∷◌, ◌++◌, length, drop, map, cond, nat_lt, suc, Option, Some, None, option_and_then, refl, sym, ◌∙◌, ap, subst, slice_get, slice_set, arith}
+use Rattle.std.proofs.Common.{◌≡◌, ℕ, ◌+◌, List, [], ◌++◌, length, drop, map, Option, Some, refl, sym, ◌∙◌, ap, subst}
 use Rattle.std.specs.List.{AllByRecursion}
-use Rattle.std.specs.Option.{option_map}
 use Rattle.std.proofs.lemmas.Option.{same_Some}
 use Rattle.std.proofs.lemmas.Slice.Zip.{AllZip-long}
-use Rattle.fm_base.proofs.OptionFacts.{cond-some_else, cond-some_then, option_and_then-some, option_map-some}
+use Rattle.fm_base.proofs.OptionFacts.{option_map-some}
 use Rattle.fm_cells.specs.Stores.{Store}
-use Rattle.fm_types.specs.Moves.{moved, Moves, words_at}
-use Rattle.fm_types.specs.States.{cut_before, is_whole, stored, taken, TypeState, worked, worked_below}
+use Rattle.fm_types.specs.States.{taken, TypeState, worked, worked_below}
 use Rattle.fm_types.specs.declared.slots.Slot.{Slot}
-use Rattle.fm_types.specs.declared.slots.Slot.TheVariants as slot
 use Rattle.fm_world.specs.Programs.{Outline}
 use Rattle.fm_code.specs.declared.instructions.Insn.{Insn}
 use Rattle.fm_frames.specs.Acts.{Sources, value_of}
-use Rattle.fm_frames.specs.Effects.{Effect, Falls, Jumps, JumpsIfSame, Next, OfOperand, words}
+use Rattle.fm_frames.specs.Effects.{Effect, Falls, Jumps, JumpsIfSame, Next}
 use Rattle.fm_frames.specs.States.{Areas, Frame}
 use Rattle.fm_frames.specs.Steps as steps
 use Rattle.fm_frames.specs.declared.values.Value.{Value}
-use Rattle.fm_frames.specs.declared.values.Value.TheVariants as value
 use Rattle.fm_law_sound.specs.Leading.{LeadsAs, LeavesAs, sources_of}
 use Rattle.fm_law_sound.specs.Sound.{FrameHasKinds, HasKind, HaveKinds, static_slots}
-use Rattle.fm_law_sound.proofs.FramesLeft.{dropped, taken_drop}
-use Rattle.fm_law_no_fault.proofs.FramesKeep.{zip_appended}
+use Rattle.fm_law_sound.proofs.FramesLeft as left
+use Rattle.fm_law_sound.proofs.FramesLeft.{AreAs, taken_drop}
 use Rattle.fm_law_no_fault.proofs.WaitingFrames.{zip_dropped}
 use Rattle.fm_law_holders.specs.Uninitialised.{Made}
-use Rattle.fm_law_holders.proofs.Slots.{above_long, Are, AreAt, cut_are, Is, is_at, IsOther, others_are, set_are}
+use Rattle.fm_law_holders.proofs.Slots.{above_long, Are, AreAt, Is, IsOther, others_are}
 
 -- ---- how many words an effect takes
 
@@ -76,13 +72,18 @@ module _ (r : Row) where
   abbrev pub Leads : Insn → Effect → Type 0
   Leads i e = LeadsAs r.outline i r.after r.frame e e.next
 
+  pub before_are : AreAs (Is r.store r.made) (Is r.store r.made) r.before r.frame.locals r.frame.stack
+  before_are = record { in_locals = r.locals; in_stack = r.stack }
+
+  pub left_are : (known : TypeState) (locals stack : List Value) → AreAs (Is r.store r.made) (Is r.store r.made) known locals stack
+      → AreAt r.store r.made known locals stack
+  left_are known locals stack are = record { in_locals = are.in_locals; in_stack = are.in_stack }
+
   -- the locals stay, and the stack is this one
   pub leaves_stack : (stack : List Slot) (e : Effect) → record r.before { stack = stack } ≡ r.after → e.writes ≡ []
       → Are r.store r.made stack (steps.stack_after from e r.frame.stack) → Left e
   leaves_stack stack e is writes are =
-      subst (λ (t : TypeState). AreAt r.store r.made t (steps.written from e.writes r.frame.locals) (steps.stack_after from e r.frame.stack)) is
-      (subst (λ w. AreAt r.store r.made (record r.before { stack = stack }) (steps.written from w r.frame.locals) (steps.stack_after from e r.frame.stack)) (sym writes)
-      (record { in_locals = r.locals; in_stack = are }))
+      left_are _ _ _ (left.stack_leaves (Is r.store r.made) (Is r.store r.made) r.before r.after from before_are stack e is writes are)
 
   -- ---- other slots in place of those on top
 
@@ -99,10 +100,9 @@ module _ (r : Row) where
       subst (λ k. HaveKinds (given ++ drop n r.before.stack) (values ++ drop k r.frame.stack)) takes
       (subst (λ (t : TypeState). HaveKinds t.stack (steps.stack_after from e r.frame.stack)) (sym is) after_kinds.in_stack) in
       let long : length values ≡ length given = above_long HasKind given (drop n r.before.stack) values (drop n r.frame.stack) kinds (rest_long n) in
-      leaves_stack (given ++ drop n r.before.stack) e is writes
-      (subst (λ k. Are r.store r.made (given ++ drop n r.before.stack) (values ++ drop k r.frame.stack)) (sym takes)
-      (zip_appended (Is r.store r.made) given (drop n r.before.stack) values (drop n r.frame.stack) (others_are r.store r.made given values others long)
-      (zip_dropped (Is r.store r.made) n r.before.stack r.frame.stack r.stack)))
+      left_are _ _ _
+      (left.above_leaves (Is r.store r.made) (Is r.store r.made) r.before r.after from before_are given (drop n r.before.stack) n e is refl takes writes
+      (others_are r.store r.made given values others long))
 
   above_case : (given : List Slot) (n : ℕ) (i : Insn) (e : Effect) (next : Next) → record r.before { stack = given ++ drop n r.before.stack } ≡ r.after
       → AllByRecursion IsOther given → TakesBy n e next → LeadsAs r.outline i r.after r.frame e next → LeftBy e next
@@ -123,74 +123,16 @@ module _ (r : Row) where
       → AllByRecursion IsOther given → Takes (length wanted) e → Leads i e → Goes e
   worked_goes wanted given i e row others takes leads =
       let parts = option_map-some (λ stack. record r.before { stack = given ++ stack }) (taken r.outline wanted r.before.stack) r.after row in
-      let left : drop (length wanted) r.before.stack ≡ parts.0 = taken_drop r.outline wanted r.before.stack parts.0 parts.1 in
-      above_goes given (length wanted) i e (ap (λ xs. record r.before { stack = given ++ xs }) left ∙ parts.2) others takes leads
+      let rest : drop (length wanted) r.before.stack ≡ parts.0 = taken_drop r.outline wanted r.before.stack parts.0 parts.1 in
+      above_goes given (length wanted) i e (ap (λ xs. record r.before { stack = given ++ xs }) rest ∙ parts.2) others takes leads
 
   -- ---- in place of the slot below them too
-
-  abbrev below_state : (Slot → Option (List Slot)) → List Slot → Option TypeState
-  below_state given [] = None
-  below_state given (below ∷ stack) = option_map (λ slots. record r.before { stack = slots ++ stack }) (given below)
-
-  below_goes : (wanted : List Slot) (given : Slot → Option (List Slot)) (i : Insn) (e : Effect) (rest : List Slot)
-      → taken r.outline wanted r.before.stack ≡ Some rest → below_state given rest ≡ Some r.after
-      → ((s : Slot) (slots : List Slot) → given s ≡ Some slots → AllByRecursion IsOther slots) → Takes (length wanted + 1) e → Leads i e → Goes e
-  below_goes wanted given i e [] is row others takes leads = absurd (cc)
-  below_goes wanted given i e (s ∷ rest) is row others takes leads =
-      let parts = option_map-some (λ slots. record r.before { stack = slots ++ rest }) (given s) r.after row in
-      let left : drop (length wanted + 1) r.before.stack ≡ rest =
-      sym (dropped (length wanted) r.before.stack) ∙ ap (λ xs. drop 1 xs) (taken_drop r.outline wanted r.before.stack (s ∷ rest) is) in
-      above_goes parts.0 (length wanted + 1) i e (ap (λ xs. record r.before { stack = parts.0 ++ xs }) left ∙ parts.2) (others s parts.0 parts.1) takes leads
 
   pub worked_below_goes : (wanted : List Slot) (given : Slot → Option (List Slot)) (i : Insn) (e : Effect)
       → worked_below r.outline wanted given r.before ≡ Some r.after
       → ((s : Slot) (slots : List Slot) → given s ≡ Some slots → AllByRecursion IsOther slots) → Takes (length wanted + 1) e → Leads i e → Goes e
   worked_below_goes wanted given i e row others takes leads =
-      let found = option_and_then-some (below_state given) (taken r.outline wanted r.before.stack) r.after row in
-      below_goes wanted given i e found.0 found.1 found.2 others takes leads
-
-  -- ---- words of the stack by their places
-
-  words_given : (places : List ℕ) (slots : List Slot) → words_at r.before.stack places ≡ Some slots
-      → Are r.store r.made slots (map (value_of from) (map OfOperand places))
-  words_given [] slots is = subst (λ xs. Are r.store r.made xs []) (same_Some [] slots is) tt
-  words_given (place ∷ places) slots is =
-      let one = option_and_then-some (λ word. option_map (λ words. word ∷ words) (words_at r.before.stack places)) (slice_get r.before.stack place) slots is in
-      let more = option_map-some (λ words. one.0 ∷ words) (words_at r.before.stack places) slots one.2 in
-      subst (λ xs. Are r.store r.made xs (map (value_of from) (map OfOperand (place ∷ places)))) more.2
-      (is_at r.store r.made r.before.stack r.frame.stack place one.0 r.stack one.1, words_given places more.0 more.1)
-
-  pub moved_leaves : (m : Moves)
-      → option_and_then (λ stack. cond (is_whole stack) (Some (record r.before { stack = stack })) None) (moved m r.before.stack) ≡ Some r.after
-      → Left (words m.takes (map OfOperand m.gives))
-  moved_leaves m row =
-      let whole = option_and_then-some (λ stack. cond (is_whole stack) (Some (record r.before { stack = stack })) None) (moved m r.before.stack) r.after row in
-      let is = cond-some_then (is_whole whole.0) (Some (record r.before { stack = whole.0 })) r.after whole.2 in
-      let deep = cond-some_else (nat_lt (length r.before.stack) m.takes) (option_map (λ words. words ++ drop m.takes r.before.stack) (words_at r.before.stack m.gives)) whole.0 whole.1 in
-      let given = option_map-some (λ words. words ++ drop m.takes r.before.stack) (words_at r.before.stack m.gives) whole.0 deep.1 in
-      leaves_stack whole.0 (words m.takes (map OfOperand m.gives)) (same_Some _ r.after is.1) refl
-      (subst (λ xs. Are r.store r.made xs (map (value_of from) (map OfOperand m.gives) ++ drop m.takes r.frame.stack)) given.2
-      (zip_appended (Is r.store r.made) given.0 (drop m.takes r.before.stack) (map (value_of from) (map OfOperand m.gives)) (drop m.takes r.frame.stack)
-      (words_given m.gives given.0 given.1) (zip_dropped (Is r.store r.made) m.takes r.before.stack r.frame.stack r.stack)))
-
-  -- ---- locals
-
-  pub one_stored : (k : ℕ) (found : Slot) (after : List Slot) (v : Value) → stored k (found ∷ []) r.before.locals ≡ Some after
-      → Is r.store r.made found v → Are r.store r.made after (slice_set r.frame.locals k v)
-  one_stored k found after v is new =
-      let parts = cond-some_else (nat_lt (length r.before.locals) (k + 1)) (Some (slice_set (cut_before k r.before.locals) k found)) after is in
-      subst (λ ys. Are r.store r.made ys (slice_set r.frame.locals k v)) (same_Some _ after parts.1)
-      (set_are r.store r.made k found v (cut_before k r.before.locals) r.frame.locals new (cut_are r.store r.made k r.before.locals r.frame.locals r.locals))
-
-  pub two_stored : (k : ℕ) (found : Slot) (after : List Slot) (v : Value) → stored k (found ∷ slot.Top ∷ []) r.before.locals ≡ Some after
-      → Is r.store r.made found v → Are r.store r.made after (slice_set (slice_set r.frame.locals k v) (k + 1) value.Top)
-  two_stored k found after v is new =
-      let parts = cond-some_else (nat_lt (length r.before.locals) (k + 2))
-      (Some (slice_set (slice_set (cut_before k r.before.locals) k found) (suc k) slot.Top)) after is in
-      let next : suc k ≡ k + 1 = omega arith in
-      subst (λ ys. Are r.store r.made ys (slice_set (slice_set r.frame.locals k v) (k + 1) value.Top)) (same_Some _ after parts.1)
-      (subst (λ n. Are r.store r.made (slice_set (slice_set (cut_before k r.before.locals) k found) (suc k) slot.Top)
-      (slice_set (slice_set r.frame.locals k v) n value.Top)) next
-      (set_are r.store r.made (suc k) slot.Top value.Top (slice_set (cut_before k r.before.locals) k found) (slice_set r.frame.locals k v) tt
-      (set_are r.store r.made k found v (cut_before k r.before.locals) r.frame.locals new
-      (cut_are r.store r.made k r.before.locals r.frame.locals r.locals))))
+      let b = left.below_found r.outline r.before wanted given r.after row in
+      let rest : drop (length wanted + 1) r.before.stack ≡ b.rest = left.below_rest r.outline r.before wanted given r.after b in
+      above_goes b.slots (length wanted + 1) i e (ap (λ xs. record r.before { stack = b.slots ++ xs }) rest ∙ b.after_is) (others b.below b.slots b.given_is)
+      takes leads

@@ -1,5 +1,5 @@
 -- The frame that a row of no call leaves is as the state after it.
-use Rattle.std.proofs.Common.{◌≡◌, ℕ, ℤ, ◌+◌, ◌-◌, ◌&&◌, Bool, true, false, List, [], ◌∷◌, ◌++◌, length, drop, replicate, reverse, cond, codes, if◌then◌else◌, pos, nat_le, nat_lt, Option, Some, None, refl, sym, ap, subst, slice_get, slice_set, slice_index_or}
+use Rattle.std.proofs.Common.{◌≡◌, ℕ, ℤ, ◌+◌, ◌-◌, ◌&&◌, Bool, true, false, List, [], ◌∷◌, ◌++◌, length, replicate, reverse, cond, codes, if◌then◌else◌, pos, nat_le, nat_lt, Option, Some, None, refl, sym, ap, subst, slice_index_or}
 use Rattle.std.specs.List.{AllByRecursion, range_with_len}
 use Rattle.std.proofs.lemmas.Bool.{false≢true}
 use Rattle.std.proofs.lemmas.List.{length-replicate}
@@ -21,11 +21,12 @@ use Rattle.fm_code.specs.declared.operations.Reg.TheVariants as reg
 use Rattle.fm_types.specs.ArrayRows as typed
 use Rattle.fm_types.specs.ArrayRows.{array_load_row, array_store_row, is_array_of, length_row, multi_array_row, new_array_row, new_references_row, null_element, on_array, stored_element}
 use Rattle.fm_types.specs.Fits.{fits}
+use Rattle.fm_types.specs.Moves.{Moves, moves_of}
 use Rattle.fm_types.specs.Named.{field_words, object_slot, throwable_type}
-use Rattle.fm_types.specs.NumberRows.{constant_row, convert_row, increment_row, is_int, load_row, loaded, move_row, store_row, stored_from, suits}
+use Rattle.fm_types.specs.NumberRows.{constant_row, convert_row, increment_row, is_int, load_row, loaded, move_row, store_row}
 use Rattle.fm_types.specs.ObjectRows.{cast_row, get_field_row, get_static_row, is_a_row, new_row, put_field_row, put_static_row, takes_field}
 use Rattle.fm_types.specs.Rows.{row_after}
-use Rattle.fm_types.specs.States.{is_long, is_reference, is_uninit, local_at, pushed, replaced, stack_slots, stored, taken, TypeState, worked}
+use Rattle.fm_types.specs.States.{is_uninit, local_at, replaced, stack_slots, taken, TypeState, worked}
 use Rattle.fm_types.specs.declared.slots.Slot.{Slot}
 use Rattle.fm_types.specs.declared.slots.Slot.TheVariants as slot
 use Rattle.fm_world.specs.Chains.{is_sub}
@@ -34,28 +35,27 @@ use Rattle.fm_world.specs.Programs.{class_of_type, Outline}
 use Rattle.fm_world.specs.Uses.{array_of}
 use Rattle.fm_world.specs.declared.uses.Use.{Use}
 use Rattle.fm_world.specs.declared.uses.Use.TheVariants as resolved
-use Rattle.fm_frames.specs.Acts.{sum_of}
 use Rattle.fm_frames.specs.ArrayRows.{array_load_effect, array_made, array_store_effect, length_effect, element_kind, multi_array_effect, ints_at, arrays_of, new_array_effect, new_references_effect, put_element, put_reference}
 use Rattle.fm_frames.specs.Effects.{acting, Effect, going, int_word, Jumps, long_words, Make, null_word, OfOperand, OfPlace, OfStatic, Put, SetStatic, words}
 use Rattle.fm_frames.specs.Effects as effects
 use Rattle.fm_frames.specs.JumpRows.{int_jump_effect, lookup_effect, null_jump_effect, pair_jump_effect, return_effect, same_jump_effect, table_effect, throw_effect}
-use Rattle.fm_frames.specs.NumberRows.{compare_effect, constant_effect, convert_effect, increment_effect, int_negate_effect, int_op_effect, int_shift_effect, load_effect, long_negate_effect, long_op_effect, long_shift_effect, move_effect, store_effect}
+use Rattle.fm_frames.specs.NumberRows.{compare_effect, constant_effect, convert_effect, increment_effect, int_negate_effect, int_op_effect, int_shift_effect, load_effect, long_negate_effect, long_op_effect, long_shift_effect, move_effect, moved_words, store_effect}
 use Rattle.fm_frames.specs.ObjectRows.{cast_effect, class_of_field, get_field_effect, get_static_effect, is_a_effect, kind_of_field, made_of, new_effect, put_field_effect, put_static_effect, starting}
 use Rattle.fm_frames.specs.Operands.{thrown}
 use Rattle.fm_frames.specs.Rows.{effect_of}
 use Rattle.fm_frames.specs.Sights.{Sight}
-use Rattle.fm_frames.specs.States.{ref, word_at}
+use Rattle.fm_frames.specs.States.{ref}
 use Rattle.fm_frames.specs.declared.values.Value.{Value}
-use Rattle.fm_frames.specs.declared.values.Value.TheVariants as value
 use Rattle.fm_law_sound.specs.Leading.{is_call}
 use Rattle.fm_law_sound.proofs.ArrayRows.{by_array}
 use Rattle.fm_law_sound.proofs.Cases.{by_held, by_if, by_int, by_long, by_object, by_on_field, by_on_type}
+use Rattle.fm_law_sound.proofs.FramesLeft as left
 use Rattle.fm_law_sound.proofs.Leaving.{kind_slots}
 use Rattle.fm_law_sound.proofs.ObjectRows.{row_of_field, row_of_type}
 use Rattle.fm_law_holders.specs.Uninitialised.{IsMadeAt}
 use Rattle.fm_law_holders.proofs.EffectTakes.{arrays_take, compare_takes, element_takes, int_jump_takes, int_negate_takes, int_op_takes, int_shift_takes, length_takes, long_negate_takes, long_op_takes, long_shift_takes, lookup_takes, made_takes, null_jump_takes, pair_jump_takes, put_takes, table_takes}
-use Rattle.fm_law_holders.proofs.Leaving.{Goes, Leads, leaves_stack, Left, moved_leaves, one_stored, pushed_goes, Row, Takes, two_stored, worked_below_goes, worked_goes}
-use Rattle.fm_law_holders.proofs.Slots.{Are, AreAt, Is, is_at, IsOther, replaced_are, written_are}
+use Rattle.fm_law_holders.proofs.Leaving.{before_are, from, Goes, Leads, leaves_stack, Left, left_are, pushed_goes, Row, Takes, worked_below_goes, worked_goes}
+use Rattle.fm_law_holders.proofs.Slots.{Are, AreAt, Is, IsOther, other_is, replaced_are}
 
 -- ---- slots of which nothing is asked
 
@@ -113,115 +113,42 @@ module _ (r : Row) where
 
   -- ---- locals
 
-  loaded_goes : (q : Reg) (k : ℕ) (found : Slot) → slice_get r.before.locals k ≡ Some found
-      → cond (suits q found) (Some (pushed (loaded q found) r.before)) None ≡ Some r.after → Goes r (load_effect q k)
-  unfolding load_effect
-  loaded_goes reg.Int k found at is =
-      let parts = cond-some_then (suits reg.Int found) (Some (pushed (loaded reg.Int found) r.before)) r.after is in
-      leaves_stack r (found ∷ r.before.stack) (load_effect reg.Int k) (same_Some _ r.after parts.1) refl
-      (is_at r.store r.made r.before.locals r.frame.locals k found r.locals at, r.stack)
-  loaded_goes reg.Long k found at is =
-      let parts = cond-some_then (suits reg.Long found) (Some (pushed (loaded reg.Long found) r.before)) r.after is in
-      leaves_stack r (slot.Top ∷ found ∷ r.before.stack) (load_effect reg.Long k) (same_Some _ r.after parts.1) refl
-      (tt, (is_at r.store r.made r.before.locals r.frame.locals k found r.locals at, r.stack))
-  loaded_goes reg.Ref k found at is =
-      let parts = cond-some_then (suits reg.Ref found) (Some (pushed (loaded reg.Ref found) r.before)) r.after is in
-      leaves_stack r (found ∷ r.before.stack) (load_effect reg.Ref k) (same_Some _ r.after parts.1) refl
-      (is_at r.store r.made r.before.locals r.frame.locals k found r.locals at, r.stack)
+  load_left : (q : Reg) (k : ℕ) → load_row q k r.before ≡ Some r.after → Left r (load_effect q k)
+  load_left q k row =
+      left_are r _ _ _
+      (left.load_leaves (Is r.store r.made) (Is r.store r.made) r.before r.after (from r) (before_are r) (λ v. tt) tt (λ s v h. h) (λ q s v is h. h) q k row)
 
   load_goes : (q : Reg) (k : ℕ) → load_row q k r.before ≡ Some r.after → Goes r (load_effect q k)
-  unfolding load_row
-  load_goes q k row =
-      let found = option_and_then-some (λ found. cond (suits q found) (Some (pushed (loaded q found) r.before)) None) (slice_get r.before.locals k) r.after row in
-      loaded_goes q k found.0 found.1 found.2
+  unfolding load_effect
+  load_goes reg.Int k row = load_left reg.Int k row
+  load_goes reg.Long k row = load_left reg.Long k row
+  load_goes reg.Ref k row = load_left reg.Ref k row
 
-  stored_state : (k : ℕ) (slots stack : List Slot) → stored_from k slots stack r.before ≡ Some r.after
-      → (locals : List Slot) × (stored k slots r.before.locals ≡ Some locals) × (record r.before { locals = locals; stack = stack } ≡ r.after)
-  stored_state k slots stack row =
-      option_map-some (λ locals. record r.before { locals = locals; stack = stack }) (stored k slots r.before.locals) r.after row
-
-  -- the words of a stack one by one
-  first_is : (s : Slot) (stack : List Slot) (values : List Value) → Are r.store r.made (s ∷ stack) values
-      → Is r.store r.made s (word_at values 0) × Are r.store r.made stack (drop 1 values)
-  first_is s stack [] h = absurd h
-  first_is s stack (v ∷ values) h = h
-
-  second_is : (half s : Slot) (stack : List Slot) (values : List Value) → Are r.store r.made (half ∷ s ∷ stack) values
-      → Is r.store r.made s (word_at values 1) × Are r.store r.made stack (drop 2 values)
-  second_is half s stack [] h = absurd h
-  second_is half s stack (v ∷ []) h = absurd h.1
-  second_is half s stack (v ∷ w ∷ values) h = h.1
-
-  one_goes : (k : ℕ) (found : Slot) (stack : List Slot) → r.before.stack ≡ found ∷ stack → stored_from k (found ∷ []) stack r.before ≡ Some r.after
-      → Left r (store_effect reg.Int k)
-  unfolding store_effect
-  one_goes k found stack is row =
-      let parts = stored_state k (found ∷ []) stack row in
-      let top = first_is found stack r.frame.stack (subst (λ xs. Are r.store r.made xs r.frame.stack) is r.stack) in
-      subst (λ (t : TypeState). AreAt r.store r.made t (slice_set r.frame.locals k (word_at r.frame.stack 0)) (drop 1 r.frame.stack)) parts.2
-      (record { in_locals = one_stored r k found parts.0 (word_at r.frame.stack 0) parts.1 top.0; in_stack = top.1 })
-
-  two_go : (k : ℕ) (half found : Slot) (stack : List Slot) → r.before.stack ≡ half ∷ found ∷ stack
-      → stored_from k (found ∷ slot.Top ∷ []) stack r.before ≡ Some r.after → Left r (store_effect reg.Long k)
-  unfolding store_effect
-  two_go k half found stack is row =
-      let parts = stored_state k (found ∷ slot.Top ∷ []) stack row in
-      let top = second_is half found stack r.frame.stack (subst (λ xs. Are r.store r.made xs r.frame.stack) is r.stack) in
-      subst (λ (t : TypeState). AreAt r.store r.made t (slice_set (slice_set r.frame.locals k (word_at r.frame.stack 1)) (k + 1) value.Top)
-      (drop 2 r.frame.stack)) parts.2
-      (record { in_locals = two_stored r k found parts.0 (word_at r.frame.stack 1) parts.1 top.0; in_stack = top.1 })
-
-  -- the row of a store over a stack of its own
-  abbrev stored_by : Reg → ℕ → List Slot → Option TypeState
-  stored_by q k [] = None
-  stored_by reg.Int k (found ∷ stack) = cond (is_int found) (stored_from k (found ∷ []) stack r.before) None
-  stored_by reg.Ref k (found ∷ stack) = cond (is_reference found) (stored_from k (found ∷ []) stack r.before) None
-  stored_by reg.Long k (half ∷ []) = None
-  stored_by reg.Long k (half ∷ found ∷ stack) = cond (is_long found) (stored_from k (found ∷ slot.Top ∷ []) stack r.before) None
-
-  store_by : (q : Reg) (k : ℕ) (stack : List Slot) → r.before.stack ≡ stack → stored_by q k stack ≡ Some r.after → Goes r (store_effect q k)
-  unfolding store_effect
-  store_by reg.Int k [] is row = absurd (cc)
-  store_by reg.Ref k [] is row = absurd (cc)
-  store_by reg.Long k [] is row = absurd (cc)
-  store_by reg.Int k (found ∷ stack) is row = one_goes k found stack is (cond-some_then (is_int found) (stored_from k (found ∷ []) stack r.before) r.after row).1
-  store_by reg.Ref k (found ∷ stack) is row =
-      one_goes k found stack is (cond-some_then (is_reference found) (stored_from k (found ∷ []) stack r.before) r.after row).1
-  store_by reg.Long k (half ∷ []) is row = absurd (cc)
-  store_by reg.Long k (half ∷ found ∷ stack) is row =
-      two_go k half found stack is (cond-some_then (is_long found) (stored_from k (found ∷ slot.Top ∷ []) stack r.before) r.after row).1
+  store_left : (q : Reg) (k : ℕ) → store_row o q k r.before ≡ Some r.after → Left r (store_effect q k)
+  store_left q k row =
+      left_are r _ _ _
+      (left.store_leaves (Is r.store r.made) (Is r.store r.made) r.before r.after (from r) (before_are r) (λ v. tt) tt (λ s v h. h) (λ q s v is h. h) o q k row)
 
   store_goes : (q : Reg) (k : ℕ) → store_row o q k r.before ≡ Some r.after → Goes r (store_effect q k)
-  unfolding store_row
-  store_goes reg.Int k row = store_by reg.Int k r.before.stack refl row
-  store_goes reg.Long k row = store_by reg.Long k r.before.stack refl row
-  store_goes reg.Ref k row = store_by reg.Ref k r.before.stack refl row
+  unfolding store_effect
+  store_goes reg.Int k row = store_left reg.Int k row
+  store_goes reg.Long k row = store_left reg.Long k row
+  store_goes reg.Ref k row = store_left reg.Ref k row
 
   increment_goes : (k : ℕ) (by : ℤ) → increment_row k r.before ≡ Some r.after → Goes r (increment_effect k by)
-  unfolding increment_row
   increment_goes k by row =
-      let parts = cond-some_then (is_int (local_at r.before.locals k)) (Some r.before) r.after row in
-      let v : Value = sum_of (word_at r.frame.locals k) by in
-      subst (λ (t : TypeState). AreAt r.store r.made t (slice_set r.frame.locals k v) r.frame.stack) (same_Some r.before r.after parts.1)
-      (record {
-        in_locals = written_are r.store r.made k v r.before.locals r.frame.locals (int_other (local_at r.before.locals k) parts.0) r.locals;
-        in_stack = r.stack;
-      })
+      left_are r _ _ _
+      (left.increment_leaves (Is r.store r.made) (Is r.store r.made) r.before r.after (from r) (before_are r) k by row
+      (λ is. other_is r.store r.made (local_at r.before.locals k) _ (int_other (local_at r.before.locals k) is)))
 
   -- ---- moves of the stack
 
-  move_goes : (i : Insn) → move_row i r.before ≡ Some r.after → Goes r (move_effect i)
-  unfolding move_row move_effect
-  move_goes insn.Pop row = moved_leaves r (record { takes = 1; gives = [] }) row
-  move_goes insn.Pop2 row = moved_leaves r (record { takes = 2; gives = [] }) row
-  move_goes insn.Dup row = moved_leaves r (record { takes = 1; gives = 0 ∷ 0 ∷ [] }) row
-  move_goes insn.DupX1 row = moved_leaves r (record { takes = 2; gives = 0 ∷ 1 ∷ 0 ∷ [] }) row
-  move_goes insn.DupX2 row = moved_leaves r (record { takes = 3; gives = 0 ∷ 1 ∷ 2 ∷ 0 ∷ [] }) row
-  move_goes insn.Dup2 row = moved_leaves r (record { takes = 2; gives = 0 ∷ 1 ∷ 0 ∷ 1 ∷ [] }) row
-  move_goes insn.Dup2X1 row = moved_leaves r (record { takes = 3; gives = 0 ∷ 1 ∷ 2 ∷ 0 ∷ 1 ∷ [] }) row
-  move_goes insn.Dup2X2 row = moved_leaves r (record { takes = 4; gives = 0 ∷ 1 ∷ 2 ∷ 3 ∷ 0 ∷ 1 ∷ [] }) row
-  move_goes insn.Swap row = moved_leaves r (record { takes = 2; gives = 1 ∷ 0 ∷ [] }) row
-  move_goes i row = absurd (cc)
+  move_goes : (i : Insn) (m : Moves) → moves_of i ≡ Some m → move_row i r.before ≡ Some r.after → Goes r (move_effect i)
+  unfolding move_effect
+  move_goes i m is row =
+      subst (λ found. Goes r (moved_words found)) (sym is)
+      (left_are r _ _ _
+      (left.moved_leaves (Is r.store r.made) (Is r.store r.made) r.before r.after (from r) (before_are r) m (left.moved_row r.before r.after i m is row)))
 
   -- ---- conversions
 
@@ -435,15 +362,15 @@ module _ (r : Row) where
   plain_goes (insn.Load q k) u news byte sights call row leads new = load_goes q k row
   plain_goes (insn.Store q k) u news byte sights call row leads new = store_goes q k row
   plain_goes (insn.Inc k by) u news byte sights call row leads new = increment_goes k by row
-  plain_goes insn.Pop u news byte sights call row leads new = move_goes insn.Pop row
-  plain_goes insn.Pop2 u news byte sights call row leads new = move_goes insn.Pop2 row
-  plain_goes insn.Dup u news byte sights call row leads new = move_goes insn.Dup row
-  plain_goes insn.DupX1 u news byte sights call row leads new = move_goes insn.DupX1 row
-  plain_goes insn.DupX2 u news byte sights call row leads new = move_goes insn.DupX2 row
-  plain_goes insn.Dup2 u news byte sights call row leads new = move_goes insn.Dup2 row
-  plain_goes insn.Dup2X1 u news byte sights call row leads new = move_goes insn.Dup2X1 row
-  plain_goes insn.Dup2X2 u news byte sights call row leads new = move_goes insn.Dup2X2 row
-  plain_goes insn.Swap u news byte sights call row leads new = move_goes insn.Swap row
+  plain_goes insn.Pop u news byte sights call row leads new = move_goes insn.Pop _ refl row
+  plain_goes insn.Pop2 u news byte sights call row leads new = move_goes insn.Pop2 _ refl row
+  plain_goes insn.Dup u news byte sights call row leads new = move_goes insn.Dup _ refl row
+  plain_goes insn.DupX1 u news byte sights call row leads new = move_goes insn.DupX1 _ refl row
+  plain_goes insn.DupX2 u news byte sights call row leads new = move_goes insn.DupX2 _ refl row
+  plain_goes insn.Dup2 u news byte sights call row leads new = move_goes insn.Dup2 _ refl row
+  plain_goes insn.Dup2X1 u news byte sights call row leads new = move_goes insn.Dup2X1 _ refl row
+  plain_goes insn.Dup2X2 u news byte sights call row leads new = move_goes insn.Dup2X2 _ refl row
+  plain_goes insn.Swap u news byte sights call row leads new = move_goes insn.Swap _ refl row
   plain_goes (insn.IntOp op) u news byte sights call row leads new =
       worked_goes r (slot.Int ∷ slot.Int ∷ []) (slot.Int ∷ []) (insn.IntOp op) (int_op_effect o op sights) row (tt, tt) (int_op_takes o op sights) leads
   plain_goes (insn.LongOp op) u news byte sights call row leads new =

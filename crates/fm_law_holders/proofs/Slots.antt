@@ -1,18 +1,16 @@
 -- Lists of slots against lists of values: what isn't initialised was made at its item, and of other slots nothing is asked.
-use Rattle.std.proofs.Common.{◌≡◌, ℕ, zero, suc, ◌&&◌, Bool, true, false, cond, List, [], ◌∷◌, ◌++◌, length, Some, slice_get, slice_set, subst, arith}
+use Rattle.std.proofs.Common.{◌≡◌, ◌&&◌, Bool, true, false, cond, List, [], ◌∷◌, ◌++◌, length, subst, arith}
 use Rattle.std.specs.List.{AllByRecursion, AllZip}
 use Rattle.std.proofs.lemmas.Bool.{and_parts, false≢true}
 use Rattle.std.proofs.lemmas.Bool.Decides.{nat_tests}
 use Rattle.std.proofs.lemmas.List.{length-append}
-use Rattle.std.proofs.lemmas.Option.{same_Some}
 use Rattle.std.proofs.lemmas.Slice.Zip.{AllZip-long}
 use Rattle.fm_cells.specs.Stores.{Store}
 use Rattle.fm_types.specs.Fits.{fits}
-use Rattle.fm_types.specs.States.{all_fit, cut_before, is_long, local_at, replaced, state_fits, TypeState}
+use Rattle.fm_types.specs.States.{all_fit, replaced, state_fits, TypeState}
 use Rattle.fm_types.specs.declared.slots.Slot.{Slot}
 use Rattle.fm_types.specs.declared.slots.Slot.TheVariants as slot
 use Rattle.fm_world.specs.Programs.{Outline}
-use Rattle.fm_frames.specs.States.{word_at}
 use Rattle.fm_frames.specs.declared.values.Value.{Value}
 use Rattle.fm_law_holders.specs.Uninitialised.{Made, ValueIsMade}
 
@@ -91,45 +89,6 @@ module _ (store : Store) (made : Made) where
   replaced_are test other is [] (v ∷ words) h = absurd h
   replaced_are test other is (x ∷ xs) [] h = absurd h
   replaced_are test other is (x ∷ xs) (v ∷ words) h = (other_if (test x) x other v is h.0, replaced_are test other is xs words h.1)
-
-  -- ---- places
-
-  pub is_at : (xs : List Slot) (words : List Value) (n : ℕ) (s : Slot) → Are xs words → slice_get xs n ≡ Some s → Is s (word_at words n)
-  is_at [] words n s h at = absurd (cc)
-  is_at (x ∷ xs) [] n s h at = absurd h
-  is_at (x ∷ xs) (v ∷ words) zero s h at = subst (λ t. Is t v) (same_Some x s at) h.0
-  is_at (x ∷ xs) (v ∷ words) (suc n) s h at = is_at xs words n s h.1 at
-
-  pub set_are : (k : ℕ) (s : Slot) (v : Value) (xs : List Slot) (words : List Value) → Is s v → Are xs words
-      → Are (slice_set xs k s) (slice_set words k v)
-  set_are k s v [] [] new h = tt
-  set_are k s v [] (w ∷ words) new h = absurd h
-  set_are k s v (x ∷ xs) [] new h = absurd h
-  set_are zero s v (x ∷ xs) (w ∷ words) new h = (new, h.1)
-  set_are (suc k) s v (x ∷ xs) (w ∷ words) new h = (h.0, set_are k s v xs words new h.1)
-
-  lost_are : (k : ℕ) (xs : List Slot) (words : List Value) → Are xs words → Are (slice_set xs k slot.Top) words
-  lost_are k [] [] h = tt
-  lost_are k [] (w ∷ words) h = absurd h
-  lost_are k (x ∷ xs) [] h = absurd h
-  lost_are zero (x ∷ xs) (w ∷ words) h = (tt, h.1)
-  lost_are (suc k) (x ∷ xs) (w ∷ words) h = (h.0, lost_are k xs words h.1)
-
-  lost_if : (b : Bool) (k : ℕ) (xs : List Slot) (words : List Value) → Are xs words → Are (cond b (slice_set xs k slot.Top) xs) words
-  lost_if true k xs words h = lost_are k xs words h
-  lost_if false k xs words h = h
-
-  pub cut_are : (k : ℕ) (xs : List Slot) (words : List Value) → Are xs words → Are (cut_before k xs) words
-  cut_are zero xs words h = h
-  cut_are (suc k) xs words h = lost_if (is_long (local_at xs k)) k xs words h
-
-  -- a value of which nothing is asked is written where the slot is such a one
-  pub written_are : (k : ℕ) (v : Value) (xs : List Slot) (words : List Value) → IsOther (local_at xs k) → Are xs words → Are xs (slice_set words k v)
-  written_are k v [] [] other h = tt
-  written_are k v [] (w ∷ words) other h = absurd h
-  written_are k v (x ∷ xs) [] other h = absurd h
-  written_are zero v (x ∷ xs) (w ∷ words) other h = (other_is x v other, h.1)
-  written_are (suc k) v (x ∷ xs) (w ∷ words) other h = (h.0, written_are k v xs words other h.1)
 
 -- ---- how many are on top
 
