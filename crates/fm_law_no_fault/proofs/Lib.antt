@@ -26,6 +26,10 @@ pub mod StepKeeps
 pub mod OpeningWhole
 pub mod RunsWhole
 pub mod NativeRows
+pub mod BelowClasses
+pub mod CallLists
+pub mod CallTargets
+pub mod SpecialCalls
 pub mod CallRows
 pub mod AllRows
 pub mod LinkedTypes

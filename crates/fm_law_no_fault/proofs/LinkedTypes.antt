@@ -35,7 +35,7 @@ use Rattle.fm_law_sound.proofs.MadeObjects.{both_kinds, chain_is, object_top, st
 use Rattle.fm_law_sound.proofs.ObjectRows.{static_slot_at}
 use Rattle.fm_law_no_fault.specs.CellsResolved.{input_type, output_type, thrown_names}
 use Rattle.fm_law_no_fault.specs.Doing.{HoldsNoCell}
-use Rattle.fm_law_no_fault.proofs.CallRows.{parent_among}
+use Rattle.fm_law_no_fault.proofs.BelowClasses.{parent_among}
 
 -- ---- built-in classes by name
 
