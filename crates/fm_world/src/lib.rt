@@ -5,9 +5,11 @@
 // isn't a program. All layers above speak of classes, methods, fields and types by number.
 #![tactic(auto)]
 
+mod built_in_methods;
 mod built_ins;
 mod calls;
 mod declarations;
+mod found_methods;
 mod laws;
 mod layers;
 mod name_key;

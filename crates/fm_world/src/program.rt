@@ -1,6 +1,6 @@
 // The linked program, and what is asked of it.
 
-ghost use Rattle.std.specs.Prelude.{◌≡◌, ◌<◌, ◌^◌, ◌++◌, if◌then◌else◌, false, [], ◌∷◌, filter, option_to_list, OnOk, IfOk, length, map, reverse, Some, slice_get, unwrap_or};
+ghost use Rattle.std.specs.Prelude.{◌≡◌, ◌<◌, [], ◌∷◌, filter, option_to_list, OnOk, IfOk, length, map, reverse, Some, slice_get, unwrap_or};
 ghost use Rattle.std.specs.List.{list_any, range_with_len, slice_index_or};
 ghost use Rattle.std.specs.Option.{option_map};
 ghost use Rattle.std.specs.Str.{bytes_eq};
@@ -13,11 +13,12 @@ ghost use Rattle.fm_base.specs.declared.ids.ClassId.{ClassId};
 ghost use Rattle.fm_base.specs.declared.ids.MethodId.{MethodId};
 ghost use Rattle.fm_world.specs.Members.{fields_of, method_at, methods_of, slot_of, statics_of};
 ghost use Rattle.fm_world.specs.Programs.{class_info, class_of_type, field_info, is_made, method_info, selected, takes_arrays, takes_class, targets, use_of, IsBaseIn, IsTypeIn};
-ghost use Rattle.fm_world.specs.inner.Marks.{marked, selected_of, selected_of_arrays};
+ghost use Rattle.fm_world.specs.inner.Marks.{selected_of, selected_of_arrays};
 ghost use Rattle.fm_world.specs.inner.Tables.{program_in, AreInterfaces, AreTables, IsLinear};
 
 use crate::ACC_SUPER;
 use crate::calls::{Call, CallKind};
+use crate::found_methods::{mark, marked_methods};
 use crate::parts::Parts;
 use crate::records::{ClassInfo, FieldInfo, MethodInfo};
 use crate::uses::Use;
@@ -568,39 +569,4 @@ fn one_target(alloc: Global, m: MethodId) -> Result<Vec<MethodId>, NoMemory>
     let mut found = Vec::new(alloc);
     found.push(m)?;
     Ok(found)
-}
-
-// Marks the method, where there is one.
-fn mark(marks: &mut Vec<bool>, m: Option<MethodId>)
-    ensures { marks.new.items
-        ≡ marked marks.old.items (option_map (λ (n : MethodId). n.0) m) }
-{
-    if let Some(m) = m {
-        fm_base::mark(marks, m.0 as usize);
-    }
-}
-
-// The marked methods, rising.
-fn marked_methods(alloc: Global, marks: &[bool]) -> Result<Vec<MethodId>, NoMemory>
-    requires { length marks.now < 2 ^ 32 }
-    ensures { IfOk result (λ found. map (λ (m : MethodId). m.0) found.items
-        ≡ filter (λ method. slice_index_or marks.now method false)
-        (range_with_len 0 (length marks.now))) }
-{
-    let mut found = Vec::new(alloc);
-    for method in 0..marks.len() {
-        push_if(&mut found, MethodId(method as u32), marks[method])?;
-    }
-    Ok(found)
-}
-
-// Puts the method after the last one, if it is marked.
-fn push_if(found: &mut Vec<MethodId>, m: MethodId, is_marked: bool) -> Result<(), NoMemory>
-    ensures { OnOk result
-        (found.new.items ≡ found.old.items ++ (if is_marked then m ∷ [] else [])) }
-{
-    if is_marked {
-        found.push(m)?;
-    }
-    Ok(())
 }

@@ -1,7 +1,7 @@
 use Rattle.std.proofs.Common.{◌≡◌, false, map, filter}
 use Rattle.std.specs.List.{range_with_len, slice_index_or}
 use Rattle.fm_base.specs.declared.ids.MethodId.{MethodId}
-use Rattle.fm_world.proofs.program.marked_methods.Given as goal
+use Rattle.fm_world.proofs.found_methods.marked_methods.Given as goal
 
 -- the marked ones so far
 abbrev pub invariant-loop-method : goal.invariant-loop-method

@@ -3,7 +3,7 @@ use Rattle.std.specs.List.{range_with_len, slice_index_or}
 use Rattle.std.proofs.lemmas.List.{map-append}
 use Rattle.fm_base.specs.declared.ids.MethodId.{MethodId}
 use Rattle.fm_world.proofs.Marks.{filter-range_more}
-use Rattle.fm_world.proofs.program.marked_methods.Goals as goal
+use Rattle.fm_world.proofs.found_methods.marked_methods.Goals as goal
 
 -- the number that is pushed, if it is
 pushed : (b : Bool) (k : ℕ) → map (λ (m : MethodId). m.0) (if b then record { 0 = k } ∷ [] else []) ≡ cond b (k ∷ []) []
