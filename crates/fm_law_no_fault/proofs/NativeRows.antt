@@ -1,30 +1,32 @@
 -- The rows of the built-in methods, but for those of FreeMe: where the words of a call fit what they ask, none is a fault, and what they put and give fits.
-use Rattle.std.proofs.Common.{◌≡◌, ℕ, zero, suc, ℤ, ◌+◌, ◌⊎◌, ◌||◌, cond, int_lt, not, pos, Bool, true, false, List, [], ◌∷◌, ◌++◌, length, codes, Option, Some, None, refl, sym, ◌∙◌, ap, subst, inl, inr, slice_get, slice_index_or}
+use Rattle.std.proofs.Common.{arith, ◌≡◌, ℕ, zero, suc, ℤ, ◌+◌, ◌⊎◌, cond, Bool, true, false, List, [], ◌∷◌, length, codes, Option, Some, None, refl, sym, ◌∙◌, ap, subst, inl, inr, slice_get, slice_index_or}
+use Rattle.std.specs.Prelude.{if◌then◌else◌}
 use Rattle.std.proofs.lemmas.Bool.{false≢true}
 use Rattle.fm_base.specs.declared.kinds.TypeRef.{TypeRef}
 use Rattle.fm_cells.specs.Objects.{Object}
 use Rattle.fm_cells.specs.Stores.{object_at}
 use Rattle.fm_types.specs.Fits.{fits_type}
-use Rattle.fm_types.specs.Named.{built_in_type, throwable_type}
+use Rattle.fm_types.specs.Named.{built_in_type, object_slot, throwable_type}
 use Rattle.fm_types.specs.States.{taken}
 use Rattle.fm_types.specs.declared.slots.Slot.{Slot}
 use Rattle.fm_types.specs.declared.slots.Slot.TheVariants as slot
 use Rattle.fm_types.proofs.Order.{type-refl}
 use Rattle.fm_world.specs.Programs.{Outline}
 use Rattle.fm_frames.specs.Acts.{cell_of}
-use Rattle.fm_frames.specs.Effects.{acting, Effect, Exits, Falls, faulty, int_word, making, Next, OfMade, OfOperand, Source, Throws, words}
+use Rattle.fm_frames.specs.Effects.{acting, Effect, Exits, Falls, faulty, int_word, Next, OfMade, OfOperand, OfPlace, Put, SameOperands, Source, Throws, words}
 use Rattle.fm_frames.specs.Elements.{is_text_type}
-use Rattle.fm_frames.specs.NativeRows.{builder_native, has_text, native_effect, object_native, on_builder, on_built, on_shown, shown_words, stream_native, string_native, text_kind, text_made, text_type, throwable_native, thrown_outside}
-use Rattle.fm_frames.specs.Natives.{Append, BufferInitOf, BuilderInit, BuilderLength, BuilderToString, CharAt, CompareTo, Exit, FreeMeFree, FreeMeFreeChain, FreeMeLink, GetMessage, has_receiver, Native, ObjectEquals, ObjectHashCode, ObjectInit, ObjectToString, Print, Println, PrintlnNothing, Read, Shown, ShownBoolean, ShownChar, ShownInt, ShownLong, ShownText, StringEquals, StringHashCode, StringLength, StringToString, Substring, ThrowableInit, ThrowableInitOf, ThrowableToString, ValueOf}
-use Rattle.fm_frames.specs.Operands.{on_any, on_inner, on_inner_of, on_int, on_object, on_passing, on_text, on_text_or_null, thrown}
+use Rattle.fm_frames.specs.NativeRows.{arguments_words, given_words, native_words, has_text, native_effect, on_shown, shown_words, text_kind, text_type, thrown_outside}
+use Rattle.fm_frames.specs.Natives.{a_boolean, a_text, AGiven, an_int, AnObject, AnyReceiver, Append, AShown, BuilderReceiver, from_top, GetMessage, Given, has_one, has_receiver, Native, native_type, Nothing, Receiver, Returned, Shown, ShownBoolean, ShownChar, ShownInt, ShownLong, ShownText, StringToString, TextReceiver, ThrowableInitOf, ThrowableReceiver}
+use Rattle.fm_frames.specs.Operands.{on_any, on_inner, on_inner_of, on_int, on_passing, on_text, on_text_or_null, thrown}
 use Rattle.fm_frames.specs.Sights.{has_hidden_field, inner_of, Inner, led_to, Looks, looks, Lost, Missing, NoField, Sight, sights, Text, text_in, Thing, type_numbered}
 use Rattle.fm_frames.specs.States.{Areas, word_at}
+use Rattle.fm_frames.proofs.NativeCases.{any_units, is_int, IsArgument, IsReceiver, native_cases, NativeAsks, NativeLeaves, Returns, Takes}
+use Rattle.fm_frames.proofs.NativeWords.{argument_found, arguments_count}
+use Rattle.fm_frames.proofs.UsualAsks.{Any}
 use Rattle.fm_same.specs.Covering.{is_free_me}
-use Rattle.fm_law_sound.specs.Making.{is_built}
 use Rattle.fm_law_sound.specs.Sound.{IsReference}
-use Rattle.fm_law_sound.proofs.Cases.{by_if}
 use Rattle.fm_law_sound.proofs.SeenObjects.{IsSeen, seen_at}
-use Rattle.fm_law_no_fault.specs.CellsResolved.{arguments_asked, result_given, shown_asked, suits_row}
+use Rattle.fm_law_no_fault.specs.CellsResolved.{arguments_asked, given_asked, result_given, returned_asked, shown_asked, suits, suits_row}
 use Rattle.fm_law_no_fault.specs.Doing.{SourceLeadsTo}
 use Rattle.fm_law_no_fault.specs.Whole.{LeadsToA, ObjectIsWhole}
 use Rattle.fm_law_no_fault.proofs.ActsKeep.{types_after, Went}
@@ -38,6 +40,34 @@ use Rattle.fm_law_no_fault.proofs.Wanted.{slot_held, slot_passing, wanted_held, 
 -- the words of a receiver
 abbrev pub receiver_count : Native → ℕ
 receiver_count row = cond (has_receiver row) 1 0
+
+-- ---- words
+
+asked_count : (o : Outline) (given : Given) → length (given_asked o given) ≡ given_words given
+asked_count o (AShown ShownInt) = refl
+asked_count o (AShown ShownLong) = refl
+asked_count o (AShown ShownChar) = refl
+asked_count o (AShown ShownBoolean) = refl
+asked_count o (AShown ShownText) = refl
+asked_count o AnObject = refl
+
+receiver_asked : (o : Outline) (has : Bool) (arguments : List Given)
+    → (if has then arguments_words arguments + 1 else arguments_words arguments) ≡ length (from_top (given_asked o) arguments) + cond has 1 0
+receiver_asked o true arguments = let count = arguments_count Slot (given_asked o) (asked_count o) arguments in omega (arith, count)
+receiver_asked o false arguments = let count = arguments_count Slot (given_asked o) (asked_count o) arguments in omega (arith, count)
+
+-- a row takes as many words as it asks for
+words_asked : (o : Outline) (row : Native) → native_words row ≡ length (arguments_asked o row) + receiver_count row
+words_asked o row = receiver_asked o (has_receiver row) (native_type row).arguments
+
+int_asked : (o : Outline) (shown : Shown) → is_int shown ≡ true → shown_asked o shown ≡ slot.Int ∷ []
+int_asked o ShownInt is = refl
+int_asked o ShownLong is = absurd (false≢true is)
+int_asked o ShownChar is = refl
+int_asked o ShownBoolean is = refl
+int_asked o ShownText is = absurd (false≢true is)
+
+-- ---- operands
 
 -- an operand that leads to null or to an object of a type that passes a test
 pub record Receives (r : Row) (n : ℕ) (test : TypeRef → Bool) : Type 0 where
@@ -96,29 +126,30 @@ module _ (r : Row) (t : TypeRef) where
         wanted_int o r.areas.store r.own r.news r.steps.tree (N row) (arguments_asked o row) r.before.stack h.rest h.taken_is r.frame.stack r.stack n at k each
 
     -- the receiver, where it passes a test
-    ask_receiver : (has : has_receiver row ≡ true) (n : ℕ) → n ≡ length (arguments_asked o row) → Receives r n (λ u. fits_type o.classes u t)
-    ask_receiver has n same = subst (λ k. Receives r k (λ u. fits_type o.classes u t)) (sym same) (h.receiver has)
+    ask_receiver : (sort : Receiver) → has_one sort ≡ true → (n : ℕ) → IsReceiver row sort n → Receives r n (λ u. fits_type o.classes u t)
+    ask_receiver sort has n is =
+        subst (λ k. Receives r k (λ u. fits_type o.classes u t)) (arguments_count Slot (given_asked o) (asked_count o) (native_type row).arguments ∙ sym is.1)
+        (h.receiver (ap has_one is.0 ∙ has))
 
-    ask_any : has_receiver row ≡ true → (n : ℕ) → n ≡ length (arguments_asked o row) → (k : Looks → Effect)
+    ask_any : (n : ℕ) → IsReceiver row AnyReceiver n → (k : Looks → Effect)
         → ((it : Looks) → slice_get seen n ≡ Some (Thing it) → fits_type o.classes it.type t ≡ true → N row (k it)) → N row (on_any o seen n k)
-    ask_any has n same k each =
-        let w : Receives r n (λ u. fits_type o.classes u t) = ask_receiver has n same in
+    ask_any n is k each =
+        let w : Receives r n (λ u. fits_type o.classes u t) = ask_receiver AnyReceiver refl n is in
         slot_held o r.areas.store r.own r.news (N row) r.before.stack r.frame.stack r.stack n w.slot_there w.at _ k (λ u. fits_type o.classes u t) w.reference
         w.leads (λ none. null_native row) each
 
-    ask_passing : has_receiver row ≡ true → (n : ℕ) → n ≡ length (arguments_asked o row) → (test : TypeRef → Bool)
-        → ((u : TypeRef) → suits_row o row u ≡ true → test u ≡ true) → (k : Looks → Effect)
-        → ((it : Looks) → slice_get seen n ≡ Some (Thing it) → test it.type ≡ true → N row (k it)) → N row (on_passing o (λ it. test it.type) seen n k)
-    ask_passing has n same test along k each =
-        let w : Receives r n (λ u. fits_type o.classes u t) = ask_receiver has n same in
-        slot_passing o r.areas.store r.own r.news (N row) r.before.stack r.frame.stack r.stack n w.slot_there w.at k test w.reference
-        (leads_weaker o r.areas.store (λ u. fits_type o.classes u t) test (λ u f. along u (h.suits has u f)) _ w.leads) (null_native row) each
+    ask_passing : (sort : Receiver) → has_one sort ≡ true → (n : ℕ) → IsReceiver row sort n → (k : Looks → Effect)
+        → ((it : Looks) → slice_get seen n ≡ Some (Thing it) → suits o sort it.type ≡ true → N row (k it))
+        → N row (on_passing o (λ it. suits o sort it.type) seen n k)
+    ask_passing sort has n is k each =
+        let w : Receives r n (λ u. fits_type o.classes u t) = ask_receiver sort has n is in
+        slot_passing o r.areas.store r.own r.news (N row) r.before.stack r.frame.stack r.stack n w.slot_there w.at k (suits o sort) w.reference
+        (leads_weaker o r.areas.store (λ u. fits_type o.classes u t) (suits o sort)
+        (λ u f. sym (ap (λ other. suits o other u) is.0) ∙ h.suits (ap has_one is.0 ∙ has) u f) _ w.leads) (null_native row) each
 
-    ask_text : has_receiver row ≡ true → (n : ℕ) → n ≡ length (arguments_asked o row)
-        → ((u : TypeRef) → suits_row o row u ≡ true → fits_type o.classes u (text_type o) ≡ true) → (k : List ℕ → Effect)
-        → ((units : List ℕ) → N row (k units)) → N row (on_text o seen n k)
-    ask_text has n same along k each =
-        ask_passing has n same (λ u. fits_type o.classes u (text_type o)) along (λ it. k it.units) (λ it found fits_it. each it.units)
+    -- an argument of one word
+    asked : (n : ℕ) (given : Given) (w : Slot) → IsArgument row n given → given_asked o given ≡ w ∷ [] → slice_get (arguments_asked o row) n ≡ Some w
+    asked n given w is one = argument_found Slot (given_asked o) (asked_count o) (native_type row).arguments n given w is one
 
     -- an argument that is a text
     ask_argument : (n : ℕ) → slice_get (arguments_asked o row) n ≡ Some (slot.Ref (text_type o)) → (k : List ℕ → Effect) → ((units : List ℕ) → N row (k units))
@@ -195,270 +226,138 @@ module _ (r : Row) (t : TypeRef) where
   text_put : SourceLeadsTo o r.areas.store r.frame.stack (text_type o ∷ []) (λ u. fits_type o.classes u (text_type o)) (OfMade 0)
   text_put = (text_type o, refl, type-refl o.classes r.steps.tree (text_type o))
 
-  -- ---- any object
+  -- ---- the receiver, later
 
-  init_whole : N ObjectInit (object_native o ObjectInit seen)
-  unfolding object_native
-  init_whole = record { acts = tt; next = (refl, refl, λ y made went. tt) }
-
-  hash_whole : HasOperands r ObjectHashCode t → N ObjectHashCode (object_native o ObjectHashCode seen)
-  unfolding object_native
-  hash_whole h =
-      ask_any ObjectHashCode h refl 0 refl _ (λ it found fits_it. record { acts = tt; next = (refl, refl, λ y made went. (tt, tt)) })
-
-  equals_whole : N ObjectEquals (object_native o ObjectEquals seen)
-  unfolding object_native
-  equals_whole = record { acts = tt; next = (refl, refl, λ y made went. (tt, tt)) }
-
-  shown_whole : HasOperands r ObjectToString t → N ObjectToString (object_native o ObjectToString seen)
-  unfolding object_native
-  shown_whole h =
-      ask_any ObjectToString h refl 0 refl _ (λ it found fits_it. record { acts = (inr refl, tt); next = (refl, refl, text_given) })
-
-  -- ---- texts that don't change
-
-  length_whole : HasOperands r StringLength t → N StringLength (string_native o StringLength seen)
-  unfolding string_native
-  length_whole h =
-      ask_text StringLength h refl 0 refl (λ u is. is) _ (λ units. record { acts = tt; next = (refl, refl, λ y made went. (tt, tt)) })
-
-  char_whole : HasOperands r CharAt t → N CharAt (string_native o CharAt seen)
-  unfolding string_native
-  char_whole h =
-      ask_text CharAt h refl 1 refl (λ u is. is) _ (λ units. ask_int CharAt h 0 refl _ (λ i.
-      by_if (N CharAt) (int_lt i (pos 0) || not (int_lt i (pos (length units)))) (thrown_outside o) _ (λ outside. outside_native CharAt)
-      (λ inside. record { acts = tt; next = (refl, refl, λ y made went. (tt, tt)) })))
-
-  equal_whole : HasOperands r StringEquals t → N StringEquals (string_native o StringEquals seen)
-  unfolding string_native
-  equal_whole h =
-      ask_text StringEquals h refl 1 refl (λ u is. is) _ (λ units.
-      wanted_held o r.areas.store r.own r.news r.steps.tree (N StringEquals) (arguments_asked o StringEquals) r.before.stack h.rest h.taken_is r.frame.stack
-      r.stack 0 _ refl _ _ (λ none. record { acts = tt; next = (refl, refl, λ y made went. (tt, tt)) })
-      (λ it found fits_it. record { acts = tt; next = (refl, refl, λ y made went. (tt, tt)) }))
-
-  string_hash_whole : HasOperands r StringHashCode t → N StringHashCode (string_native o StringHashCode seen)
-  unfolding string_native
-  string_hash_whole h =
-      ask_text StringHashCode h refl 0 refl (λ u is. is) _ (λ units. record { acts = tt; next = (refl, refl, λ y made went. (tt, tt)) })
-
-  compare_whole : HasOperands r CompareTo t → N CompareTo (string_native o CompareTo seen)
-  unfolding string_native
-  compare_whole h =
-      ask_text CompareTo h refl 1 refl (λ u is. is) _ (λ units. ask_argument CompareTo h 0 refl _
-      (λ others. record { acts = tt; next = (refl, refl, λ y made went. (tt, tt)) }))
-
-  -- the receiver as it is later
-  receiver_given : (row : Native) (h : HasOperands r row t) → has_receiver row ≡ true → (n : ℕ) → n ≡ length (arguments_asked o row) → (test : TypeRef → Bool)
-      → ((u : TypeRef) → fits_type o.classes u t ≡ true → test u ≡ true) → (types : List TypeRef) (y : Areas) (made : List ℕ) → Went o r.areas.store types y made
-      → LeadsToA o y.store test (cell_of (word_at r.frame.stack n))
-  receiver_given row h has n same test along types y made went =
-      let w : Receives r n (λ u. fits_type o.classes u t) = ask_receiver row h has n same in
+  receiver_given : (row : Native) (h : HasOperands r row t) (sort : Receiver) → has_one sort ≡ true → (n : ℕ) → IsReceiver row sort n
+      → (test : TypeRef → Bool) → ((u : TypeRef) → fits_type o.classes u t ≡ true → test u ≡ true) → (types : List TypeRef) (y : Areas) (made : List ℕ)
+      → Went o r.areas.store types y made → LeadsToA o y.store test (cell_of (word_at r.frame.stack n))
+  receiver_given row h sort has n is test along types y made went =
+      let w : Receives r n (λ u. fits_type o.classes u t) = ask_receiver row h sort has n is in
       leads-later o r.areas.store y.store went.extends test (cell_of (word_at r.frame.stack n))
       (leads_weaker o r.areas.store (λ u. fits_type o.classes u t) test along _ w.leads)
 
-  string_given_whole : HasOperands r StringToString t → N StringToString (string_native o StringToString seen)
-  unfolding string_native
-  string_given_whole h =
-      ask_text StringToString h refl 0 refl (λ u is. is) _ (λ units. record {
+  -- ---- all rows
+
+  module _ (row : Native) (h : HasOperands r row t) where
+    by_message : (k : Option (List ℕ) → Effect) → N row (k None) → ((units : List ℕ) → Any units → N row (k (Some units))) → (message : Option (List ℕ))
+        → N row (k message)
+    by_message k no_text some None = no_text
+    by_message k no_text some (Some units) = some units tt
+
+    asks : NativeAsks o seen row Any (N row)
+    asks = record {
+      receiver_any = λ n is k each. ask_any row h n is k (λ it found fits_it. each it found);
+      receiver_text = λ n is k each. ask_passing row h TextReceiver refl n is (λ it. k it.units) (λ it found fits_it. each it.units tt);
+      builder = λ n is k each. ask_passing row h BuilderReceiver refl n is k each;
+      built = λ n is k each. ask_passing row h BuilderReceiver refl n is _
+          (λ it found built. ask_inner row n it found (r.cells.built_in.builders it.type built) _ (λ units. each it found built _ tt));
+      throwable = λ n is k each. ask_passing row h ThrowableReceiver refl n is k each;
+      message = λ n it found may k no_text some. ask_inner row n it found (r.cells.built_in.throwables it.type may) k (by_message k no_text some);
+      int = λ n is k each. ask_int row h n (asked row h n an_int slot.Int is refl) k each;
+      text = λ n is k each. ask_argument row h n (asked row h n a_text (slot.Ref (text_type o)) is refl) k (λ units. each units tt);
+      object = λ n is none k of_null each.
+          wanted_held o r.areas.store r.own r.news r.steps.tree (N row) (arguments_asked o row) r.before.stack h.rest h.taken_is r.frame.stack r.stack n _
+          (asked row h n AnObject (object_slot o) is refl) none k (λ is_null. of_null) (λ it found fits_it. each it found);
+      shown = λ shown is k each.
+          ask_shown row h shown (λ n w at. subst (λ arguments. slice_get (from_top (given_asked o) arguments) n ≡ Some w) (sym is) at) k (λ units. each units tt);
+    }
+
+    -- nothing is written to locals
+    abbrev unwritten : List (ℕ × Source)
+    unwritten = []
+
+    abbrev Left : ℕ → List TypeRef → List Source → Type 0
+    Left n types given =
+        (n ≡ length (arguments_asked o row) + receiver_count row) × (unwritten ≡ []) × Gives types (result_given o t row) given
+
+    left : (n : ℕ) (result : Returned) (types : List TypeRef) (given : List Source) → Takes row n → Returns row result
+        → Gives types (returned_asked o t result) given → Left n types given
+    left n result types given takes returns cells =
+        (takes ∙ words_asked o row, refl, subst (λ q. Gives types (returned_asked o t q) given) (sym returns) cells)
+
+    left_none : (n : ℕ) (types : List TypeRef) → Takes row n → Returns row Nothing → Left n types []
+    left_none n types takes returns = left n Nothing types [] takes returns (λ y made went. tt)
+
+    left_int : (n : ℕ) (shown : Shown) → is_int shown ≡ true → Takes row n → Returns row (AGiven (AShown shown)) → (z : ℤ) → Left n [] (int_word z)
+    left_int n shown is takes returns z =
+        left n (AGiven (AShown shown)) [] (int_word z) takes returns
+        (subst (λ slots. Gives [] slots (int_word z)) (sym (int_asked o shown is)) (λ y made went. (tt, tt)))
+
+    -- what only one row does
+    as_row : (one : Native) (e : Effect) → row ≡ one → (HasOperands r one t → N one e) → N row e
+    as_row one e is whole = subst (λ q. HasOperands r q t → N q e) (sym is) whole h
+
+    leaves : is_free_me row ≡ false → NativeLeaves o seen row Any (N row)
+    leaves other = record {
+      nothing = λ n takes returns. record { acts = tt; next = left_none n [] takes returns };
+      number = λ n shown is takes returns z. record { acts = tt; next = left_int n shown is takes returns z };
+      same = λ n takes returns. record {
         acts = tt;
-        next = (
-          refl,
-          refl,
-          λ y made went. (
-            receiver_given StringToString h refl 0 refl (λ u. fits_type o.classes u (text_type o)) (h.suits refl) [] y made went,
-            tt,
-          ),
-        );
-      })
-
-  part_whole : HasOperands r Substring t → N Substring (string_native o Substring seen)
-  unfolding string_native
-  part_whole h =
-      ask_text Substring h refl 2 refl (λ u is. is) _ (λ units. ask_int Substring h 1 refl _ (λ begin. ask_int Substring h 0 refl _ (λ end.
-      by_if (N Substring) (int_lt begin (pos 0) || int_lt end begin || int_lt (pos (length units)) end) (thrown_outside o) _ (λ outside. outside_native Substring)
-      (λ inside. record { acts = (inr refl, tt); next = (refl, refl, text_given) }))))
-
-  value_takes : (shown : Shown) → shown_words shown ≡ length (shown_asked o shown) + 0
-  value_takes ShownInt = refl
-  value_takes ShownLong = refl
-  value_takes ShownChar = refl
-  value_takes ShownBoolean = refl
-  value_takes ShownText = refl
-
-  value_whole : (shown : Shown) → HasOperands r (ValueOf shown) t → N (ValueOf shown) (string_native o (ValueOf shown) seen)
-  unfolding string_native
-  value_whole shown h =
-      ask_shown (ValueOf shown) h shown (λ n w at. at) _
-      (λ units. record { acts = (inr refl, tt); next = (value_takes shown, refl, text_given) })
-
-  -- ---- texts that are built
-
-  ask_builder : (row : Native) (h : HasOperands r row t) → has_receiver row ≡ true → (n : ℕ) → n ≡ length (arguments_asked o row)
-      → ((u : TypeRef) → suits_row o row u ≡ true → is_built o u ≡ true) → (k : Looks → Effect)
-      → ((it : Looks) → slice_get seen n ≡ Some (Thing it) → is_built o it.type ≡ true → N row (k it)) → N row (on_builder o seen n k)
-  ask_builder row h has n same along k each = ask_passing row h has n same (is_built o) along k each
-
-  ask_built : (row : Native) (h : HasOperands r row t) → has_receiver row ≡ true → (n : ℕ) → n ≡ length (arguments_asked o row)
-      → ((u : TypeRef) → suits_row o row u ≡ true → is_built o u ≡ true) → (k : List ℕ → Effect) → ((units : List ℕ) → N row (k units))
-      → N row (on_built o seen n k)
-  ask_built row h has n same along k each =
-      ask_builder row h has n same along _ (λ it found built. ask_inner row n it found (r.cells.built_in.builders it.type built) _ (λ units. each _))
-
-  builder_init_whole : HasOperands r BuilderInit t → N BuilderInit (builder_native o BuilderInit seen)
-  unfolding builder_native
-  builder_init_whole h =
-      ask_builder BuilderInit h refl 0 refl (λ u is. is) _ (λ it found built. record { acts = (refl, tt); next = (refl, refl, λ y made went. tt) })
-
-  append_takes : (shown : Shown) → shown_words shown + 1 ≡ length (shown_asked o shown) + 1
-  append_takes ShownInt = refl
-  append_takes ShownLong = refl
-  append_takes ShownChar = refl
-  append_takes ShownBoolean = refl
-  append_takes ShownText = refl
-
-  append_place : (shown : Shown) → shown_words shown ≡ length (shown_asked o shown)
-  append_place ShownInt = refl
-  append_place ShownLong = refl
-  append_place ShownChar = refl
-  append_place ShownBoolean = refl
-  append_place ShownText = refl
-
-  append_whole : (shown : Shown) → HasOperands r (Append shown) t → N (Append shown) (builder_native o (Append shown) seen)
-  unfolding builder_native
-  append_whole shown h =
-      ask_built (Append shown) h refl (shown_words shown) (append_place shown) (λ u is. is)
-      (λ units. on_shown o shown seen (λ added. record (acting (shown_words shown + 1) (has_text o (shown_words shown) (units ++ added))) { gives = OfOperand (shown_words shown) ∷ [] }))
-      (λ units. ask_shown (Append shown) h shown (λ n w at. at)
-      (λ added. record (acting (shown_words shown + 1) (has_text o (shown_words shown) (units ++ added))) { gives = OfOperand (shown_words shown) ∷ [] }) (λ added.
-      record {
+        next = left n (AGiven a_boolean) [] (SameOperands ∷ []) takes returns (λ y made went. (tt, tt));
+      };
+      text_given = λ n takes returns units fit. record {
+        acts = (inr refl, tt);
+        next = left n (AGiven a_text) (text_type o ∷ []) (OfMade 0 ∷ []) takes returns text_given;
+      };
+      byte = λ n takes returns z. record { acts = tt; next = left_int n ShownInt refl takes returns z };
+      printed = λ n takes returns bytes. record { acts = tt; next = left_none n [] takes returns };
+      exits = λ n takes z. record { acts = tt; next = tt };
+      outside = outside_native row;
+      begun = λ it found hides takes returns. record { acts = (refl, tt); next = left_none 1 [] takes returns };
+      text_put = λ n operand it found hides takes returns units fit. record {
         acts = (inr refl, (text_put, tt));
-        next = (
-          append_takes shown,
-          refl,
-          λ y made went. (
-            receiver_given (Append shown) h refl (shown_words shown) (append_place shown) (λ u. fits_type o.classes u t) (λ u f. f) (text_type o ∷ []) y made went,
-            tt,
-          ),
-        );
-      }))
-
-  builder_length_whole : HasOperands r BuilderLength t → N BuilderLength (builder_native o BuilderLength seen)
-  unfolding builder_native
-  builder_length_whole h =
-      ask_built BuilderLength h refl 0 refl (λ u is. is) (λ units. words 1 (int_word (pos (length units)))) (λ units. record { acts = tt; next = (refl, refl, λ y made went. (tt, tt)) })
-
-  built_whole : HasOperands r BuilderToString t → N BuilderToString (builder_native o BuilderToString seen)
-  unfolding builder_native
-  built_whole h =
-      ask_built BuilderToString h refl 0 refl (λ u is. is) (λ units. making 1 (text_made o units)) (λ units. record { acts = (inr refl, tt); next = (refl, refl, text_given) })
-
-  buffer_whole : HasOperands r BufferInitOf t → N BufferInitOf (builder_native o BufferInitOf seen)
-  unfolding builder_native
-  buffer_whole h =
-      ask_builder BufferInitOf h refl 1 refl (λ u is. is) _ (λ it found built. ask_argument BufferInitOf h 0 refl _
-      (λ units. record { acts = (inr refl, (text_put, tt)); next = (refl, refl, λ y made went. tt) }))
-
-  -- ---- output, input and the end of the run
-
-  exit_whole : HasOperands r Exit t → (byte : Option ℕ) → N Exit (stream_native o Exit byte seen)
-  unfolding stream_native
-  exit_whole h byte = ask_int Exit h 0 refl _ (λ n. record { acts = tt; next = tt })
-
-  print_whole : (shown : Shown) → HasOperands r (Print shown) t → (byte : Option ℕ) → N (Print shown) (stream_native o (Print shown) byte seen)
-  unfolding stream_native
-  print_whole shown h byte =
-      ask_shown (Print shown) h shown (λ n w at. at) _
-      (λ units. record { acts = tt; next = (append_takes shown, refl, λ y made went. tt) })
-
-  println_whole : (shown : Shown) → HasOperands r (Println shown) t → (byte : Option ℕ) → N (Println shown) (stream_native o (Println shown) byte seen)
-  unfolding stream_native
-  println_whole shown h byte =
-      ask_shown (Println shown) h shown (λ n w at. at) _
-      (λ units. record { acts = tt; next = (append_takes shown, refl, λ y made went. tt) })
-
-  line_whole : (byte : Option ℕ) → N PrintlnNothing (stream_native o PrintlnNothing byte seen)
-  unfolding stream_native
-  line_whole byte = record { acts = tt; next = (refl, refl, λ y made went. tt) }
-
-  read_whole : (byte : Option ℕ) → N Read (stream_native o Read byte seen)
-  unfolding stream_native
-  read_whole None = record { acts = tt; next = (refl, refl, λ y made went. (tt, tt)) }
-  read_whole (Some byte) = record { acts = tt; next = (refl, refl, λ y made went. (tt, tt)) }
-
-  -- ---- throwables
-
-  ask_throwable : (row : Native) (h : HasOperands r row t) → has_receiver row ≡ true → (n : ℕ) → n ≡ length (arguments_asked o row)
-      → ((u : TypeRef) → suits_row o row u ≡ true → fits_type o.classes u (throwable_type o) ≡ true) → (k : Looks → Effect)
-      → ((it : Looks) → slice_get seen n ≡ Some (Thing it) → fits_type o.classes it.type (throwable_type o) ≡ true → N row (k it))
-      → N row (on_object o (throwable_type o) seen n k)
-  ask_throwable row h has n same along k each = ask_passing row h has n same (λ u. fits_type o.classes u (throwable_type o)) along k each
-
-  throwable_init_whole : HasOperands r ThrowableInit t → N ThrowableInit (throwable_native o ThrowableInit seen)
-  unfolding throwable_native
-  throwable_init_whole h =
-      ask_throwable ThrowableInit h refl 0 refl (λ u is. is) _ (λ it found fits_it. record { acts = (refl, tt); next = (refl, refl, λ y made went. tt) })
-
-  throwable_of_whole : HasOperands r ThrowableInitOf t → N ThrowableInitOf (throwable_native o ThrowableInitOf seen)
-  unfolding throwable_native
-  throwable_of_whole h =
-      let message = wanted_leads o r.areas.store r.own r.news r.steps.tree (N ThrowableInitOf) (arguments_asked o ThrowableInitOf) r.before.stack h.rest h.taken_is
-      r.frame.stack r.stack 0 (text_type o) refl in
-      ask_throwable ThrowableInitOf h refl 1 refl (λ u is. is) _
-      (λ it found fits_it. record { acts = (message, tt); next = (refl, refl, λ y made went. tt) })
-
-  message_whole : HasOperands r GetMessage t → N GetMessage (throwable_native o GetMessage seen)
-  unfolding throwable_native
-  message_whole h =
-      ask_throwable GetMessage h refl 0 refl (λ u is. is) _ (λ it found fits_it. record {
+        next = left_none n (text_type o ∷ []) takes returns;
+      };
+      itself = λ is. as_row StringToString (words 1 (OfOperand 0 ∷ [])) is (λ operands. record {
         acts = tt;
         next = (
           refl,
           refl,
           λ y made went. (
-            place_leads r 0 it found 0 (text_kind o) (r.cells.places.hidden it.type (r.cells.built_in.throwables it.type fits_it)) [] y made went (text_type o) refl,
+            receiver_given StringToString operands TextReceiver refl 0 (refl, refl) (λ u. fits_type o.classes u (text_type o)) (operands.suits refl) [] y made
+                went,
             tt,
           ),
         );
-      })
-
-  throwable_shown_whole : HasOperands r ThrowableToString t → N ThrowableToString (throwable_native o ThrowableToString seen)
-  unfolding throwable_native
-  throwable_shown_whole h =
-      ask_throwable ThrowableToString h refl 0 refl (λ u is. is) _ (λ it found fits_it.
-      ask_inner ThrowableToString 0 it found (r.cells.built_in.throwables it.type fits_it) _
-      (λ message. record { acts = (inr refl, tt); next = (refl, refl, text_given) }))
-
-  -- ---- all together
+      });
+      appended = λ shown is it found builds units fit.
+          as_row (Append shown) (record (acting (shown_words shown + 1) (has_text o (shown_words shown) units)) { gives = OfOperand (shown_words shown) ∷ [] }) is
+          (λ operands. record {
+            acts = (inr refl, (text_put, tt));
+            next = (
+              words_asked o (Append shown),
+              refl,
+              λ y made went. (
+                receiver_given (Append shown) operands BuilderReceiver refl (shown_words shown) (refl, refl) (λ u. fits_type o.classes u t) (λ u f. f)
+                    (text_type o ∷ []) y made went,
+                tt,
+              ),
+            );
+          });
+      message_put = λ is it found may. as_row ThrowableInitOf (acting 2 (Put (OfOperand 1) 0 (text_kind o) (OfOperand 0) ∷ [])) is (λ operands. record {
+        acts = (
+          wanted_leads o r.areas.store r.own r.news r.steps.tree (N ThrowableInitOf) (arguments_asked o ThrowableInitOf) r.before.stack operands.rest
+              operands.taken_is r.frame.stack r.stack 0 (text_type o) refl,
+          tt,
+        );
+        next = (refl, refl, λ y made went. tt);
+      });
+      message_given = λ is it found may. as_row GetMessage (words 1 (OfPlace 0 0 (text_kind o) ∷ [])) is (λ operands. record {
+        acts = tt;
+        next = (
+          refl,
+          refl,
+          λ y made went. (
+            place_leads r 0 it found 0 (text_kind o) (r.cells.places.hidden it.type (r.cells.built_in.throwables it.type may)) [] y made went (text_type o) refl,
+            tt,
+          ),
+        );
+      });
+      freed = λ is it found. absurd (false≢true (sym other ∙ ap is_free_me is));
+      unlinked = λ is. absurd (false≢true (sym other ∙ ap is_free_me is));
+      linked = λ is it found loose. absurd (false≢true (sym other ∙ ap is_free_me is));
+      chain_freed = λ is. absurd (false≢true (sym other ∙ ap is_free_me is));
+    }
 
   pub native_whole : (row : Native) → HasOperands r row t → is_free_me row ≡ false → (byte : Option ℕ) → N row (native_effect o row byte seen)
-  unfolding native_effect
-  native_whole ObjectInit h other byte = init_whole
-  native_whole ObjectHashCode h other byte = hash_whole h
-  native_whole ObjectEquals h other byte = equals_whole
-  native_whole ObjectToString h other byte = shown_whole h
-  native_whole StringLength h other byte = length_whole h
-  native_whole CharAt h other byte = char_whole h
-  native_whole StringEquals h other byte = equal_whole h
-  native_whole StringHashCode h other byte = string_hash_whole h
-  native_whole CompareTo h other byte = compare_whole h
-  native_whole StringToString h other byte = string_given_whole h
-  native_whole Substring h other byte = part_whole h
-  native_whole (ValueOf shown) h other byte = value_whole shown h
-  native_whole BuilderInit h other byte = builder_init_whole h
-  native_whole (Append shown) h other byte = append_whole shown h
-  native_whole BuilderLength h other byte = builder_length_whole h
-  native_whole BuilderToString h other byte = built_whole h
-  native_whole BufferInitOf h other byte = buffer_whole h
-  native_whole Exit h other byte = exit_whole h byte
-  native_whole (Print shown) h other byte = print_whole shown h byte
-  native_whole (Println shown) h other byte = println_whole shown h byte
-  native_whole PrintlnNothing h other byte = line_whole byte
-  native_whole Read h other byte = read_whole byte
-  native_whole ThrowableInit h other byte = throwable_init_whole h
-  native_whole ThrowableInitOf h other byte = throwable_of_whole h
-  native_whole GetMessage h other byte = message_whole h
-  native_whole ThrowableToString h other byte = throwable_shown_whole h
-  native_whole FreeMeFree h other byte = absurd (false≢true (sym other))
-  native_whole FreeMeLink h other byte = absurd (false≢true (sym other))
-  native_whole FreeMeFreeChain h other byte = absurd (false≢true (sym other))
+  native_whole row h other byte = native_cases o seen row Any (N row) (any_units o seen) (asks row h) (leaves row h other) byte
