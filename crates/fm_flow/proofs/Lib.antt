@@ -4,11 +4,11 @@ pub mod EdgeListsLemmas
 pub mod EdgesOfLemmas
 pub mod HandOverLemmas
 pub mod HandlerLemmas
-pub mod KeptRowLemmas
+pub mod ListsByLemmas
+pub mod LiveLemmas
 pub mod MergeLemmas
 pub mod OnwardLemmas
 pub mod ReachLemmas
 pub mod RisingLemmas
 pub mod RowFacts
-pub mod SettlingLemmas
-pub mod SourcesLemmas
+pub mod UsesLemmas

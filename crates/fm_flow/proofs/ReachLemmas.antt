@@ -1,6 +1,6 @@
 -- The walk from the first item along the edges.
 use Rattle.std.proofs.Common.{◌≡◌, ℕ, ◌+◌, ◌<◌, ◌≤◌, ◌⊎◌, ◌↔◌, Bool, true, false, List, [], ◌∷◌, ◌++◌, length, take, replicate, get_or, set, Contains, Option, None, IsSomeAnd, refl, inl, inr, ⊎_elim, ap, sym, ◌∙◌, subst, arith, length-set}
-use Rattle.std.proofs.lemmas.Bool.{cases_lt, false≢true}
+use Rattle.std.proofs.lemmas.Bool.{cases_lt, false≢true, false_from_ne_true}
 use Rattle.std.proofs.lemmas.List.{get_or-replicate, length-replicate, length_push}
 use Rattle.std.proofs.lemmas.List.Elements.{Contains-append_left, Contains-push, Contains-push_cases}
 use Rattle.std.proofs.lemmas.Option.{slice_get_past}
@@ -53,8 +53,8 @@ Marks-new list i old row old_waiting waiting inside so_far in_row unmarked =
           (has-set_only row j x is);
       still_waiting = λ x waits. Contains-append_left waiting (j ∷ []) x (so_far.still_waiting x waits);
       waiting_listed = λ x waits.
-          ⊎_elim (λ earlier. ⊎_elim (λ before. inl before) (λ now. inr ((more x).1 (inl now))) (so_far.waiting_listed x earlier))
-          (λ same. inr ((more x).1 (inr same)))
+          ⊎_elim (λ earlier. ⊎_elim (λ before. inl before) (λ now. inr ((more x).1 (inl now.0), now.1)) (so_far.waiting_listed x earlier))
+          (λ (same : j ≡ x). inr ((more x).1 (inr same), subst (λ (n : ℕ). has old n ≡ false) same (false_from_ne_true (has old j) (λ was. false≢true (sym unmarked ∙ so_far.kept j was)))))
           (Contains-push_cases waiting j x waits);
       work = omega arith;
     }
@@ -72,7 +72,7 @@ Marks-known list i old row old_waiting waiting inside so_far marked =
           ⊎_elim (λ earlier. so_far.listed x earlier) (λ (same : j ≡ x). subst (λ (n : ℕ). has row n ≡ true) same marked) ((more x).0 found);
       only_listed = λ x is. ⊎_elim (λ before. inl before) (λ now. inr ((more x).1 (inl now.0), now.1)) (so_far.only_listed x is);
       still_waiting = so_far.still_waiting;
-      waiting_listed = λ x waits. ⊎_elim (λ before. inl before) (λ now. inr ((more x).1 (inl now))) (so_far.waiting_listed x waits);
+      waiting_listed = λ x waits. ⊎_elim (λ before. inl before) (λ now. inr ((more x).1 (inl now.0), now.1)) (so_far.waiting_listed x waits);
       work = so_far.work;
     }
 
@@ -139,7 +139,7 @@ Reaching-more code edges old row rest waiting j all so_far marks =
           (λ now. (reached.0 ++ x ∷ [], IsFlowPath-more code 0 reached.0 j x reached.1 ((lists.members x).0 now.0)))
           (marks.only_listed x is);
       waiting_marked = λ x waits.
-          ⊎_elim (λ before. marks.kept x (so_far.waiting_marked x (Contains-append_left rest (j ∷ []) x before))) (λ now. marks.listed x now) (marks.waiting_listed x waits);
+          ⊎_elim (λ before. marks.kept x (so_far.waiting_marked x (Contains-append_left rest (j ∷ []) x before))) (λ now. marks.listed x now.0) (marks.waiting_listed x waits);
       closed = λ x is.
           ⊎_elim
           (λ before.

@@ -10,12 +10,14 @@ mod error;
 mod flow;
 mod item_edges;
 mod item_rows;
+mod lists;
 mod live_rows;
 mod live_walk;
 mod reach;
 mod sources;
 #[cfg(test)]
 mod tests;
+mod uses;
 
 pub use error::FlowFail;
 pub use flow::Flow;

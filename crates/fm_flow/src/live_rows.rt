@@ -1,20 +1,20 @@
 // Live local variables: those from which a reference may still be loaded (JVMS 6.5.aload).
 
-ghost use Rattle.std.specs.Prelude.{◌≡◌, ℕ, ◌<◌, IfOk, length};
+ghost use Rattle.std.specs.Prelude.{◌≡◌, ℕ, ◌<◌, IfOk};
 ghost use Rattle.fm_code.specs.Edges.{MeetsCodeRules};
 ghost use Rattle.fm_flow.specs.Flow.{IsFlowOf};
 ghost use Rattle.fm_flow.specs.LiveRows.{AreLiveOf, IsLiveRowsOf, is_live, item_count, local_count};
-ghost use Rattle.fm_flow.specs.inner.LiveWalks.{AreSettled};
+ghost use Rattle.fm_flow.specs.inner.LiveWalks.{AreSourcesOf, AreUsesOf};
 
 use crate::flow::Flow;
-use crate::item_edges::item_count;
-use crate::live_walk::{row_before, settled};
+use crate::live_walk::live_row;
 use crate::sources::sources_of;
-use fm_base::{NoMemory, Row};
+use crate::uses::{Uses, uses_of};
+use fm_base::{NoMemory, Row, Seq};
 use fm_code::Code;
 use std::alloc::Global;
 
-/// Which local variables are live at each item of a code, as a row of bits for each item.
+/// Which local variables are live at each item of a code, as a row of bits for each local.
 #[derive(Debug, Drop)]
 pub struct LiveRows {
     rows: Vec<Row>,
@@ -24,39 +24,42 @@ impl LiveRows {
     /// Whether a path of edges leads from item j to an `aload` of the local, and nothing before it
     /// stores over the local. Locals and items are numbered from 0 on.
     pub fn is_live(&self, local: u16, j: u32) -> bool
-        requires item { j < item_count self.now }
-        requires local { local < local_count self.now j }
+        requires local { local < local_count self.now }
+        requires item { j < item_count self.now local }
         ensures { result ≡ is_live self.now local j }
     {
-        self.rows[j as usize].get(u32::from(local))
+        self.rows[usize::from(local)].get(j)
     }
 }
 
-/// The live locals of a code with this flow. Takes memory for the edges, listed by their ends, and
-/// two bits for each item and local.
+/// The live locals of a code with this flow. Takes memory for the edges, listed by their ends, for
+/// the uses of each local, and a bit for each item and local.
 pub fn live(alloc: Global, code: &Code, flow: &Flow) -> Result<LiveRows, NoMemory>
     requires { IsFlowOf code.now flow.now }
     ensures { IfOk result (IsLiveRowsOf code.now) }
 {
     let sources = sources_of(alloc, code, flow)?;
-    let after = settled(alloc, code, sources.as_slice())?;
-    let rows = rows_at(alloc, code, after.as_slice())?;
+    let uses = uses_of(alloc, code)?;
+    let rows = live_rows(alloc, code, sources.as_slice(), &uses)?;
     Ok(LiveRows { rows })
 }
 
-// What is live at each item, from what is live after each.
-fn rows_at(alloc: Global, code: &Code, after: &[Row]) -> Result<Vec<Row>, NoMemory>
+// The items at which each local is live.
+fn live_rows(
+    alloc: Global,
+    code: &Code,
+    sources: &[Seq<u32>],
+    uses: &Uses,
+) -> Result<Vec<Row>, NoMemory>
     requires spelled { MeetsCodeRules code.now }
-    requires settled { AreSettled code.now after.now }
+    requires sources { AreSourcesOf code.now sources.now }
+    requires uses { AreUsesOf code.now uses.now.loads.items uses.now.stores.items }
     ensures { IfOk result (λ rows. AreLiveOf code.now rows.items) }
 {
-    let mut rows = Vec::with_capacity(alloc, after.len())?;
-    for j in 0..item_count(code) {
-        rows.push(row_before(
-            alloc,
-            &code.items.as_slice()[j as usize].insn,
-            &after[j as usize],
-        )?)?;
+    let mut rows = Vec::with_capacity(alloc, usize::from(code.max_locals))?;
+    for local in 0..code.max_locals {
+        let row = live_row(alloc, code, sources, uses, local)?;
+        rows.push(row)?;
     }
     Ok(rows)
 }

@@ -27,9 +27,9 @@ pub fn reached_items(alloc: Global, code: &Code, edges: &EdgeLists) -> Result<Ro
     Ok(reached)
 }
 
-// Marks the items of a list, and lets those wait that weren't marked. After `NoMemory` only some are
-// marked.
-fn mark(list: &[u32], reached: &mut Row, waiting: &mut Vec<u32>) -> Result<(), NoMemory>
+/// Marks the items of a list, and lets those wait that weren't marked. After `NoMemory` only some are
+/// marked.
+pub fn mark(list: &[u32], reached: &mut Row, waiting: &mut Vec<u32>) -> Result<(), NoMemory>
     requires { (j : ℕ) → Contains list.now j → j < length reached.old }
     ensures { OnOk result
         (Marks list.now reached.old reached.new waiting.old.items waiting.new.items) }

@@ -1,49 +1,77 @@
--- The states of walks along edges, of which each item has a row of bits.
-use Rattle.std.specs.Prelude.{◌≡◌, ℕ, ◌+◌, ◌<◌, ◌≤◌, ◌⊎◌, ◌↔◌, ◌==◌, ◌||◌, ◌&&◌, Bool, true, false, not, List, [], length, Contains, Some, sum_by}
+-- Lists by item and by local, and the states of the walks that find live locals, or hand on rows of bits.
+use Rattle.std.specs.Prelude.{◌≡◌, ℕ, ◌+◌, ◌<◌, ◌≤◌, ◌⊎◌, ◌↔◌, Bool, true, List, [], ◌∷◌, length, Contains, IsSomeAnd, sum_by}
 use Rattle.std.specs.List.{slice_index_or}
 use Rattle.fm_base.specs.Rows.{has}
 use Rattle.fm_code.specs.Edges.{insn_of, IsEdge}
-use Rattle.fm_code.specs.Live.{stores_over, Live}
+use Rattle.fm_code.specs.Live.{stores_over, Live, Loads}
 use Rattle.fm_code.specs.declared.code_array.Code.{Code}
-use Rattle.fm_code.specs.declared.operations.Reg.{Reg}
 use Rattle.fm_code.specs.declared.operations.Reg.TheVariants as reg
 use Rattle.fm_code.specs.declared.instructions.Insn.{Insn}
 use Rattle.fm_code.specs.declared.instructions.Insn.TheVariants as insn
 use Rattle.fm_flow.specs.inner.Walks.{unset}
 
--- ---- edges by their ends
+-- ---- lists of numbers
+
+-- the list of an index
+abbrev pub list_of : List (List ℕ) → ℕ → List ℕ
+list_of lists k = slice_index_or lists k []
+
+-- number j is put into the list of each of the indices
+pub record AddsToEach (indices : List ℕ) (j : ℕ) (old new : List (List ℕ)) : Type 0 where
+  pub same_length : length new ≡ length old
+  pub members : (k x : ℕ) → Contains (list_of new k) x ↔ (Contains (list_of old k) x ⊎ (Contains indices k × (x ≡ j)))
+
+-- each of the lists below n has the numbers that are related to its index
+pub record AreListsBy (n : ℕ) (R : ℕ → ℕ → Type 0) (lists : List (List ℕ)) : Type 0 where
+  pub one_each : length lists ≡ n
+  pub each : (k : ℕ) → k < n → (x : ℕ) → Contains (list_of lists k) x ↔ R k x
 
 -- the lists have for each item the items from which an edge leads to it
-pub record AreSourcesOf (code : Code) (sources : List (List ℕ)) : Type 0 where
-  pub one_each : length sources ≡ length code.items
-  pub each : (j next : ℕ) → next < length code.items → Contains (slice_index_or sources next []) j ↔ IsEdge code j next
+abbrev pub AreSourcesOf : Code → List (List ℕ) → Type 0
+AreSourcesOf code sources = AreListsBy (length code.items) (λ next j. IsEdge code j next) sources
 
--- item j is put into the list of each of the ends
-pub record AddsSource (ends : List ℕ) (j : ℕ) (old new : List (List ℕ)) : Type 0 where
-  pub same_length : length new ≡ length old
-  pub members : (end s : ℕ) → Contains (slice_index_or new end []) s ↔ (Contains (slice_index_or old end []) s ⊎ (Contains ends end × (s ≡ j)))
+-- ---- uses of locals
 
--- ---- what is live at an item
+-- the local from which the instruction loads a reference
+abbrev pub local_loaded : Insn → List ℕ
+local_loaded (insn.Load reg.Ref local) = local ∷ []
+local_loaded i = []
 
--- whether the instruction loads a reference from local k
-abbrev pub loads : ℕ → Insn → Bool
-loads k (insn.Load reg.Ref local) = local == k
-loads k i = false
+-- the locals over which the instruction stores
+abbrev pub locals_stored : Insn → List ℕ
+locals_stored (insn.Store reg.Int local) = local ∷ []
+locals_stored (insn.Store reg.Ref local) = local ∷ []
+locals_stored (insn.Store reg.Long local) = local ∷ (local + 1) ∷ []
+locals_stored i = []
 
--- whether local k is live at an item with this instruction, from what is live after it
-abbrev pub live_before : Insn → List Bool → ℕ → Bool
-live_before i after k = loads k i || (has after k && not (stores_over k i))
+-- item j stores over local k
+abbrev pub StoresOver : Code → ℕ → ℕ → Type 0
+StoresOver code k j = IsSomeAnd (insn_of code j) (λ i. stores_over k i ≡ true)
 
-pub record IsRowBefore (i : Insn) (after row : List Bool) : Type 0 where
-  pub same_length : length row ≡ length after
-  pub each : (k : ℕ) → k < length after → has row k ≡ live_before i after k
+-- the lists have for each local the items that load a reference from it, and those that store over it
+pub record AreUsesOf (code : Code) (loads stores : List (List ℕ)) : Type 0 where
+  pub loaded : AreListsBy code.max_locals (Loads code) loads
+  pub stored : AreListsBy code.max_locals (StoresOver code) stores
 
--- the row but for what a store takes out of it
-pub record IsKeptRow (kind : Reg) (local : ℕ) (after row : List Bool) : Type 0 where
-  pub same_length : length row ≡ length after
-  pub each : (k : ℕ) → k < length after → has row k ≡ (has after k && not (stores_over k (insn.Store kind local)))
+-- ---- the items at which a local is live
 
--- ---- the walk
+-- the row has the items at which the local is live
+pub record IsLiveRow (code : Code) (k : ℕ) (row : List Bool) : Type 0 where
+  pub bits : length row ≡ length code.items
+  pub each : (j : ℕ) → (has row j ≡ true) ↔ Live code k j
+
+-- an item that is seen stores over the local, is in the row, or waits; all edges that lead to an item of the row come from seen items
+pub record Tracing (code : Code) (k : ℕ) (row seen : List Bool) (waiting : List ℕ) : Type 0 where
+  pub row_bits : length row ≡ length code.items
+  pub seen_bits : length seen ≡ length code.items
+  pub row_live : (j : ℕ) → has row j ≡ true → Live code k j
+  pub waiting_live : (j : ℕ) → Contains waiting j → Live code k j
+  pub stores : (j : ℕ) → StoresOver code k j → has seen j ≡ true
+  pub loads : (j : ℕ) → Loads code k j → has seen j ≡ true
+  pub each_seen : (j : ℕ) → has seen j ≡ true → StoresOver code k j ⊎ ((has row j ≡ true) ⊎ Contains waiting j)
+  pub closed : (j source : ℕ) → has row j ≡ true → IsEdge code source j → has seen source ≡ true
+
+-- ---- a walk that hands rows on
 
 -- the row of an item
 abbrev pub row_of : List (List Bool) → ℕ → List Bool
@@ -71,34 +99,3 @@ pub record HandsOver (list : List ℕ) (row : List Bool) (old_after after : List
   pub still_waiting : (j : ℕ) → Contains old_waiting j → Contains waiting j
   pub waiting_listed : (j : ℕ) → Contains waiting j → Contains old_waiting j ⊎ Contains list j
   pub work : all_unset after + length waiting ≤ all_unset old_after + length old_waiting
-
--- local k is live at item j, from what is live after it
-pub record IsLiveBefore (code : Code) (after : List (List Bool)) (k j : ℕ) : Type 0 where
-  pub insn : Insn
-  pub insn_is : insn_of code j ≡ Some insn
-  pub live : live_before insn (row_of after j) k ≡ true
-
--- what is live at the item is handed back along all edges that lead to it
-abbrev pub IsHandedBack : Code → List (List Bool) → ℕ → Type 0
-IsHandedBack code after j = (s k : ℕ) → IsEdge code s j → IsLiveBefore code after k j → has (row_of after s) k ≡ true
-
--- what a set bit means: the local is live at the end of some edge
-abbrev pub IsLiveAfter : Code → ℕ → ℕ → Type 0
-IsLiveAfter code k j = (next : ℕ) × (IsEdge code j next × Live code k next)
-
--- the rows hold what is live after each item, and all of it
-pub record AreSettled (code : Code) (after : List (List Bool)) : Type 0 where
-  pub one_each : length after ≡ length code.items
-  pub widths : HaveWidth code.max_locals after
-  pub sound : (j k : ℕ) → has (row_of after j) k ≡ true → IsLiveAfter code k j
-  pub closed : (j : ℕ) → j < length code.items → IsHandedBack code after j
-
--- so far: what is live at an item is handed back, or the item waits
-pub record Settling (code : Code) (after : List (List Bool)) (waits : List Bool) (waiting : List ℕ) : Type 0 where
-  pub one_each : length after ≡ length code.items
-  pub one_wait_each : length waits ≡ length code.items
-  pub widths : HaveWidth code.max_locals after
-  pub sound : (j k : ℕ) → has (row_of after j) k ≡ true → IsLiveAfter code k j
-  pub waiting_known : (j : ℕ) → has waits j ≡ true → Contains waiting j
-  pub waiting_inside : (j : ℕ) → Contains waiting j → j < length code.items
-  pub closed : (j : ℕ) → j < length code.items → (has waits j ≡ true) ⊎ IsHandedBack code after j

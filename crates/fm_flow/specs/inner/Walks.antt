@@ -1,5 +1,5 @@
 -- The states of the walks over items.
-use Rattle.std.specs.Prelude.{◌≡◌, ℕ, ◌+◌, ◌≤◌, ◌⊎◌, Bool, true, not, List, length, Contains, count_by}
+use Rattle.std.specs.Prelude.{◌≡◌, ℕ, ◌+◌, ◌≤◌, ◌⊎◌, Bool, true, false, not, List, length, Contains, count_by}
 use Rattle.std.specs.List.{AllByRecursion, Any}
 use Rattle.fm_base.specs.Rows.{has}
 use Rattle.fm_code.specs.Edges.{Catches, IsEdge, IsReachable}
@@ -41,7 +41,7 @@ pub record Marks (list : List ℕ) (old new : List Bool) (old_waiting waiting : 
   pub listed : (j : ℕ) → Contains list j → has new j ≡ true
   pub only_listed : (j : ℕ) → has new j ≡ true → (has old j ≡ true) ⊎ (Contains list j × Contains waiting j)
   pub still_waiting : (j : ℕ) → Contains old_waiting j → Contains waiting j
-  pub waiting_listed : (j : ℕ) → Contains waiting j → Contains old_waiting j ⊎ Contains list j
+  pub waiting_listed : (j : ℕ) → Contains waiting j → Contains old_waiting j ⊎ (Contains list j × (has old j ≡ false))
   pub work : unset new + length waiting ≡ unset old + length old_waiting
 
 -- a marked item is reachable; it waits, or the ends of its edges are marked
