@@ -5,3 +5,4 @@ pub mod SinkLemmas
 pub mod SureLemmas
 pub mod TallyLemmas
 pub mod TransferLemmas
+pub mod Walks

@@ -6,8 +6,8 @@
 // that no count falls, and that a call changes no name but its own.
 //
 // `MemFiles` and `MemSink` are in memory and fail at the calls that are named; `SureFiles` and
-// `SureSink` never fail. Of all four the contents are known. `FolderFiles` and `StdSink` are the files
-// and the streams of the system, of whose contents nothing is known.
+// `SureSink` never fail. Of all four the contents are known. `FolderFiles` are the files of the system, of
+// whose contents nothing is known. `StdSink` is a stream of the system, of which is known what it was handed.
 #![tactic(auto)]
 
 mod attempts;
@@ -16,6 +16,7 @@ mod files;
 mod folder;
 #[cfg(test)]
 mod full_disk;
+mod history;
 mod memory;
 mod names;
 mod pieces;

@@ -1,11 +1,10 @@
 // Bytes in and out of streams, part by part.
 
-ghost use Rattle.std.specs.Prelude.{ℕ, ◌≡◌, ◌<◌, ◌≤◌, take, length, vec_len, IfOk, IfSome, OnOk, OnErr, IsErrOf};
+ghost use Rattle.std.specs.Prelude.{◌≡◌, ◌<◌, ◌≤◌, take, length, vec_len, IfOk, IfErr, IfSome, OnOk, IsErrOf};
 ghost use Rattle.std.specs.Io.KnownBytes.{Appends};
 
 use crate::error::FileFail;
 use std::alloc::Global;
-use std::io;
 use std::io::{ErrorKind, Read, Write};
 
 // The most bytes that are read at once.
@@ -40,23 +39,26 @@ pub(crate) fn read_within<R: Read>(
 }
 
 /// Writes all of the bytes, however few the writer takes at once, and flushes. A writer that takes
-/// nothing has failed.
-pub(crate) fn write_whole<W: Write>(writer: &mut W, bytes: &[u8]) -> io::Result<()>
+/// nothing has failed. Where it fails, the result is how many of the bytes the writer took.
+pub(crate) fn write_whole<W: Write>(writer: &mut W, bytes: &[u8]) -> Result<(), usize>
     ensures whole { OnOk result (Appends (W.contents writer.old) (W.contents writer.new) bytes.now) }
-    ensures part { OnErr result ((n : ℕ)
-        × Appends (W.contents writer.old) (W.contents writer.new) (take n bytes.now)) }
+    ensures part { IfErr result (λ taken.
+        Appends (W.contents writer.old) (W.contents writer.new) (take taken bytes.now)) }
 {
     let mut rest = bytes;
     for _ in 0..u64::MAX {
         if rest.is_empty() {
-            return writer.flush();
+            return match writer.flush() {
+                Ok(()) => Ok(()),
+                Err(_) => Err(bytes.len()),
+            };
         }
         match writer.write(rest) {
-            Ok(0) => return Err(io::Error::from(ErrorKind::WriteZero)),
+            Ok(0) => return Err(bytes.len().saturating_sub(rest.len())),
             Ok(n) => rest = &rest[n..],
             Err(error) if error.kind() == ErrorKind::Interrupted => {}
-            Err(error) => return Err(error),
+            Err(_) => return Err(bytes.len().saturating_sub(rest.len())),
         }
     }
-    Err(io::Error::from(ErrorKind::TimedOut))
+    Err(bytes.len().saturating_sub(rest.len()))
 }

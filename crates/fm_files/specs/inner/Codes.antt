@@ -6,6 +6,7 @@ use Rattle.fm_files.specs.Attempts.{Attempts}
 use Rattle.fm_files.specs.Files.{Bytes}
 use Rattle.fm_files.specs.Memory.{MemFilesState}
 use Rattle.fm_files.specs.Names.{ByName}
+use Rattle.fm_files.specs.Sink.{Got}
 use Rattle.fm_files.specs.Sure.{SureFilesState}
 use Rattle.fm_files.specs.declared.tally.Tally.{Tally}
 
@@ -14,6 +15,9 @@ coded_bytes = coded_list coded_ℕ
 
 abbrev pub coded_by_name : {V : Type 0} → Coded V → Coded (ByName V)
 coded_by_name value = code coded_bytes value
+
+abbrev pub coded_got : Coded Got
+coded_got = code_by (List Bytes × Bytes) (coded× (coded_list coded_bytes) coded_bytes) (λ g. (g.pieces, g.bytes)) (λ p. record { pieces = p.0; bytes = p.1 }) (λ _. refl)
 
 abbrev pub coded_attempts : Coded Attempts
 coded_attempts =
