@@ -1,24 +1,29 @@
 -- The built-in methods of each linked program take what their rows look at, and give what these give: by computation over all of them.
-use Rattle.std.proofs.Common.{◌≡◌, ℕ, zero, suc, ◌<◌, ◌≤◌, ◌==◌, ◌&&◌, ◌||◌, ◌⊎◌, inl, inr, not, cond, Bool, true, false, List, [], ◌∷◌, ◌++◌, length, codes, nat_eq, Option, Some, None, option_and_then, option_to_list, unwrap_or, refl, sym, ◌∙◌, ap, subst, slice_index_or, eqb-true, ⊎_elim}
-use Rattle.std.specs.List.{AllByRecursion}
+use Rattle.std.proofs.Common.{◌≡◌, ℕ, zero, suc, ◌<◌, ◌≤◌, ◌==◌, ◌&&◌, ◌||◌, ◌⊎◌, inl, inr, not, cond, Bool, true, false, List, [], ◌∷◌, ◌++◌, length, codes, nat_eq, Option, Some, None, option_and_then, option_to_list, unwrap_or, refl, sym, ◌∙◌, ap, subst, slice_index_or, eqb-true, ⊎_elim, take, drop, map, reverse, arith, ◌-◌}
+use Rattle.std.specs.List.{AllByRecursion, flat_map}
+use Rattle.std.proofs.Math.Seq.{drop-append_seam, take-append_seam}
+use Rattle.std.proofs.lemmas.List.{append_assoc, append-nil, length-append, reverse-append}
+use Rattle.std.proofs.lemmas.List.Concat.{flat_map-cons}
 use Rattle.std.specs.Option.{option_map}
 use Rattle.std.specs.Str.{bytes_eq}
 use Rattle.std.proofs.lemmas.Bool.{and_parts, cases_lt, false≢true, or_cases, or_left, or_right}
 use Rattle.std.proofs.lemmas.Option.{none-some}
 use Rattle.std.proofs.lemmas.Slice.Eq.{bytes_eq-Decides}
+use Rattle.fm_base.specs.declared.kinds.Kind.{Kind}
 use Rattle.fm_base.specs.declared.kinds.Kind.TheVariants as kind
 use Rattle.fm_base.specs.declared.kinds.TypeRef.{TypeRef}
 use Rattle.fm_code.specs.AccessFlags.{is_static}
+use Rattle.fm_code.specs.Names.{FieldType}
 use Rattle.fm_types.proofs.Order.{type-trans}
 use Rattle.fm_types.specs.Fits.{AreTree, fits_type}
 use Rattle.fm_types.specs.Named.{built_in_type, throwable_type}
-use Rattle.fm_types.specs.States.{stack_slots}
+use Rattle.fm_types.specs.States.{local_slots, stack_slots}
 use Rattle.fm_types.specs.declared.slots.Slot.{Slot}
 use Rattle.fm_types.specs.declared.slots.Slot.TheVariants as slot
 use Rattle.fm_world.specs.BuiltIns.{built_in, object_name, string_name}
 use Rattle.fm_world.specs.Chains.{chain_of, is_among, parent_of}
 use Rattle.fm_world.specs.Declarations.{no_method}
-use Rattle.fm_world.specs.Descriptors.{class_number, kind_with, of_class, parameter_kinds, result_kind}
+use Rattle.fm_world.specs.Descriptors.{class_number, declared_kind, field_type, first_type, kind_in, kind_with, of_class, parameter_kinds, parameter_types, result_kind, result_type, types_from, types_in}
 use Rattle.fm_world.specs.Members.{method_at, methods_of, OwnedMethod}
 use Rattle.fm_world.specs.Numbers.{type_of_class}
 use Rattle.fm_world.specs.Programs.{Outline, Program}
@@ -27,10 +32,10 @@ use Rattle.fm_frames.proofs.BuiltInTypes.{buffer_there, builder_there, named_cla
 use Rattle.fm_frames.proofs.Programs.{string_number}
 use Rattle.fm_frames.specs.CallRows.{native_of}
 use Rattle.fm_frames.specs.NativeRows.{text_type}
-use Rattle.fm_frames.specs.Natives.{AGiven, AnObject, Append, AShown, BufferInitOf, BuilderInit, BuilderLength, BuilderReceiver, BuilderToString, CharAt, CompareTo, Exit, FreeMeFree, FreeMeFreeChain, FreeMeLink, GetMessage, Given, has_receiver, Native, native_of_row, native_type, Nothing, ObjectEquals, ObjectHashCode, ObjectInit, ObjectToString, OwnObject, Print, Println, PrintlnNothing, Read, Receiver, Returned, Shown, ShownBoolean, ShownChar, ShownInt, ShownLong, ShownText, StringEquals, StringHashCode, StringLength, StringToString, Substring, TextReceiver, ThrowableInit, ThrowableInitOf, ThrowableReceiver, ThrowableToString, ValueOf}
+use Rattle.fm_frames.specs.Natives.{AGiven, AnObject, AShown, BuilderReceiver, from_top, Given, has_receiver, Native, native_of_row, native_type, Nothing, OwnObject, Receiver, Returned, Shown, ShownBoolean, ShownChar, ShownInt, ShownLong, ShownText, TextReceiver, ThrowableReceiver}
 use Rattle.fm_frames.specs.Runnable.{IsRunnable}
 use Rattle.fm_law_sound.proofs.BuiltInMethods.{method_same}
-use Rattle.fm_law_no_fault.specs.CellsResolved.{arguments_asked, result_given, suits, TakesAsAsked}
+use Rattle.fm_law_no_fault.specs.CellsResolved.{arguments_asked, given_asked, result_given, returned_asked, suits, TakesAsAsked}
 use Rattle.fm_law_no_fault.proofs.LinkedTypes.{below, bounds_below, change_below, exception_there, fits_throwable, parents, runtime_below, runtime_there, throwable_itself}
 
 -- ---- the descriptors of the rows
@@ -80,6 +85,71 @@ declares class BuilderReceiver = (class == 2) || (class == 3)
 declares class ThrowableReceiver = is_among class throwables
 declares class other = true
 
+-- which classes declare methods that return an object of their own
+abbrev declares_own : ℕ → Returned → Bool
+declares_own class OwnObject = (class == 2) || (class == 3)
+declares_own class result = true
+
+-- ---- the types that descriptors name
+
+abbrev field_of : Given → FieldType
+field_of given = field_type (given_text given)
+
+abbrev field_returned : Bool → Returned → FieldType
+field_returned buffer result = field_type (returned_text buffer result)
+
+read_given : (given : Given) (rest : List ℕ) → types_from 0 None (given_text given ++ rest) ≡ field_of given ∷ types_from 0 None rest
+read_given (AShown ShownInt) rest = refl
+read_given (AShown ShownLong) rest = refl
+read_given (AShown ShownChar) rest = refl
+read_given (AShown ShownBoolean) rest = refl
+read_given (AShown ShownText) rest = refl
+read_given AnObject rest = refl
+
+read_arguments : (arguments : List Given) (rest : List ℕ)
+    → types_from 0 None (arguments_text arguments ++ rest) ≡ map field_of arguments ++ types_from 0 None rest
+read_arguments [] rest = refl
+read_arguments (given ∷ arguments) rest =
+    ap (types_from 0 None) (append_assoc (given_text given) (arguments_text arguments) rest) ∙ read_given given (arguments_text arguments ++ rest)
+    ∙ ap (λ types. field_of given ∷ types) (read_arguments arguments rest)
+
+read_returned : (buffer : Bool) (result : Returned) → types_from 0 None (codes ")" ++ returned_text buffer result) ≡ field_returned buffer result ∷ []
+read_returned buffer Nothing = refl
+read_returned buffer (AGiven (AShown ShownInt)) = refl
+read_returned buffer (AGiven (AShown ShownLong)) = refl
+read_returned buffer (AGiven (AShown ShownChar)) = refl
+read_returned buffer (AGiven (AShown ShownBoolean)) = refl
+read_returned buffer (AGiven (AShown ShownText)) = refl
+read_returned buffer (AGiven AnObject) = refl
+read_returned true OwnObject = refl
+read_returned false OwnObject = refl
+
+-- its types are those of the arguments and of the result
+types_are : (buffer : Bool) (row : Native)
+    → types_in (descriptor_of buffer row) ≡ map field_of (native_type row).arguments ++ field_returned buffer (native_type row).result ∷ []
+types_are buffer row =
+    ap (types_from 0 None) (append_assoc (arguments_text (native_type row).arguments) (codes ")") (returned_text buffer (native_type row).result))
+    ∙ read_arguments (native_type row).arguments (codes ")" ++ returned_text buffer (native_type row).result)
+    ∙ ap (λ types. map field_of (native_type row).arguments ++ types) (read_returned buffer (native_type row).result)
+
+one_less : (types : List FieldType) (last : FieldType) → length (types ++ last ∷ []) - 1 ≡ length types
+one_less types last = let count = length-append types (last ∷ []) in omega (arith, count)
+
+parameters_are : (buffer : Bool) (row : Native) → parameter_types (descriptor_of buffer row) ≡ map field_of (native_type row).arguments
+parameters_are buffer row =
+    let arguments : List FieldType = map field_of (native_type row).arguments in
+    let result : FieldType = field_returned buffer (native_type row).result in
+    ap (λ types. take (length types - 1) types) (types_are buffer row) ∙ ap (λ n. take n (arguments ++ result ∷ [])) (one_less arguments result)
+    ∙ take-append_seam arguments (result ∷ [])
+
+result_type_is : (buffer : Bool) (row : Native) → result_type (descriptor_of buffer row) ≡ field_returned buffer (native_type row).result
+result_type_is buffer row =
+    let arguments : List FieldType = map field_of (native_type row).arguments in
+    let result : FieldType = field_returned buffer (native_type row).result in
+    ap (λ types. first_type (drop (length types - 1) types)) (types_are buffer row)
+    ∙ ap (λ n. first_type (drop n (arguments ++ result ∷ []))) (one_less arguments result)
+    ∙ ap first_type (drop-append_seam arguments (result ∷ []))
+
 -- ---- the table
 
 abbrev same_bool : Bool → Bool → Bool
@@ -94,7 +164,8 @@ bools_same false false is = refl
 abbrev fits_row : OwnedMethod → Option Native → Bool
 fits_row m None = true
 fits_row m (Some row) =
-    bytes_eq m.method.descriptor (descriptor_of (m.class == 3) row) && (same_bool (is_static m.method.flags) (not (has_receiver row)) && declares m.class (native_type row).receiver)
+    bytes_eq m.method.descriptor (descriptor_of (m.class == 3) row)
+    && (same_bool (is_static m.method.flags) (not (has_receiver row)) && (declares m.class (native_type row).receiver && declares_own m.class (native_type row).result))
 
 abbrev fits_it : OwnedMethod → Bool
 fits_it m = fits_row m (option_and_then native_of_row m.method.row)
@@ -144,129 +215,65 @@ module _ (o : Outline) (more : List DeclaredClass) (classes : o.classes ≡ buil
   abbrev Arguments : Bool → Native → Type 0
   Arguments buffer row = stack_slots (parameter_kinds o.classes (descriptor_of buffer row)) ≡ arguments_asked o row
 
-  two_objects : (n : Option ℕ) → n ≡ Some 0
-      → stack_slots (unwrap_or (option_map (kind_with 0) (option_map of_class n)) kind.Int ∷ unwrap_or (option_map (kind_with 0) (option_map of_class n)) kind.Int ∷ [])
-      ≡ slot.Ref (type_of_class (unwrap_or n 0)) ∷ slot.Ref (type_of_class (unwrap_or n 0)) ∷ []
-  two_objects n is =
-      ap (λ k. stack_slots (unwrap_or (option_map (kind_with 0) (option_map of_class k)) kind.Int ∷ unwrap_or (option_map (kind_with 0) (option_map of_class k)) kind.Int ∷ [])) is
-      ∙ ap (λ k. slot.Ref (type_of_class (unwrap_or k 0)) ∷ slot.Ref (type_of_class (unwrap_or k 0)) ∷ []) (sym is)
+  -- the words of an argument on the stack
+  given_is : (given : Given) → stack_slots (declared_kind o.classes (field_of given) ∷ []) ≡ given_asked o given
+  given_is (AShown ShownInt) = refl
+  given_is (AShown ShownLong) = refl
+  given_is (AShown ShownChar) = refl
+  given_is (AShown ShownBoolean) = refl
+  given_is (AShown ShownText) = one_class string_name 1 string_here
+  given_is AnObject = one_class object_name 0 object_here
+
+  given_alone : (given : Given) → reverse (local_slots (declared_kind o.classes (field_of given))) ≡ given_asked o given
+  given_alone given =
+      let k : Kind = declared_kind o.classes (field_of given) in
+      sym (ap reverse (flat_map-cons local_slots k [] ∙ append-nil (local_slots k))) ∙ given_is given
+
+  all_given : (arguments : List Given) → stack_slots (map (declared_kind o.classes) (map field_of arguments)) ≡ from_top (given_asked o) arguments
+  all_given [] = refl
+  all_given (given ∷ []) = given_is given
+  all_given (given ∷ next ∷ arguments) =
+      let k : Kind = declared_kind o.classes (field_of given) in
+      let kinds : List Kind = map (declared_kind o.classes) (map field_of (next ∷ arguments)) in
+      ap reverse (flat_map-cons local_slots k kinds) ∙ reverse-append (local_slots k) (flat_map local_slots kinds)
+      ∙ ap (λ slots. slots ++ reverse (local_slots k)) (all_given (next ∷ arguments))
+      ∙ ap (λ slots. from_top (given_asked o) (next ∷ arguments) ++ slots) (given_alone given)
 
   arguments_are : (buffer : Bool) (row : Native) → Arguments buffer row
-  arguments_are buffer ObjectInit = refl
-  arguments_are buffer ObjectHashCode = refl
-  arguments_are buffer ObjectEquals = one_class object_name 0 object_here
-  arguments_are buffer ObjectToString = refl
-  arguments_are buffer StringLength = refl
-  arguments_are buffer CharAt = refl
-  arguments_are buffer StringEquals = one_class object_name 0 object_here
-  arguments_are buffer StringHashCode = refl
-  arguments_are buffer CompareTo = one_class string_name 1 string_here
-  arguments_are buffer StringToString = refl
-  arguments_are buffer Substring = refl
-  arguments_are buffer (ValueOf ShownInt) = refl
-  arguments_are buffer (ValueOf ShownLong) = refl
-  arguments_are buffer (ValueOf ShownChar) = refl
-  arguments_are buffer (ValueOf ShownBoolean) = refl
-  arguments_are buffer (ValueOf ShownText) = one_class string_name 1 string_here
-  arguments_are buffer BuilderInit = refl
-  arguments_are true (Append ShownInt) = refl
-  arguments_are true (Append ShownLong) = refl
-  arguments_are true (Append ShownChar) = refl
-  arguments_are true (Append ShownBoolean) = refl
-  arguments_are true (Append ShownText) = one_class string_name 1 string_here
-  arguments_are false (Append ShownInt) = refl
-  arguments_are false (Append ShownLong) = refl
-  arguments_are false (Append ShownChar) = refl
-  arguments_are false (Append ShownBoolean) = refl
-  arguments_are false (Append ShownText) = one_class string_name 1 string_here
-  arguments_are buffer BuilderLength = refl
-  arguments_are buffer BuilderToString = refl
-  arguments_are buffer BufferInitOf = one_class string_name 1 string_here
-  arguments_are buffer Exit = refl
-  arguments_are buffer (Print ShownInt) = refl
-  arguments_are buffer (Print ShownLong) = refl
-  arguments_are buffer (Print ShownChar) = refl
-  arguments_are buffer (Print ShownBoolean) = refl
-  arguments_are buffer (Print ShownText) = one_class string_name 1 string_here
-  arguments_are buffer (Println ShownInt) = refl
-  arguments_are buffer (Println ShownLong) = refl
-  arguments_are buffer (Println ShownChar) = refl
-  arguments_are buffer (Println ShownBoolean) = refl
-  arguments_are buffer (Println ShownText) = one_class string_name 1 string_here
-  arguments_are buffer PrintlnNothing = refl
-  arguments_are buffer Read = refl
-  arguments_are buffer ThrowableInit = refl
-  arguments_are buffer ThrowableInitOf = one_class string_name 1 string_here
-  arguments_are buffer GetMessage = refl
-  arguments_are buffer ThrowableToString = refl
-  arguments_are buffer FreeMeFree = one_class object_name 0 object_here
-  arguments_are buffer FreeMeLink = two_objects (class_number o.classes object_name) object_here
-  arguments_are buffer FreeMeFreeChain = one_class object_name 0 object_here
+  arguments_are buffer row =
+      ap (λ types. stack_slots (map (declared_kind o.classes) types)) (parameters_are buffer row) ∙ all_given (native_type row).arguments
 
   abbrev Result : ℕ → Bool → Native → Type 0
   Result class buffer row = stack_slots (option_to_list (result_kind o.classes (descriptor_of buffer row))) ≡ result_given o (type_of_class class) row
 
   -- append returns its own class
-  append_is : (class : ℕ) (shown : Shown) (buffer : Bool) → (class == 3) ≡ buffer → ((class == 2) || (class == 3)) ≡ true
+  append_is : (class : ℕ) (buffer : Bool) → (class == 3) ≡ buffer → ((class == 2) || (class == 3)) ≡ true
       → result_by (class_number o.classes (cond buffer (codes "java/lang/StringBuffer") (codes "java/lang/StringBuilder"))) ≡ slot.Ref (type_of_class class) ∷ []
-  append_is class shown true here is =
+  append_is class true here is =
       ap result_by (number_here (codes "java/lang/StringBuffer") 3 (buffer_there more)) ∙ ap (λ n. slot.Ref (type_of_class n) ∷ []) (sym (eqb-true class 3 here))
-  append_is class shown false here is =
+  append_is class false here is =
       ap result_by (number_here (codes "java/lang/StringBuilder") 2 (builder_there more))
       ∙ ap (λ n. slot.Ref (type_of_class n) ∷ [])
       (sym (⊎_elim (λ two. eqb-true class 2 two) (λ three. absurd (false≢true (sym here ∙ three))) (or_cases (class == 2) (class == 3) is)))
 
-  result_are : (class : ℕ) (buffer : Bool) → (class == 3) ≡ buffer → (row : Native) → declares class (native_type row).receiver ≡ true → Result class buffer row
-  result_are class buffer here ObjectInit is = refl
-  result_are class buffer here ObjectHashCode is = refl
-  result_are class buffer here ObjectEquals is = refl
-  result_are class buffer here ObjectToString is = result_class string_name 1 string_here
-  result_are class buffer here StringLength is = refl
-  result_are class buffer here CharAt is = refl
-  result_are class buffer here StringEquals is = refl
-  result_are class buffer here StringHashCode is = refl
-  result_are class buffer here CompareTo is = refl
-  result_are class buffer here StringToString is = result_class string_name 1 string_here
-  result_are class buffer here Substring is = result_class string_name 1 string_here
-  result_are class buffer here (ValueOf ShownInt) is = result_class string_name 1 string_here
-  result_are class buffer here (ValueOf ShownLong) is = result_class string_name 1 string_here
-  result_are class buffer here (ValueOf ShownChar) is = result_class string_name 1 string_here
-  result_are class buffer here (ValueOf ShownBoolean) is = result_class string_name 1 string_here
-  result_are class buffer here (ValueOf ShownText) is = result_class string_name 1 string_here
-  result_are class buffer here BuilderInit is = refl
-  result_are class true here (Append ShownInt) is = append_is class ShownInt true here is
-  result_are class true here (Append ShownLong) is = append_is class ShownLong true here is
-  result_are class true here (Append ShownChar) is = append_is class ShownChar true here is
-  result_are class true here (Append ShownBoolean) is = append_is class ShownBoolean true here is
-  result_are class true here (Append ShownText) is = append_is class ShownText true here is
-  result_are class false here (Append ShownInt) is = append_is class ShownInt false here is
-  result_are class false here (Append ShownLong) is = append_is class ShownLong false here is
-  result_are class false here (Append ShownChar) is = append_is class ShownChar false here is
-  result_are class false here (Append ShownBoolean) is = append_is class ShownBoolean false here is
-  result_are class false here (Append ShownText) is = append_is class ShownText false here is
-  result_are class buffer here BuilderLength is = refl
-  result_are class buffer here BuilderToString is = result_class string_name 1 string_here
-  result_are class buffer here BufferInitOf is = refl
-  result_are class buffer here Exit is = refl
-  result_are class buffer here (Print ShownInt) is = refl
-  result_are class buffer here (Print ShownLong) is = refl
-  result_are class buffer here (Print ShownChar) is = refl
-  result_are class buffer here (Print ShownBoolean) is = refl
-  result_are class buffer here (Print ShownText) is = refl
-  result_are class buffer here (Println ShownInt) is = refl
-  result_are class buffer here (Println ShownLong) is = refl
-  result_are class buffer here (Println ShownChar) is = refl
-  result_are class buffer here (Println ShownBoolean) is = refl
-  result_are class buffer here (Println ShownText) is = refl
-  result_are class buffer here PrintlnNothing is = refl
-  result_are class buffer here Read is = refl
-  result_are class buffer here ThrowableInit is = refl
-  result_are class buffer here ThrowableInitOf is = refl
-  result_are class buffer here GetMessage is = result_class string_name 1 string_here
-  result_are class buffer here ThrowableToString is = result_class string_name 1 string_here
-  result_are class buffer here FreeMeFree is = refl
-  result_are class buffer here FreeMeLink is = result_class object_name 0 object_here
-  result_are class buffer here FreeMeFreeChain is = refl
+  result_given_is : (given : Given) → stack_slots (option_to_list (kind_in o.classes (field_of given))) ≡ given_asked o given
+  result_given_is (AShown ShownInt) = refl
+  result_given_is (AShown ShownLong) = refl
+  result_given_is (AShown ShownChar) = refl
+  result_given_is (AShown ShownBoolean) = refl
+  result_given_is (AShown ShownText) = result_class string_name 1 string_here
+  result_given_is AnObject = result_class object_name 0 object_here
+
+  returned_is : (class : ℕ) (buffer : Bool) → (class == 3) ≡ buffer → (result : Returned) → declares_own class result ≡ true
+      → stack_slots (option_to_list (kind_in o.classes (field_returned buffer result))) ≡ returned_asked o (type_of_class class) result
+  returned_is class buffer here Nothing is = refl
+  returned_is class buffer here (AGiven given) is = result_given_is given
+  returned_is class true here OwnObject is = append_is class true here is
+  returned_is class false here OwnObject is = append_is class false here is
+
+  result_are : (class : ℕ) (buffer : Bool) → (class == 3) ≡ buffer → (row : Native) → declares_own class (native_type row).result ≡ true → Result class buffer row
+  result_are class buffer here row is =
+      ap (λ t. stack_slots (option_to_list (kind_in o.classes t))) (result_type_is buffer row) ∙ returned_is class buffer here (native_type row).result is
 
 -- ---- receivers
 
@@ -396,16 +403,17 @@ module _ (p : Program) (runnable : IsRunnable p) (tree : AreTree p.outline.class
   asked_by : (method : ℕ) (row : Native) → fits_row (here method) (Some row) ≡ true → TakesAsAsked out method row
   asked_by method row fits =
       let m : OwnedMethod = here method in
-      let first = and_parts (bytes_eq m.method.descriptor (descriptor_of (m.class == 3) row)) (same_bool (is_static m.method.flags) (not (has_receiver row)) && declares m.class (native_type row).receiver) fits in
-      let second = and_parts (same_bool (is_static m.method.flags) (not (has_receiver row))) (declares m.class (native_type row).receiver) first.1 in
+      let first = and_parts (bytes_eq m.method.descriptor (descriptor_of (m.class == 3) row)) (same_bool (is_static m.method.flags) (not (has_receiver row)) && (declares m.class (native_type row).receiver && declares_own m.class (native_type row).result)) fits in
+      let second = and_parts (same_bool (is_static m.method.flags) (not (has_receiver row))) (declares m.class (native_type row).receiver && declares_own m.class (native_type row).result) first.1 in
+      let third = and_parts (declares m.class (native_type row).receiver) (declares_own m.class (native_type row).result) second.1 in
       let descriptor : m.method.descriptor ≡ descriptor_of (m.class == 3) row =
       (bytes_eq-Decides m.method.descriptor (descriptor_of (m.class == 3) row)).0 first.0 in
       record {
         arguments = ap (λ d. stack_slots (parameter_kinds out.classes d)) descriptor ∙ arguments_are out given runnable.classes (m.class == 3) row;
         result = ap (λ d. stack_slots (option_to_list (result_kind out.classes d))) descriptor
-            ∙ result_are out given runnable.classes m.class (m.class == 3) refl row second.1;
+            ∙ result_are out given runnable.classes m.class (m.class == 3) refl row third.1;
         static = bools_same (is_static m.method.flags) (not (has_receiver row)) second.0;
-        receiver = λ instance t fits_class. receives m.class (native_type row).receiver second.1 t fits_class;
+        receiver = λ instance t fits_class. receives m.class (native_type row).receiver third.0 t fits_class;
       }
 
   pub built_ins_asked : ((method : ℕ) → length (methods_of built_in) ≤ method → (here method).method.row ≡ None) → (method : ℕ) (row : Native)
