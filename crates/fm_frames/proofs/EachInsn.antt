@@ -40,7 +40,6 @@ use Rattle.fm_frames.specs.ObjectRows as objects
 use Rattle.fm_frames.specs.Operands.{on_int, on_long, size_of_type, thrown, thrown_null}
 use Rattle.fm_frames.specs.Rows.{effect_of}
 use Rattle.fm_frames.specs.Sights.{Looks, Sight, Thing}
-use Rattle.fm_frames.specs.declared.values.Value.{Value}
 use Rattle.fm_frames.specs.declared.values.Value.TheVariants as value
 use Rattle.fm_frames.proofs.Cases.{by_held, by_if, by_int, by_long, by_object, by_on_field, by_on_type, by_passing, by_reference, by_thrown}
 use Rattle.fm_frames.proofs.Failures.{Arithmetic, ArrayStore, ClassCast, Failures, IndexOutside, NegativeSize, NullPointer}
@@ -52,16 +51,9 @@ use Rattle.fm_frames.proofs.SwitchTargets.{few_keys, key_within, table_within}
 abbrev pub IsLocalOf : Insn → ℕ → Type 0
 IsLocalOf i k = (max : ℕ) → LocalsFit max i → k < max
 
--- a number or null
-abbrev pub IsOutright : Value → Type 0
-IsOutright value.Top = Unit {0}
-IsOutright (value.Int n) = Unit {0}
-IsOutright (value.Long n) = Unit {0}
-IsOutright (value.Ref cell) = cell.0 ≡ 0
-
--- no place of an object is read, and locals only where the instruction names them
+-- a number or null, or what is no place of an object; and locals only where the instruction names them
 abbrev pub IsNamed : Insn → Source → Type 0
-IsNamed i (Plain v) = IsOutright v
+IsNamed i (Plain (value.Ref cell)) = cell.0 ≡ 0
 IsNamed i (OfLocal k) = IsLocalOf i k
 IsNamed i (LocalPlus k by) = IsLocalOf i k
 IsNamed i (OfPlace n place k) = ⊥

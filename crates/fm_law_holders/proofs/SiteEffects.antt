@@ -13,14 +13,14 @@ use Rattle.fm_world.specs.declared.uses.Use.{Use}
 use Rattle.fm_frames.specs.ArrayRows.{array_made, arrays_of, ints_at, multi_array_effect, new_array_effect, new_references_effect, thrown_negative}
 use Rattle.fm_frames.specs.Effects.{Effect, Falls, faulty, making, Make, OfMade, Source, stuck}
 use Rattle.fm_frames.specs.NativeRows.{native_effect}
-use Rattle.fm_frames.specs.Natives.{Append, FreeMeLink, GetMessage, Native, Shown, ShownLong, ShownText, StringToString}
+use Rattle.fm_frames.specs.Natives.{Append, FreeMeLink, GetMessage, Native, StringToString}
 use Rattle.fm_frames.specs.Operands.{thrown}
 use Rattle.fm_frames.specs.Rows.{effect_of}
 use Rattle.fm_frames.specs.Sights.{Sight}
 use Rattle.fm_frames.proofs.Cases.{by_if, by_int, by_on_type}
-use Rattle.fm_frames.proofs.NativeCases.{is_int}
 use Rattle.fm_frames.proofs.UsualAsks.{each_native}
-use Rattle.fm_law_sound.specs.BuiltIns.{native_result, reference, returned_slots, shown_slots}
+use Rattle.fm_law_sound.specs.BuiltIns.{native_result, reference, returned_slots}
+use Rattle.fm_law_sound.proofs.BuiltInRows.{int_slots}
 use Rattle.fm_place.specs.Sites.{makes_array}
 
 -- where the effect goes on to the next item, it gives just this and writes no local
@@ -88,11 +88,6 @@ data Given (row : Native) (gives : List Source) : Type 0 where
   AnInt : native_result row ≡ slot.Int ∷ [] → Given row gives
   AMade : native_result row ≡ reference ∷ [] → gives ≡ first_made → Given row gives
   AnOld : native_result row ≡ reference ∷ [] → gives_operand row ≡ true → Given row gives
-
-int_slots : (shown : Shown) → is_int shown ≡ true → shown_slots shown ≡ slot.Int ∷ []
-int_slots ShownLong is = absurd (false≢true is)
-int_slots ShownText is = absurd (false≢true is)
-int_slots shown is = refl
 
 module _ (o : Outline) (byte : Option ℕ) (s : List Sight) (row : Native) where
   abbrev Gives : Effect → Type 0

@@ -42,7 +42,8 @@ receiver_count false arguments = sym (arguments_count Slot given_slots given_cou
 words_count : (row : Native) → native_words row ≡ length (native_slots row)
 words_count row = receiver_count (has_receiver row) (native_type row).arguments
 
-int_slots : (shown : Shown) → is_int shown ≡ true → shown_slots shown ≡ slot.Int ∷ []
+-- an int is one word
+pub int_slots : (shown : Shown) → is_int shown ≡ true → shown_slots shown ≡ slot.Int ∷ []
 int_slots ShownInt is = refl
 int_slots ShownLong is = absurd (false≢true is)
 int_slots ShownChar is = refl
