@@ -29,8 +29,8 @@ use Rattle.fm_world.specs.Uses.{array_of}
 use Rattle.fm_world.specs.declared.uses.Use.{Use}
 use Rattle.fm_code.specs.StackWords.{element_words}
 use Rattle.fm_frames.specs.ArrayRows.{array_load_effect, array_made, array_store_effect, arrays_of, element_kind, element_type, ints_at, length_effect, multi_array_effect, new_array_effect, new_references_effect, on_element, put_element, put_reference, thrown_negative}
-use Rattle.fm_frames.specs.Effects.{Action, Effect, int_word, loaded, Make, making, OfMade, OfPlace, words}
-use Rattle.fm_frames.specs.Operands.{thrown}
+use Rattle.fm_frames.specs.Effects.{Action, Effect, faulty, int_word, loaded, Make, making, OfMade, OfPlace, stuck, words}
+use Rattle.fm_frames.specs.Operands.{thrown, thrown_null}
 use Rattle.fm_frames.specs.Sights.{Looks, Sight}
 use Rattle.fm_frames.specs.States.{Frame}
 use Rattle.fm_law_sound.specs.Leading.{LeadsAs, LeavesAs}
@@ -149,6 +149,16 @@ store_takes o elem.Ref = refl
 
 -- ---- the rows
 
+-- what holds of each way in which a row asks for an element
+pub by_element : (P : Effect → Type 0) (o : Outline) (e : Elem) (s : List Sight) (index : ℕ) (follows : Looks → ℕ → Effect) → P (thrown_null o) → P stuck
+    → P (faulty (index + 1)) → P (thrown o (codes "java/lang/ArrayIndexOutOfBoundsException"))
+    → ((it : Looks) (place : ℕ) → is_array_of e it.type ≡ true → P (follows it place)) → P (on_element o e s index follows)
+by_element P o e s index follows null none gone outside some =
+    by_passing P o (λ it. is_array_of e it.type) s (index + 1) _ null none gone
+    (λ it seen passes. by_int P s index _ none
+    (λ i. by_if P (int_lt i (pos 0) || not (int_lt i (pos it.len))) (thrown o (codes "java/lang/ArrayIndexOutOfBoundsException")) (follows it (unsigned_abs i))
+    (λ out. outside) (λ inside. some it (unsigned_abs i) passes)))
+
 -- the effect leads where the checker's row does
 record Led (o : Outline) (f : Frame) (after : TypeState) (i : Insn) (e : Effect) : Type 0 where
   leads : LeadsAs o i after f e e.next
@@ -159,12 +169,8 @@ module _ (o : Outline) (s : TypeState) (f : Frame) (h : FrameHasKinds s f.locals
       → ((it : Looks) → is_array_of e it.type ≡ true → (place : ℕ) → Leads o s f h after i (follows it place))
       → Leads o s f h after i (on_element o e sights index follows)
   element_leads i e sights index follows each =
-      by_passing (Leads o s f h after i) o (λ it. is_array_of e it.type) sights (index + 1) _
-      (thrown_leads o s f h after i (codes "java/lang/NullPointerException")) tt tt
-      (λ it seen passes. by_int (Leads o s f h after i) sights index _ tt
-      (λ n. by_if (Leads o s f h after i) (int_lt n (pos 0) || not (int_lt n (pos it.len))) (thrown o (codes "java/lang/ArrayIndexOutOfBoundsException"))
-      (follows it (unsigned_abs n))
-      (λ outside. thrown_leads o s f h after i (codes "java/lang/ArrayIndexOutOfBoundsException")) (λ inside. each it passes (unsigned_abs n))))
+      by_element (Leads o s f h after i) o e sights index follows (thrown_leads o s f h after i (codes "java/lang/NullPointerException")) tt tt
+      (thrown_leads o s f h after i (codes "java/lang/ArrayIndexOutOfBoundsException")) (λ it place passes. each it passes place)
 
   pub array_load_leads : (e : Elem) (sights : List Sight) → array_load_row o e s ≡ Some after
       → Leads o s f h after (insn.ArrayLoad e) (array_load_effect o e sights)

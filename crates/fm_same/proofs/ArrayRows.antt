@@ -1,5 +1,5 @@
 -- The rows of arrays: an element is of the array's class, and all arrays that one step makes have one home.
-use Rattle.std.proofs.Common.{◌≡◌, ◌≢◌, ℕ, ℤ, pos, ◌+◌, ◌-◌, ◌*◌, ◌<◌, ◌≤◌, ◌==◌, ◌&&◌, ◌||◌, not, int_lt, Bool, true, false, cond, List, [], ◌∷◌, ◌++◌, length, reverse, Option, Some, None, codes, unsigned_abs, nat_lt, nat_le, Contains, refl, sym, ◌∙◌, ap, subst, inl, slice_get, arith, eqb-true, ne_eqb, leb-true}
+use Rattle.std.proofs.Common.{◌≡◌, ◌≢◌, ℕ, ℤ, pos, ◌+◌, ◌-◌, ◌*◌, ◌<◌, ◌≤◌, ◌==◌, ◌&&◌, int_lt, Bool, true, false, cond, List, [], ◌∷◌, ◌++◌, length, reverse, Option, Some, None, codes, unsigned_abs, nat_lt, nat_le, Contains, refl, sym, ◌∙◌, ap, subst, inl, slice_get, arith, eqb-true, ne_eqb, leb-true}
 use Rattle.std.specs.List.{AllByRecursion, list_any, range_with_len}
 use Rattle.std.proofs.lemmas.Bool.{and_parts, false≢true}
 use Rattle.std.proofs.lemmas.List.{length-reverse}
@@ -37,11 +37,12 @@ use Rattle.fm_world.specs.declared.uses.Use.{Use}
 use Rattle.fm_world.specs.declared.uses.Use.TheVariants as resolved
 use Rattle.fm_code.specs.StackWords.{element_words}
 use Rattle.fm_frames.specs.ArrayRows.{array_actions, array_load_effect, array_made, array_store_effect, arrays_made, arrays_of, element_kind, element_type, ints_at, length_effect, multi_array_effect, new_array_effect, new_references_effect, on_element, put_element, thrown_negative}
-use Rattle.fm_frames.specs.Effects.{Make, Put, Effect, OfMade, faulty, making, stuck, words}
-use Rattle.fm_frames.specs.Operands.{thrown, thrown_null}
+use Rattle.fm_frames.specs.Effects.{Make, Put, Effect, OfMade, making, words}
+use Rattle.fm_frames.specs.Operands.{thrown}
 use Rattle.fm_frames.specs.Sights.{Looks, Sight}
 use Rattle.fm_frames.specs.States.{Frame}
 use Rattle.fm_same.specs.Evenness.{ActsEvenly, given, Point, PutsEvenly}
+use Rattle.fm_law_sound.proofs.ArrayRows.{by_element}
 use Rattle.fm_law_sound.proofs.Cases.{by_held, by_if, by_int, by_on_type, by_passing}
 use Rattle.fm_law_sound.proofs.Opening.{all_flat}
 use Rattle.fm_law_sound.proofs.InsnActs.{ints_many, magnitudes, magnitudes_many}
@@ -51,15 +52,6 @@ use Rattle.fm_same.proofs.ObjectRows.{home_of, leads_operand, loaded_obeys, maki
 use Rattle.fm_same.proofs.PlainRows.{faulty_obeys, null_obeys, Owes, stuck_obeys, thrown_obeys, words_obey}
 
 -- ---- elements
-
-by_element : (P : Effect → Type 0) (o : Outline) (e : Elem) (s : List Sight) (index : ℕ) (follows : Looks → ℕ → Effect) → P (thrown_null o) → P stuck
-    → P (faulty (index + 1)) → P (thrown o (codes "java/lang/ArrayIndexOutOfBoundsException"))
-    → ((it : Looks) (place : ℕ) → is_array_of e it.type ≡ true → P (follows it place)) → P (on_element o e s index follows)
-by_element P o e s index follows null none gone outside some =
-    by_passing P o (λ it. is_array_of e it.type) s (index + 1) _ null none gone
-    (λ it seen passes. by_int P s index _ none
-    (λ i. by_if P (int_lt i (pos 0) || not (int_lt i (pos it.len))) (thrown o (codes "java/lang/ArrayIndexOutOfBoundsException")) (follows it (unsigned_abs i))
-    (λ out. outside) (λ inside. some it (unsigned_abs i) passes)))
 
 -- a letter's elements are no references
 letter_plain : (e : Elem) (b : Base) (u : TypeRef) → has_letter e b ≡ true → kind_with 0 b ≡ kind.Ref u → ⊥
