@@ -16,7 +16,7 @@ use Rattle.fm_types.specs.CallRows.{constructed, constructor_called, initialised
 use Rattle.fm_types.specs.Named as typed
 use Rattle.fm_types.specs.Named.{argument_words, class_of_method, parameters_of, result_of, result_words}
 use Rattle.fm_types.specs.Rows.{row_after}
-use Rattle.fm_types.specs.States.{is_uninit, is_uninit_this, local_slots, replaced, stack_slots, taken, TypeState, worked}
+use Rattle.fm_types.specs.States.{is_uninit, is_uninit_this, local_slots, stack_slots, taken, TypeState, worked}
 use Rattle.fm_types.specs.declared.slots.Slot.{Slot}
 use Rattle.fm_types.specs.declared.slots.Slot.TheVariants as slot
 use Rattle.fm_types.proofs.Zips.{zip-append}
@@ -29,7 +29,7 @@ use Rattle.fm_frames.specs.CallRows.{words_of_arguments}
 use Rattle.fm_frames.specs.declared.values.Value.{Value}
 use Rattle.fm_law_sound.specs.Going.{ConstructorsGiveNothing}
 use Rattle.fm_law_sound.specs.Sound.{words_of_call}
-use Rattle.fm_law_sound.proofs.FramesLeft.{AreAs, dropped, taken_drop}
+use Rattle.fm_law_sound.proofs.FramesLeft.{AreAs, dropped, slots_replaced, taken_drop}
 
 -- ---- counts of words
 
@@ -75,17 +75,6 @@ row_of_method o u follows named after names row =
 abbrev pub IsMarked : (Slot → Value → Type 0) → (Slot → Bool) → TypeRef → Type 0
 IsMarked P test t = (s : Slot) (v : Value) → test s ≡ true → P s v → P (slot.Ref t) v
 
-module _ (P : Slot → Value → Type 0) (test : Slot → Bool) (t : TypeRef) (marked : IsMarked P test t) where
-  marked_if : (b : Bool) (s : Slot) (v : Value) → test s ≡ b → P s v → P (cond b (slot.Ref t) s) v
-  marked_if true s v is h = marked s v is h
-  marked_if false s v is h = h
-
-  all_marked : (xs : List Slot) (words : List Value) → AllZip P xs words → AllZip P (replaced test (slot.Ref t) xs) words
-  all_marked [] [] h = tt
-  all_marked [] (v ∷ words) h = absurd h
-  all_marked (x ∷ xs) [] h = absurd h
-  all_marked (x ∷ xs) (v ∷ words) h = (marked_if (test x) x v refl h.0, all_marked xs words h.1)
-
 no_values : (P : Slot → Value → Type 0) (values : List Value) → AllZip P [] values → values ≡ []
 no_values P [] h = refl
 no_values P (v ∷ values) h = absurd h
@@ -113,16 +102,16 @@ module _ (Local Word : Slot → Value → Type 0) (o : Outline) (method : ℕ) (
         let marked = made item named parts.0 in
         subst (λ (t : TypeState). AreAs Local Word t locals words) (same_Some _ after parts.1)
         (record {
-          in_locals = all_marked Local (is_uninit item) named marked.0 s.locals locals h.in_locals;
-          in_stack = all_marked Word (is_uninit item) named marked.1 s.stack words h.in_stack;
+          in_locals = slots_replaced Local (is_uninit item) (slot.Ref named) marked.0 s.locals locals h.in_locals;
+          in_stack = slots_replaced Word (is_uninit item) (slot.Ref named) marked.1 s.stack words h.in_stack;
         })
     constructed_left named slot.UninitThis s after locals words row h =
         let t : TypeRef = type_of_class (class_of_method o method) in
         let parts = cond-some_then (names_own_or_parent o (class_of_method o method) named) (Some (record (initialised is_uninit_this t s) { built = true })) after row in
         subst (λ (t : TypeState). AreAs Local Word t locals words) (same_Some _ after parts.1)
         (record {
-          in_locals = all_marked Local is_uninit_this t own.0 s.locals locals h.in_locals;
-          in_stack = all_marked Word is_uninit_this t own.1 s.stack words h.in_stack;
+          in_locals = slots_replaced Local is_uninit_this (slot.Ref t) own.0 s.locals locals h.in_locals;
+          in_stack = slots_replaced Word is_uninit_this (slot.Ref t) own.1 s.stack words h.in_stack;
         })
 
     -- ---- the state after a call

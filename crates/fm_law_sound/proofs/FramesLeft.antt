@@ -11,7 +11,7 @@ use Rattle.fm_code.specs.declared.operations.Reg.TheVariants as reg
 use Rattle.fm_types.specs.Fits.{fits}
 use Rattle.fm_types.specs.Moves.{moved, Moves, moves_of, words_at}
 use Rattle.fm_types.specs.NumberRows.{increment_row, is_int, load_row, loaded, move_row, store_row, stored_from, suits}
-use Rattle.fm_types.specs.States.{cut_before, is_long, is_reference, is_whole, local_at, pushed, stored, taken, TypeState, worked, worked_below}
+use Rattle.fm_types.specs.States.{cut_before, is_long, is_reference, is_uninit, is_whole, local_at, pushed, replaced, stored, taken, TypeState, worked, worked_below}
 use Rattle.fm_types.specs.declared.slots.Slot.{Slot}
 use Rattle.fm_types.specs.declared.slots.Slot.TheVariants as slot
 use Rattle.fm_types.proofs.Zips.{zip-append, zip-drop, zip-set}
@@ -45,6 +45,19 @@ module _ (P : Slot → Value → Type 0) where
   value_written k v (x ∷ xs) [] new h = absurd h
   value_written zero v (x ∷ xs) (w ∷ words) new h = (new, h.1)
   value_written (suc k) v (x ∷ xs) (w ∷ words) new h = (h.0, value_written k v xs words new h.1)
+
+  -- where slots that a test picks out become another one
+  replaced_if : (test : Bool) (s to : Slot) (v : Value) → (test ≡ true → P to v) → P s v → P (cond test to s) v
+  replaced_if true s to v becomes h = becomes refl
+  replaced_if false s to v becomes h = h
+
+  pub slots_replaced : (test : Slot → Bool) (to : Slot) → ((s : Slot) (v : Value) → test s ≡ true → P s v → P to v) → (xs : List Slot) (words : List Value)
+      → AllZip P xs words → AllZip P (replaced test to xs) words
+  slots_replaced test to becomes [] [] h = tt
+  slots_replaced test to becomes [] (v ∷ words) h = absurd h
+  slots_replaced test to becomes (x ∷ xs) [] h = absurd h
+  slots_replaced test to becomes (x ∷ xs) (v ∷ words) h =
+      (replaced_if (test x) x to v (λ is. becomes x v is h.0) h.0, slots_replaced test to becomes xs words h.1)
 
   -- the word on top, and the long below a second half
   first_related : (s : Slot) (stack : List Slot) (words : List Value) → AllZip P (s ∷ stack) words → P s (word_at words 0) × AllZip P stack (drop 1 words)
@@ -242,6 +255,18 @@ module _ (Local Word : Slot → Value → Type 0) (s after : TypeState) (from : 
       let v : Value = sum_of (word_at from.locals k) by in
       subst (λ (t : TypeState). AreAs Local Word t (slice_set from.locals k v) from.stack) (same_Some s after parts.1)
       (record { in_locals = value_written Local k v s.locals from.locals (new parts.0) h.in_locals; in_stack = h.in_stack })
+
+  -- an object that `new` makes: no local leads to an earlier one of the same item
+  pub new_leaves : ((v : Value) → Local slot.Top v) → (item : ℕ) (b : Bool) (v : Value)
+      → cond b (Some (record s { locals = replaced (is_uninit item) slot.Top s.locals; stack = slot.Uninit item ∷ s.stack })) None ≡ Some after
+      → Word (slot.Uninit item) v → AreAs Local Word after from.locals (v ∷ from.stack)
+  new_leaves top item b v row made =
+      let parts = cond-some_then b (Some (record s { locals = replaced (is_uninit item) slot.Top s.locals; stack = slot.Uninit item ∷ s.stack })) after row in
+      subst (λ (t : TypeState). AreAs Local Word t from.locals (v ∷ from.stack)) (same_Some _ after parts.1)
+      (record {
+        in_locals = slots_replaced Local (is_uninit item) slot.Top (λ x w is h. top w) s.locals from.locals h.in_locals;
+        in_stack = (made, h.in_stack);
+      })
 
   -- ---- loads and stores
 

@@ -30,11 +30,12 @@ use Rattle.fm_frames.specs.Operands.{thrown}
 use Rattle.fm_frames.specs.Sights.{Sight}
 use Rattle.fm_frames.specs.States.{Frame, ref, word_at}
 use Rattle.fm_frames.specs.declared.values.Value.{Value}
-use Rattle.fm_law_sound.specs.Leading.{LeavesAs, NamesField}
-use Rattle.fm_law_sound.specs.Sound.{field_slot, FrameHasKinds, HasKind, HaveKinds, LocalsHaveKinds, static_slots}
+use Rattle.fm_law_sound.specs.Leading.{LeavesAs, NamesField, sources_of}
+use Rattle.fm_law_sound.specs.Sound.{field_slot, FrameHasKinds, HasKind, HaveKinds, LocalHasKind, static_slots}
 use Rattle.fm_law_sound.proofs.Cases.{by_held, by_if, by_object, by_on_field, by_on_type}
+use Rattle.fm_law_sound.proofs.FramesLeft as left
 use Rattle.fm_law_sound.proofs.FramesLeft.{related_at}
-use Rattle.fm_law_sound.proofs.Leaving.{kind_slots, leaves_stack, loaded_gives, pushed_leaves, read_kind, reference_taken, worked_below_leaves, worked_leaves}
+use Rattle.fm_law_sound.proofs.Leaving.{kinds_before, kinds_left, kind_slots, leaves_stack, loaded_gives, pushed_leaves, read_kind, reference_taken, worked_below_leaves, worked_leaves}
 use Rattle.fm_law_sound.proofs.NumberRows.{int_gives, Leads, thrown_leads}
 use Rattle.fm_law_sound.specs.BuiltIns.{GivesSlots}
 
@@ -92,26 +93,14 @@ static_kind o g statics within is h = related_at HasKind (static_slots o) static
 
 -- ---- locals that lose what they knew
 
-lost_if : (b : Bool) (s : Slot) (v : Value) → LocalsHaveKinds (s ∷ []) (v ∷ []) → LocalsHaveKinds (cond b slot.Top s ∷ []) (v ∷ [])
-lost_if true s v h = (tt, tt)
-lost_if false s v h = h
-
-locals_lost : (test : Slot → Bool) (xs : List Slot) (locals : List Value) → LocalsHaveKinds xs locals → LocalsHaveKinds (replaced test slot.Top xs) locals
-locals_lost test [] [] h = tt
-locals_lost test [] (v ∷ locals) h = absurd h
-locals_lost test (x ∷ xs) [] h = absurd h
-locals_lost test (x ∷ xs) (v ∷ locals) h = ((lost_if (test x) x v (h.0, tt)).0, locals_lost test xs locals h.1)
-
 module _ (o : Outline) (s : TypeState) (f : Frame) (h : FrameHasKinds s f.locals f.stack) (after : TypeState) where
   new_leaves : (item class : ℕ) (t : TypeRef)
       → cond ((t.dims == 0) && has_objects o.classes t.base && not (list_any (is_uninit item) s.stack))
       (Some (record s { locals = replaced (is_uninit item) slot.Top s.locals; stack = slot.Uninit item ∷ s.stack })) None ≡ Some after
       → LeavesAs o after f (made_of o t (Some class))
   new_leaves item class t row areas made statics =
-      let parts = cond-some_then ((t.dims == 0) && has_objects o.classes t.base && not (list_any (is_uninit item) s.stack))
-      (Some (record s { locals = replaced (is_uninit item) slot.Top s.locals; stack = slot.Uninit item ∷ s.stack })) after row in
-      subst (λ (t : TypeState). FrameHasKinds t f.locals (ref (slice_index_or made 0 0) ∷ f.stack)) (same_Some _ after parts.1)
-      (record { in_locals = locals_lost (is_uninit item) s.locals f.locals h.in_locals; in_stack = (tt, h.in_stack) })
+      kinds_left o s f h _ _ _
+      (left.new_leaves LocalHasKind HasKind s after (sources_of f areas made) (kinds_before o s f h) (λ v. tt) item _ (ref (slice_index_or made 0 0)) row tt)
 
   made_leads : (index item : ℕ) (t : TypeRef) (class : Option ℕ)
       → cond ((t.dims == 0) && has_objects o.classes t.base && not (list_any (is_uninit item) s.stack))
