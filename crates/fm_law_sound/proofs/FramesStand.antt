@@ -5,7 +5,7 @@ use Rattle.std.specs.List.{AllByRecursion}
 use Rattle.std.proofs.lemmas.Bool.{and_parts, cases_eq, false≢true}
 use Rattle.std.proofs.lemmas.Bool.Decides.{nat_tests}
 use Rattle.std.proofs.lemmas.Option.{same_Some}
-use Rattle.fm_base.proofs.OptionFacts.{IsSomeAnd-at_some, IsSomeAnd-from_some, Some-from_some_and}
+use Rattle.fm_base.proofs.OptionFacts.{IsSomeAnd-at_some, IsSomeAnd-from_some, option_and_then-some, Some-from_some_and}
 use Rattle.fm_base.specs.declared.kinds.TypeRef.{TypeRef}
 use Rattle.fm_code.proofs.EdgesLemmas.{insn_inside}
 use Rattle.fm_code.specs.Edges.{falls_through, insn_of, IsNormalEdge, IsReachable, LeadsTo}
@@ -68,6 +68,33 @@ pub typing_of : (p : Program) (typings : Typings) → AreTyped p typings → (me
     → IsTypingOf p method code (typings method)
 typing_of p typings typed method code is =
     IsSomeAnd-at_some (code_at p method) (λ other. IsTypingOf p method other (typings method)) code is (typed method code is)
+
+-- an item that meets its row: the instruction that is there, and the state after it
+pub record MetRow (p : Program) (f : Frame) (code : Code) (known : TypeState) : Type 0 where
+  pub insn : Insn
+  pub after : TypeState
+  pub insn_is : insn_of code f.item ≡ Some insn
+  pub row : row_after p.outline f.method f.item (made_at p f.method code) (use_by p f.method insn) insn known ≡ Some after
+
+pub met_row : (p : Program) (typings : Typings) (f : Frame) (code : Code) (known : TypeState) → MeetsItem p f.method code (typings f.method) f.item known
+    → MetRow p f code known
+met_row p typings f code known meets =
+    let found = Some-from_some_and (after_item p f.method code f.item known)
+    (λ given. (next : ℕ) → IsNormalEdge code f.item next → FitsAt p (typings f.method) next given) meets.row in
+    let parts = option_and_then-some
+    (λ other. row_after p.outline f.method f.item (made_at p f.method code) (use_by p f.method other) other known) (insn_of code f.item) found.0 found.1 in
+    record { insn = parts.0; after = found.0; insn_is = parts.1; row = parts.2 }
+
+-- the same where the instruction is known
+pub met_row_of : (p : Program) (typings : Typings) (f : Frame) (code : Code) (known : TypeState) → MeetsItem p f.method code (typings f.method) f.item known
+    → (i : Insn) → insn_of code f.item ≡ Some i
+    → (after : TypeState) × (row_after p.outline f.method f.item (made_at p f.method code) (use_by p f.method i) i known ≡ Some after)
+met_row_of p typings f code known meets i is =
+    let met = met_row p typings f code known meets in (
+      met.after,
+      subst (λ j. row_after p.outline f.method f.item (made_at p f.method code) (use_by p f.method j) j known ≡ Some met.after)
+          (same_Some met.insn i (sym met.insn_is ∙ is)) met.row,
+    )
 
 -- what is brought to an item with its kinds has what the checker knows there
 pub fits_stands : (p : Program) (typings : Typings) → AreTyped p typings → (method : ℕ) (code : Code) → code_at p method ≡ Some code

@@ -1,12 +1,11 @@
 -- The actions of each step of a sound state fit.
 use Rattle.std.proofs.Common.{◌≡◌, ℕ, Bool, true, false, List, [], ◌∷◌, Option, Some, option_and_then, refl, sym, ◌∙◌, ap, subst, slice_get}
-use Rattle.fm_base.proofs.OptionFacts.{option_and_then-some, Some-from_some_and}
-use Rattle.fm_code.specs.Edges.{insn_of, IsNormalEdge}
+use Rattle.fm_code.specs.Edges.{insn_of}
 use Rattle.fm_code.specs.declared.code_array.Code.{Code}
 use Rattle.fm_code.specs.declared.instructions.Insn.{Insn}
 use Rattle.fm_types.specs.Rows.{row_after}
 use Rattle.fm_types.specs.States.{TypeState}
-use Rattle.fm_types.specs.Typed.{after_item, FitsAt, IsTypingOf, made_at, MeetsItem, use_by}
+use Rattle.fm_types.specs.Typed.{IsTypingOf, made_at, MeetsItem, use_by}
 use Rattle.fm_world.specs.Programs.{Outline, Program}
 use Rattle.fm_frames.specs.Effects.{Calls, Effect, faulty, going, stuck}
 use Rattle.fm_frames.specs.Rows.{effect_of}
@@ -23,7 +22,7 @@ use Rattle.fm_law_sound.specs.Resolved.{IsNamed, StepsAreResolved}
 use Rattle.fm_law_sound.specs.Sound.{FrameHasKinds, IsSoundBy, StandsWithout, Typings}
 use Rattle.fm_law_sound.proofs.BuiltInActs.{built_ins_fit}
 use Rattle.fm_law_sound.proofs.CallCases.{by_call, HoldsOfCalls}
-use Rattle.fm_law_sound.proofs.FramesStand.{typing_of}
+use Rattle.fm_law_sound.proofs.FramesStand.{met_row, typing_of}
 use Rattle.fm_law_sound.proofs.HiddenFields.{text_first}
 use Rattle.fm_law_sound.proofs.InsnActs.{Fits, insn_fits}
 use Rattle.fm_law_sound.proofs.MadeObjects.{change_thrown, null_thrown}
@@ -110,18 +109,9 @@ module _ (p : Program) (typings : Typings) (ready : StepsAreResolved p) (made : 
           (sym (ap (effect_by p x f) found_insn))
           (λ few within. before_fits p made.makeable made.constants z.areas.store f z.areas.started own (own_fits (is_call i) refl).fits (few within))
 
-    found_row : (after : TypeState) × (after_item p f.method stands.code f.item stands.known ≡ Some after)
-    found_row =
-        let found = Some-from_some_and (after_item p f.method stands.code f.item stands.known)
-        (λ given. (next : ℕ) → IsNormalEdge stands.code f.item next → FitsAt p (typings f.method) next given) meets.row in
-        (found.0, found.1)
-
     frame_acts_fit : MakesFew p x → is_over o z.areas (next_effect p x).actions ≡ false → ActsFit o z.areas.store f [] (next_effect p x).actions
     frame_acts_fit =
-        let parts = option_and_then-some
-        (λ other. row_after o f.method f.item (made_at p f.method stands.code) (use_by p f.method other) other stands.known)
-        (insn_of stands.code f.item) found_row.0 found_row.1 in
-        acts_fit parts.0 found_row.0 parts.1 parts.2
+        let met = met_row p typings f stands.code stands.known meets in acts_fit met.insn met.after met.insn_is met.row
 
 pub next_acts_fit : (p : Program) (typings : Typings) → StepsAreResolved p → MakesAreResolved p → (x : State) → IsSoundBy p typings x → MakesFew p x
     → NextActsFit p x

@@ -2,9 +2,8 @@
 use Rattle.std.proofs.Common.{◌≡◌, ℕ, ◌+◌, Bool, true, false, cond, List, ◌∷◌, ◌++◌, drop, take, Option, Some, option_and_then, option_to_list, refl, sym, ◌∙◌, ap, subst, ⊎_elim}
 use Rattle.std.specs.List.{AllByRecursion}
 use Rattle.std.proofs.lemmas.Bool.{false≢true}
-use Rattle.fm_base.proofs.OptionFacts.{Some-from_some_and}
 use Rattle.fm_base.specs.declared.kinds.TypeRef.{TypeRef}
-use Rattle.fm_code.specs.Edges.{falls_through, insn_of, IsNormalEdge}
+use Rattle.fm_code.specs.Edges.{falls_through, insn_of}
 use Rattle.fm_code.specs.SpellsCode.{targets_of}
 use Rattle.fm_code.specs.declared.code_array.Code.{Code}
 use Rattle.fm_code.specs.declared.instructions.Insn.{Insn}
@@ -13,7 +12,7 @@ use Rattle.fm_types.specs.Fits.{AreTree}
 use Rattle.fm_types.specs.Named.{class_of_method, result_words}
 use Rattle.fm_types.specs.Rows.{row_after}
 use Rattle.fm_types.specs.States.{is_uninit, is_uninit_this, stack_slots, TypeState}
-use Rattle.fm_types.specs.Typed.{after_item, FitsAt, IsTypingOf, made_at, use_by}
+use Rattle.fm_types.specs.Typed.{IsTypingOf, made_at, use_by}
 use Rattle.fm_types.specs.declared.slots.Slot.TheVariants as slot
 use Rattle.fm_world.specs.Descriptors.{result_kind}
 use Rattle.fm_world.specs.Numbers.{type_of_class}
@@ -25,7 +24,7 @@ use Rattle.fm_frames.specs.declared.values.Value.{Value}
 use Rattle.fm_law_sound.specs.Going.{ConstructorsGiveNothing, StandsAtRow}
 use Rattle.fm_law_sound.specs.Sound.{AreTyped, Calling, FrameHasKinds, HasKind, HaveKinds, LocalHasKind, LocalsHaveKinds, Stand, StandBelow, Starting, Typings, words_of_call}
 use Rattle.fm_law_sound.proofs.CallsLeft.{call_left, IsMarked, method_in}
-use Rattle.fm_law_sound.proofs.FramesStand.{after_whole, below_same, edge_fits, fits_stands, next_edge, typing_of}
+use Rattle.fm_law_sound.proofs.FramesStand.{after_whole, below_same, edge_fits, fits_stands, met_row_of, next_edge, typing_of}
 
 -- ---- objects that are initialised
 
@@ -85,25 +84,21 @@ module _ (p : Program) (typings : Typings) (tree : AreTree p.outline.classes) (t
       sym (ap (λ o. option_and_then (λ (c : Code). insn_of c g.item) o) call.stands.code_is) ∙ call.at in
       let typing : IsTypingOf p g.method code (typings g.method) = typing_of p typings typed g.method code call.stands.code_is in
       let meets = typing.items g.item call.stands.known call.stands.at in
-      let found = Some-from_some_and (after_item p g.method code g.item call.stands.known)
-      (λ given. (next : ℕ) → IsNormalEdge code g.item next → FitsAt p (typings g.method) next given) meets.row in
-      let row : row_after p.outline g.method g.item (made_at p g.method code) (use_by p g.method call.called) call.called call.stands.known ≡ Some found.0 =
-      sym (ap (λ o. option_and_then
-      (λ other. row_after p.outline g.method g.item (made_at p g.method code) (use_by p g.method other) other call.stands.known) o) insn_is) ∙ found.1 in
+      let found = met_row_of p typings g code call.stands.known meets call.called insn_is in
       let at_row : StandsAtRow p typings g call.called found.0 = record {
         code = code;
         code_is = call.stands.code_is;
         insn_is = insn_is;
         known = call.stands.known;
         at = call.stands.at;
-        row = row;
+        row = found.1;
         targets = call_targets p.outline call.called call.named call.words _ call.takes;
       } in
       let named_result : HaveKinds (result_words p.outline call.named) result =
       subst (λ d. HaveKinds (stack_slots (option_to_list (result_kind p.outline.classes d))) result) call.same_descriptor has in
       let kinds : FrameHasKinds found.0 g.locals (result ++ g.stack) =
       call_kinds p.outline nothing_given call.stands.known call.named g.locals g.stack result call.stands.locals named_result call.called g.method g.item
-      call.words (made_at p g.method code) (use_by p g.method call.called) found.0 call.takes call.names call.stands.stack row in
+      call.words (made_at p g.method code) (use_by p g.method call.called) found.0 call.takes call.names call.stands.stack found.1 in
       let falls : falls_through call.called ≡ true = call_falls p.outline call.called call.named call.words call.takes in (
         fits_stands p typings typed g.method code call.stands.code_is (g.item + 1) found.0 (after_whole p typings tree typed g call.called found.0 at_row)
             (edge_fits p typings tree typed g call.called found.0 at_row (g.item + 1) (next_edge p typings tree typed g call.called found.0 at_row falls))

@@ -3,16 +3,15 @@ use Rattle.std.proofs.Common.{◌≡◌, ℕ, ◌+◌, ◌<◌, ◌≤◌, cond,
 use Rattle.std.specs.List.{AllByRecursion}
 use Rattle.std.proofs.lemmas.Bool.Decides.{nat_tests}
 use Rattle.std.proofs.lemmas.List.{length-append, length-map}
-use Rattle.fm_base.proofs.OptionFacts.{option_and_then-some, Some-from_some_and}
 use Rattle.fm_base.specs.declared.kinds.TypeRef.{TypeRef}
 use Rattle.fm_cells.proofs.Choices.{lawful_choice-may}
 use Rattle.fm_cells.specs.Choices.{lawful}
-use Rattle.fm_code.specs.Edges.{insn_of, IsNormalEdge}
+use Rattle.fm_code.specs.Edges.{insn_of}
 use Rattle.fm_code.specs.declared.code_array.Code.{Code}
 use Rattle.fm_code.specs.declared.instructions.Insn.{Insn}
 use Rattle.fm_types.specs.Rows.{row_after}
 use Rattle.fm_types.specs.States.{TypeState}
-use Rattle.fm_types.specs.Typed.{after_item, FitsAt, IsTypingOf, made_at, MeetsItem, use_by}
+use Rattle.fm_types.specs.Typed.{IsTypingOf, made_at, MeetsItem, use_by}
 use Rattle.fm_world.specs.Programs.{Outline, Program}
 use Rattle.fm_types.specs.Named.{result_words}
 use Rattle.fm_frames.specs.Acts.{Choose, Did, FullAt, LostAt, performed, Performed, value_of}
@@ -35,7 +34,7 @@ use Rattle.fm_law_sound.proofs.ActsKeep.{actions_keep}
 use Rattle.fm_law_sound.proofs.CallsLead.{calls_lead}
 use Rattle.fm_law_sound.proofs.CallsStand.{called_stand, started_stand}
 use Rattle.fm_law_sound.proofs.ClassStarts.{starts_are_methods}
-use Rattle.fm_law_sound.proofs.FramesStand.{caught_stand, going_stand, typing_of}
+use Rattle.fm_law_sound.proofs.FramesStand.{caught_stand, going_stand, met_row, typing_of}
 use Rattle.fm_law_sound.proofs.ReturnsStand.{returned_stand}
 use Rattle.fm_law_sound.proofs.Rows.{effect_leads}
 use Rattle.fm_law_sound.proofs.StartActs.{after_methods, for_class}
@@ -274,19 +273,10 @@ module _ (p : Program) (typings : Typings) (ready : StepsAreResolved p) (choose 
           (actions_keep p.outline ready.calls.runnable.sizes (lawful choose) (λ s request. lawful_choice-may s request (choose s request)) f z.areas
           (next_effect p x).actions sound.areas (fit within))))
 
-    found_row : (after : TypeState) × (after_item p f.method stands.code f.item stands.known ≡ Some after)
-    found_row =
-        let found = Some-from_some_and (after_item p f.method stands.code f.item stands.known)
-        (λ given. (next : ℕ) → IsNormalEdge stands.code f.item next → FitsAt p (typings f.method) next given) meets.row in
-        (found.0, found.1)
-
     frame_sound : (is_over p.outline z.areas (next_effect p x).actions ≡ false → ActsFit p.outline z.areas.store f [] (next_effect p x).actions)
         → IsSoundBy p typings (attempted p (lawful choose) x (next_effect p x)).state
     frame_sound fit =
-        let parts = option_and_then-some
-        (λ other. row_after p.outline f.method f.item (made_at p f.method stands.code) (use_by p f.method other) other stands.known)
-        (insn_of stands.code f.item) found_row.0 found_row.1 in
-        attempt_sound parts.0 found_row.0 parts.1 parts.2 fit
+        let met = met_row p typings f stands.code stands.known meets in attempt_sound met.insn met.after met.insn_is met.row fit
 
 by_frames : (p : Program) (typings : Typings) → StepsAreResolved p → (choose : Choose) (z : State) (frames : List Frame)
     → IsSoundBy p typings (record z { frames = frames }) → z.ended ≡ None
