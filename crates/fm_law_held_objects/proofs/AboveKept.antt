@@ -15,6 +15,7 @@ use Rattle.fm_frames.specs.Steps.{next_effect, step}
 use Rattle.fm_frames.specs.declared.values.Value.{Value}
 use Rattle.fm_types.specs.declared.slots.Slot.{Slot}
 use Rattle.fm_types.specs.declared.slots.Slot.TheVariants as slot
+use Rattle.fm_types.proofs.Zips.{zip-implied}
 use Rattle.fm_law_held_objects.proofs.FramesUnder.{AllUnder, AreLeft, next_left, under_both, under_waiting}
 use Rattle.fm_law_held_objects.specs.Above.{AreForNoneAbove, AreSomeOf, FewerAreForNoneAbove, StepsKeepForNoneAbove}
 use Rattle.fm_law_held_objects.specs.Clean.{IsClean}
@@ -24,7 +25,6 @@ use Rattle.fm_law_holders.proofs.StepsWent.{step_went}
 use Rattle.fm_law_holders.specs.NewResults.{KeepsObjects}
 use Rattle.fm_law_holders.specs.Uninitialised.{AreMade, AreMadeIn, FrameIsMade, Made, ValueIsMade}
 use Rattle.fm_law_no_fault.proofs.ReturnsKeep.{zip_both}
-use Rattle.fm_law_no_fault.proofs.StoresKeep.{zip_each}
 use Rattle.fm_law_sound.proofs.Following.{followed}
 use Rattle.fm_law_sound.specs.Leading.{sources_of}
 use Rattle.fm_law_sound.specs.Sound.{IsSoundBy, Stand as SoundlyStand, Typings}
@@ -58,8 +58,8 @@ module _ (typings : Typings) (store : Store) (made : Made) (birth : ℕ) where
   frame_before since f h known at =
       let is : AreMadeIn store made known f = h known at in
       record {
-        in_locals = zip_each (ValueIsMade store made) (IsNotFor store birth) (value_before since) _ _ is.in_locals;
-        in_stack = zip_each (ValueIsMade store made) (IsNotFor store birth) (value_before since) _ _ is.in_stack;
+        in_locals = zip-implied (ValueIsMade store made) (IsNotFor store birth) (value_before since) _ _ is.in_locals;
+        in_stack = zip-implied (ValueIsMade store made) (IsNotFor store birth) (value_before since) _ _ is.in_stack;
       }
 
   module _ (later : Store) (kept : KeepsObjects store later) where

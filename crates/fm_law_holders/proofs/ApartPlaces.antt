@@ -7,10 +7,10 @@ use Rattle.fm_types.proofs.StateOrder.{Fitting}
 use Rattle.fm_types.specs.Fits.{fits}
 use Rattle.fm_types.specs.declared.slots.Slot.{Slot}
 use Rattle.fm_types.specs.declared.slots.Slot.TheVariants as slot
+use Rattle.fm_types.proofs.Zips.{zip-append}
 use Rattle.fm_world.specs.Programs.{Outline}
 use Rattle.fm_frames.specs.Acts.{cell_of}
 use Rattle.fm_frames.specs.declared.values.Value.{Value}
-use Rattle.fm_law_no_fault.proofs.FramesKeep.{zip_appended}
 use Rattle.fm_law_no_fault.proofs.SlotsFit.{zip_along}
 use Rattle.fm_law_holders.proofs.SiteStates.{Stays}
 
@@ -119,4 +119,4 @@ module _ (cell : ℕ) where
     pub words_elsewhere : (given rest before : List Slot) (top words : List Value) → AllByRecursion (λ s. (item : ℕ) → s ≢ slot.Uninit item) given
         → length given ≡ length top → AllZip (Stays IsOne) before rest → AllZip Holds before words → AllZip Elsewhere (given ++ rest) (top ++ words)
     words_elsewhere given rest before top words initialised level stays holds =
-        zip_appended Elsewhere given rest top words (all_given given top initialised level) (places_elsewhere before rest words stays holds)
+        zip-append Elsewhere given top rest words (all_given given top initialised level) (places_elsewhere before rest words stays holds)

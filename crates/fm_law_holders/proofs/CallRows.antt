@@ -7,6 +7,7 @@ use Rattle.fm_code.specs.declared.instructions.Insn.{Insn}
 use Rattle.fm_types.specs.Named.{result_words}
 use Rattle.fm_types.specs.States.{is_whole, TypeState}
 use Rattle.fm_types.specs.Typed.{made_at, use_by}
+use Rattle.fm_types.proofs.Zips.{zip-drop}
 use Rattle.fm_world.specs.Programs.{Program}
 use Rattle.fm_frames.specs.Acts.{value_of}
 use Rattle.fm_frames.specs.Effects.{Calls, Effect, Enters, Exits, Falls, Faults, Jumps, JumpsIfSame, Next, Returns, Throws}
@@ -26,7 +27,6 @@ use Rattle.fm_law_sound.specs.Sound.{AreasAreSound, FrameHasKinds, HasKind, Have
 use Rattle.fm_law_sound.proofs.BuiltInMethods.{plain}
 use Rattle.fm_law_sound.proofs.BuiltInRows.{native_leads}
 use Rattle.fm_law_sound.proofs.CallCases.{by_call, CallsRow}
-use Rattle.fm_law_no_fault.proofs.WaitingFrames.{zip_dropped}
 use Rattle.fm_law_holders.specs.Uninitialised.{Made}
 use Rattle.fm_law_holders.proofs.CallsLeave.{call_are}
 use Rattle.fm_law_holders.proofs.Leaving.{from, Goes, LeftBy, Row}
@@ -71,7 +71,7 @@ module _ (p : Program) (ready : CallsAreResolved p) (typings : Typings) (f : Fra
       ∙ length-map (result_words p.outline called.named) plain in
       let after_call : AreAt store made after f.locals (result ++ drop count f.stack) =
       call_are p.outline store made f.method (made_at p f.method h.code) ready.constructors h.known called.named f.locals (drop count f.stack) result
-      are.in_locals long i f.item count (use_by p f.method i) after called.takes called.names (zip_dropped (Is store made) count h.known.stack f.stack are.in_stack) h.row in
+      are.in_locals long i f.item count (use_by p f.method i) after called.takes called.names (zip-drop (Is store made) count h.known.stack f.stack are.in_stack) h.row in
       subst (λ ws. AreAt store made after (written (from row_at) ws f.locals) (stack_after (from row_at) e f.stack)) (sym leads.1)
       (subst (λ k. AreAt store made after f.locals (result ++ drop k f.stack)) (sym leads.0) after_call)
   native_goes row called e (Throws s) leads = tt

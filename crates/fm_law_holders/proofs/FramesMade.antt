@@ -21,6 +21,7 @@ use Rattle.fm_types.specs.Rows.{row_after}
 use Rattle.fm_types.specs.States.{local_slots, state_fits, TypeState}
 use Rattle.fm_types.specs.Typed.{after_item, caught_type, entry_slots, entry_state, FitsAt, FitsHandler, handler_state, IsTypingOf, made_at, state_at, use_by}
 use Rattle.fm_types.specs.declared.slots.Slot.TheVariants as slot
+use Rattle.fm_types.proofs.Zips.{zip-drop}
 use Rattle.fm_world.specs.Members.{method_at}
 use Rattle.fm_world.specs.Numbers.{type_of_class}
 use Rattle.fm_world.specs.Programs.{code_at, Outline, Program}
@@ -33,7 +34,7 @@ use Rattle.fm_law_sound.proofs.FramesStand.{not_left, typing_of}
 use Rattle.fm_law_sound.proofs.Opening.{all_flat}
 use Rattle.fm_same.proofs.EdgesKeep.{handler_edge}
 use Rattle.fm_law_no_fault.specs.Whole.{lowest}
-use Rattle.fm_law_no_fault.proofs.WaitingFrames.{lowest_all, lowest_drop, zip_dropped}
+use Rattle.fm_law_no_fault.proofs.WaitingFrames.{lowest_all, lowest_drop}
 use Rattle.fm_law_holders.specs.Uninitialised.{AreMadeIn, FrameIsMade, Made, ValueIsMade}
 use Rattle.fm_law_holders.proofs.Slots.{Are, are_along, AreAt, IsOther, others_are}
 
@@ -106,7 +107,7 @@ module _ (p : Program) (typings : Typings) (typed : AreTyped p typings) (store :
       let same : stands.known ≡ known = same_Some stands.known known (sym stands.at ∙ at) in
       let there : AreAt store made known f.locals f.stack = subst (λ s. AreAt store made s f.locals f.stack) same (full_stack f stands h) in
       let left : Are store made (drop words known.stack) (drop words f.stack) =
-      zip_dropped (ValueIsMade store made) words known.stack f.stack there.in_stack in
+      zip-drop (ValueIsMade store made) words known.stack f.stack there.in_stack in
       let long : length (drop words f.stack) ≡ length (drop words known.stack) =
       AllZip-long (ValueIsMade store made) (drop words known.stack) (drop words f.stack) left in
       record {

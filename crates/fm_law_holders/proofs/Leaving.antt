@@ -7,6 +7,7 @@ use Rattle.fm_base.proofs.OptionFacts.{option_map-some}
 use Rattle.fm_cells.specs.Stores.{Store}
 use Rattle.fm_types.specs.States.{taken, TypeState, worked, worked_below}
 use Rattle.fm_types.specs.declared.slots.Slot.{Slot}
+use Rattle.fm_types.proofs.Zips.{zip-drop}
 use Rattle.fm_world.specs.Programs.{Outline}
 use Rattle.fm_code.specs.declared.instructions.Insn.{Insn}
 use Rattle.fm_frames.specs.Acts.{Sources, value_of}
@@ -18,7 +19,6 @@ use Rattle.fm_law_sound.specs.Leading.{LeadsAs, LeavesAs, sources_of}
 use Rattle.fm_law_sound.specs.Sound.{FrameHasKinds, HasKind, HaveKinds, static_slots}
 use Rattle.fm_law_sound.proofs.FramesLeft as left
 use Rattle.fm_law_sound.proofs.FramesLeft.{AreAs, taken_drop}
-use Rattle.fm_law_no_fault.proofs.WaitingFrames.{zip_dropped}
 use Rattle.fm_law_holders.specs.Uninitialised.{Made}
 use Rattle.fm_law_holders.proofs.Slots.{above_long, Are, AreAt, Is, IsOther, others_are}
 
@@ -88,7 +88,7 @@ module _ (r : Row) where
   -- ---- other slots in place of those on top
 
   rest_long : (n : ℕ) → length (drop n r.frame.stack) ≡ length (drop n r.before.stack)
-  rest_long n = AllZip-long HasKind (drop n r.before.stack) (drop n r.frame.stack) (zip_dropped HasKind n r.before.stack r.frame.stack r.kinds.in_stack)
+  rest_long n = AllZip-long HasKind (drop n r.before.stack) (drop n r.frame.stack) (zip-drop HasKind n r.before.stack r.frame.stack r.kinds.in_stack)
 
   above_rest : (given : List Slot) (n : ℕ) (e : Effect) → record r.before { stack = given ++ drop n r.before.stack } ≡ r.after
       → AllByRecursion IsOther given → e.takes ≡ n → e.writes ≡ [] → LeavesAs r.outline r.after r.frame e → Left e

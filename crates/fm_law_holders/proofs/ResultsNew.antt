@@ -21,6 +21,7 @@ use Rattle.fm_types.specs.States.{TypeState}
 use Rattle.fm_types.specs.Typed.{state_at, use_by}
 use Rattle.fm_types.specs.declared.slots.Slot.{Slot}
 use Rattle.fm_types.specs.declared.slots.Slot.TheVariants as slot
+use Rattle.fm_types.proofs.Zips.{zip-drop}
 use Rattle.fm_world.specs.Programs.{code_at, Program}
 use Rattle.fm_world.specs.declared.calls.Call.{Call}
 use Rattle.fm_frames.specs.Acts.{cell_of, Choose, Sources, value_of}
@@ -31,7 +32,7 @@ use Rattle.fm_frames.specs.States.{Areas, Frame, ref, State}
 use Rattle.fm_frames.specs.Steps.{is_start, next_effect, next_insn, step, written}
 use Rattle.fm_frames.specs.declared.values.Value.{Value}
 use Rattle.fm_frames.specs.declared.values.Value.TheVariants as value
-use Rattle.fm_law_no_fault.proofs.WaitingFrames.{lowest_all, zip_dropped}
+use Rattle.fm_law_no_fault.proofs.WaitingFrames.{lowest_all}
 use Rattle.fm_law_no_fault.specs.Whole.{lowest}
 use Rattle.fm_law_sound.specs.Leading.{is_call, sources_of}
 use Rattle.fm_law_sound.specs.Resolved.{StepsAreResolved}
@@ -322,7 +323,7 @@ module _ (p : Program) (facts : Facts) (exact : AreFacts p facts) (numbers : Hol
         (made_new yf colour made known f depth d.areas.store coloured.areas.orderly went_on.extends (slice_index_or d.made 0 0) (went_on.made 0))
         frames_are held.0
         (subst (λ ws. AllZip (Holding z.areas.store) (drop count known.stack) ws) (sym left)
-        (zip_dropped (Holding z.areas.store) count known.stack f.stack held.1))
+        (zip-drop (Holding z.areas.store) count known.stack f.stack held.1))
 
     built_result : (l : LeavesBuilt known here.after count)
         → GivesJust [] own_effect
@@ -347,7 +348,7 @@ module _ (p : Program) (facts : Facts) (exact : AreFacts p facts) (numbers : Hol
         (built_new yf colour made known f depth d.areas.store coloured.areas.orderly went_on.extends l.item (cell_of top.0) unbuilt top.2.0)
         (frames_are ∙ ap (λ ws. behind ws ∷ callers) (left ∙ words.1)) held.0
         (subst (λ ws. AllZip (Holding z.areas.store) (drop count known.stack) ws) words.1
-        (zip_dropped (Holding z.areas.store) count known.stack f.stack held.1))
+        (zip-drop (Holding z.areas.store) count known.stack f.stack held.1))
 
     covered : CoversTargets p facts f code i (sights p.outline z.areas.store f.stack)
     covered =

@@ -12,6 +12,7 @@ use Rattle.fm_types.specs.States.{is_whole, TypeState}
 use Rattle.fm_types.specs.Typed.{made_at, use_by}
 use Rattle.fm_types.specs.declared.slots.Slot.{Slot}
 use Rattle.fm_types.specs.declared.slots.Slot.TheVariants as slot
+use Rattle.fm_types.proofs.Zips.{zip-implied}
 use Rattle.fm_world.specs.Programs.{Outline, Program}
 use Rattle.fm_frames.specs.Acts.{Choose, Did, performed}
 use Rattle.fm_frames.specs.Effects.{Action, Calls, Effect, Enters, Exits, Falls, Faults, Jumps, JumpsIfSame, Make, Next, Returns, Throws}
@@ -30,7 +31,6 @@ use Rattle.fm_law_sound.proofs.FramesStand.{typing_of}
 use Rattle.fm_law_sound.proofs.Opening.{IsOfStart, start_made}
 use Rattle.fm_law_sound.proofs.Rows.{effect_leads}
 use Rattle.fm_law_sound.proofs.StartActs.{after_methods, for_class}
-use Rattle.fm_law_no_fault.proofs.StoresKeep.{zip_each}
 use Rattle.fm_law_holders.specs.Uninitialised.{AreMadeIn, FrameIsMade, IsMadeAt, Made, made_from, ValueIsMade}
 use Rattle.fm_law_holders.proofs.CallRows.{calls_go, row_at}
 use Rattle.fm_law_holders.proofs.FramesMade.{full_stack}
@@ -71,8 +71,8 @@ module _ (typings : Typings) (store later : Store) (more : Extends store later) 
   frame-later f h known at =
       let is : AreMadeIn store made known f = h known at in
       record {
-        in_locals = zip_each (ValueIsMade store made) (ValueIsMade later now) value-later _ _ is.in_locals;
-        in_stack = zip_each (ValueIsMade store made) (ValueIsMade later now) value-later _ _ is.in_stack;
+        in_locals = zip-implied (ValueIsMade store made) (ValueIsMade later now) value-later _ _ is.in_locals;
+        in_stack = zip-implied (ValueIsMade store made) (ValueIsMade later now) value-later _ _ is.in_stack;
       }
 
   pub frames-later : (frames : List Frame) → AllByRecursion (FrameIsMade typings store made) frames → AllByRecursion (FrameIsMade typings later now) frames

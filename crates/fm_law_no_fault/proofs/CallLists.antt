@@ -16,6 +16,7 @@ use Rattle.fm_types.specs.Fits.{fits}
 use Rattle.fm_types.specs.Named as typed
 use Rattle.fm_types.specs.States.{local_slots, taken, TypeState}
 use Rattle.fm_types.specs.declared.slots.Slot.{Slot}
+use Rattle.fm_types.proofs.Zips.{zip-append}
 use Rattle.fm_world.specs.Programs.{Outline}
 use Rattle.fm_world.specs.declared.uses.Use.{Use}
 use Rattle.fm_world.specs.declared.uses.Use.TheVariants as resolved
@@ -25,7 +26,6 @@ use Rattle.fm_frames.specs.States.{word_at}
 use Rattle.fm_frames.specs.Uses.{by_type, on_method}
 use Rattle.fm_frames.specs.declared.values.Value.{Value}
 use Rattle.fm_same.specs.Covering.{is_free_me}
-use Rattle.fm_law_no_fault.proofs.FramesKeep.{zip_appended}
 use Rattle.fm_law_no_fault.proofs.ReturnsKeep.{IsAnyones}
 
 -- ---- what an instruction names
@@ -65,7 +65,7 @@ zip_reversed P (x ∷ xs) [] h = absurd h
 zip_reversed P (x ∷ xs) (v ∷ words) h =
     subst (λ ys. AllZip P ys (reverse (v ∷ words))) (sym (reverse-append (x ∷ []) xs))
     (subst (λ ys. AllZip P (reverse xs ++ x ∷ []) ys) (sym (reverse-append (v ∷ []) words))
-    (zip_appended P (reverse xs) (x ∷ []) (reverse words) (v ∷ []) (zip_reversed P xs words h.1) (h.0, tt)))
+    (zip-append P (reverse xs) (reverse words) (x ∷ []) (v ∷ []) (zip_reversed P xs words h.1) (h.0, tt)))
 
 -- one more word is taken, which is there
 pub take_more : (n : ℕ) (words : List Value) (xs : List Slot) (s : Slot) → length xs ≡ length words → slice_get xs n ≡ Some s

@@ -18,6 +18,7 @@ use Rattle.fm_types.specs.States.{local_slots, stack_slots, taken, TypeState}
 use Rattle.fm_types.specs.Typed.{entry_slots, made_at, use_by}
 use Rattle.fm_types.specs.declared.slots.Slot.{Slot}
 use Rattle.fm_types.specs.declared.slots.Slot.TheVariants as slot
+use Rattle.fm_types.proofs.Zips.{zip-append}
 use Rattle.fm_world.specs.Descriptors.{parameter_kinds, result_kind}
 use Rattle.fm_world.specs.Lookups.{constructor_name}
 use Rattle.fm_world.specs.Members.{method_at}
@@ -50,7 +51,6 @@ use Rattle.fm_law_no_fault.specs.Whole.{AreasAreWhole, FrameIsWhole, HoldsA, is_
 use Rattle.fm_law_no_fault.proofs.CallLists.{at_end, either_count, free_alone, from_not, locals_anyones, take_more, zip_reversed}
 use Rattle.fm_law_no_fault.proofs.CellsLeave.{stack_left}
 use Rattle.fm_law_no_fault.proofs.FrameRows.{row_here}
-use Rattle.fm_law_no_fault.proofs.FramesKeep.{zip_appended}
 use Rattle.fm_law_no_fault.proofs.NativeRows.{HasOperands, native_whole, NativeNext, receiver_count, Receives}
 use Rattle.fm_law_no_fault.proofs.Owing.{Cell, CellsFit, NextSuits}
 use Rattle.fm_law_no_fault.proofs.ReturnsKeep.{call_cells, elsewhere}
@@ -181,8 +181,8 @@ module _ (i : Insn) (c : CallAt i) where
           → There (entry_slots o target) (reverse (take (suc n) c.frame.stack))
       with_receiver w instance =
           let one = receiver_there w (is_constructor o target) refl in
-          let both = zip_appended (Cell o c.areas.store (class_of_method o target) (made_at c.program target code)) _ (flat_map local_slots (parameters_of o target))
-          (word_at c.frame.stack n ∷ []) (reverse (take n c.frame.stack)) one arguments_there in
+          let both = zip-append (Cell o c.areas.store (class_of_method o target) (made_at c.program target code)) _ (word_at c.frame.stack n ∷ [])
+          (flat_map local_slots (parameters_of o target)) (reverse (take n c.frame.stack)) one arguments_there in
           let words : reverse (take (suc n) c.frame.stack) ≡ word_at c.frame.stack n ∷ reverse (take n c.frame.stack) =
           ap reverse (take_more n c.frame.stack r.before.stack w.slot_there long w.at) ∙ reverse-append (take n c.frame.stack) (word_at c.frame.stack n ∷ []) in
           subst (λ ws. There (entry_slots o target) ws) (sym words)

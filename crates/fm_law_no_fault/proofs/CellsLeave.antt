@@ -5,6 +5,7 @@ use Rattle.fm_base.specs.declared.kinds.TypeRef.{TypeRef}
 use Rattle.fm_cells.specs.Stores.{Store}
 use Rattle.fm_types.specs.States.{TypeState, worked, worked_below}
 use Rattle.fm_types.specs.declared.slots.Slot.{Slot}
+use Rattle.fm_types.proofs.Zips.{zip-implied, zip-drop}
 use Rattle.fm_world.specs.Programs.{Outline}
 use Rattle.fm_frames.specs.Acts.{cell_of, value_of}
 use Rattle.fm_frames.specs.Effects.{Effect, words}
@@ -17,23 +18,22 @@ use Rattle.fm_law_sound.proofs.FramesLeft.{AreAs}
 use Rattle.fm_law_no_fault.specs.Whole.{LocalFits, WordFits}
 use Rattle.fm_law_no_fault.proofs.ActsKeep.{types_after, Went}
 use Rattle.fm_law_no_fault.proofs.Owing.{Cell, CellsFit, CellsLeave, GivesCells}
-use Rattle.fm_law_no_fault.proofs.StoresKeep.{cell-later, zip_each}
-use Rattle.fm_law_no_fault.proofs.WaitingFrames.{zip_dropped}
+use Rattle.fm_law_no_fault.proofs.StoresKeep.{cell-later}
 
 -- ---- cells that stay
 
 pub cells-later : (o : Outline) (store later : Store) (own : ℕ) (news : ℕ → Option TypeRef) → Extends store later → (xs : List Slot) (words : List Value)
     → AllZip (Cell o store own news) xs words → AllZip (Cell o later own news) xs words
 cells-later o store later own news more xs words h =
-    zip_each (Cell o store own news) (Cell o later own news) (λ s v fits. cell-later o store later more own news s (cell_of v) fits) xs words h
+    zip-implied (Cell o store own news) (Cell o later own news) (λ s v fits. cell-later o store later more own news s (cell_of v) fits) xs words h
 
 pub stack_cells : (o : Outline) (store : Store) (own : ℕ) (news : ℕ → Option TypeRef) (xs : List Slot) (words : List Value)
     → AllZip (WordFits o store own news) xs words → AllZip (Cell o store own news) xs words
-stack_cells o store own news xs words h = zip_each (WordFits o store own news) (Cell o store own news) (λ s v fits. fits.cell) xs words h
+stack_cells o store own news xs words h = zip-implied (WordFits o store own news) (Cell o store own news) (λ s v fits. fits.cell) xs words h
 
 pub local_cells : (o : Outline) (store : Store) (own : ℕ) (news : ℕ → Option TypeRef) (xs : List Slot) (locals : List Value)
     → AllZip (LocalFits o store own news) xs locals → AllZip (Cell o store own news) xs locals
-local_cells o store own news xs locals h = zip_each (LocalFits o store own news) (Cell o store own news) (λ s v fits. fits.cell) xs locals h
+local_cells o store own news xs locals h = zip-implied (LocalFits o store own news) (Cell o store own news) (λ s v fits. fits.cell) xs locals h
 
 -- ---- states that rows give
 
@@ -45,7 +45,7 @@ module _ (o : Outline) (store : Store) (own : ℕ) (news : ℕ → Option TypeRe
   -- and the words below those that are taken
   pub stack_left : (y : Areas) → Extends store y.store → (n : ℕ) → AllZip (Cell o y.store own news) (drop n s.stack) (drop n f.stack)
   stack_left y more n =
-      zip_dropped (Cell o y.store own news) n s.stack f.stack
+      zip-drop (Cell o y.store own news) n s.stack f.stack
       (cells-later o store y.store own news more s.stack f.stack (stack_cells o store own news s.stack f.stack stack))
 
   -- the frame relates to the state by cells as it did before

@@ -15,6 +15,7 @@ use Rattle.fm_types.specs.States.{is_whole, state_fits, TypeState}
 use Rattle.fm_types.specs.Typed.{entry_slots, entry_state, FitsAt, IsTypingOf, made_at, MeetsItem, state_at}
 use Rattle.fm_types.specs.declared.slots.Slot.{Slot}
 use Rattle.fm_types.specs.declared.slots.Slot.TheVariants as slot
+use Rattle.fm_types.proofs.Zips.{zip-implied, zip-append}
 use Rattle.fm_world.specs.Programs.{code_at, Outline, Program}
 use Rattle.fm_frames.specs.Acts.{same_cell}
 use Rattle.fm_frames.specs.Effects.{Effect, Falls, Jumps, JumpsIfSame, Next}
@@ -31,7 +32,6 @@ use Rattle.fm_law_sound.proofs.FramesStand.{after_whole, edge_fits, next_edge, t
 use Rattle.fm_law_sound.proofs.KindLemmas.{as_local}
 use Rattle.fm_law_no_fault.specs.Whole.{FrameFits, FrameIsWhole, LocalFits, WordFits}
 use Rattle.fm_law_no_fault.proofs.SlotsFit.{frame_along}
-use Rattle.fm_law_no_fault.proofs.StoresKeep.{zip_each}
 
 -- what fits a state of an item fits it by whatever way the item's state and the method's code are
 -- given
@@ -96,13 +96,6 @@ going_whole p typings tree typed f callers i after h e going leads areas made fi
 
 -- ---- the first item of a method
 
-pub zip_appended : {A B : Type 0} (P : A → B → Type 0) (xs others : List A) (words more : List B) → AllZip P xs words → AllZip P others more
-    → AllZip P (xs ++ others) (words ++ more)
-zip_appended P [] others [] more h rest = rest
-zip_appended P [] others (v ∷ words) more h rest = absurd h
-zip_appended P (x ∷ xs) others [] more h rest = absurd h
-zip_appended P (x ∷ xs) others (v ∷ words) more h rest = (h.0, zip_appended P xs others words more h.1 rest)
-
 module _ (o : Outline) (store : Store) (own : ℕ) (news : ℕ → Option TypeRef) where
   as_local_fits : (s : Slot) (v : Value) → WordFits o store own news s v → LocalFits o store own news s v
   as_local_fits s v h = record { kind = as_local s v h.kind; cell = h.cell }
@@ -127,9 +120,9 @@ module _ (p : Program) (typings : Typings) (typed : AreTyped p typings) (store :
       ap (λ n. code.max_locals - n) count ∙ ap (λ m. m - length arguments) (sym max) in
       known_whole p typings store (new_frame p method arguments) code (entry_state p.outline method code) is typing.first
       (record {
-        in_locals = zip_appended (LocalFits p.outline store own news) slots (replicate (code.max_locals - length slots) slot.Top) arguments
+        in_locals = zip-append (LocalFits p.outline store own news) slots arguments (replicate (code.max_locals - length slots) slot.Top)
             (replicate (max_locals_of p method - length arguments) value.Top)
-            (zip_each (WordFits p.outline store own news) (LocalFits p.outline store own news) (as_local_fits p.outline store own news) slots arguments h)
+            (zip-implied (WordFits p.outline store own news) (LocalFits p.outline store own news) (as_local_fits p.outline store own news) slots arguments h)
             (subst (λ n. AllZip (LocalFits p.outline store own news) (replicate (code.max_locals - length slots) slot.Top) (replicate n value.Top)) rest
             (no_values p.outline store own news (code.max_locals - length slots)));
         in_stack = tt;

@@ -9,6 +9,7 @@ use Rattle.fm_types.specs.Named.{class_of_method}
 use Rattle.fm_types.specs.Typed.{entry_slots, entry_state, made_at}
 use Rattle.fm_types.specs.declared.slots.Slot.{Slot}
 use Rattle.fm_types.specs.declared.slots.Slot.TheVariants as slot
+use Rattle.fm_types.proofs.Zips.{zip-append}
 use Rattle.fm_world.specs.Programs.{Outline, Program}
 use Rattle.fm_frames.specs.Steps.{max_locals_of, new_frame}
 use Rattle.fm_frames.specs.declared.values.Value.{Value}
@@ -17,7 +18,6 @@ use Rattle.fm_law_sound.specs.Sound.{AreTyped, FrameHasKinds, StandsWithout, Typ
 use Rattle.fm_law_sound.proofs.CallsStand.{max_locals_in}
 use Rattle.fm_law_sound.proofs.FramesStand.{typing_of}
 use Rattle.fm_law_no_fault.specs.Whole.{FrameIsWhole}
-use Rattle.fm_law_no_fault.proofs.FramesKeep.{zip_appended}
 use Rattle.fm_law_no_fault.proofs.Owing.{ArgumentsSuit, Cell, CellsFit}
 use Rattle.fm_law_no_fault.proofs.ReturnsKeep.{fits_by}
 
@@ -43,7 +43,7 @@ new_frame_whole p typings typed store method arguments stands suit code known co
     let rest : code.max_locals - length slots ≡ max_locals_of p method - length arguments =
     ap (λ n. code.max_locals - n) count ∙ ap (λ m. m - length arguments) (sym max) in
     let cells : CellsFit p.outline store own news (entry_state p.outline method code) (new_frame p method arguments).locals [] = record {
-      in_locals = zip_appended (Cell p.outline store own news) slots (replicate (code.max_locals - length slots) slot.Top) arguments
+      in_locals = zip-append (Cell p.outline store own news) slots arguments (replicate (code.max_locals - length slots) slot.Top)
           (replicate (max_locals_of p method - length arguments) value.Top) given
           (subst (λ n. AllZip (Cell p.outline store own news) (replicate (code.max_locals - length slots) slot.Top) (replicate n value.Top)) rest
           (no_cells p.outline store own news (code.max_locals - length slots)));

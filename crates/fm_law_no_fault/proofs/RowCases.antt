@@ -12,6 +12,7 @@ use Rattle.fm_types.specs.Named.{built_in_type, class_of_method, throwable_type}
 use Rattle.fm_types.specs.States.{is_whole, taken, TypeState, worked}
 use Rattle.fm_types.specs.declared.slots.Slot.{Slot}
 use Rattle.fm_types.specs.declared.slots.Slot.TheVariants as slot
+use Rattle.fm_types.proofs.Zips.{zip-implied}
 use Rattle.fm_world.specs.Programs.{Outline, Program}
 use Rattle.fm_frames.specs.Acts.{cell_of}
 use Rattle.fm_frames.specs.Effects.{Effect, int_word, long_words, Source, words}
@@ -30,7 +31,6 @@ use Rattle.fm_law_no_fault.proofs.ActsKeep.{types_after}
 use Rattle.fm_law_no_fault.proofs.CellsLeave.{locals_left, pushed_cells, same_cells, stack_cells, stack_left, worked_cells}
 use Rattle.fm_law_no_fault.proofs.Owing.{Cell, CellsLeave, GivesCells, RowIsWhole}
 use Rattle.fm_law_no_fault.proofs.SlotsFit.{cell_along}
-use Rattle.fm_law_no_fault.proofs.StoresKeep.{zip_each}
 use Rattle.fm_law_no_fault.proofs.Wanted.{wanted_held, wanted_int, wanted_leads, wanted_long, wanted_object, wanted_reference}
 
 -- A row of the checker that is met, with the state before it and the one after it, and a frame that fits the state before, in areas that are whole.
@@ -150,8 +150,8 @@ module _ (r : Row) where
 
   pub kinds : FrameHasKinds r.before r.frame.locals r.frame.stack
   kinds = record {
-    in_locals = zip_each (LocalFits o r.areas.store r.own r.news) LocalHasKind (λ s v fits. fits.kind) r.before.locals r.frame.locals r.locals;
-    in_stack = zip_each (WordFits o r.areas.store r.own r.news) HasKind (λ s v fits. fits.kind) r.before.stack r.frame.stack r.stack;
+    in_locals = zip-implied (LocalFits o r.areas.store r.own r.news) LocalHasKind (λ s v fits. fits.kind) r.before.locals r.frame.locals r.locals;
+    in_stack = zip-implied (WordFits o r.areas.store r.own r.news) HasKind (λ s v fits. fits.kind) r.before.stack r.frame.stack r.stack;
   }
 
   -- what is seen of an operand is held, of the type that is seen

@@ -1,6 +1,6 @@
 -- What fits goes on fitting where objects stay in their cells; and what is seen of a reference that fits is null or an object that does.
-use Rattle.std.proofs.Common.{◌≡◌, ℕ, zero, suc, Bool, true, List, [], ◌∷◌, length, Option, Some, None, ◌∙◌, ap, refl, inl, inr}
-use Rattle.std.specs.List.{AllByRecursion, AllZip}
+use Rattle.std.proofs.Common.{◌≡◌, ℕ, zero, suc, Bool, true, List, [], ◌∷◌, length, Option, Some, None, ◌∙◌, ap, inl, inr}
+use Rattle.std.specs.List.{AllByRecursion}
 use Rattle.std.proofs.lemmas.Option.{none-some, same_Some}
 use Rattle.fm_base.specs.declared.kinds.TypeRef.{TypeRef}
 use Rattle.fm_cells.specs.Objects.{Object}
@@ -8,6 +8,7 @@ use Rattle.fm_cells.specs.Stores.{object_at, Store}
 use Rattle.fm_types.specs.States.{TypeState}
 use Rattle.fm_types.specs.declared.slots.Slot.{Slot}
 use Rattle.fm_types.specs.declared.slots.Slot.TheVariants as slot
+use Rattle.fm_types.proofs.Zips.{zip-implied}
 use Rattle.fm_world.specs.Programs.{Outline, Program}
 use Rattle.fm_frames.specs.Acts.{cell_of}
 use Rattle.fm_frames.specs.Sights.{sight, sight_of_cell, sight_of_object, type_numbered}
@@ -21,13 +22,6 @@ use Rattle.fm_law_no_fault.specs.Whole.{CellFits, FrameFits, FrameIsWhole, Holds
 use Rattle.fm_law_no_fault.specs.Seen.{SeesA}
 
 -- ---- one list against another
-
-pub zip_each : {A B : Type 0} (P Q : A → B → Type 0) → ((a : A) (v : B) → P a v → Q a v) → (xs : List A) (words : List B) → AllZip P xs words
-    → AllZip Q xs words
-zip_each P Q each [] [] h = tt
-zip_each P Q each [] (v ∷ words) h = absurd h
-zip_each P Q each (x ∷ xs) [] h = absurd h
-zip_each P Q each (x ∷ xs) (v ∷ words) h = (each x v h.0, zip_each P Q each xs words h.1)
 
 -- ---- where objects stay
 
@@ -59,9 +53,9 @@ module _ (o : Outline) (store later : Store) (more : Extends store later) where
   pub frame-later : (own : ℕ) (news : ℕ → Option TypeRef) (known : TypeState) (locals stack : List Value)
       → FrameFits o store own news known locals stack → FrameFits o later own news known locals stack
   frame-later own news known locals stack h = record {
-    in_locals = zip_each (LocalFits o store own news) (LocalFits o later own news) (local-later own news) known.locals locals h.in_locals;
+    in_locals = zip-implied (LocalFits o store own news) (LocalFits o later own news) (local-later own news) known.locals locals h.in_locals;
     in_stack =
-        zip_each (WordFits o store own news) (WordFits o later own news) (word-later own news) (lowest (length stack) known.stack) stack h.in_stack;
+        zip-implied (WordFits o store own news) (WordFits o later own news) (word-later own news) (lowest (length stack) known.stack) stack h.in_stack;
   }
 
 pub frames-later : (p : Program) (typings : Typings) (store later : Store) → Extends store later → (frames : List Frame)

@@ -8,6 +8,7 @@ use Rattle.fm_types.specs.Named.{class_of_method}
 use Rattle.fm_types.specs.States.{TypeState}
 use Rattle.fm_types.specs.Typed.{made_at}
 use Rattle.fm_types.specs.declared.slots.Slot.{Slot}
+use Rattle.fm_types.proofs.Zips.{zip-drop}
 use Rattle.fm_world.specs.Programs.{Program}
 use Rattle.fm_frames.specs.States.{Frame}
 use Rattle.fm_law_sound.specs.Sound.{HasKind, StandsWithout, Typings}
@@ -30,13 +31,6 @@ lowest_drop (suc n) (x ∷ xs) =
     let one_more : suc (length xs) - length (drop n xs) ≡ suc (length xs - length (drop n xs)) = omega (arith, less) in
     ap (λ k. drop k (x ∷ xs)) one_more ∙ lowest_drop n xs
 
-pub zip_dropped : {A B : Type 0} (P : A → B → Type 0) (n : ℕ) (xs : List A) (words : List B) → AllZip P xs words → AllZip P (drop n xs) (drop n words)
-zip_dropped P zero xs words h = h
-zip_dropped P (suc n) [] [] h = tt
-zip_dropped P (suc n) [] (v ∷ words) h = absurd h
-zip_dropped P (suc n) (x ∷ xs) [] h = absurd h
-zip_dropped P (suc n) (x ∷ xs) (v ∷ words) h = zip_dropped P n xs words h.1
-
 pub waiting_whole : (p : Program) (typings : Typings) (store : Store) (f : Frame) (words : ℕ) → StandsWithout p typings 0 f → FrameIsWhole p typings store f
     → FrameIsWhole p typings store (record f { stack = drop words f.stack })
 waiting_whole p typings store f words stands whole code known code_is at =
@@ -48,7 +42,7 @@ waiting_whole p typings store f words stands whole code known code_is at =
     ap (λ (s : TypeState). length s.stack) (sym same) ∙ sym (AllZip-long HasKind stands.known.stack f.stack stands.stack) in
     let in_stack : AllZip Fits known.stack f.stack =
     subst (λ xs. AllZip Fits xs f.stack) (lowest_all known.stack (length f.stack) level) fits.in_stack in
-    let left : AllZip Fits (drop words known.stack) (drop words f.stack) = zip_dropped Fits words known.stack f.stack in_stack in
+    let left : AllZip Fits (drop words known.stack) (drop words f.stack) = zip-drop Fits words known.stack f.stack in_stack in
     let count : length (drop words f.stack) ≡ length (drop words known.stack) = AllZip-long Fits (drop words known.stack) (drop words f.stack) left in
     record {
       in_locals = fits.in_locals;
