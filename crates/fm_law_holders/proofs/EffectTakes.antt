@@ -1,5 +1,5 @@
 -- How many words the effects of plain rows take where the frame goes on.
-use Rattle.std.proofs.Common.{ℕ, ℤ, ◌+◌, ◌||◌, not, int_lt, pos, unsigned_abs, Bool, true, false, List, [], codes, nat_lt, Option, Some, None, refl}
+use Rattle.std.proofs.Common.{ℕ, ℤ, int_lt, pos, unsigned_abs, Bool, true, false, List, [], codes, nat_lt, Option, Some, None, refl}
 use Rattle.std.specs.List.{list_any}
 use Rattle.fm_alu.specs.Operations.{result_of_op}
 use Rattle.fm_base.specs.declared.kinds.TypeRef.{TypeRef}
@@ -7,7 +7,6 @@ use Rattle.fm_code.specs.declared.operations.Elem.{Elem}
 use Rattle.fm_code.specs.declared.operations.Op.{Op}
 use Rattle.fm_code.specs.declared.operations.Shift.{Shift}
 use Rattle.fm_code.specs.declared.operations.Test.{Test}
-use Rattle.fm_types.specs.ArrayRows.{is_array_of}
 use Rattle.fm_world.specs.Chains.{is_sub}
 use Rattle.fm_world.specs.Programs.{Outline}
 use Rattle.fm_frames.specs.ArrayRows.{array_made, arrays_of, element_type, length_effect, on_element, put_element, put_reference, thrown_negative}
@@ -16,6 +15,7 @@ use Rattle.fm_frames.specs.JumpRows.{int_jump_effect, jumps_if, lookup_effect, n
 use Rattle.fm_frames.specs.NumberRows.{compare_effect, int_negate_effect, int_op_effect, int_shift_effect, long_negate_effect, long_op_effect, long_shift_effect}
 use Rattle.fm_frames.specs.Operands.{thrown}
 use Rattle.fm_frames.specs.Sights.{Looks, Sight}
+use Rattle.fm_law_sound.proofs.ArrayRows.{by_element}
 use Rattle.fm_law_sound.proofs.Cases.{by_held, by_if, by_int, by_long, by_passing, by_reference, by_thrown}
 use Rattle.fm_law_holders.proofs.Leaving.{Takes}
 
@@ -87,11 +87,7 @@ lookup_takes keys count sights = by_int (Takes 1) sights 0 _ tt (λ key. (refl, 
 
 pub element_takes : (n : ℕ) (o : Outline) (e : Elem) (sights : List Sight) (index : ℕ) (follows : Looks → ℕ → Effect)
     → ((it : Looks) (place : ℕ) → Takes n (follows it place)) → Takes n (on_element o e sights index follows)
-element_takes n o e sights index follows each =
-    by_passing (Takes n) o (λ it. is_array_of e it.type) sights (index + 1) _ tt tt tt
-    (λ it seen passes. by_int (Takes n) sights index _ tt
-    (λ i. by_if (Takes n) (int_lt i (pos 0) || not (int_lt i (pos it.len))) (thrown o (codes "java/lang/ArrayIndexOutOfBoundsException"))
-    (follows it (unsigned_abs i)) (λ outside. tt) (λ inside. each it (unsigned_abs i))))
+element_takes n o e sights index follows each = by_element (Takes n) o e sights index follows tt tt tt tt (λ it place passes. each it place)
 
 pub put_takes : (o : Outline) (sights : List Sight) (it : Looks) (place : ℕ) → Takes 3 (put_reference o sights it place)
 put_takes o sights it place =

@@ -26,7 +26,7 @@ use Rattle.fm_types.specs.Named.{field_words, object_slot, throwable_type}
 use Rattle.fm_types.specs.NumberRows.{constant_row, convert_row, increment_row, is_int, load_row, loaded, move_row, store_row}
 use Rattle.fm_types.specs.ObjectRows.{cast_row, get_field_row, get_static_row, is_a_row, new_row, put_field_row, put_static_row, takes_field}
 use Rattle.fm_types.specs.Rows.{row_after}
-use Rattle.fm_types.specs.States.{is_uninit, local_at, replaced, stack_slots, taken, TypeState, worked}
+use Rattle.fm_types.specs.States.{is_uninit, local_at, replaced, stack_slots, taken, worked}
 use Rattle.fm_types.specs.declared.slots.Slot.{Slot}
 use Rattle.fm_types.specs.declared.slots.Slot.TheVariants as slot
 use Rattle.fm_world.specs.Chains.{is_sub}
@@ -55,7 +55,7 @@ use Rattle.fm_law_sound.proofs.ObjectRows.{row_of_field, row_of_type}
 use Rattle.fm_law_holders.specs.Uninitialised.{IsMadeAt}
 use Rattle.fm_law_holders.proofs.EffectTakes.{arrays_take, compare_takes, element_takes, int_jump_takes, int_negate_takes, int_op_takes, int_shift_takes, length_takes, long_negate_takes, long_op_takes, long_shift_takes, lookup_takes, made_takes, null_jump_takes, pair_jump_takes, put_takes, table_takes}
 use Rattle.fm_law_holders.proofs.Leaving.{before_are, from, Goes, Leads, leaves_stack, Left, left_are, pushed_goes, Row, Takes, worked_below_goes, worked_goes}
-use Rattle.fm_law_holders.proofs.Slots.{Are, AreAt, Is, IsOther, other_is, replaced_are}
+use Rattle.fm_law_holders.proofs.Slots.{Are, Is, IsOther, other_is}
 
 -- ---- slots of which nothing is asked
 
@@ -190,12 +190,9 @@ module _ (r : Row) where
       ≡ Some r.after → NewIs (made_of o t class) → Goes r (made_of o t class)
   new_made t None b row new = tt
   new_made t (Some class) b row new =
-      let parts = cond-some_then b _ r.after row in
-      subst (λ (s : TypeState). AreAt r.store r.made s r.frame.locals (ref (slice_index_or r.cells 0 0) ∷ r.frame.stack)) (same_Some _ r.after parts.1)
-      (record {
-        in_locals = replaced_are r.store r.made (is_uninit r.frame.item) slot.Top tt r.before.locals r.frame.locals r.locals;
-        in_stack = (new t _ refl, r.stack);
-      })
+      left_are r _ _ _
+      (left.new_leaves (Is r.store r.made) (Is r.store r.made) r.before r.after (from r) (before_are r) (λ v. tt) r.frame.item b
+      (ref (slice_index_or r.cells 0 0)) row (new t _ refl))
 
   new_goes : (u : Use) → new_row o r.frame.item u r.before ≡ Some r.after → NewIs (new_effect o u) → Goes r (new_effect o u)
   unfolding new_row new_effect

@@ -1,5 +1,5 @@
 -- Lists of slots against lists of values: what isn't initialised was made at its item, and of other slots nothing is asked.
-use Rattle.std.proofs.Common.{◌≡◌, ◌&&◌, Bool, true, false, cond, List, [], ◌∷◌, ◌++◌, length, subst, arith}
+use Rattle.std.proofs.Common.{◌≡◌, ◌&&◌, true, List, [], ◌∷◌, ◌++◌, length, subst, arith}
 use Rattle.std.specs.List.{AllByRecursion, AllZip}
 use Rattle.std.proofs.lemmas.Bool.{and_parts, false≢true}
 use Rattle.std.proofs.lemmas.Bool.Decides.{nat_tests}
@@ -7,7 +7,7 @@ use Rattle.std.proofs.lemmas.List.{length-append}
 use Rattle.std.proofs.lemmas.Slice.Zip.{AllZip-long}
 use Rattle.fm_cells.specs.Stores.{Store}
 use Rattle.fm_types.specs.Fits.{fits}
-use Rattle.fm_types.specs.States.{all_fit, replaced, state_fits, TypeState}
+use Rattle.fm_types.specs.States.{all_fit, state_fits, TypeState}
 use Rattle.fm_types.specs.declared.slots.Slot.{Slot}
 use Rattle.fm_types.specs.declared.slots.Slot.TheVariants as slot
 use Rattle.fm_world.specs.Programs.{Outline}
@@ -76,19 +76,6 @@ module _ (store : Store) (made : Made) where
         in_locals = fitting_are o s.locals other.locals locals inner.0 h.in_locals;
         in_stack = fitting_are o s.stack other.stack stack inner.1 h.in_stack;
       }
-
-  -- ---- slots that are replaced
-
-  other_if : (b : Bool) (s other : Slot) (v : Value) → IsOther other → Is s v → Is (cond b other s) v
-  other_if true s other v is h = other_is other v is
-  other_if false s other v is h = h
-
-  pub replaced_are : (test : Slot → Bool) (other : Slot) → IsOther other → (xs : List Slot) (words : List Value) → Are xs words
-      → Are (replaced test other xs) words
-  replaced_are test other is [] [] h = tt
-  replaced_are test other is [] (v ∷ words) h = absurd h
-  replaced_are test other is (x ∷ xs) [] h = absurd h
-  replaced_are test other is (x ∷ xs) (v ∷ words) h = (other_if (test x) x other v is h.0, replaced_are test other is xs words h.1)
 
 -- ---- how many are on top
 

@@ -13,7 +13,7 @@ use Rattle.fm_base.specs.declared.kinds.Kind.{Kind}
 use Rattle.fm_base.specs.declared.kinds.Kind.TheVariants as kind
 use Rattle.fm_base.specs.declared.kinds.TypeRef.{TypeRef}
 use Rattle.fm_cells.specs.Objects.{Object}
-use Rattle.fm_cells.specs.Stores.{elements_at, Store}
+use Rattle.fm_cells.specs.Stores.{elements_at}
 use Rattle.fm_code.specs.declared.instructions.Insn.TheVariants as insn
 use Rattle.fm_types.specs.CallRows.{is_type}
 use Rattle.fm_types.specs.Fits.{fits, fits_type}
@@ -47,35 +47,20 @@ use Rattle.fm_law_sound.specs.Leading.{NamesField, sources_of}
 use Rattle.fm_law_sound.specs.Resolved.{IsNamed}
 use Rattle.fm_law_sound.specs.Sound.{field_slot, IsReference}
 use Rattle.fm_law_sound.proofs.Cases.{by_if}
+use Rattle.fm_law_sound.proofs.FramesLeft as left
 use Rattle.fm_law_sound.proofs.Leaving.{kind_slots}
 use Rattle.fm_law_sound.proofs.ObjectRows.{static_slot_at}
 use Rattle.fm_law_sound.proofs.SeenObjects.{IsSeen, seen_at}
 use Rattle.fm_law_no_fault.specs.Whole.{HoldsA, is_below, LeadsToA, ObjectIsWhole, WordFits}
 use Rattle.fm_law_no_fault.proofs.ActsKeep.{IsAn, Went}
 use Rattle.fm_law_no_fault.proofs.ActsSuits.{holds_weaker}
-use Rattle.fm_law_no_fault.proofs.CellsLeave.{Below, below_found, leaves_cells, worked_below_cells}
+use Rattle.fm_law_no_fault.proofs.CellsLeave.{Below, below_found, cells_before, cells_left, leaves_cells, worked_below_cells}
 use Rattle.fm_law_no_fault.proofs.Operands.{reference_kind}
-use Rattle.fm_law_no_fault.proofs.Owing.{Cell, CellsFit, Suits}
-use Rattle.fm_law_no_fault.proofs.RowCases.{asked_held, asked_object, int_given, Leaves, locals_later, null_cell, null_whole, pushed_leaves, Row, seen_holds, thrown_whole, Whole, words_later, worked_leaves}
+use Rattle.fm_law_no_fault.proofs.Owing.{Cell, Suits}
+use Rattle.fm_law_no_fault.proofs.RowCases.{asked_held, asked_object, int_given, Leaves, null_cell, null_whole, pushed_leaves, Row, seen_holds, thrown_whole, Whole, words_later, worked_leaves}
 use Rattle.fm_law_no_fault.proofs.SlotsFit.{cell_along}
 use Rattle.fm_law_no_fault.proofs.StoresKeep.{leads-later}
 use Rattle.fm_law_no_fault.proofs.Wanted.{slot_passing, wanted_leads, word_fits_at}
-
--- ---- locals that lose what they knew
-
-module _ (o : Outline) (store : Store) (own : ℕ) (news : ℕ → Option TypeRef) where
-  lost_if : (b : Bool) (s : Slot) (v : Value) → Cell o store own news s v → Cell o store own news (cond b slot.Top s) v
-  lost_if true s v h = tt
-  lost_if false s v h = h
-
-  locals_lost : (test : Slot → Bool) (xs : List Slot) (locals : List Value) → AllZip (Cell o store own news) xs locals
-      → AllZip (Cell o store own news) (replaced test slot.Top xs) locals
-  locals_lost test [] [] h = tt
-  locals_lost test [] (v ∷ locals) h = absurd h
-  locals_lost test (x ∷ xs) [] h = absurd h
-  locals_lost test (x ∷ xs) (v ∷ locals) h = (lost_if (test x) x v h.0, locals_lost test xs locals h.1)
-
--- ---- the words of a value of a kind: they have a cell where it is one of references
 
 -- ---- what an instruction names, where the checker's row is met
 
@@ -180,14 +165,12 @@ module _ (r : Row) where
 
   new_leaves : (class : ℕ) (t : TypeRef) → r.news r.frame.item ≡ Some t → (b : Bool) → new_if b ≡ Some r.after → Leaves r (made_of o t (Some class))
   new_leaves class t news b row y made went =
-      let parts = cond-some_then b _ r.after row in
       let is_it : HoldsA o y.store (λ u. is_type u (r.news r.frame.item)) (slice_index_or made 0 0) =
       made_is (t ∷ []) y made went 0 t (λ u. is_type u (r.news r.frame.item)) refl (ap (is_type t) news ∙ same_type-refl t) in
-      subst (λ (s : TypeState). CellsFit o y.store r.own r.news s r.frame.locals (ref (slice_index_or made 0 0) ∷ r.frame.stack)) (same_Some _ r.after parts.1)
-      (record {
-        in_locals = locals_lost o y.store r.own r.news (is_uninit r.frame.item) r.before.locals r.frame.locals (locals_later r y went.extends);
-        in_stack = (is_it, words_later r y went.extends);
-      })
+      cells_left o r.areas.store r.own r.news r.before r.frame r.locals r.stack y _ _ _
+      (left.new_leaves (Cell o y.store r.own r.news) (Cell o y.store r.own r.news) r.before r.after (sources_of r.frame y made)
+      (cells_before o r.areas.store r.own r.news r.before r.frame r.locals r.stack y went.extends) (λ v. tt) r.frame.item b
+      (ref (slice_index_or made 0 0)) row is_it)
 
   -- a type of which `new` makes objects is a class
   class_there : (dims : ℕ) (b : Base) → (dims == 0) ≡ true → has_objects o.classes b ≡ true
