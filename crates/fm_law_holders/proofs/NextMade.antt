@@ -3,16 +3,14 @@ use Rattle.std.proofs.Common.{◌≡◌, ℕ, ◌+◌, ◌<◌, not, Bool, true,
 use Rattle.std.specs.List.{AllByRecursion}
 use Rattle.std.proofs.lemmas.Bool.{false≢true}
 use Rattle.std.proofs.lemmas.Slice.Zip.{AllZip-long}
-use Rattle.fm_base.proofs.OptionFacts.{Some-from_some_and}
 use Rattle.fm_cells.specs.Stores.{Store}
 use Rattle.fm_code.specs.Edges.{falls_through, insn_of, IsNormalEdge}
 use Rattle.fm_code.specs.SpellsCode.{targets_of}
 use Rattle.fm_code.specs.declared.code_array.Code.{Code}
 use Rattle.fm_code.specs.declared.instructions.Insn.{Insn}
 use Rattle.fm_types.specs.Named.{result_words}
-use Rattle.fm_types.specs.Rows.{row_after}
 use Rattle.fm_types.specs.States.{stack_slots, TypeState}
-use Rattle.fm_types.specs.Typed.{after_item, FitsAt, made_at, use_by}
+use Rattle.fm_types.specs.Typed.{made_at, use_by}
 use Rattle.fm_world.specs.Descriptors.{result_kind}
 use Rattle.fm_world.specs.Programs.{Program}
 use Rattle.fm_frames.specs.Acts.{same_cell, value_of}
@@ -25,7 +23,7 @@ use Rattle.fm_law_sound.specs.Going.{StandsAtRow}
 use Rattle.fm_law_sound.specs.Leading.{sources_of}
 use Rattle.fm_law_sound.specs.Resolved.{StepsAreResolved}
 use Rattle.fm_law_sound.specs.Sound.{AreTyped, Calling, HasKind, HaveKinds, Stand, StandBelow, Starting, StandsWithout, Typings}
-use Rattle.fm_law_sound.proofs.FramesStand.{edge_fits, next_edge, target_edge, typing_of}
+use Rattle.fm_law_sound.proofs.FramesStand.{edge_fits, met_row_of, next_edge, target_edge, typing_of}
 use Rattle.fm_law_sound.proofs.ReturnsStand.{call_falls}
 use Rattle.fm_law_holders.specs.Uninitialised.{FrameIsMade, Made}
 use Rattle.fm_law_holders.proofs.CallsLeave.{call_are}
@@ -77,18 +75,14 @@ module _ (p : Program) (typings : Typings) (typed : AreTyped p typings) (ready :
       let insn_is : insn_of code g.item ≡ Some call.called =
       sym (ap (λ o. option_and_then (λ (c : Code). insn_of c g.item) o) call.stands.code_is) ∙ call.at in
       let typing = typing_of p typings typed g.method code call.stands.code_is in
-      let found = Some-from_some_and (after_item p g.method code g.item known)
-      (λ given. (next : ℕ) → IsNormalEdge code g.item next → FitsAt p (typings g.method) next given) (typing.items g.item known call.stands.at).row in
-      let row : row_after p.outline g.method g.item (made_at p g.method code) (use_by p g.method call.called) call.called known ≡ Some found.0 =
-      sym (ap (λ o. option_and_then
-      (λ other. row_after p.outline g.method g.item (made_at p g.method code) (use_by p g.method other) other known) o) insn_is) ∙ found.1 in
+      let found = met_row_of p typings g code known (typing.items g.item known call.stands.at) call.called insn_is in
       let at_row : StandsAtRow p typings g call.called found.0 = record {
         code = code;
         code_is = call.stands.code_is;
         insn_is = insn_is;
         known = known;
         at = call.stands.at;
-        row = row;
+        row = found.1;
         targets = ready.targets g.method code g.item call.called call.stands.code_is insn_is;
       } in
       let named_long : length result ≡ length (result_words p.outline call.named) =
@@ -96,7 +90,7 @@ module _ (p : Program) (typings : Typings) (typed : AreTyped p typings) (ready :
       let there : AreAt store made found.0 g.locals (result ++ g.stack) =
       call_are p.outline store made g.method (made_at p g.method code) ready.calls.constructors known call.named g.locals g.stack result
       (is known call.stands.at).in_locals named_long call.called g.item call.words (use_by p g.method call.called) found.0 call.takes call.names
-      (words_left p typings typed store made g call.words call.stands is) row in
+      (words_left p typings typed store made g call.words call.stands is) found.1 in
       let falls : falls_through call.called ≡ true = call_falls p.outline call.called call.named call.words call.takes in
       brought_made p typings typed store made (record g { item = g.item + 1; stack = result ++ g.stack }) found.0
       (edge_fits p typings ready.tree typed g call.called found.0 at_row (g.item + 1) (next_edge p typings ready.tree typed g call.called found.0 at_row falls))

@@ -1,16 +1,15 @@
 -- A step of a whole state leads from frames that are as the states of their items have them to such frames.
 use Rattle.std.proofs.Common.{◌≡◌, ℕ, ◌+◌, cond, max, false, List, [], ◌∷◌, Option, Some, None, option_and_then, refl, sym, ◌∙◌, ap, subst, slice_get, arith}
 use Rattle.std.specs.List.{AllByRecursion}
-use Rattle.fm_base.proofs.OptionFacts.{option_and_then-some, Some-from_some_and}
 use Rattle.fm_cells.proofs.Choices.{lawful_choice-may}
 use Rattle.fm_cells.specs.Choices.{lawful}
-use Rattle.fm_code.specs.Edges.{insn_of, IsNormalEdge}
+use Rattle.fm_code.specs.Edges.{insn_of}
 use Rattle.fm_code.specs.declared.code_array.Code.{Code}
 use Rattle.fm_code.specs.declared.instructions.Insn.{Insn}
 use Rattle.fm_types.specs.Named.{class_of_method}
 use Rattle.fm_types.specs.Rows.{row_after}
 use Rattle.fm_types.specs.States.{TypeState}
-use Rattle.fm_types.specs.Typed.{after_item, FitsAt, made_at, MeetsItem, use_by}
+use Rattle.fm_types.specs.Typed.{made_at, MeetsItem, use_by}
 use Rattle.fm_world.specs.Programs.{Outline, Program}
 use Rattle.fm_frames.specs.Acts.{Choose, Did, FullAt, LostAt, performed, Performed}
 use Rattle.fm_frames.specs.Effects.{Action, Effect}
@@ -29,7 +28,7 @@ use Rattle.fm_law_sound.specs.Making.{MakesAreResolved, MakesFew}
 use Rattle.fm_law_sound.specs.Resolved.{StepsAreResolved}
 use Rattle.fm_law_sound.specs.Sound.{AreasAreSound, AreTyped, IsSoundBy, StandsWithout, Typings}
 use Rattle.fm_law_sound.proofs.Following.{continued_is, followed_areas}
-use Rattle.fm_law_sound.proofs.FramesStand.{typing_of}
+use Rattle.fm_law_sound.proofs.FramesStand.{met_row, typing_of}
 use Rattle.fm_law_sound.proofs.NextActs.{next_acts_fit}
 use Rattle.fm_law_sound.proofs.StepsSound.{moved_by, step_sound}
 use Rattle.fm_law_no_fault.specs.CellsResolved.{CellsAreResolved}
@@ -140,19 +139,10 @@ module _ (p : Program) (typings : Typings) (typed : AreTyped p typings) (steps :
           (acts_go o (lawful choose) (λ s request. lawful_choice-may s request (choose s request)) z.areas.store f.locals f.stack actions [] z.areas []
           (acts_lead p cells z.areas.store f actions [] (fit within) goes.owes.acts) (went_first o z.areas whole.areas)) sound))
 
-    found_row : (after : TypeState) × (after_item p f.method standing.code f.item standing.known ≡ Some after)
-    found_row =
-        let found = Some-from_some_and (after_item p f.method standing.code f.item standing.known)
-        (λ given. (next : ℕ) → IsNormalEdge standing.code f.item next → FitsAt p (typings f.method) next given) meets.row in
-        (found.0, found.1)
-
     pub frame_made : (is_over o z.areas (next_effect p x).actions ≡ false → ActsFit o z.areas.store f [] (next_effect p x).actions)
         → IsSoundBy p typings (attempted p (lawful choose) x (next_effect p x)).state → IsMade (attempted p (lawful choose) x (next_effect p x)).state
     frame_made fit =
-        let parts = option_and_then-some
-        (λ other. row_after o f.method f.item (made_at p f.method standing.code) (use_by p f.method other) other standing.known)
-        (insn_of standing.code f.item) found_row.0 found_row.1 in
-        attempt_made parts.0 found_row.0 parts.1 parts.2 fit
+        let met = met_row p typings f standing.code standing.known meets in attempt_made met.insn met.after met.insn_is met.row fit
 
 by_frames : (p : Program) (typings : Typings) (typed : AreTyped p typings) (steps : StepsAreResolved p) (cells : CellsAreResolved p)
     → NumbersAreConstants p.outline → CallsNoFreeMe p → (choose : Choose) (z : State) (frames : List Frame) (made : Made)

@@ -4,12 +4,11 @@ use Rattle.std.specs.List.{AllByRecursion, AllZip}
 use Rattle.std.proofs.lemmas.Bool.{false≢true}
 use Rattle.std.proofs.lemmas.Bool.Decides.{nat_tests}
 use Rattle.std.proofs.lemmas.Slice.Zip.{AllZip-long}
-use Rattle.fm_base.proofs.OptionFacts.{Some-from_some_and}
 use Rattle.fm_base.specs.declared.kinds.Kind.{Kind}
 use Rattle.fm_base.specs.declared.kinds.Kind.TheVariants as kind
 use Rattle.fm_base.specs.declared.kinds.TypeRef.{TypeRef}
 use Rattle.fm_cells.specs.Stores.{Store}
-use Rattle.fm_code.specs.Edges.{falls_through, insn_of, IsNormalEdge}
+use Rattle.fm_code.specs.Edges.{falls_through, insn_of}
 use Rattle.fm_code.specs.declared.code_array.Code.{Code}
 use Rattle.fm_code.specs.declared.instructions.Insn.{Insn}
 use Rattle.fm_types.specs.CallRows.{is_type}
@@ -17,7 +16,7 @@ use Rattle.fm_types.specs.Fits.{AreTree, fits_type}
 use Rattle.fm_types.specs.Named.{class_of_method, result_of, result_words}
 use Rattle.fm_types.specs.Rows.{row_after}
 use Rattle.fm_types.specs.States.{is_uninit, is_uninit_this, stack_slots, TypeState}
-use Rattle.fm_types.specs.Typed.{after_item, FitsAt, made_at, use_by}
+use Rattle.fm_types.specs.Typed.{made_at, use_by}
 use Rattle.fm_types.specs.declared.slots.Slot.{Slot}
 use Rattle.fm_types.specs.declared.slots.Slot.TheVariants as slot
 use Rattle.fm_types.proofs.LeastJoins.{same_type-eq}
@@ -33,7 +32,7 @@ use Rattle.fm_frames.specs.declared.values.Value.{Value}
 use Rattle.fm_law_sound.specs.Going.{ConstructorsGiveNothing, StandsAtRow}
 use Rattle.fm_law_sound.specs.Sound.{AreTyped, Calling, FrameHasKinds, HasKind, HaveKinds, LocalHasKind, StandBelow, Starting, Typings, words_of_call}
 use Rattle.fm_law_sound.proofs.CallsLeft.{call_left, IsMarked, method_in}
-use Rattle.fm_law_sound.proofs.FramesStand.{after_whole, edge_fits, next_edge, typing_of}
+use Rattle.fm_law_sound.proofs.FramesStand.{after_whole, edge_fits, met_row_of, next_edge, typing_of}
 use Rattle.fm_law_sound.proofs.ReturnsStand.{call_falls, call_kinds, call_targets}
 use Rattle.fm_law_no_fault.specs.Whole.{FrameFits, FrameIsWhole, is_below, LocalFits, lowest, WordFits}
 use Rattle.fm_law_no_fault.proofs.ActsSuits.{holds_weaker}
@@ -155,18 +154,14 @@ module _ (p : Program) (typings : Typings) (tree : AreTree p.outline.classes) (t
       sym (ap (λ o. option_and_then (λ (c : Code). insn_of c g.item) o) call.stands.code_is) ∙ call.at in
       let typing = typing_of p typings typed g.method code call.stands.code_is in
       let meets = typing.items g.item known call.stands.at in
-      let found = Some-from_some_and (after_item p g.method code g.item known)
-      (λ given. (next : ℕ) → IsNormalEdge code g.item next → FitsAt p (typings g.method) next given) meets.row in
-      let row : row_after p.outline g.method g.item (made_at p g.method code) (use_by p g.method call.called) call.called known ≡ Some found.0 =
-      sym (ap (λ o. option_and_then
-      (λ other. row_after p.outline g.method g.item (made_at p g.method code) (use_by p g.method other) other known) o) insn_is) ∙ found.1 in
+      let found = met_row_of p typings g code known meets call.called insn_is in
       let at_row : StandsAtRow p typings g call.called found.0 = record {
         code = code;
         code_is = call.stands.code_is;
         insn_is = insn_is;
         known = known;
         at = call.stands.at;
-        row = row;
+        row = found.1;
         targets = call_targets p.outline call.called call.named call.words _ call.takes;
       } in
       let fits_it : FrameFits p.outline store (class_of_method p.outline g.method) (made_at p g.method code) known g.locals g.stack =
@@ -179,11 +174,11 @@ module _ (p : Program) (typings : Typings) (tree : AreTree p.outline.classes) (t
       subst (λ d. AllZip (Cell p.outline store (class_of_method p.outline g.method) (made_at p g.method code)) (stack_slots (option_to_list (result_kind p.outline.classes d))) result) call.same_descriptor there in
       let after_kinds : FrameHasKinds found.0 g.locals (result ++ g.stack) =
       call_kinds p.outline nothing_given known call.named g.locals g.stack result call.stands.locals given_kinds call.called g.method g.item
-      call.words (made_at p g.method code) (use_by p g.method call.called) found.0 call.takes call.names call.stands.stack row in
+      call.words (made_at p g.method code) (use_by p g.method call.called) found.0 call.takes call.names call.stands.stack found.1 in
       let after_cells : CellsFit p.outline store (class_of_method p.outline g.method) (made_at p g.method code) found.0 g.locals (result ++ g.stack) =
       call_cells p.outline tree store (class_of_method p.outline g.method) (made_at p g.method code) nothing_given known call.named g.locals g.stack result
       (local_cells p.outline store (class_of_method p.outline g.method) (made_at p g.method code) known.locals g.locals fits_it.in_locals) given_cells
-      call.called g.method g.item call.words refl (use_by p g.method call.called) found.0 call.takes call.names (caller_words call whole) row in
+      call.called g.method g.item call.words refl (use_by p g.method call.called) found.0 call.takes call.names (caller_words call whole) found.1 in
       let falls : falls_through call.called ≡ true = call_falls p.outline call.called call.named call.words call.takes in
       brought_whole p typings tree typed store (record g { item = g.item + 1; stack = result ++ g.stack }) code call.stands.code_is found.0
       (after_whole p typings tree typed g call.called found.0 at_row)

@@ -2,7 +2,6 @@
 use Rattle.std.proofs.Common.{◌≡◌, ℕ, ◌+◌, cond, Bool, true, false, List, [], ◌∷◌, ◌++◌, max, reverse, take, Option, Some, None, option_and_then, refl, sym, ◌∙◌, ap, subst, slice_get, arith}
 use Rattle.std.specs.List.{AllByRecursion, AllZip}
 use Rattle.std.proofs.lemmas.Option.{none-some, same_Some}
-use Rattle.fm_base.proofs.OptionFacts.{option_and_then-some, Some-from_some_and}
 use Rattle.fm_base.specs.declared.ids.ClassId.{ClassId}
 use Rattle.fm_base.specs.declared.ids.MethodId.{MethodId}
 use Rattle.fm_base.specs.declared.kinds.TypeRef.{TypeRef}
@@ -10,14 +9,14 @@ use Rattle.fm_cells.proofs.Choices.{lawful_choice-may}
 use Rattle.fm_cells.specs.Choices.{lawful}
 use Rattle.fm_cells.specs.Objects.{Object}
 use Rattle.fm_cells.specs.Stores.{object_at, Store}
-use Rattle.fm_code.specs.Edges.{insn_of, IsNormalEdge}
+use Rattle.fm_code.specs.Edges.{insn_of}
 use Rattle.fm_code.specs.declared.code_array.Code.{Code}
 use Rattle.fm_code.specs.declared.instructions.Insn.{Insn}
 use Rattle.fm_types.specs.Fits.{fits_type}
 use Rattle.fm_types.specs.Named.{class_of_method, result_words, throwable_type}
 use Rattle.fm_types.specs.Rows.{row_after}
 use Rattle.fm_types.specs.States.{TypeState}
-use Rattle.fm_types.specs.Typed.{after_item, FitsAt, IsTypingOf, made_at, MeetsItem, use_by}
+use Rattle.fm_types.specs.Typed.{IsTypingOf, made_at, MeetsItem, use_by}
 use Rattle.fm_world.specs.Programs.{Outline, Program}
 use Rattle.fm_frames.specs.Acts.{cell_of, Choose, Did, FullAt, LostAt, performed, Performed, value_of}
 use Rattle.fm_frames.specs.Effects.{Action, Calls, Effect, Enters, Exits, Falls, Faults, Jumps, JumpsIfSame, Next, OfMade, OfOperand, Returns, Source, Throws}
@@ -36,7 +35,7 @@ use Rattle.fm_law_sound.specs.Making.{MakesAreResolved, MakesFew}
 use Rattle.fm_law_sound.specs.Resolved.{StepsAreResolved}
 use Rattle.fm_law_sound.specs.Sound.{AreasAreSound, AreTyped, FrameHasKinds, HaveKinds, IsSoundBy, StandBelow, StandsWithout, static_slots, Typings}
 use Rattle.fm_law_sound.proofs.CallsLead.{calls_lead}
-use Rattle.fm_law_sound.proofs.FramesStand.{typing_of}
+use Rattle.fm_law_sound.proofs.FramesStand.{met_row, typing_of}
 use Rattle.fm_law_sound.proofs.NextActs.{next_acts_fit}
 use Rattle.fm_law_sound.proofs.Rows.{effect_leads}
 use Rattle.fm_law_sound.proofs.StepsSound.{as_call, class_leads, moved_by, step_sound, StepLeads}
@@ -296,19 +295,10 @@ module _ (p : Program) (typings : Typings) (typed : AreTyped p typings) (steps :
           (acts_go oo (lawful choose) (λ s request. lawful_choice-may s request (choose s request)) z.areas.store f.locals f.stack actions [] z.areas []
           (acts_lead p cells z.areas.store f actions [] (fit within) goes.owes.acts) (went_first oo z.areas whole.areas)) sound))
 
-    found_row : (after : TypeState) × (after_item p f.method standing.code f.item standing.known ≡ Some after)
-    found_row =
-        let found = Some-from_some_and (after_item p f.method standing.code f.item standing.known)
-        (λ given. (next : ℕ) → IsNormalEdge standing.code f.item next → FitsAt p (typings f.method) next given) meets.row in
-        (found.0, found.1)
-
     frame_kept : (is_over oo z.areas (next_effect p x).actions ≡ false → ActsFit oo z.areas.store f [] (next_effect p x).actions)
         → IsSoundBy p typings (attempted p (lawful choose) x (next_effect p x)).state → IsWholeStill p typings (attempted p (lawful choose) x (next_effect p x)).state
     frame_kept fit =
-        let parts = option_and_then-some
-        (λ other. row_after oo f.method f.item (made_at p f.method standing.code) (use_by p f.method other) other standing.known)
-        (insn_of standing.code f.item) found_row.0 found_row.1 in
-        attempt_kept parts.0 found_row.0 parts.1 parts.2 fit
+        let met = met_row p typings f standing.code standing.known meets in attempt_kept met.insn met.after met.insn_is met.row fit
 
 by_frames : (p : Program) (typings : Typings) (typed : AreTyped p typings) (steps : StepsAreResolved p) → MakesAreResolved p → (cells : CellsAreResolved p)
     → NumbersAreConstants p.outline → RowsOwe p typings typed steps cells → (choose : Choose) (z : State) (frames : List Frame)

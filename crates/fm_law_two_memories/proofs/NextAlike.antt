@@ -6,13 +6,13 @@ use Rattle.std.proofs.lemmas.Bool.{cases_lt}
 use Rattle.std.proofs.lemmas.List.Quantifiers.{position-Some}
 use Rattle.fm_base.proofs.ListFacts.{AllByRecursion-append}
 use Rattle.std.proofs.lemmas.Option.{none-some}
-use Rattle.fm_base.proofs.OptionFacts.{option_and_then-some, option_map-some, Some-from_some_and}
+use Rattle.fm_base.proofs.OptionFacts.{option_map-some}
 use Rattle.fm_base.specs.Texts.{units}
 use Rattle.fm_base.specs.declared.kinds.Kind.{Kind}
 use Rattle.fm_base.specs.declared.kinds.Kind.TheVariants as kind
 use Rattle.fm_base.specs.declared.kinds.TypeRef.{TypeRef}
 use Rattle.fm_cells.specs.Stores.{Store}
-use Rattle.fm_code.specs.Edges.{insn_of, IsNormalEdge}
+use Rattle.fm_code.specs.Edges.{insn_of}
 use Rattle.fm_code.specs.declared.code_array.Code.{Code}
 use Rattle.fm_code.specs.declared.instructions.Insn.{Insn}
 use Rattle.fm_code.specs.declared.instructions.Insn.TheVariants as insn
@@ -20,7 +20,7 @@ use Rattle.fm_types.specs.Named.{class_of_method}
 use Rattle.fm_types.specs.ObjectRows.{put_static_row}
 use Rattle.fm_types.specs.Rows.{row_after}
 use Rattle.fm_types.specs.States.{taken, TypeState}
-use Rattle.fm_types.specs.Typed.{after_item, FitsAt, IsTypingOf, made_at, MeetsItem, use_by}
+use Rattle.fm_types.specs.Typed.{IsTypingOf, made_at, MeetsItem, use_by}
 use Rattle.fm_world.specs.BuiltIns.{built_in}
 use Rattle.fm_world.specs.Members.{field_at, methods_of}
 use Rattle.fm_world.specs.Numbers.{text_number}
@@ -51,7 +51,7 @@ use Rattle.fm_law_sound.specs.Making.{HaveTextFirst, IsMakeable}
 use Rattle.fm_law_sound.specs.Resolved.{IsNamed, StepsAreResolved}
 use Rattle.fm_law_sound.specs.Sound.{AreTyped, FrameHasKinds, StandsWithout, Typings}
 use Rattle.fm_law_sound.proofs.CallCases.{used_at}
-use Rattle.fm_law_sound.proofs.FramesStand.{typing_of}
+use Rattle.fm_law_sound.proofs.FramesStand.{met_row, typing_of}
 use Rattle.fm_law_sound.proofs.InsnActs.{value_has}
 use Rattle.fm_law_sound.proofs.ObjectRows.{row_of_field}
 use Rattle.fm_law_sound.proofs.Opening.{all_flat, with_text}
@@ -189,15 +189,6 @@ module _ (p : Program) (typings : Typings) (typed : AreTyped p typings) (ready :
         (started_alike o constants store f z.areas.started (effect_of o f.method u i (slice_get z.input 0) (sights o store f.stack))
         (row_alike o store f first frees_static f.method u i (slice_get z.input 0) known))
 
-  found_row : (after : TypeState) × (after_item p f.method stands.code f.item stands.known ≡ Some after)
-  found_row =
-      let found = Some-from_some_and (after_item p f.method stands.code f.item stands.known)
-      (λ given. (next : ℕ) → IsNormalEdge stands.code f.item next → FitsAt p (typings f.method) next given) meets.row in
-      (found.0, found.1)
-
   pub next_alike : EffectAlike o store f (next_effect p x)
   next_alike =
-      let parts = option_and_then-some
-      (λ other. row_after o f.method f.item (made_at p f.method stands.code) (use_by p f.method other) other stands.known)
-      (insn_of stands.code f.item) found_row.0 found_row.1 in
-      own_alike parts.0 found_row.0 parts.1 parts.2
+      let met = met_row p typings f stands.code stands.known meets in own_alike met.insn met.after met.insn_is met.row
