@@ -276,6 +276,10 @@ module _ {request : FreemeRequest} {names : List (Bor Bytes)} {classes : List Cl
   ends_refused (job_refusal.Shared refusal.OutOfMemory) now = inl (read_untouched (job_of request) old between classes reads.read reads.all)
   ends_refused r now = absurd now
 
+  -- memory can't be had before anything is written
+  pub ends_out_of_memory : ComesTo (job_of request) old between (Err (free_refusal.Job (job_refusal.Shared refusal.OutOfMemory)))
+  ends_out_of_memory = inl (read_untouched (job_of request) old between classes reads.read reads.all)
+
   -- they make a program whose methods are typed
   pub are_checked : {program : Program} → IsLinked classes (main_name (job_of request)) (Ok program) × AreTyped (program_of classes (main_name (job_of request))) → AreChecked (given_of (job_of request)) old.contents classes
   are_checked (linked, typed) = record { linked = record { taken = reads.read.taken; linked = linked.0 }; typed = typed }

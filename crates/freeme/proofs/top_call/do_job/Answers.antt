@@ -1,5 +1,5 @@
 use Rattle.std.proofs.lemmas.Result.{err_from_is_err_and}
-use Rattle.freeme.proofs.JobLemmas.{reads_of, spelled, within, ends_read, ends_refused, are_checked, are_judged, ends_not_freed, ends_within, ends_done, ends_unwritten, lent_apart, lent_counted, lent_named, lent_spelled}
+use Rattle.freeme.proofs.JobLemmas.{reads_of, spelled, within, ends_read, ends_refused, are_checked, are_judged, ends_not_freed, ends_out_of_memory, ends_within, ends_done, ends_unwritten, lent_apart, lent_counted, lent_named, lent_spelled}
 use Rattle.freeme.proofs.top_call.do_job.Goals as goal
 
 pub judge_program-requires-clause-spelled : goal.judge_program-requires-clause-spelled
@@ -49,6 +49,12 @@ class_lines-requires-clause-one_each g c =
 pub returns-in_err-lines-clause-within : goal.returns-in_err-lines-clause-within
 returns-in_err-lines-clause-within g c =
     ends_read (reads_of c.args.request c.deref-names.ensures.value c.deref-classes.ensures.value c.read_classes.ensures.within c.in_ok-read.ensures.comes)
+
+pub returns-in_err-lines-clause-comes : goal.returns-in_err-lines-clause-comes
+returns-in_err-lines-clause-comes g c =
+    let reads = reads_of c.args.request c.deref-names.ensures.value c.deref-classes.ensures.value c.read_classes.ensures.within c.in_ok-read.ensures.comes in
+    let handed = err_from_is_err_and c.from_residual-in_err-lines.result c.from_residual-in_err-lines.ensures.1 in
+    rw (handed.1, handed.2) (ends_out_of_memory reads)
 
 pub write_classes-requires-clause-spelled : goal.write_classes-requires-clause-spelled
 write_classes-requires-clause-spelled g c =
