@@ -16,11 +16,12 @@ use Rattle.fm_law_sound.specs.Sound.{words_of_call}
 use Rattle.fm_law_sound.proofs.CallsLeft.{call_left, method_in}
 use Rattle.fm_law_holders.specs.Uninitialised.{Made}
 use Rattle.fm_law_holders.proofs.PlainRows.{kind_other}
-use Rattle.fm_law_holders.proofs.Slots.{Are, AreAt, Is, IsOther, others_are}
+use Rattle.fm_law_holders.proofs.Slots.{Are, AreAt, Is, others_are}
+use Rattle.fm_types.proofs.EachCheckRow.{IsPlain}
 
 -- ---- results
 
-pub result_other : (given : Option Kind) → AllByRecursion IsOther (stack_slots (option_to_list given))
+pub result_other : (given : Option Kind) → AllByRecursion IsPlain (stack_slots (option_to_list given))
 result_other None = tt
 result_other (Some k) = kind_other k
 

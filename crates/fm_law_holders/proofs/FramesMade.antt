@@ -36,11 +36,12 @@ use Rattle.fm_same.proofs.EdgesKeep.{handler_edge}
 use Rattle.fm_law_no_fault.specs.Whole.{lowest}
 use Rattle.fm_law_no_fault.proofs.WaitingFrames.{lowest_all, lowest_drop}
 use Rattle.fm_law_holders.specs.Uninitialised.{AreMadeIn, FrameIsMade, Made, ValueIsMade}
-use Rattle.fm_law_holders.proofs.Slots.{Are, are_along, AreAt, IsOther, others_are}
+use Rattle.fm_law_holders.proofs.Slots.{Are, are_along, AreAt, others_are}
+use Rattle.fm_types.proofs.EachCheckRow.{IsPlain}
 
 -- ---- the slots of a method's entry
 
-local_other : (k : Kind) → AllByRecursion IsOther (local_slots k)
+local_other : (k : Kind) → AllByRecursion IsPlain (local_slots k)
 local_other kind.Boolean = (tt, tt)
 local_other kind.Byte = (tt, tt)
 local_other kind.Char = (tt, tt)
@@ -50,22 +51,22 @@ local_other kind.Long = (tt, (tt, tt))
 local_other (kind.Ref t) = (tt, tt)
 
 receiver_other : (static constructor : Bool) (t : TypeRef)
-    → AllByRecursion IsOther (cond static [] (cond constructor (slot.UninitThis ∷ []) (slot.Ref t ∷ [])))
+    → AllByRecursion IsPlain (cond static [] (cond constructor (slot.UninitThis ∷ []) (slot.Ref t ∷ [])))
 receiver_other true constructor t = tt
 receiver_other false true t = (tt, tt)
 receiver_other false false t = (tt, tt)
 
-tops_other : (n : ℕ) → AllByRecursion IsOther (replicate n slot.Top)
+tops_other : (n : ℕ) → AllByRecursion IsPlain (replicate n slot.Top)
 tops_other zero = tt
 tops_other (suc n) = (tt, tops_other n)
 
-entry_other : (o : Outline) (method : ℕ) (code : Code) → AllByRecursion IsOther (entry_state o method code).locals
+entry_other : (o : Outline) (method : ℕ) (code : Code) → AllByRecursion IsPlain (entry_state o method code).locals
 unfolding entry_state
 entry_other o method code =
-    AllByRecursion-append IsOther (entry_slots o method) (replicate (code.max_locals - length (entry_slots o method)) slot.Top)
-    (AllByRecursion-append IsOther _ (flat_map local_slots (parameters_of o method))
+    AllByRecursion-append IsPlain (entry_slots o method) (replicate (code.max_locals - length (entry_slots o method)) slot.Top)
+    (AllByRecursion-append IsPlain _ (flat_map local_slots (parameters_of o method))
     (receiver_other (is_static (method_at o.classes method).method.flags) (is_constructor o method) (type_of_class (class_of_method o method)))
-    (all_flat IsOther local_slots (parameters_of o method) local_other))
+    (all_flat IsPlain local_slots (parameters_of o method) local_other))
     (tops_other (code.max_locals - length (entry_slots o method)))
 
 entry_empty : (o : Outline) (method : ℕ) (code : Code) → (entry_state o method code).stack ≡ []
@@ -129,7 +130,7 @@ module _ (p : Program) (typings : Typings) (typed : AreTyped p typings) (store :
   none_left : (known : TypeState) → known.stack ≡ [] → Are store made (lowest 0 known.stack) []
   none_left known empty = subst (λ xs. Are store made (lowest 0 xs) []) (sym empty) tt
 
-  entered_made : (known : TypeState) (f : Frame) → AllByRecursion IsOther known.locals → known.stack ≡ [] → length f.locals ≡ length known.locals
+  entered_made : (known : TypeState) (f : Frame) → AllByRecursion IsPlain known.locals → known.stack ≡ [] → length f.locals ≡ length known.locals
       → f.stack ≡ [] → AreMadeIn store made known f
   entered_made known f others empty long none = record {
     in_locals = others_are store made known.locals f.locals others long;
@@ -142,7 +143,7 @@ module _ (p : Program) (typings : Typings) (typed : AreTyped p typings) (store :
       let typing : IsTypingOf p f.method stands.code (typings f.method) = typing_of p typings typed f.method stands.code stands.code_is in
       let first : entry_state p.outline f.method stands.code ≡ known =
       same_Some (entry_state p.outline f.method stands.code) known (sym typing.first ∙ ap (λ j. state_at (typings f.method) j) (sym item) ∙ at) in
-      entered_made known f (subst (λ (s : TypeState). AllByRecursion IsOther s.locals) first (entry_other p.outline f.method stands.code))
+      entered_made known f (subst (λ (s : TypeState). AllByRecursion IsPlain s.locals) first (entry_other p.outline f.method stands.code))
       (ap (λ (s : TypeState). s.stack) (sym first) ∙ entry_empty p.outline f.method stands.code)
       (AllZip-long LocalHasKind stands.known.locals f.locals stands.locals ∙ ap (λ (s : TypeState). length s.locals) same) none
 

@@ -20,7 +20,8 @@ use Rattle.fm_law_sound.specs.Sound.{FrameHasKinds, HasKind, HaveKinds, static_s
 use Rattle.fm_law_sound.proofs.FramesLeft as left
 use Rattle.fm_law_sound.proofs.FramesLeft.{AreAs, taken_drop}
 use Rattle.fm_law_holders.specs.Uninitialised.{Made}
-use Rattle.fm_law_holders.proofs.Slots.{above_long, Are, AreAt, Is, IsOther, others_are}
+use Rattle.fm_law_holders.proofs.Slots.{above_long, Are, AreAt, Is, others_are}
+use Rattle.fm_types.proofs.EachCheckRow.{IsPlain}
 
 -- ---- how many words an effect takes
 
@@ -91,7 +92,7 @@ module _ (r : Row) where
   rest_long n = AllZip-long HasKind (drop n r.before.stack) (drop n r.frame.stack) (zip-drop HasKind n r.before.stack r.frame.stack r.kinds.in_stack)
 
   above_rest : (given : List Slot) (n : ℕ) (e : Effect) → record r.before { stack = given ++ drop n r.before.stack } ≡ r.after
-      → AllByRecursion IsOther given → e.takes ≡ n → e.writes ≡ [] → LeavesAs r.outline r.after r.frame e → Left e
+      → AllByRecursion IsPlain given → e.takes ≡ n → e.writes ≡ [] → LeavesAs r.outline r.after r.frame e → Left e
   above_rest given n e is others takes writes leaves =
       let values : List Value = map (value_of from) e.gives in
       let after_kinds : FrameHasKinds r.after (steps.written from e.writes r.frame.locals) (steps.stack_after from e r.frame.stack) =
@@ -105,22 +106,22 @@ module _ (r : Row) where
       (others_are r.store r.made given values others long))
 
   above_case : (given : List Slot) (n : ℕ) (i : Insn) (e : Effect) (next : Next) → record r.before { stack = given ++ drop n r.before.stack } ≡ r.after
-      → AllByRecursion IsOther given → TakesBy n e next → LeadsAs r.outline i r.after r.frame e next → LeftBy e next
+      → AllByRecursion IsPlain given → TakesBy n e next → LeadsAs r.outline i r.after r.frame e next → LeftBy e next
   above_case given n i e Falls is others takes leads = above_rest given n e is others takes.0 takes.1 leads.1
   above_case given n i e (Jumps target) is others takes leads = above_rest given n e is others takes.0 takes.1 leads.1
   above_case given n i e (JumpsIfSame same) is others takes leads = above_rest given n e is others takes.0 takes.1 leads.2
   above_case given n i e next is others takes leads = tt
 
   pub above_goes : (given : List Slot) (n : ℕ) (i : Insn) (e : Effect) → record r.before { stack = given ++ drop n r.before.stack } ≡ r.after
-      → AllByRecursion IsOther given → Takes n e → Leads i e → Goes e
+      → AllByRecursion IsPlain given → Takes n e → Leads i e → Goes e
   above_goes given n i e is others takes leads = above_case given n i e e.next is others takes leads
 
   pub pushed_goes : (given : List Slot) (i : Insn) (e : Effect) → Some (record r.before { stack = given ++ r.before.stack }) ≡ Some r.after
-      → AllByRecursion IsOther given → Takes 0 e → Leads i e → Goes e
+      → AllByRecursion IsPlain given → Takes 0 e → Leads i e → Goes e
   pushed_goes given i e row others takes leads = above_goes given 0 i e (same_Some _ r.after row) others takes leads
 
   pub worked_goes : (wanted given : List Slot) (i : Insn) (e : Effect) → worked r.outline wanted given r.before ≡ Some r.after
-      → AllByRecursion IsOther given → Takes (length wanted) e → Leads i e → Goes e
+      → AllByRecursion IsPlain given → Takes (length wanted) e → Leads i e → Goes e
   worked_goes wanted given i e row others takes leads =
       let parts = option_map-some (λ stack. record r.before { stack = given ++ stack }) (taken r.outline wanted r.before.stack) r.after row in
       let rest : drop (length wanted) r.before.stack ≡ parts.0 = taken_drop r.outline wanted r.before.stack parts.0 parts.1 in
@@ -130,7 +131,7 @@ module _ (r : Row) where
 
   pub worked_below_goes : (wanted : List Slot) (given : Slot → Option (List Slot)) (i : Insn) (e : Effect)
       → worked_below r.outline wanted given r.before ≡ Some r.after
-      → ((s : Slot) (slots : List Slot) → given s ≡ Some slots → AllByRecursion IsOther slots) → Takes (length wanted + 1) e → Leads i e → Goes e
+      → ((s : Slot) (slots : List Slot) → given s ≡ Some slots → AllByRecursion IsPlain slots) → Takes (length wanted + 1) e → Leads i e → Goes e
   worked_below_goes wanted given i e row others takes leads =
       let b = left.below_found r.outline r.before wanted given r.after row in
       let rest : drop (length wanted + 1) r.before.stack ≡ b.rest = left.below_rest r.outline r.before wanted given r.after b in

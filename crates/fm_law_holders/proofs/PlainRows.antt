@@ -55,11 +55,12 @@ use Rattle.fm_law_sound.proofs.ObjectRows.{row_of_field, row_of_type}
 use Rattle.fm_law_holders.specs.Uninitialised.{IsMadeAt}
 use Rattle.fm_law_holders.proofs.EffectTakes.{arrays_take, compare_takes, element_takes, int_jump_takes, int_negate_takes, int_op_takes, int_shift_takes, length_takes, long_negate_takes, long_op_takes, long_shift_takes, lookup_takes, made_takes, null_jump_takes, pair_jump_takes, put_takes, table_takes}
 use Rattle.fm_law_holders.proofs.Leaving.{before_are, from, Goes, Leads, leaves_stack, Left, left_are, pushed_goes, Row, Takes, worked_below_goes, worked_goes}
-use Rattle.fm_law_holders.proofs.Slots.{Are, Is, IsOther, other_is}
+use Rattle.fm_law_holders.proofs.Slots.{Are, Is, other_is}
+use Rattle.fm_types.proofs.EachCheckRow.{IsPlain}
 
 -- ---- slots of which nothing is asked
 
-pub kind_other : (k : Kind) → AllByRecursion IsOther (stack_slots (k ∷ []))
+pub kind_other : (k : Kind) → AllByRecursion IsPlain (stack_slots (k ∷ []))
 kind_other kind.Boolean = (tt, tt)
 kind_other kind.Byte = (tt, tt)
 kind_other kind.Char = (tt, tt)
@@ -68,22 +69,22 @@ kind_other kind.Int = (tt, tt)
 kind_other kind.Long = (tt, (tt, tt))
 kind_other (kind.Ref t) = (tt, tt)
 
-null_other : (e : Elem) → AllByRecursion IsOther (null_element e)
+null_other : (e : Elem) → AllByRecursion IsPlain (null_element e)
 null_other elem.Long = (tt, (tt, tt))
 null_other e = (tt, tt)
 
-element_other : (e : Elem) (t : TypeRef) → AllByRecursion IsOther (typed.element_of e t)
+element_other : (e : Elem) (t : TypeRef) → AllByRecursion IsPlain (typed.element_of e t)
 element_other elem.Long t = (tt, (tt, tt))
 element_other e t = (tt, tt)
 
-int_other : (s : Slot) → is_int s ≡ true → IsOther s
+int_other : (s : Slot) → is_int s ≡ true → IsPlain s
 int_other slot.Int is = tt
 int_other s is = absurd (false≢true is)
 
 none_given : (o : Outline) (method field : ℕ) (t : TypeRef) (below : Slot) (slots : List Slot) → takes_field o method field t below ≡ Some slots
-    → AllByRecursion IsOther slots
+    → AllByRecursion IsPlain slots
 none_given o method field t below slots is =
-    let parts = cond-some_then _ (Some []) slots is in subst (AllByRecursion IsOther) (same_Some [] slots parts.1) tt
+    let parts = cond-some_then _ (Some []) slots is in subst (AllByRecursion IsPlain) (same_Some [] slots parts.1) tt
 
 module _ (r : Row) where
   abbrev o : Outline
@@ -277,7 +278,7 @@ module _ (r : Row) where
   unfolding array_load_row array_load_effect
   array_load_goes e sights row leads =
       worked_below_goes r (slot.Int ∷ []) (on_array (is_array_of e) (null_element e) (typed.element_of e)) (insn.ArrayLoad e) (array_load_effect o e sights) row
-      (λ below slots given. by_array (AllByRecursion IsOther) (is_array_of e) (null_element e) (typed.element_of e) below slots (null_other e) (element_other e) given)
+      (λ below slots given. by_array (AllByRecursion IsPlain) (is_array_of e) (null_element e) (typed.element_of e) below slots (null_other e) (element_other e) given)
       (element_takes 2 o e sights 0 (λ it place. words 2 (effects.loaded (element_kind it.type) (OfPlace 1 place (element_kind it.type)))) (λ it place. (refl, refl))) leads
 
   array_store_goes : (e : Elem) (sights : List Sight) → array_store_row o e r.before ≡ Some r.after → Takes (length (stored_element o e ++ slot.Int ∷ []) + 1) (array_store_effect o e sights)
@@ -285,7 +286,7 @@ module _ (r : Row) where
   unfolding array_store_row
   array_store_goes e sights row takes leads =
       worked_below_goes r (stored_element o e ++ slot.Int ∷ []) (on_array (is_array_of e) [] (λ t. [])) (insn.ArrayStore e) (array_store_effect o e sights) row
-      (λ below slots given. by_array (AllByRecursion IsOther) (is_array_of e) [] (λ t. []) below slots tt (λ t. tt) given)
+      (λ below slots given. by_array (AllByRecursion IsPlain) (is_array_of e) [] (λ t. []) below slots tt (λ t. tt) given)
       takes leads
 
   array_store_takes : (e : Elem) (sights : List Sight) → Takes (length (stored_element o e ++ slot.Int ∷ []) + 1) (array_store_effect o e sights)
@@ -303,7 +304,7 @@ module _ (r : Row) where
   unfolding length_row
   length_goes sights row leads =
       worked_below_goes r [] (on_array (λ t. nat_lt 0 t.dims) (slot.Int ∷ []) (λ t. slot.Int ∷ [])) insn.Length (length_effect o sights) row
-      (λ below slots given. by_array (AllByRecursion IsOther) (λ t. nat_lt 0 t.dims) (slot.Int ∷ []) (λ t. slot.Int ∷ []) below slots (tt, tt) (λ t. (tt, tt)) given)
+      (λ below slots given. by_array (AllByRecursion IsPlain) (λ t. nat_lt 0 t.dims) (slot.Int ∷ []) (λ t. slot.Int ∷ []) below slots (tt, tt) (λ t. (tt, tt)) given)
       (length_takes o sights) leads
 
   made_goes : (i : Insn) (t : Option TypeRef) (given : TypeRef) (sights : List Sight) → worked o (slot.Int ∷ []) (slot.Ref given ∷ []) r.before ≡ Some r.after

@@ -13,11 +13,7 @@ use Rattle.fm_types.specs.declared.slots.Slot.TheVariants as slot
 use Rattle.fm_world.specs.Programs.{Outline}
 use Rattle.fm_frames.specs.declared.values.Value.{Value}
 use Rattle.fm_law_holders.specs.Uninitialised.{Made, ValueIsMade}
-
--- no object of a `new`
-abbrev pub IsOther : Slot → Type 0
-IsOther (slot.Uninit item) = ⊥
-IsOther s = Unit {0}
+use Rattle.fm_types.proofs.EachCheckRow.{IsPlain}
 
 -- the locals and the words of a stack are as the state has them
 pub record AreAt (store : Store) (made : Made) (known : TypeState) (locals stack : List Value) : Type 0 where
@@ -33,11 +29,11 @@ module _ (store : Store) (made : Made) where
 
   -- ---- slots of which nothing is asked
 
-  pub other_is : (s : Slot) (v : Value) → IsOther s → Is s v
+  pub other_is : (s : Slot) (v : Value) → IsPlain s → Is s v
   other_is (slot.Uninit item) v h = absurd h
   other_is s v h = tt
 
-  pub others_are : (xs : List Slot) (words : List Value) → AllByRecursion IsOther xs → length words ≡ length xs → Are xs words
+  pub others_are : (xs : List Slot) (words : List Value) → AllByRecursion IsPlain xs → length words ≡ length xs → Are xs words
   others_are [] [] each long = tt
   others_are [] (v ∷ words) each long = absurd (cc)
   others_are (x ∷ xs) [] each long = absurd (cc)
