@@ -11,6 +11,7 @@ use fm_code::Insn;
 pub(crate) enum Group {
     // What most steps are.
     Frequent,
+    // Others of numbers, the stack and switches.
     Rarer,
     Throws,
     Statics,
@@ -61,21 +62,6 @@ pub(crate) fn group_of(insn: &Insn) -> Group
         | Insn::LoadPool(_)
         | Insn::New(_)
         | Insn::Return(_) => Group::Frequent,
-        Insn::Nop
-        | Insn::LongConst(_)
-        | Insn::IntNeg
-        | Insn::LongNeg
-        | Insn::LongShift(_)
-        | Insn::LongCompare
-        | Insn::Table(_, _, _)
-        | Insn::Lookup(_, _, _)
-        | Insn::Pop2
-        | Insn::DupX1
-        | Insn::DupX2
-        | Insn::Dup2
-        | Insn::Dup2X1
-        | Insn::Dup2X2
-        | Insn::Swap => Group::Rarer,
         Insn::Throw => Group::Throws,
         Insn::GetStatic(_) | Insn::PutStatic(_) => Group::Statics,
         Insn::NewArray(_)
@@ -85,5 +71,6 @@ pub(crate) fn group_of(insn: &Insn) -> Group
         | Insn::IsA(_) => Group::Objects,
         Insn::Virtual(_) | Insn::Interface(_) | Insn::Special(_) | Insn::Static(_) => Group::Calls,
         Insn::LeftOut(_) => Group::LeftOut,
+        _ => Group::Rarer,
     }
 }

@@ -45,42 +45,27 @@ pub record Stepped (p : Program) (x y : State) : Type 0 where
 abbrev pub DoesNext : Program → Choose → (x y : State) → Type 0
 DoesNext p choose x y = DoesIn p choose x y (next_effect p x)
 
--- which function does an instruction
+-- which function does an instruction: one that is in no other group is rarer
 abbrev pub group_of : Insn → Group
-group_of insn.Nop = group.Rarer
 group_of insn.Null = group.Frequent
 group_of (insn.Const n) = group.Frequent
-group_of (insn.LongConst n) = group.Rarer
 group_of (insn.LoadPool index) = group.Frequent
 group_of (insn.Load kind local) = group.Frequent
 group_of (insn.Store kind local) = group.Frequent
 group_of (insn.Inc local by) = group.Frequent
 group_of (insn.IntOp op) = group.Frequent
 group_of (insn.LongOp op) = group.Frequent
-group_of insn.IntNeg = group.Rarer
-group_of insn.LongNeg = group.Rarer
 group_of (insn.IntShift shift) = group.Frequent
-group_of (insn.LongShift shift) = group.Rarer
 group_of (insn.Convert to) = group.Frequent
-group_of insn.LongCompare = group.Rarer
 group_of (insn.IfInt test target) = group.Frequent
 group_of (insn.IfPair test target) = group.Frequent
 group_of (insn.IfSame same target) = group.Frequent
 group_of (insn.IfNull null target) = group.Frequent
 group_of (insn.Goto target) = group.Frequent
-group_of (insn.Table low others targets) = group.Rarer
-group_of (insn.Lookup others keys targets) = group.Rarer
 group_of (insn.Return value) = group.Frequent
 group_of insn.Throw = group.Throws
 group_of insn.Pop = group.Frequent
-group_of insn.Pop2 = group.Rarer
 group_of insn.Dup = group.Frequent
-group_of insn.DupX1 = group.Rarer
-group_of insn.DupX2 = group.Rarer
-group_of insn.Dup2 = group.Rarer
-group_of insn.Dup2X1 = group.Rarer
-group_of insn.Dup2X2 = group.Rarer
-group_of insn.Swap = group.Rarer
 group_of (insn.GetField index) = group.Frequent
 group_of (insn.PutField index) = group.Frequent
 group_of (insn.GetStatic index) = group.Statics
@@ -99,3 +84,4 @@ group_of (insn.Interface index) = group.Calls
 group_of (insn.Special index) = group.Calls
 group_of (insn.Static index) = group.Calls
 group_of (insn.LeftOut opcode) = group.LeftOut
+group_of i = group.Rarer
