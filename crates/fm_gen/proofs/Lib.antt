@@ -1,1 +1,5 @@
 pub mod LoopLemmas
+pub mod NameLemmas
+pub mod PoolLemmas
+pub mod CodeLemmas
+pub mod SpelledLemmas
