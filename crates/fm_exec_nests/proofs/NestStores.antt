@@ -47,7 +47,6 @@ grows-made choose y z r array (grows, taken, free, is) = record {
 
 -- and so do the objects of other cells
 other-put : (store : Store) (array place element cell : ℕ) → (cell == array) ≡ false → object_at (put_by store array place element) cell ≡ object_at store cell
-unfolding put_in
 other-put store array place element cell apart = by_object (object_at store array) where
   by_object : (object : Option Object) → object_at (put_in store array place element object) cell ≡ object_at store cell
   by_object None = refl
