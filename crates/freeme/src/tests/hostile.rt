@@ -10,8 +10,8 @@ use std::test::Fail;
 
 const OBJECT: &str = "java/lang/Object";
 
-// As many superclasses as files may be given beside that of the main class, less one for Object's file, which no one gives.
-const SUPERCLASSES: u32 = 4_094;
+// As many as files may be given beside that of the main class.
+const SUPERCLASSES: u32 = 4_095;
 
 const LEVELS: u32 = 60;
 
