@@ -212,13 +212,14 @@ fn greatest_cases<'a>(sum: Case<'a>) -> [Case<'a>; 5] {
     ]
 }
 
-// Arrays of more words than any budget has.
+// Arrays of more words than any budget has: 2 and, as two ints share a word, half of 2,147,483,648, and a million of these with the 1,000,002
+// of the array that leads to them.
 fn longest_cases<'a>(sum: Case<'a>, one: &'a [u8], many: &'a [u8]) -> [Case<'a>; 2] {
     let exhausted = Case {
         file: one,
         status: 81,
         printed: b"",
-        reported: b"exhausted 6 needs 2147483649; steps 1, objects 3, frees 0, freed words 0, \
+        reported: b"exhausted 6 needs 1073741826; steps 1, objects 3, frees 0, freed words 0, \
             live words 6, peak words 6, cells made 3\n",
         ..sum
     };
@@ -226,7 +227,7 @@ fn longest_cases<'a>(sum: Case<'a>, one: &'a [u8], many: &'a [u8]) -> [Case<'a>;
         exhausted,
         Case {
             file: many,
-            reported: b"exhausted 6 needs 2147483650000002; steps 2, objects 3, frees 0, \
+            reported: b"exhausted 6 needs 1073741827000002; steps 2, objects 3, frees 0, \
                 freed words 0, live words 6, peak words 6, cells made 3\n",
             ..exhausted
         },
