@@ -3,7 +3,6 @@
 mod changes;
 mod checking;
 mod family;
-mod hostile;
 mod lengths;
 mod linking;
 mod malformed;
