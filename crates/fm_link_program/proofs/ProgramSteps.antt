@@ -30,6 +30,7 @@ all-made given main t is = record {
   statics = is.told.statics;
   answers = is.answers;
   calls = is.calls;
+  known = refl;
 }
 
 -- the tables are those that a program asks for

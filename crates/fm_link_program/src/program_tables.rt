@@ -87,6 +87,7 @@ impl ProgramTables {
             selected,
             tops: Seq::new(tops),
             own: Seq::new(own),
+            known: None,
         })
     }
 }

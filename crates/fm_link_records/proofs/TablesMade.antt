@@ -1,5 +1,5 @@
 -- Parts that are made of the tables of this crate are those of a program.
-use Rattle.std.proofs.Common.{◌≡◌, ◌∙◌, sym, ap, ℕ, List, length, map, Option}
+use Rattle.std.proofs.Common.{◌≡◌, ◌∙◌, sym, ap, subst, ℕ, List, length, map, Option, IfSome}
 use Rattle.fm_code.specs.declared.code_array.Code.{Code}
 use Rattle.fm_link_names.specs.declared.descriptors.Kinds.{Kinds}
 use Rattle.fm_world.specs.Members.{methods_of}
@@ -7,6 +7,7 @@ use Rattle.fm_world.specs.Programs.{class_info}
 use Rattle.fm_world.specs.declared.parts.Parts.{Parts}
 use Rattle.fm_world.specs.declared.records.MethodInfo.{MethodInfo}
 use Rattle.fm_world.specs.declared.uses.Use.{Use}
+use Rattle.fm_world.specs.inner.KnownTargets.{KnowsTargets}
 use Rattle.fm_world.specs.inner.Tables.{code_in, outline_in, program_in, AreTables}
 use Rattle.fm_link_records.specs.inner.Classes.{bare_outline}
 use Rattle.fm_link_records.specs.inner.Made.{AreMade}
@@ -28,4 +29,5 @@ AreTables-made x kinds fields codes slots firsts made = record {
   statics = made.statics;
   answers = made.answers;
   calls = made.calls;
+  known = subst (λ known. IfSome known (KnowsTargets (program_in x))) (sym made.known) tt;
 }

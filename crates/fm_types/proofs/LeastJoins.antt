@@ -11,19 +11,13 @@ use Rattle.fm_types.specs.Fits.{AreTree, depth_of, fits, fits_base, fits_type, i
 use Rattle.fm_types.specs.Joins.{are_classes, common_base, common_class, is_interface_base, IsChosen, IsJoin, join, join_type, objects_with}
 use Rattle.fm_types.specs.declared.slots.Slot.{Slot}
 use Rattle.fm_types.specs.declared.slots.Slot.TheVariants as slot
-use Rattle.fm_world.proofs.TableLemmas.{same_base-eq, same_base-refl}
+use Rattle.fm_world.proofs.TableLemmas.{same_base-refl}
+pub use Rattle.fm_world.proofs.TypeTests.{same_type-eq}
 use Rattle.fm_world.specs.Chains.{same_base, same_type}
 use Rattle.fm_world.specs.Programs.{Outline}
 use Rattle.fm_world.specs.declared.declarations.DeclaredClass.{DeclaredClass}
 
 -- ---- equal types
-
-pub same_type-eq : (a b : TypeRef) → same_type a b ≡ true → a ≡ b
-same_type-eq a b h =
-    let parts = and_parts (nat_eq a.dims b.dims) (same_base a.base b.base) h in
-    let first : a ≡ record a { dims = b.dims } = ap (λ n. record a { dims = n }) (eqb-true a.dims b.dims parts.0) in
-    let second : record a { dims = b.dims } ≡ b = ap (λ x. record b { base = x }) (same_base-eq a.base b.base parts.1) in
-    first ∙ second
 
 pub same_type-refl : (a : TypeRef) → same_type a a ≡ true
 same_type-refl a = and_from (nat_eq a.dims a.dims) (same_base a.base a.base) (eq-eqb a.dims a.dims refl) (same_base-refl a.base)

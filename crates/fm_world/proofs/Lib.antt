@@ -6,5 +6,6 @@ mod Selected
 pub mod LayerLemmas
 pub mod Displays
 pub mod Marks
+mod KnownLemmas
 pub mod Acyclic
 mod ClassTypes

@@ -1,12 +1,14 @@
 -- The test by which a set finds a type is that of the definitions.
-use Rattle.std.proofs.Common.{◌≡◌, refl, ap, ℕ, List}
+use Rattle.std.proofs.Common.{◌≡◌, refl, ap, sym, ◌∙◌, ℕ, List, true, nat_eq}
+use Rattle.std.proofs.lemmas.Bool.{and_parts, eqb-true}
 use Rattle.std.specs.List.{position}
 use Rattle.std.proofs.Math.Path.{fun_ext}
 use Rattle.fm_base.specs.contracts.kinds.TypeRefPartialEq.TheImpl.{ghosts}
 use Rattle.fm_base.specs.declared.kinds.Base.{Base}
 use Rattle.fm_base.specs.declared.kinds.Base.TheVariants as base
 use Rattle.fm_base.specs.declared.kinds.TypeRef.{TypeRef}
-use Rattle.fm_world.specs.Chains.{same_type}
+use Rattle.fm_world.proofs.TableLemmas.{same_base-eq}
+use Rattle.fm_world.specs.Chains.{same_base, same_type}
 use Rattle.fm_world.specs.Numbers.{type_number}
 
 tested : (m n : ℕ) (b c : Base)
@@ -27,3 +29,14 @@ tested_type a = fun_ext (λ b. tested a.dims b.dims a.base b.base)
 -- the index of a type in a set is its number
 pub index_of_type : (types : List TypeRef) (t : TypeRef) → position (ghosts.eq t) types ≡ type_number types t
 index_of_type types t = ap (λ test. position test types) (tested_type t)
+
+-- types that are tested to be the same are so
+pub same_type-eq : (a b : TypeRef) → same_type a b ≡ true → a ≡ b
+same_type-eq a b h =
+    let parts = and_parts (nat_eq a.dims b.dims) (same_base a.base b.base) h in
+    let first : a ≡ record a { dims = b.dims } = ap (λ n. record a { dims = n }) (eqb-true a.dims b.dims parts.0) in
+    let second : record a { dims = b.dims } ≡ b = ap (λ x. record b { base = x }) (same_base-eq a.base b.base parts.1) in
+    first ∙ second
+
+pub tested_same : (a b : TypeRef) → ghosts.eq a b ≡ true → a ≡ b
+tested_same a b h = same_type-eq a b (sym (ap (λ test. test b) (tested_type a)) ∙ h)

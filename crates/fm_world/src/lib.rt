@@ -10,6 +10,7 @@ mod built_ins;
 mod calls;
 mod declarations;
 mod found_methods;
+mod known_targets;
 mod laws;
 mod layers;
 mod name_key;
@@ -23,6 +24,7 @@ mod uses;
 pub use built_ins::{BuiltInClass, BuiltInField, BuiltInMethod, built_in_classes};
 pub use calls::{Call, CallKind};
 pub use declarations::{Constant, DeclaredClass, DeclaredField, DeclaredMethod};
+pub use known_targets::{KnownTargets, TargetList};
 pub use laws::{
     law_acyclic, law_built_in, law_cast_examples, law_class_types, law_example,
     law_lookup_examples, law_one_answer, law_refused_examples,

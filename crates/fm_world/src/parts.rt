@@ -1,6 +1,7 @@
 // The parts that a linked program is made of.
 
 use crate::declarations::DeclaredClass;
+use crate::known_targets::KnownTargets;
 use crate::layers::Layers;
 use crate::name_key::NameKey;
 use crate::records::{ClassInfo, FieldInfo, MethodInfo};
@@ -41,4 +42,6 @@ pub struct Parts {
     pub tops: Seq<u32>,
     /// For each class by signature its own method that isn't static.
     pub own: Seq<HashMap<u32, u32>>,
+    /// The targets of virtual calls, where they were found before they are asked for.
+    pub known: Option<KnownTargets>,
 }

@@ -1,6 +1,6 @@
 // The linked program, and what is asked of it.
 
-ghost use Rattle.std.specs.Prelude.{◌≡◌, ◌<◌, [], ◌∷◌, filter, option_to_list, OnOk, IfOk, length, map, reverse, Some, slice_get, unwrap_or};
+ghost use Rattle.std.specs.Prelude.{◌≡◌, ◌<◌, [], ◌∷◌, filter, option_to_list, OnOk, IfOk, length, map, reverse, Some, slice_get, true, unwrap_or, IfSome};
 ghost use Rattle.std.specs.List.{list_any, range_with_len, slice_index_or};
 ghost use Rattle.std.specs.Option.{option_map};
 ghost use Rattle.std.specs.Str.{bytes_eq};
@@ -13,17 +13,19 @@ ghost use Rattle.fm_base.specs.declared.ids.ClassId.{ClassId};
 ghost use Rattle.fm_base.specs.declared.ids.MethodId.{MethodId};
 ghost use Rattle.fm_world.specs.Members.{fields_of, method_at, methods_of, slot_of, statics_of};
 ghost use Rattle.fm_world.specs.Programs.{class_info, class_of_type, field_info, is_made, method_info, selected, takes_arrays, takes_class, targets, use_of, IsBaseIn, IsTypeIn};
+ghost use Rattle.fm_world.specs.inner.KnownTargets.{selected_methods, IsPairIn, KnowsTargets};
 ghost use Rattle.fm_world.specs.inner.Marks.{selected_of, selected_of_arrays};
 ghost use Rattle.fm_world.specs.inner.Tables.{program_in, AreInterfaces, AreTables, IsLinear};
 
 use crate::ACC_SUPER;
 use crate::calls::{Call, CallKind};
 use crate::found_methods::{mark, marked_methods};
+use crate::known_targets::{KnownTargets, TargetList};
 use crate::parts::Parts;
-use crate::records::{ClassInfo, FieldInfo, MethodInfo};
+use crate::records::{Body, ClassInfo, FieldInfo, MethodInfo};
 use crate::uses::Use;
 use fm_base::{Base, ClassId, FieldId, MethodId, NoMemory, TypeId, TypeRef, Units};
-use fm_code::{ACC_ABSTRACT, ACC_INTERFACE, ACC_PRIVATE, has_flag};
+use fm_code::{ACC_ABSTRACT, ACC_INTERFACE, ACC_PRIVATE, Insn, has_flag};
 use std::alloc::Global;
 use std::marker::Model;
 
@@ -53,6 +55,119 @@ impl Program {
         ensures { result ≡ program_in parts }
     {
         Program { parts }
+    }
+
+    /// The same program, which has found the targets of its virtual calls: then calls that name one type
+    /// and one method share them. Of more than a million such pairs, or where their lists have more than
+    /// sixteen million methods, only the first ones are kept.
+    pub fn with_targets(self, alloc: Global) -> Result<Program, NoMemory>
+        ensures { IfOk result (λ same. same ≡ self) }
+    {
+        let known = self.targets_of_calls(alloc)?;
+        let Program { mut parts } = self;
+        parts.known = Some(known);
+        Ok(Program::new(parts))
+    }
+
+    // The targets of its virtual calls.
+    fn targets_of_calls(&self, alloc: Global) -> Result<KnownTargets, NoMemory>
+        ensures { IfOk result (KnowsTargets self.now) }
+    {
+        let mut known = KnownTargets::none(alloc);
+        for method in self.parts.methods.as_slice() {
+            self.add_calls(alloc, &mut known, method)?;
+        }
+        Ok(known)
+    }
+
+    // Those of one method.
+    fn add_calls(
+        &self,
+        alloc: Global,
+        known: &mut KnownTargets,
+        method: &MethodInfo,
+    ) -> Result<(), NoMemory>
+        requires { KnowsTargets self.now known.old }
+        ensures { OnOk result (KnowsTargets self.now known.new) }
+    {
+        if let Body::Coded(code) = &method.body {
+            for item in code.items.as_slice() {
+                self.add_call(alloc, known, self.called_pair(method.class, &item.insn))?;
+            }
+        }
+        Ok(())
+    }
+
+    // Those of calls of a method that name a type, unless they are known.
+    fn add_call(
+        &self,
+        alloc: Global,
+        known: &mut KnownTargets,
+        pair: Option<(TypeRef, MethodId)>,
+    ) -> Result<(), NoMemory>
+        requires known { KnowsTargets self.now known.old }
+        requires pair { IfSome pair (IsPairIn self.now.outline) }
+        ensures { OnOk result (KnowsTargets self.now known.new) }
+    {
+        let Some((named, method)) = pair else {
+            return Ok(());
+        };
+        if known.is_full() {
+            return Ok(());
+        }
+        if known.has(named, method) {
+            return Ok(());
+        }
+        let targets = self.found_targets(alloc, named, method)?;
+        known.push(TargetList {
+            named,
+            method,
+            targets,
+        })?;
+        Ok(())
+    }
+
+    // The type and the method that an instruction names, where it is a virtual call.
+    fn called_pair(&self, class: ClassId, insn: &Insn) -> Option<(TypeRef, MethodId)>
+        ensures { IfSome result (IsPairIn self.now.outline) }
+    {
+        let index = match insn {
+            Insn::Virtual(index) => *index,
+            Insn::Interface(index) => *index,
+            _ => return None,
+        };
+        match self.use_of(class, index) {
+            Use::OfMethod(method, named) => self.pair_of(named, method),
+            _ => None,
+        }
+    }
+
+    // The type of a number and a method, where both are there.
+    fn pair_of(&self, t: TypeId, method: MethodId) -> Option<(TypeRef, MethodId)>
+        ensures { IfSome result (IsPairIn self.now.outline) }
+    {
+        if method.0 >= self.methods() {
+            return None;
+        }
+        if t.0 >= self.types() {
+            return None;
+        }
+        let named = self.type_of(t);
+        if self.has_class(named) {
+            Some((named, method))
+        } else {
+            None
+        }
+    }
+
+    // Whether the class of the type, if it has one, is there.
+    fn has_class(&self, t: TypeRef) -> bool
+        ensures { result ≡ true → IsTypeIn self.now.outline.classes t }
+    {
+        match t.base {
+            Base::OfClass(class) => class.0 < self.classes(),
+            _ => true,
+        }
     }
 
     /// The number of classes, built-in ones among them. Takes no memory.
@@ -321,8 +436,36 @@ impl Program {
         requires method { m.0 < length (methods_of self.now.outline.classes) }
         requires named { IsTypeIn self.now.outline.classes named }
         ensures { IfOk result (λ found. map (λ (m : MethodId). m.0) found.items
-            ≡ filter (λ method. is_among method (selected self.now named m.0))
-            (range_with_len 0 (length (methods_of self.now.outline.classes)))) }
+            ≡ selected_methods self.now named m.0) }
+    {
+        match self.known_targets(named, m) {
+            Some(known) => Ok(Vec::from_slice(alloc, known)?),
+            None => self.found_targets(alloc, named, m),
+        }
+    }
+
+    // The same, where they were found before.
+    fn known_targets(&self, named: TypeRef, m: MethodId) -> Option<&[MethodId]>
+        ensures { IfSome result (λ known. map (λ (m : MethodId). m.0) known.now
+            ≡ selected_methods self.now named m.0) }
+    {
+        match &self.parts.known {
+            Some(known) => known.get(named, m),
+            None => None,
+        }
+    }
+
+    // The same by asking each class.
+    fn found_targets(
+        &self,
+        alloc: Global,
+        named: TypeRef,
+        m: MethodId,
+    ) -> Result<Vec<MethodId>, NoMemory>
+        requires method { m.0 < length (methods_of self.now.outline.classes) }
+        requires named { IsTypeIn self.now.outline.classes named }
+        ensures { IfOk result (λ found. map (λ (m : MethodId). m.0) found.items
+            ≡ selected_methods self.now named m.0) }
     {
         let mut marks = vec![in alloc; false; self.methods() as usize]?;
         for class in 0..self.classes() {

@@ -33,6 +33,7 @@ parts_from declared t = record {
   selected = t.answers.selected;
   tops = t.answers.tops.items;
   own = t.answers.own.items;
+  known = None;
 }
 
 -- numbers of 32 bits number all classes, texts, methods and fields

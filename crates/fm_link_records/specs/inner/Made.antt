@@ -29,6 +29,7 @@ pub record AreMade (x : Parts) (method_kinds field_kinds : List (Option Kinds)) 
   pub statics : x.statics ≡ statics_of x.declared
   pub answers : AnswerForClasses x
   pub calls : AnswerForCalls x
+  pub known : x.known ≡ None
 
 -- and the declared classes, types, texts, main and uses are those of the class files
 pub record IsMadeOf (given : List ClassDef) (main : List ℕ) (x : Parts) : Type 0 where

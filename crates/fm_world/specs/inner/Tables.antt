@@ -1,5 +1,5 @@
 -- How a program lies in the memory of the code: its parts, with tables that return at once what the definitions look up.
-use Rattle.std.specs.Prelude.{◌≡◌, ℕ, ◌^◌, ◌<◌, true, List, ◌∷◌, [], length, map, reverse, nat_eq, Option, None, Some, IsSomeAnd, slice_get, slice_index}
+use Rattle.std.specs.Prelude.{◌≡◌, ℕ, ◌^◌, ◌<◌, true, List, ◌∷◌, [], length, map, reverse, nat_eq, Option, None, Some, IfSome, IsSomeAnd, slice_get, slice_index}
 use Rattle.std.specs.List.{range_with_len}
 use Rattle.std.specs.HashMap.{get}
 use Rattle.fm_code.specs.declared.code_array.Code.{Code}
@@ -8,6 +8,7 @@ use Rattle.fm_world.specs.Lookups.{is_interface_at, is_selectable, object_number
 use Rattle.fm_world.specs.Members.{fields_of, is_instance, methods_of, method_at, method_among, own_method, statics_of}
 use Rattle.fm_world.specs.Programs.{Outline, Program, class_info, field_info, method_info}
 use Rattle.fm_world.specs.declared.declarations.DeclaredClass.{DeclaredClass}
+use Rattle.fm_world.specs.inner.KnownTargets.{KnowsTargets}
 use Rattle.fm_world.specs.inner.Layers.{value_at}
 use Rattle.fm_world.specs.declared.parts.Parts.{Parts}
 use Rattle.fm_world.specs.declared.records.Body.{Body}
@@ -88,3 +89,4 @@ pub record AreTables (x : Parts) : Type 0 where
   pub statics : x.statics ≡ statics_of x.declared
   pub answers : AnswerForClasses x
   pub calls : AnswerForCalls x
+  pub known : IfSome x.known (KnowsTargets (program_in x))

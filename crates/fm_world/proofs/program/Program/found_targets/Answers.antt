@@ -8,7 +8,7 @@ use Rattle.fm_world.specs.Members.{methods_of}
 use Rattle.fm_world.specs.Programs.{takes_arrays, takes_class}
 use Rattle.fm_world.specs.inner.Marks.{marked, AreMarked}
 use Rattle.fm_world.proofs.Marks.{AreMarked-more, AreMarked-step, length-marked, marked_are}
-use Rattle.fm_world.proofs.program.Program.selected_targets.Goals as goal
+use Rattle.fm_world.proofs.program.Program.found_targets.Goals as goal
 
 pub loop-class-preserved : goal.loop-class-preserved
 loop-class-preserved c =

@@ -6,7 +6,7 @@ use Rattle.fm_world.specs.Programs.{Program, takes_class}
 use Rattle.fm_base.specs.declared.kinds.TypeRef.{TypeRef}
 use Rattle.fm_world.specs.inner.Marks.{AreMarked}
 use Rattle.std.proofs.Common.{List, Bool}
-use Rattle.fm_world.proofs.program.Program.selected_targets.Given as goal
+use Rattle.fm_world.proofs.program.Program.found_targets.Given as goal
 
 -- what is selected for the classes so far is marked
 pub record MarksSelected (p : Program) (named : TypeRef) (method : ℕ) (marks : List Bool) (class : ℕ) : Type 0 where
