@@ -8,6 +8,7 @@
 #![tactic(auto)]
 
 mod freeing;
+mod judging;
 mod program_text;
 mod refusal;
 mod status;

@@ -11,6 +11,7 @@ ghost use Rattle.freeme.specs.TopCall.{ComesOf, ComesTo, IsTopCall, StaysWithin,
 ghost use Rattle.freeme.specs.declared.status.TheConstants.{CALLS_FREE, METHOD_TOO_LONG, POOL_FULL};
 
 use crate::freeing::{class_lines, freed_classes};
+use crate::judging::judge_program;
 use crate::program_text::put_text;
 use crate::refusal::FreeRefusal;
 use crate::writing::write_classes;
@@ -24,7 +25,7 @@ use fm_files::{Files, Sink};
 use fm_law_headline::{law_headline, law_taken};
 use fm_law_relinked::law_links;
 use fm_law_retyped::law_typed;
-use fm_load::{JobRefusal, judge_program, read_classes};
+use fm_load::{JobRefusal, read_classes};
 use fm_rewrite::Count;
 use std::alloc::Global;
 
