@@ -1,28 +1,25 @@
--- The rows of jumps, switches, returns and athrow: a result and what is thrown lead to cells that fit.
-use Rattle.std.proofs.Common.{◌≡◌, ℕ, zero, suc, ℤ, Bool, true, false, List, [], ◌∷◌, ◌++◌, length, position, take, cond, Option, Some, None, option_to_list, refl, sym, ◌∙◌, ap, subst}
+-- The rows of returns and athrow: a result and what is thrown lead to cells that fit.
+use Rattle.std.proofs.Common.{◌≡◌, ℕ, zero, suc, List, [], ◌∷◌, ◌++◌, length, take, cond, Option, Some, None, option_to_list, refl, sym, ◌∙◌, ap, subst}
 use Rattle.std.specs.List.{AllZip}
-use Rattle.std.specs.Ordering.{int_eq}
 use Rattle.std.proofs.lemmas.Slice.Zip.{AllZip-long}
 use Rattle.fm_base.proofs.OptionFacts.{cond-some_then, option_map-some}
 use Rattle.fm_base.specs.declared.kinds.Kind.{Kind}
 use Rattle.fm_code.specs.declared.operations.Reg.{Reg}
 use Rattle.fm_code.specs.declared.operations.Reg.TheVariants as reg
-use Rattle.fm_code.specs.declared.operations.Test.{Test}
 use Rattle.fm_types.specs.CallRows.{return_row, returned_by, same_reg}
 use Rattle.fm_types.specs.Fits.{fits_type}
-use Rattle.fm_types.specs.Named.{object_slot, result_of, result_words, throwable_type}
+use Rattle.fm_types.specs.Named.{result_of, result_words, throwable_type}
 use Rattle.fm_types.specs.ObjectRows.{throw_row}
 use Rattle.fm_types.specs.States.{stack_slots, taken, TypeState, worked}
 use Rattle.fm_types.specs.declared.slots.Slot.TheVariants as slot
 use Rattle.fm_world.specs.Programs.{Outline}
-use Rattle.fm_frames.specs.Effects.{Falls, going, Jumps}
-use Rattle.fm_frames.specs.JumpRows.{int_jump_effect, jumps_if, key_target, lookup_effect, null_jump_effect, pair_jump_effect, return_effect, same_jump_effect, table_effect, table_target, throw_effect}
+use Rattle.fm_frames.specs.JumpRows.{return_effect, throw_effect}
 use Rattle.fm_frames.specs.Sights.{Sight, sights}
 use Rattle.fm_frames.specs.declared.values.Value.{Value}
 use Rattle.fm_law_sound.specs.Sound.{HasKind, HaveKinds}
 use Rattle.fm_law_sound.proofs.JumpRows.{return_by, return_is, return_leads}
 use Rattle.fm_law_no_fault.proofs.Owing.{Cell}
-use Rattle.fm_law_no_fault.proofs.RowCases.{asked_int, asked_object, asked_reference, kinds, Leaves, Row, same_leaves, seen_holds, taken_cells, Whole, worked_leaves}
+use Rattle.fm_law_no_fault.proofs.RowCases.{asked_object, kinds, Row, seen_holds, taken_cells, Whole}
 
 -- as many words as there are among the first of them
 take_again : (n : ℕ) (words : List Value) → take (length (take n words)) words ≡ take n words
@@ -36,51 +33,6 @@ module _ (r : Row) where
 
   abbrev seen : List Sight
   seen = sights o r.areas.store r.frame.stack
-
-  -- ---- jumps
-
-  jump_if : (takes : ℕ) (b : Bool) → Leaves r (going takes Falls) → Whole r (going takes (jumps_if b))
-  jump_if takes true leaves = record { acts = tt; next = leaves }
-  jump_if takes false leaves = record { acts = tt; next = leaves }
-
-  pub int_jump_whole : (test : Test) → worked o (slot.Int ∷ []) [] r.before ≡ Some r.after → Whole r (int_jump_effect test seen)
-  unfolding int_jump_effect
-  int_jump_whole test checked =
-      asked_int r (slot.Int ∷ []) [] checked 0 refl _
-      (λ a. jump_if 1 _ (worked_leaves r (slot.Int ∷ []) [] (going 1 Falls) checked refl refl (λ y made went. tt)))
-
-  pub pair_jump_whole : (test : Test) → worked o (slot.Int ∷ slot.Int ∷ []) [] r.before ≡ Some r.after → Whole r (pair_jump_effect test seen)
-  unfolding pair_jump_effect
-  pair_jump_whole test checked =
-      asked_int r (slot.Int ∷ slot.Int ∷ []) [] checked 0 refl _ (λ b. asked_int r (slot.Int ∷ slot.Int ∷ []) [] checked 1 refl _
-      (λ a. jump_if 2 _ (worked_leaves r (slot.Int ∷ slot.Int ∷ []) [] (going 2 Falls) checked refl refl (λ y made went. tt))))
-
-  pub same_jump_whole : (same : Bool) → worked o (object_slot o ∷ object_slot o ∷ []) [] r.before ≡ Some r.after → Whole r (same_jump_effect same)
-  same_jump_whole same checked = record {
-    acts = tt;
-    next = worked_leaves r (object_slot o ∷ object_slot o ∷ []) [] (same_jump_effect same) checked refl refl (λ y made went. tt);
-  }
-
-  pub null_jump_whole : (null : Bool) → worked o (object_slot o ∷ []) [] r.before ≡ Some r.after → Whole r (null_jump_effect null seen)
-  unfolding null_jump_effect
-  null_jump_whole null checked =
-      asked_reference r (object_slot o ∷ []) [] checked 0 _ refl _
-      (λ b. jump_if 1 _ (worked_leaves r (object_slot o ∷ []) [] (going 1 Falls) checked refl refl (λ y made went. tt)))
-
-  pub goto_whole : Some r.before ≡ Some r.after → Whole r (going 0 (Jumps 0))
-  goto_whole checked = record { acts = tt; next = same_leaves r (going 0 (Jumps 0)) checked refl refl refl }
-
-  pub table_whole : (low : ℤ) (count : ℕ) → worked o (slot.Int ∷ []) [] r.before ≡ Some r.after → Whole r (table_effect low count seen)
-  unfolding table_effect
-  table_whole low count checked =
-      asked_int r (slot.Int ∷ []) [] checked 0 refl _
-      (λ key. record { acts = tt; next = worked_leaves r (slot.Int ∷ []) [] (going 1 (Jumps (table_target low count key))) checked refl refl (λ y made went. tt) })
-
-  pub lookup_whole : (keys : List ℤ) (count : ℕ) → worked o (slot.Int ∷ []) [] r.before ≡ Some r.after → Whole r (lookup_effect keys count seen)
-  unfolding lookup_effect
-  lookup_whole keys count checked =
-      asked_int r (slot.Int ∷ []) [] checked 0 refl _
-      (λ key. record { acts = tt; next = worked_leaves r (slot.Int ∷ []) [] (going 1 (Jumps (key_target (position (int_eq key) (take count keys))))) checked refl refl (λ y made went. tt) })
 
   -- ---- returns
 

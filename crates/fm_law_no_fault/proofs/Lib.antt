@@ -10,7 +10,6 @@ pub mod ActsSuits
 pub mod Wanted
 pub mod CellsLeave
 pub mod RowCases
-pub mod NumberRows
 pub mod MoveRows
 pub mod JumpRows
 pub mod ArrayTypes

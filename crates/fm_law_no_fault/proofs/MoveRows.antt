@@ -16,7 +16,7 @@ use Rattle.fm_world.specs.Programs.{Outline}
 use Rattle.fm_world.specs.declared.uses.Use.{Use}
 use Rattle.fm_world.specs.declared.uses.Use.TheVariants as resolved
 use Rattle.fm_frames.specs.Acts.{Sources, sum_of}
-use Rattle.fm_frames.specs.Effects.{int_word, long_words, null_word, OfOperand, words}
+use Rattle.fm_frames.specs.Effects.{int_word, long_words, OfOperand, Source, words}
 use Rattle.fm_frames.specs.Elements.{is_text_type}
 use Rattle.fm_frames.specs.NativeRows.{text_type}
 use Rattle.fm_frames.specs.NumberRows.{constant_effect, increment_effect, load_effect, move_effect, moved_words, store_effect}
@@ -29,7 +29,7 @@ use Rattle.fm_law_sound.proofs.FramesLeft.{AreAs}
 use Rattle.fm_law_no_fault.proofs.ActsSuits.{leads_weaker, text_fits}
 use Rattle.fm_law_no_fault.proofs.CellsLeave.{cells_before, cells_left}
 use Rattle.fm_law_no_fault.proofs.Owing.{Cell, CellsFit}
-use Rattle.fm_law_no_fault.proofs.RowCases.{Leaves, pushed_leaves, Row, same_leaves, Whole}
+use Rattle.fm_law_no_fault.proofs.RowCases.{Gives, Leaves, pushed_leaves, Row, Whole}
 
 -- an int is written where an int was
 int_cell : (o : Outline) (store : Store) (own : ℕ) (news : ℕ → Option TypeRef) (s : Slot) (v : Value) → is_int s ≡ true → Cell o store own news s v
@@ -42,34 +42,17 @@ module _ (r : Row) where
 
   -- ---- constants
 
-  pub nop_whole : Some r.before ≡ Some r.after → Whole r (words 0 [])
-  nop_whole row = record { acts = tt; next = same_leaves r (words 0 []) row refl refl refl }
-
-  pub null_constant_whole : Some (pushed (slot.Null ∷ []) r.before) ≡ Some r.after → Whole r (words 0 null_word)
-  null_constant_whole row = record {
-    acts = tt;
-    next = pushed_leaves r (slot.Null ∷ []) (words 0 null_word) row refl refl (λ y made went. (refl, tt));
-  }
-
-  pub const_whole : (n : ℤ) → Some (pushed (slot.Int ∷ []) r.before) ≡ Some r.after → Whole r (words 0 (int_word n))
-  const_whole n row = record {
-    acts = tt;
-    next = pushed_leaves r (slot.Int ∷ []) (words 0 (int_word n)) row refl refl (λ y made went. (tt, tt));
-  }
-
-  pub long_const_whole : (n : ℤ) → Some (pushed (slot.Top ∷ slot.Long ∷ []) r.before) ≡ Some r.after → Whole r (words 0 (long_words n))
-  long_const_whole n row = record {
-    acts = tt;
-    next = pushed_leaves r (slot.Top ∷ slot.Long ∷ []) (words 0 (long_words n)) row refl refl (λ y made went. (tt, (tt, tt)));
-  }
+  -- words are put on top
+  pub given_whole : (slots : List Slot) (gives : List Source) → Some (pushed slots r.before) ≡ Some r.after → Gives r [] slots gives → Whole r (words 0 gives)
+  given_whole slots gives row fits = record { acts = tt; next = pushed_leaves r slots (words 0 gives) row refl refl fits }
 
   pub constant_whole : (u : Use) → constant_row o u r.before ≡ Some r.after → Whole r (constant_effect u)
   unfolding constant_row constant_effect
   constant_whole (resolved.OfType t) row = absurd (cc)
   constant_whole (resolved.OfField g t) row = absurd (cc)
   constant_whole (resolved.OfMethod m t) row = absurd (cc)
-  constant_whole (resolved.OfInt n) row = const_whole n row
-  constant_whole (resolved.OfLong n) row = long_const_whole n row
+  constant_whole (resolved.OfInt n) row = given_whole (slot.Int ∷ []) (int_word n) row (λ y made went. (tt, tt))
+  constant_whole (resolved.OfLong n) row = given_whole (slot.Top ∷ slot.Long ∷ []) (long_words n) row (λ y made went. (tt, (tt, tt)))
   constant_whole (resolved.OfText text) row = record {
     acts = tt;
     next = pushed_leaves r (slot.Ref (text_type o) ∷ []) (constant_effect (resolved.OfText text)) row refl refl

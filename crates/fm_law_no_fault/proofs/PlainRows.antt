@@ -1,23 +1,35 @@
 -- All rows but those of calls: the effect of each leads on to cells that fit, and none is a fault.
-use Rattle.std.proofs.Common.{◌≡◌, ℕ, false, List, length, Option, Some, refl, sym}
+use Rattle.std.proofs.Common.{◌≡◌, ℕ, Bool, true, false, List, [], ◌∷◌, codes, length, position, take, Option, Some, refl, sym}
+use Rattle.std.specs.Ordering.{int_eq}
 use Rattle.std.proofs.lemmas.Bool.{false≢true}
+use Rattle.fm_alu.specs.Operations.{result_of_op}
 use Rattle.fm_code.specs.declared.instructions.Insn.{Insn}
 use Rattle.fm_code.specs.declared.instructions.Insn.TheVariants as insn
+use Rattle.fm_code.specs.declared.operations.Conv.{Conv}
+use Rattle.fm_code.specs.declared.operations.Conv.TheVariants as conv
+use Rattle.fm_types.specs.Named.{object_slot}
+use Rattle.fm_types.specs.NumberRows.{convert_row}
 use Rattle.fm_types.specs.Rows.{row_after}
+use Rattle.fm_types.specs.States.{worked}
 use Rattle.fm_types.specs.Typed.{type_of_use}
+use Rattle.fm_types.specs.declared.slots.Slot.{Slot}
+use Rattle.fm_types.specs.declared.slots.Slot.TheVariants as slot
 use Rattle.fm_world.specs.Programs.{Outline}
 use Rattle.fm_world.specs.declared.uses.Use.{Use}
+use Rattle.fm_frames.specs.Effects.{Falls, going, int_word, Jumps, JumpsIfSame, long_words, Next, null_word, words}
+use Rattle.fm_frames.specs.JumpRows.{int_jump_effect, jumps_if, key_target, lookup_effect, null_jump_effect, pair_jump_effect, table_effect, table_target}
+use Rattle.fm_frames.specs.NumberRows.{compare_effect, convert_effect, int_converted, int_negate_effect, int_op_effect, int_shift_effect, long_negate_effect, long_op_effect, long_shift_effect}
 use Rattle.fm_frames.specs.Rows.{effect_of}
 use Rattle.fm_frames.specs.Sights.{Sight, sights}
 use Rattle.fm_law_sound.specs.Leading.{is_call, NamesField}
 use Rattle.fm_law_sound.specs.Resolved.{IsNamed}
+use Rattle.fm_law_sound.proofs.Cases.{by_thrown}
 use Rattle.fm_law_no_fault.proofs.ArrayRows.{array_load_whole, array_store_whole, length_whole, new_array_whole, new_references_whole}
-use Rattle.fm_law_no_fault.proofs.JumpRows.{goto_whole, int_jump_whole, lookup_whole, null_jump_whole, pair_jump_whole, return_whole, same_jump_whole, table_whole, throw_whole}
-use Rattle.fm_law_no_fault.proofs.MoveRows.{const_whole, constant_whole, increment_whole, load_whole, long_const_whole, move_whole, nop_whole, null_constant_whole, store_whole}
+use Rattle.fm_law_no_fault.proofs.JumpRows.{return_whole, throw_whole}
+use Rattle.fm_law_no_fault.proofs.MoveRows.{constant_whole, given_whole, increment_whole, load_whole, move_whole, store_whole}
 use Rattle.fm_law_no_fault.proofs.NestedSuits.{multi_array_whole}
-use Rattle.fm_law_no_fault.proofs.NumberRows.{compare_whole, convert_whole, int_negate_whole, int_op_whole, int_shift_whole, long_negate_whole, long_op_whole, long_shift_whole}
 use Rattle.fm_law_no_fault.proofs.ObjectRows.{cast_whole, get_field_whole, get_static_whole, is_a_whole, new_whole, put_field_whole, put_static_whole}
-use Rattle.fm_law_no_fault.proofs.RowCases.{Row, Whole}
+use Rattle.fm_law_no_fault.proofs.RowCases.{asked_int, asked_long, asked_reference, int_given, Leaves, long_given, Row, same_leaves, thrown_whole, Whole, worked_leaves}
 
 -- where the item is a `new`, the method's items make what it names
 abbrev pub MakesNamed : Row → Use → Insn → Type 0
@@ -31,13 +43,57 @@ module _ (r : Row) where
   abbrev seen : List Sight
   seen = sights o r.areas.store r.frame.stack
 
+  -- ---- numbers and jumps
+
+  abbrev one_int : List Slot
+  one_int = slot.Int ∷ []
+
+  abbrev two_ints : List Slot
+  two_ints = slot.Int ∷ slot.Int ∷ []
+
+  abbrev one_long : List Slot
+  one_long = slot.Top ∷ slot.Long ∷ []
+
+  abbrev two_longs : List Slot
+  two_longs = slot.Top ∷ slot.Long ∷ slot.Top ∷ slot.Long ∷ []
+
+  abbrev int_and_long : List Slot
+  int_and_long = slot.Int ∷ slot.Top ∷ slot.Long ∷ []
+
+  narrowed_whole : (to : Conv) → worked o one_int one_int r.before ≡ Some r.after → Whole r (int_converted to seen)
+  narrowed_whole to checked =
+      asked_int r one_int one_int checked 0 refl _
+      (λ a. int_given r one_int _ checked)
+
+  convert_whole : (to : Conv) → convert_row o to r.before ≡ Some r.after → Whole r (convert_effect to seen)
+  unfolding convert_row convert_effect
+  convert_whole conv.IntToLong checked =
+      asked_int r one_int one_long checked 0 refl _
+      (λ a. long_given r one_int _ checked)
+  convert_whole conv.LongToInt checked =
+      asked_long r one_long one_int checked 1 refl _
+      (λ a. int_given r one_long _ checked)
+  convert_whole conv.IntToByte checked = narrowed_whole conv.IntToByte checked
+  convert_whole conv.IntToChar checked = narrowed_whole conv.IntToChar checked
+  convert_whole conv.IntToShort checked = narrowed_whole conv.IntToShort checked
+
+  jump_if : (takes : ℕ) (b : Bool) → Leaves r (going takes Falls) → Whole r (going takes (jumps_if b))
+  jump_if takes true leaves = record { acts = tt; next = leaves }
+  jump_if takes false leaves = record { acts = tt; next = leaves }
+
+  -- words are taken, and the frame goes on
+  taken_leaves : (wanted : List Slot) (next : Next) → worked o wanted [] r.before ≡ Some r.after → Leaves r (going (length wanted) next)
+  taken_leaves wanted next row = worked_leaves r wanted [] (going (length wanted) next) row refl refl (λ y made went. tt)
+
+  -- ---- all rows but those of calls
+
   pub plain_whole : (i : Insn) (u : Use) (byte : Option ℕ) → NamesField o u i → IsNamed r.program r.frame.method i u → MakesNamed r u i → is_call i ≡ false
       → row_after o r.frame.method r.frame.item r.news u i r.before ≡ Some r.after → Whole r (effect_of o r.frame.method u i byte seen)
-  unfolding row_after effect_of
-  plain_whole insn.Nop u byte names named makes call row = nop_whole r row
-  plain_whole insn.Null u byte names named makes call row = null_constant_whole r row
-  plain_whole (insn.Const n) u byte names named makes call row = const_whole r n row
-  plain_whole (insn.LongConst n) u byte names named makes call row = long_const_whole r n row
+  unfolding row_after effect_of int_op_effect long_op_effect int_negate_effect long_negate_effect int_shift_effect long_shift_effect compare_effect int_jump_effect pair_jump_effect null_jump_effect table_effect lookup_effect
+  plain_whole insn.Nop u byte names named makes call row = record { acts = tt; next = same_leaves r (words 0 []) row refl refl refl }
+  plain_whole insn.Null u byte names named makes call row = given_whole r (slot.Null ∷ []) null_word row (λ y made went. (refl, tt))
+  plain_whole (insn.Const n) u byte names named makes call row = given_whole r one_int (int_word n) row (λ y made went. (tt, tt))
+  plain_whole (insn.LongConst n) u byte names named makes call row = given_whole r one_long (long_words n) row (λ y made went. (tt, (tt, tt)))
   plain_whole (insn.LoadPool index) u byte names named makes call row = constant_whole r u row
   plain_whole (insn.Load q k) u byte names named makes call row = load_whole r q k row
   plain_whole (insn.Store q k) u byte names named makes call row = store_whole r q k row
@@ -51,21 +107,36 @@ module _ (r : Row) where
   plain_whole insn.Dup2X1 u byte names named makes call row = move_whole r insn.Dup2X1 _ refl row
   plain_whole insn.Dup2X2 u byte names named makes call row = move_whole r insn.Dup2X2 _ refl row
   plain_whole insn.Swap u byte names named makes call row = move_whole r insn.Swap _ refl row
-  plain_whole (insn.IntOp op) u byte names named makes call row = int_op_whole r op row
-  plain_whole (insn.LongOp op) u byte names named makes call row = long_op_whole r op row
-  plain_whole insn.IntNeg u byte names named makes call row = int_negate_whole r row
-  plain_whole insn.LongNeg u byte names named makes call row = long_negate_whole r row
-  plain_whole (insn.IntShift shift) u byte names named makes call row = int_shift_whole r shift row
-  plain_whole (insn.LongShift shift) u byte names named makes call row = long_shift_whole r shift row
-  plain_whole (insn.Convert to) u byte names named makes call row = convert_whole r to row
-  plain_whole insn.LongCompare u byte names named makes call row = compare_whole r row
-  plain_whole (insn.IfInt test target) u byte names named makes call row = int_jump_whole r test row
-  plain_whole (insn.IfPair test target) u byte names named makes call row = pair_jump_whole r test row
-  plain_whole (insn.IfSame same target) u byte names named makes call row = same_jump_whole r same row
-  plain_whole (insn.IfNull null target) u byte names named makes call row = null_jump_whole r null row
-  plain_whole (insn.Goto target) u byte names named makes call row = goto_whole r row
-  plain_whole (insn.Table low others targets) u byte names named makes call row = table_whole r low (length targets) row
-  plain_whole (insn.Lookup others keys targets) u byte names named makes call row = lookup_whole r keys (length targets) row
+  plain_whole (insn.IntOp op) u byte names named makes call row =
+      asked_int r two_ints one_int row 0 refl _ (λ b. asked_int r two_ints one_int row 1 refl _ (λ a.
+      by_thrown (Whole r) o (result_of_op op 32 a b) _ (thrown_whole r (codes "java/lang/ArithmeticException") r.cells.built_in.thrown.1.0)
+      (λ n. int_given r two_ints n row)))
+  plain_whole (insn.LongOp op) u byte names named makes call row =
+      asked_long r two_longs one_long row 1 refl _ (λ b. asked_long r two_longs one_long row 3 refl _ (λ a.
+      by_thrown (Whole r) o (result_of_op op 64 a b) _ (thrown_whole r (codes "java/lang/ArithmeticException") r.cells.built_in.thrown.1.0)
+      (λ n. long_given r two_longs n row)))
+  plain_whole insn.IntNeg u byte names named makes call row = asked_int r one_int one_int row 0 refl _ (λ a. int_given r one_int _ row)
+  plain_whole insn.LongNeg u byte names named makes call row = asked_long r one_long one_long row 1 refl _ (λ a. long_given r one_long _ row)
+  plain_whole (insn.IntShift shift) u byte names named makes call row =
+      asked_int r two_ints one_int row 0 refl _ (λ n. asked_int r two_ints one_int row 1 refl _ (λ a. int_given r two_ints _ row))
+  plain_whole (insn.LongShift shift) u byte names named makes call row =
+      asked_int r int_and_long one_long row 0 refl _ (λ n. asked_long r int_and_long one_long row 2 refl _ (λ a. long_given r int_and_long _ row))
+  plain_whole (insn.Convert to) u byte names named makes call row = convert_whole to row
+  plain_whole insn.LongCompare u byte names named makes call row =
+      asked_long r two_longs one_int row 1 refl _ (λ b. asked_long r two_longs one_int row 3 refl _ (λ a. int_given r two_longs _ row))
+  plain_whole (insn.IfInt test target) u byte names named makes call row = asked_int r one_int [] row 0 refl _ (λ a. jump_if 1 _ (taken_leaves one_int Falls row))
+  plain_whole (insn.IfPair test target) u byte names named makes call row =
+      asked_int r two_ints [] row 0 refl _ (λ b. asked_int r two_ints [] row 1 refl _ (λ a. jump_if 2 _ (taken_leaves two_ints Falls row)))
+  plain_whole (insn.IfSame same target) u byte names named makes call row =
+      record { acts = tt; next = taken_leaves (object_slot o ∷ object_slot o ∷ []) (JumpsIfSame same) row }
+  plain_whole (insn.IfNull null target) u byte names named makes call row =
+      asked_reference r (object_slot o ∷ []) [] row 0 _ refl _ (λ b. jump_if 1 _ (taken_leaves (object_slot o ∷ []) Falls row))
+  plain_whole (insn.Goto target) u byte names named makes call row = record { acts = tt; next = same_leaves r (going 0 (Jumps 0)) row refl refl refl }
+  plain_whole (insn.Table low others targets) u byte names named makes call row =
+      asked_int r one_int [] row 0 refl _ (λ key. record { acts = tt; next = taken_leaves one_int (Jumps (table_target low (length targets) key)) row })
+  plain_whole (insn.Lookup others keys targets) u byte names named makes call row =
+      asked_int r one_int [] row 0 refl _
+      (λ key. record { acts = tt; next = taken_leaves one_int (Jumps (key_target (position (int_eq key) (take (length targets) keys)))) row })
   plain_whole (insn.Return value) u byte names named makes call row = return_whole r value row
   plain_whole insn.Throw u byte names named makes call row = throw_whole r row
   plain_whole (insn.New index) u byte names named makes call row = new_whole r u makes row
