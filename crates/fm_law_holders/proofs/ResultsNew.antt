@@ -49,7 +49,7 @@ use Rattle.fm_same.specs.Covering.{CoversAt, CoversTargets}
 use Rattle.fm_same.specs.Evenness.{EndsEvenly, HoldsNumbers, Obeys}
 use Rattle.fm_same.specs.Regions.{Own, region}
 use Rattle.fm_same.specs.Resolved.{IsResolved}
-use Rattle.fm_same.specs.Standing.{Called, method_of, Stand, StandsAt}
+use Rattle.fm_same.specs.Standing.{Called, method_of, Stand}
 use Rattle.fm_law_holders.proofs.ApartPlaces.{zip_by_places, zip_found}
 use Rattle.fm_law_holders.proofs.BornObjects.{Went}
 use Rattle.fm_law_holders.proofs.StepsWent.{step_obeys, step_went}
@@ -161,10 +161,6 @@ module _ (p : Program) (facts : Facts) (exact : AreFacts p facts) (numbers : Hol
   -- how deep its stack is
   behind_depth : (stack : List Value) → Stand p facts (behind stack ∷ callers) → length stack ≡ length here.next.stack
   behind_depth stack stand = stand.0.depth ∙ depth_is p facts (behind stack) stand.0.at.code (f.item + 1) here.next here.next_is
-
-  -- the code of the frame is the one that it stands at
-  known_here : (stands : StandsAt p facts f) → stands.state ≡ known
-  known_here stands = same_Some stands.state known (sym stands.state_is ∙ at)
 
   -- ---- what is new, and where it is
 

@@ -1,10 +1,9 @@
 -- The rows of arrays: what is loaded fits the elements of the array's type, and what is stored fits those of the array that is met.
-use Rattle.std.proofs.Common.{◌≡◌, ℕ, ◌+◌, ◌-◌, ◌<◌, ◌==◌, ◌&&◌, ◌||◌, not, int_lt, pos, unsigned_abs, Bool, true, false, List, [], ◌∷◌, ◌++◌, length, map, codes, nat_lt, Option, Some, refl, sym, ◌∙◌, ap, subst, inl, inr, slice_get, arith}
+use Rattle.std.proofs.Common.{◌≡◌, ℕ, ◌+◌, ◌-◌, ◌==◌, ◌&&◌, ◌||◌, not, int_lt, pos, unsigned_abs, Bool, true, false, List, [], ◌∷◌, ◌++◌, length, map, codes, nat_lt, Option, Some, refl, sym, ◌∙◌, ap, subst, inl, inr, slice_get}
 use Rattle.std.specs.List.{AllZip}
-use Rattle.std.proofs.lemmas.Bool.{and_parts, eqb-true, false≢true, ltb-true}
+use Rattle.std.proofs.lemmas.Bool.{false≢true}
 use Rattle.std.proofs.lemmas.Option.{same_Some}
 use Rattle.fm_base.proofs.OptionFacts.{cond-some_then, option_and_then-some}
-use Rattle.fm_base.specs.declared.kinds.Base.{Base}
 use Rattle.fm_base.specs.declared.kinds.Base.TheVariants as base
 use Rattle.fm_base.specs.declared.kinds.Kind.{Kind}
 use Rattle.fm_base.specs.declared.kinds.Kind.TheVariants as kind
@@ -13,7 +12,7 @@ use Rattle.fm_code.specs.declared.operations.Elem.{Elem}
 use Rattle.fm_code.specs.declared.operations.Elem.TheVariants as elem
 use Rattle.fm_types.specs.ArrayRows as typed
 use Rattle.fm_types.specs.ArrayRows.{array_load_row, array_store_row, has_letter, is_array_of, length_row, new_array_row, new_references_row, null_element, on_array, stored_element}
-use Rattle.fm_types.specs.Fits.{depth_with, fits_type}
+use Rattle.fm_types.specs.Fits.{fits_type}
 use Rattle.fm_types.specs.States.{stack_slots, worked}
 use Rattle.fm_types.specs.declared.slots.Slot.{Slot}
 use Rattle.fm_types.specs.declared.slots.Slot.TheVariants as slot
@@ -49,18 +48,6 @@ use Rattle.fm_law_no_fault.proofs.StoresKeep.{sees}
 use Rattle.fm_law_no_fault.proofs.Wanted.{slot_held, slot_passing, wanted_at, wanted_int, wanted_leads, word_fits_at, word_there}
 
 -- ---- types of arrays
-
-shallow : (dims : ℕ) (b : Base) → nat_lt 0 (depth_with dims b) ≡ true → 0 < dims
-shallow dims (base.OfClass class) is = ltb-true 0 dims is
-shallow dims base.Boolean is = let deep = ltb-true 0 (dims - 1) is in omega (arith, deep)
-shallow dims base.Byte is = let deep = ltb-true 0 (dims - 1) is in omega (arith, deep)
-shallow dims base.Char is = let deep = ltb-true 0 (dims - 1) is in omega (arith, deep)
-shallow dims base.Short is = let deep = ltb-true 0 (dims - 1) is in omega (arith, deep)
-shallow dims base.Int is = let deep = ltb-true 0 (dims - 1) is in omega (arith, deep)
-shallow dims base.Long is = let deep = ltb-true 0 (dims - 1) is in omega (arith, deep)
-
-one_deep : (dims : ℕ) (b : Bool) → ((dims == 1) && b) ≡ true → 0 < dims
-one_deep dims b is = let one : dims ≡ 1 = eqb-true dims 1 (and_parts (dims == 1) b is).0 in omega (arith, one)
 
 -- what isn't a reference takes one word or two
 letter_suits : (e : Elem) (k : Kind) → stack_slots (k ∷ []) ≡ typed.element_words e → ((t : TypeRef) → k ≡ kind.Ref t → ⊥)

@@ -22,16 +22,16 @@ use Rattle.fm_frames.specs.States.{Areas, Frame, word_at}
 use Rattle.fm_frames.specs.declared.values.Value.{Value}
 use Rattle.fm_frames.specs.declared.values.Value.TheVariants as value
 use Rattle.fm_law_sound.specs.Resolved.{StepsAreResolved}
-use Rattle.fm_law_sound.specs.Sound.{AreasAreSound, FrameHasKinds, HasKind, IsReference, LocalHasKind}
+use Rattle.fm_law_sound.specs.Sound.{AreasAreSound, FrameHasKinds, HasKind, LocalHasKind}
 use Rattle.fm_law_sound.proofs.SeenObjects.{IsSeen, seen_at}
 use Rattle.fm_law_no_fault.specs.CellsResolved.{CellsAreResolved}
-use Rattle.fm_law_no_fault.specs.Whole.{AreasAreWhole, HoldsA, LeadsToA, LocalFits, WordFits}
+use Rattle.fm_law_no_fault.specs.Whole.{AreasAreWhole, HoldsA, LocalFits, WordFits}
 use Rattle.fm_same.proofs.StoreChanges.{Extends}
 use Rattle.fm_law_no_fault.proofs.ActsKeep.{types_after}
 use Rattle.fm_law_no_fault.proofs.CellsLeave.{locals_left, pushed_cells, same_cells, stack_cells, stack_left, worked_cells}
 use Rattle.fm_law_no_fault.proofs.Owing.{Cell, CellsLeave, GivesCells, RowIsWhole}
 use Rattle.fm_law_no_fault.proofs.SlotsFit.{cell_along}
-use Rattle.fm_law_no_fault.proofs.Wanted.{wanted_held, wanted_int, wanted_leads, wanted_long, wanted_object, wanted_reference}
+use Rattle.fm_law_no_fault.proofs.Wanted.{wanted_held, wanted_int, wanted_long, wanted_object, wanted_reference}
 
 -- A row of the checker that is met, with the state before it and the one after it, and a frame that fits the state before, in areas that are whole.
 pub record Row : Type 0 where
@@ -78,10 +78,6 @@ module _ (r : Row) where
 
     pub asked_long : (n : ℕ) → slice_get wanted n ≡ Some slot.Long → (k : ℤ → Effect) → ((i : ℤ) → Whole r (k i)) → Whole r (on_long (sights o r.areas.store r.frame.stack) n k)
     asked_long n at k each = wanted_long o r.areas.store r.own r.news r.steps.tree (Whole r) wanted r.before.stack found.0 found.1 r.frame.stack r.stack n at k each
-
-    pub asked_leads : (n : ℕ) (t : TypeRef) → slice_get wanted n ≡ Some (slot.Ref t)
-        → IsReference (word_at r.frame.stack n) × LeadsToA o r.areas.store (λ u. fits_type o.classes u t) (cell_of (word_at r.frame.stack n))
-    asked_leads n t at = wanted_leads o r.areas.store r.own r.news r.steps.tree (Whole r) wanted r.before.stack found.0 found.1 r.frame.stack r.stack n t at
 
     pub asked_held : (n : ℕ) (t : TypeRef) → slice_get wanted n ≡ Some (slot.Ref t) → (of_null : Effect) (k : Looks → Effect)
         → (slice_get (sights o r.areas.store r.frame.stack) n ≡ Some Null → Whole r of_null)

@@ -82,9 +82,6 @@ module _ (gone : Gone) (p : Program) (one other : Store) where
   target_same : (f g : Frame) (n : ℕ) → F f g → target_at p g n ≡ target_at p f n
   target_same f g n h = ap (λ fr. target_at p fr n) (stands_so f g h)
 
-  offset_same : (f g : Frame) → F f g → offset_at p g ≡ offset_at p f
-  offset_same f g h = ap (offset_at p) (stands_so f g h)
-
   handler_same : (t : TypeRef) (f g : Frame) → F f g → handler_of p g t ≡ handler_of p f t
   handler_same t f g h = ap (λ fr. handler_of p fr t) (stands_so f g h)
 

@@ -37,7 +37,7 @@ use Rattle.fm_law_sound.proofs.Opening.{first_sound, fit_later, IsOfStart, start
 use Rattle.fm_law_sound.proofs.OpeningActs.{opening_fits}
 use Rattle.fm_law_sound.proofs.OpeningCells.{opening_agrees}
 use Rattle.fm_law_sound.proofs.StartActs.{start_alone}
-use Rattle.fm_law_two_memories.specs.Pairing.{AreasPaired, FramesPaired, none_gone, SameCell, SameEnd, SameFound, SameValue, StatesPaired}
+use Rattle.fm_law_two_memories.specs.Pairing.{AreasPaired, FramesPaired, none_gone, SameCell, SameEnd, SameFound, SameValue}
 use Rattle.fm_law_two_memories.specs.Reading.{ActsAlike}
 use Rattle.fm_law_two_memories.specs.Results.{IsTooSmall}
 use Rattle.fm_law_two_memories.proofs.NextAlike.{starts_alike}
@@ -139,9 +139,6 @@ module _ (p : Program) (ready : IsReady p) (first second : Choose) (job : Job) (
       Along none_gone few_none p.outline ready.steps.calls.runnable.sizes (lawful first) (lawful second) may other_may one two none few no_frame no_frame no_frames tt x y types made others
 
   module _ (x y : Areas) (types : List TypeRef) (made others : List ℕ) (h : On x y types made others) where
-    bare_paired : StatesPaired none_gone o (bare x) (bare y)
-    bare_paired = record { frames = tt; areas = h.paired; input = refl; depth = refl; steps = refl; ended = refl }
-
     ends_alike : (a b : Ended) → SameEnd none_gone x.store y.store a b → Go (stopped (bare x) a) (stopped (bare y) b)
     ends_alike a b same =
         Both (record {

@@ -67,9 +67,6 @@ module _ (gone : Gone) (o : Outline) (one other : Store) (paired : ArePaired gon
     inner_same object second alike there =
         ap (λ t. cond (has_hidden_field o t) (led_to o other (slice_index_or second.elements 0 0)) NoField) (type_same object second alike)
         ∙ by_test (has_hidden_field o (type_numbered o object.class)) refl where
-          T : Bool
-          T = has_hidden_field o (type_numbered o object.class)
-
           by_test : (b : Bool) → has_hidden_field o (type_numbered o object.class) ≡ b
               → cond (has_hidden_field o (type_numbered o object.class)) (led_to o other (slice_index_or second.elements 0 0)) NoField
               ≡ cond (has_hidden_field o (type_numbered o object.class)) (led_to o one (slice_index_or object.elements 0 0)) NoField
