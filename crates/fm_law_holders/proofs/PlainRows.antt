@@ -5,6 +5,7 @@ use Rattle.std.proofs.lemmas.Bool.{false≢true}
 use Rattle.std.proofs.lemmas.List.{length-replicate}
 use Rattle.std.proofs.lemmas.Option.{same_Some}
 use Rattle.fm_base.proofs.OptionFacts.{cond-some_then, option_and_then-some, option_map-some}
+use Rattle.fm_alu.specs.Operations.{result_of_op}
 use Rattle.fm_base.specs.Kinds.{kind_words}
 use Rattle.fm_base.specs.declared.kinds.Base.TheVariants as base
 use Rattle.fm_base.specs.declared.kinds.Kind.{Kind}
@@ -38,7 +39,7 @@ use Rattle.fm_world.specs.declared.uses.Use.TheVariants as resolved
 use Rattle.fm_frames.specs.ArrayRows.{array_load_effect, array_made, array_store_effect, length_effect, element_kind, multi_array_effect, ints_at, arrays_of, new_array_effect, new_references_effect, put_element, put_reference}
 use Rattle.fm_frames.specs.Effects.{acting, Effect, going, int_word, Jumps, long_words, Make, null_word, OfOperand, OfPlace, OfStatic, Put, SetStatic, words}
 use Rattle.fm_frames.specs.Effects as effects
-use Rattle.fm_frames.specs.JumpRows.{int_jump_effect, lookup_effect, null_jump_effect, pair_jump_effect, return_effect, same_jump_effect, table_effect, throw_effect}
+use Rattle.fm_frames.specs.JumpRows.{int_jump_effect, jumps_if, lookup_effect, null_jump_effect, pair_jump_effect, return_effect, same_jump_effect, table_effect, throw_effect}
 use Rattle.fm_frames.specs.NumberRows.{compare_effect, constant_effect, convert_effect, increment_effect, int_negate_effect, int_op_effect, int_shift_effect, load_effect, long_negate_effect, long_op_effect, long_shift_effect, move_effect, moved_words, store_effect}
 use Rattle.fm_frames.specs.ObjectRows.{cast_effect, class_of_field, get_field_effect, get_static_effect, is_a_effect, kind_of_field, made_of, new_effect, put_field_effect, put_static_effect, starting}
 use Rattle.fm_frames.specs.Operands.{thrown}
@@ -48,12 +49,12 @@ use Rattle.fm_frames.specs.States.{ref}
 use Rattle.fm_frames.specs.declared.values.Value.{Value}
 use Rattle.fm_law_sound.specs.Leading.{is_call}
 use Rattle.fm_law_sound.proofs.ArrayRows.{by_array}
-use Rattle.fm_law_sound.proofs.Cases.{by_held, by_if, by_int, by_long, by_object, by_on_field, by_on_type}
+use Rattle.fm_law_sound.proofs.Cases.{by_held, by_if, by_int, by_long, by_object, by_on_field, by_on_type, by_reference, by_thrown}
 use Rattle.fm_law_sound.proofs.FramesLeft as left
 use Rattle.fm_law_sound.proofs.Leaving.{kind_slots}
 use Rattle.fm_law_sound.proofs.ObjectRows.{row_of_field, row_of_type}
 use Rattle.fm_law_holders.specs.Uninitialised.{IsMadeAt}
-use Rattle.fm_law_holders.proofs.EffectTakes.{arrays_take, compare_takes, element_takes, int_jump_takes, int_negate_takes, int_op_takes, int_shift_takes, length_takes, long_negate_takes, long_op_takes, long_shift_takes, lookup_takes, made_takes, null_jump_takes, pair_jump_takes, put_takes, table_takes}
+use Rattle.fm_law_holders.proofs.EffectTakes.{arrays_take, element_takes, length_takes, made_takes, put_takes}
 use Rattle.fm_law_holders.proofs.Leaving.{before_are, from, Goes, Leads, leaves_stack, Left, left_are, pushed_goes, Row, Takes, worked_below_goes, worked_goes}
 use Rattle.fm_law_holders.proofs.Slots.{Are, Is, other_is}
 use Rattle.fm_types.proofs.EachCheckRow.{IsPlain}
@@ -346,10 +347,14 @@ module _ (r : Row) where
 
   -- ---- all rows but calls
 
+  jump_takes : (n : ℕ) (b : Bool) → Takes n (going n (jumps_if b))
+  jump_takes n true = (refl, refl)
+  jump_takes n false = (refl, refl)
+
   pub plain_goes : (i : Insn) (u : Use) (news : ℕ → Option TypeRef) (byte : Option ℕ) (sights : List Sight) → is_call i ≡ false
       → row_after o r.frame.method r.frame.item news u i r.before ≡ Some r.after → Leads r i (effect_of o r.frame.method u i byte sights)
       → NewIs (effect_of o r.frame.method u i byte sights) → Goes r (effect_of o r.frame.method u i byte sights)
-  unfolding row_after effect_of
+  unfolding row_after effect_of int_op_effect long_op_effect int_negate_effect long_negate_effect int_shift_effect long_shift_effect compare_effect int_jump_effect pair_jump_effect null_jump_effect table_effect lookup_effect
   plain_goes insn.Nop u news byte sights call row leads new = pushed_goes r [] insn.Nop (words 0 []) row tt (refl, refl) leads
   plain_goes insn.Null u news byte sights call row leads new = pushed_goes r (slot.Null ∷ []) insn.Null (words 0 null_word) row (tt, tt) (refl, refl) leads
   plain_goes (insn.Const n) u news byte sights call row leads new =
@@ -370,36 +375,46 @@ module _ (r : Row) where
   plain_goes insn.Dup2X2 u news byte sights call row leads new = move_goes insn.Dup2X2 _ refl row
   plain_goes insn.Swap u news byte sights call row leads new = move_goes insn.Swap _ refl row
   plain_goes (insn.IntOp op) u news byte sights call row leads new =
-      worked_goes r (slot.Int ∷ slot.Int ∷ []) (slot.Int ∷ []) (insn.IntOp op) (int_op_effect o op sights) row (tt, tt) (int_op_takes o op sights) leads
+      worked_goes r (slot.Int ∷ slot.Int ∷ []) (slot.Int ∷ []) (insn.IntOp op) (int_op_effect o op sights) row (tt, tt) (by_int (Takes 2) sights 0 _ tt (λ b. by_int (Takes 2) sights 1 _ tt (λ a.
+      by_thrown (Takes 2) o (result_of_op op 32 a b) _ tt (λ n. (refl, refl))))) leads
   plain_goes (insn.LongOp op) u news byte sights call row leads new =
       worked_goes r (slot.Top ∷ slot.Long ∷ slot.Top ∷ slot.Long ∷ []) (slot.Top ∷ slot.Long ∷ []) (insn.LongOp op) (long_op_effect o op sights) row (tt, (tt, tt))
-      (long_op_takes o op sights) leads
+      (by_long (Takes 4) sights 1 _ tt (λ b. by_long (Takes 4) sights 3 _ tt (λ a.
+      by_thrown (Takes 4) o (result_of_op op 64 a b) _ tt (λ n. (refl, refl))))) leads
   plain_goes insn.IntNeg u news byte sights call row leads new =
-      worked_goes r (slot.Int ∷ []) (slot.Int ∷ []) insn.IntNeg (int_negate_effect sights) row (tt, tt) (int_negate_takes sights) leads
+      worked_goes r (slot.Int ∷ []) (slot.Int ∷ []) insn.IntNeg (int_negate_effect sights) row (tt, tt) (by_int (Takes 1) sights 0 _ tt (λ a. (refl, refl))) leads
   plain_goes insn.LongNeg u news byte sights call row leads new =
-      worked_goes r (slot.Top ∷ slot.Long ∷ []) (slot.Top ∷ slot.Long ∷ []) insn.LongNeg (long_negate_effect sights) row (tt, (tt, tt)) (long_negate_takes sights) leads
+      worked_goes r (slot.Top ∷ slot.Long ∷ []) (slot.Top ∷ slot.Long ∷ []) insn.LongNeg (long_negate_effect sights) row (tt, (tt, tt))
+      (by_long (Takes 2) sights 1 _ tt (λ a. (refl, refl))) leads
   plain_goes (insn.IntShift shift) u news byte sights call row leads new =
-      worked_goes r (slot.Int ∷ slot.Int ∷ []) (slot.Int ∷ []) (insn.IntShift shift) (int_shift_effect shift sights) row (tt, tt) (int_shift_takes shift sights) leads
+      worked_goes r (slot.Int ∷ slot.Int ∷ []) (slot.Int ∷ []) (insn.IntShift shift) (int_shift_effect shift sights) row (tt, tt)
+      (by_int (Takes 2) sights 0 _ tt (λ n. by_int (Takes 2) sights 1 _ tt (λ a. (refl, refl)))) leads
   plain_goes (insn.LongShift shift) u news byte sights call row leads new =
       worked_goes r (slot.Int ∷ slot.Top ∷ slot.Long ∷ []) (slot.Top ∷ slot.Long ∷ []) (insn.LongShift shift) (long_shift_effect shift sights) row (tt, (tt, tt))
-      (long_shift_takes shift sights) leads
+      (by_int (Takes 3) sights 0 _ tt (λ n. by_long (Takes 3) sights 2 _ tt (λ a. (refl, refl)))) leads
   plain_goes (insn.Convert to) u news byte sights call row leads new = convert_goes to sights row leads
   plain_goes insn.LongCompare u news byte sights call row leads new =
-      worked_goes r (slot.Top ∷ slot.Long ∷ slot.Top ∷ slot.Long ∷ []) (slot.Int ∷ []) insn.LongCompare (compare_effect sights) row (tt, tt) (compare_takes sights) leads
+      worked_goes r (slot.Top ∷ slot.Long ∷ slot.Top ∷ slot.Long ∷ []) (slot.Int ∷ []) insn.LongCompare (compare_effect sights) row (tt, tt)
+      (by_long (Takes 4) sights 1 _ tt (λ b. by_long (Takes 4) sights 3 _ tt (λ a. (refl, refl)))) leads
   plain_goes (insn.IfInt test target) u news byte sights call row leads new =
-      worked_goes r (slot.Int ∷ []) [] (insn.IfInt test target) (int_jump_effect test sights) row tt (int_jump_takes test sights) leads
+      worked_goes r (slot.Int ∷ []) [] (insn.IfInt test target) (int_jump_effect test sights) row tt
+      (by_int (Takes 1) sights 0 _ tt (λ a. jump_takes 1 _)) leads
   plain_goes (insn.IfPair test target) u news byte sights call row leads new =
-      worked_goes r (slot.Int ∷ slot.Int ∷ []) [] (insn.IfPair test target) (pair_jump_effect test sights) row tt (pair_jump_takes test sights) leads
+      worked_goes r (slot.Int ∷ slot.Int ∷ []) [] (insn.IfPair test target) (pair_jump_effect test sights) row tt
+      (by_int (Takes 2) sights 0 _ tt (λ b. by_int (Takes 2) sights 1 _ tt (λ a. jump_takes 2 _))) leads
   plain_goes (insn.IfSame same target) u news byte sights call row leads new =
       worked_goes r (object_slot o ∷ object_slot o ∷ []) [] (insn.IfSame same target) (same_jump_effect same) row tt (refl, refl) leads
   plain_goes (insn.IfNull null target) u news byte sights call row leads new =
-      worked_goes r (object_slot o ∷ []) [] (insn.IfNull null target) (null_jump_effect null sights) row tt (null_jump_takes null sights) leads
+      worked_goes r (object_slot o ∷ []) [] (insn.IfNull null target) (null_jump_effect null sights) row tt
+      (by_reference (Takes 1) sights 0 _ tt (λ b. jump_takes 1 _)) leads
   plain_goes (insn.Goto target) u news byte sights call row leads new =
       pushed_goes r [] (insn.Goto target) (going 0 (Jumps 0)) row tt (refl, refl) leads
   plain_goes (insn.Table low others targets) u news byte sights call row leads new =
-      worked_goes r (slot.Int ∷ []) [] (insn.Table low others targets) (table_effect low (length targets) sights) row tt (table_takes low (length targets) sights) leads
+      worked_goes r (slot.Int ∷ []) [] (insn.Table low others targets) (table_effect low (length targets) sights) row tt
+      (by_int (Takes 1) sights 0 _ tt (λ key. (refl, refl))) leads
   plain_goes (insn.Lookup others keys targets) u news byte sights call row leads new =
-      worked_goes r (slot.Int ∷ []) [] (insn.Lookup others keys targets) (lookup_effect keys (length targets) sights) row tt (lookup_takes keys (length targets) sights) leads
+      worked_goes r (slot.Int ∷ []) [] (insn.Lookup others keys targets) (lookup_effect keys (length targets) sights) row tt
+      (by_int (Takes 1) sights 0 _ tt (λ key. (refl, refl))) leads
   plain_goes (insn.Return value) u news byte sights call row leads new = return_goes value
   plain_goes insn.Throw u news byte sights call row leads new = throw_goes sights
   plain_goes (insn.New index) u news byte sights call row leads new = new_goes u row new
