@@ -17,7 +17,7 @@ use Rattle.fm_code.specs.declared.operations.Reg.{Reg}
 use Rattle.fm_code.specs.declared.operations.Reg.TheVariants as reg
 use Rattle.fm_types.proofs.EachCheckRow.{ArePlain, each_check_row, IsPlain, Leaves, of_field, plain_words, Row}
 use Rattle.fm_types.proofs.NumberOrder.{move_by}
-use Rattle.fm_types.specs.ArrayRows.{array_load_row, array_store_row, element_of, element_words, is_array_of, length_row, null_element, on_array, stored_element}
+use Rattle.fm_types.specs.ArrayRows.{array_load_row, array_store_row, element_of, is_array_of, length_row, null_element, on_array, stored_element}
 use Rattle.fm_types.specs.CallRows.{constructed, constructor_called, initialised, is_type, names_own_or_parent}
 use Rattle.fm_types.specs.Fits.{fits}
 use Rattle.fm_types.specs.Moves.{Moves, moved}
@@ -32,15 +32,6 @@ use Rattle.fm_world.specs.Programs.{Outline}
 use Rattle.fm_world.specs.declared.uses.Use.{Use}
 
 -- ---- plain words
-
-plain_elements : (e : Elem) → ArePlain (element_words e)
-plain_elements elem.Boolean = (tt, tt)
-plain_elements elem.Byte = (tt, tt)
-plain_elements elem.Char = (tt, tt)
-plain_elements elem.Short = (tt, tt)
-plain_elements elem.Int = (tt, tt)
-plain_elements elem.Long = (tt, (tt, tt))
-plain_elements elem.Ref = (tt, tt)
 
 plain_null : (e : Elem) → ArePlain (null_element e)
 plain_null elem.Ref = (tt, tt)

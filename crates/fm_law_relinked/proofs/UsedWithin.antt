@@ -1,5 +1,5 @@
 -- The indices that a spelled class uses are in its pool.
-use Rattle.std.proofs.Common.{◌≡◌, refl, ◌∙◌, ap, subst, ℕ, zero, suc, ◌+◌, ◌<◌, ◌≤◌, ◌==◌, ◌⊎◌, inl, inr, Bool, true, false, cond, ◌||◌, List, [], ◌∷◌, ◌++◌, length, map, Option, Some, None, IsSome, IsSomeAnd, arith, zero-add}
+use Rattle.std.proofs.Common.{◌≡◌, refl, ◌∙◌, ap, subst, ℕ, zero, suc, ◌+◌, ◌<◌, ◌≤◌, ◌==◌, ◌⊎◌, inl, inr, Bool, true, false, ◌||◌, List, [], ◌∷◌, ◌++◌, length, map, Option, Some, None, IsSome, IsSomeAnd, arith, zero-add}
 use Rattle.std.specs.List.{AllByRecursion, cons_option, filter_map, flat_map, range_with_len}
 use Rattle.std.proofs.lemmas.Bool.{cases_lt, false≢true}
 use Rattle.std.proofs.lemmas.List.{get_or_past}
@@ -213,10 +213,6 @@ range_below : (a n : ℕ) → AreWithin (a + n) (range_with_len a n)
 range_below a zero = tt
 range_below a (suc n) =
     (omega arith, AllByRecursion-weaker (λ k. k < a + 1 + n) (λ k. k < a + suc n) (λ k within. omega (arith, within)) (range_with_len (a + 1) n) (range_below (a + 1) n))
-
-one_filtered : {A : Type 0} (P : A → Type 0) (b : Bool) (x : A) (ys : List A) → P x → AllByRecursion P ys → AllByRecursion P (cond b (x ∷ ys) ys)
-one_filtered P true x ys here later = (here, later)
-one_filtered P false x ys here later = later
 
 pub indices_below : (c : ClassDef) → AreWithin (length c.pool.entries) (pool_indices c)
 indices_below c = subst (λ n. AreWithin n (pool_indices c)) (zero-add (length c.pool.entries)) (range_below 0 (length c.pool.entries))

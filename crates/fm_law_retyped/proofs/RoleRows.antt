@@ -1,5 +1,5 @@
 -- Each item of code with insertions meets its row at the state written out, and what it brings fits the states of those that follow.
-use Rattle.std.proofs.Common.{◌≡◌, refl, sym, ◌∙◌, ap, subst, ℕ, suc, ◌+◌, ◌<◌, ◌≤◌, ◌⊎◌, inl, inr, Bool, true, false, ◌||◌, cond, List, [], ◌∷◌, ◌++◌, length, map, set, Option, Some, None, is_some, option_and_then, option_map, IsSomeAnd, Contains, arith}
+use Rattle.std.proofs.Common.{◌≡◌, refl, sym, ◌∙◌, ap, subst, ℕ, suc, ◌+◌, ◌<◌, ◌≤◌, ◌⊎◌, inl, inr, true, false, cond, List, [], ◌∷◌, ◌++◌, length, map, set, Option, Some, None, is_some, option_and_then, option_map, IsSomeAnd, Contains, arith}
 use Rattle.std.specs.Prelude.{nat_lt, slice_get}
 use Rattle.std.specs.List.{AllZip}
 use Rattle.std.proofs.lemmas.Bool.{cases_lt, le-ltb}
@@ -360,9 +360,6 @@ module _ (w : Retyping) (f : CanRetype w) where
   -- the types that each `new` makes
   same_news : (j : ℕ) → made_at w.written w.method w.woven (w.numbers j) ≡ made_at w.given w.method w.code j
   same_news j = by_place (cases_lt j (length w.code.items)) where
-    new_of : ℕ → Option TypeRef
-    new_of n = option_and_then (made_by w.written w.method) (insn_of w.woven n)
-
     by_place : (j < length w.code.items) ⊎ (length w.code.items ≤ j)
         → option_and_then (made_by w.written w.method) (insn_of w.woven (w.numbers j)) ≡ option_and_then (made_by w.given w.method) (insn_of w.code j)
     by_place (inl within) =

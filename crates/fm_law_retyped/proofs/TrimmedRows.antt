@@ -16,7 +16,7 @@ use Rattle.fm_law_relinked.specs.Rows.{slot_with, state_with}
 use Rattle.fm_law_retyped.proofs.Trimmed.{trimmed, trimmed_state}
 use Rattle.fm_types.specs.NumberRows.{increment_row, is_int, load_row, loaded, store_row, stored_from, suits}
 use Rattle.fm_types.specs.Rows.{row_after}
-use Rattle.fm_types.specs.States.{cut_before, is_long, is_reference, local_at, pushed, stored, TypeState}
+use Rattle.fm_types.specs.States.{cut_before, is_long, is_reference, local_at, pushed, TypeState}
 use Rattle.fm_types.specs.declared.slots.Slot.{Slot}
 use Rattle.fm_types.specs.declared.slots.Slot.TheVariants as slot
 use Rattle.fm_world.specs.Programs.{Outline}
@@ -78,15 +78,8 @@ module _ (front : List Slot) where
   long : List Slot
   long = with_last front slot.Long
 
-  short : List Slot
-  short = with_last front slot.Top
-
   room : (last : Slot) (k n : ℕ) → k + n ≤ suc (length front) → nat_lt (length (with_last front last)) (k + n) ≡ false
   room last k n within = let count = count_is front last in le-ltb (length (with_last front last)) (k + n) (omega (arith, within, count))
-
-  stored_as : (last : Slot) (k : ℕ) (slots new : List Slot) → k + length slots ≤ suc (length front)
-      → (stored k slots (with_last front last) ≡ cond false None (Some new) → stored k slots (with_last front last) ≡ Some new)
-  stored_as last k slots new within same = same
 
   -- one slot
   one_written : (last : Slot) (k : ℕ) (x : Slot) → k < length front

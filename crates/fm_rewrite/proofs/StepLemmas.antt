@@ -1,5 +1,5 @@
 -- One class more, in the loops that go over classes and over what is to be done with their methods.
-use Rattle.std.proofs.Common.{◌≡◌, refl, sym, ◌∙◌, ap, subst, ℕ, ◌+◌, ◌<◌, ◌≤◌, List, [], ◌∷◌, ◌++◌, length, drop, get_or, Option, None, arith, append_assoc}
+use Rattle.std.proofs.Common.{◌≡◌, refl, sym, ◌∙◌, ap, subst, ℕ, ◌+◌, ◌<◌, List, [], ◌∷◌, ◌++◌, length, drop, get_or, Option, None, arith, append_assoc}
 use Rattle.std.specs.Option.{option_map, option_or}
 use Rattle.std.proofs.lemmas.List.{length-drop}
 use Rattle.fm_base.proofs.ListFacts.{drop_here}
@@ -21,10 +21,6 @@ module _ (classes : List ClassDef) (place : ℕ) (class : ClassDef) (within : pl
   module _ (done : List Planned) (one_each : length done ≡ method_count (drop place classes)) where
     counted : length done ≡ length class.methods + method_count (drop (place + 1) classes)
     counted = one_each ∙ ap method_count next
-
-    -- there is a plan for each of its methods, and those of later classes follow
-    own_within : length class.methods ≤ length done
-    own_within = omega (arith, counted)
 
     pub others_counted : length (others class done) ≡ method_count (drop (place + 1) classes)
     others_counted = let left_over = length-drop (length class.methods) done in omega (arith, left_over, counted)
