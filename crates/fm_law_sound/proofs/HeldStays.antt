@@ -144,9 +144,6 @@ chain_within bound store zero cells chains fits is = subst (AllByRecursion (λ c
 chain_within zero store (suc cell) cells chains fits is = absurd (cc)
 chain_within (suc bound) store (suc cell) cells chains fits is =
     by_object (object_at store (suc cell)) refl is (λ to rest within more. chain_within bound store to rest chains within more) where
-      Small : List ℕ → Type 0
-      Small others = AllByRecursion (λ c. c < 2 ^ 32) others
-
       by_fixed : (b : Bool) (to : ℕ) → to < 2 ^ 32 → cond b (Some []) (option_map (λ others. suc cell ∷ others) (chain_cells bound store to)) ≡ Some cells
           → ((to : ℕ) (rest : List ℕ) → to < 2 ^ 32 → chain_cells bound store to ≡ Some rest → AllByRecursion (λ c. c < 2 ^ 32) rest)
           → AllByRecursion (λ c. c < 2 ^ 32) cells

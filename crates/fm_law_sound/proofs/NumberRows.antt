@@ -1,5 +1,5 @@
 -- The rows of constants, locals, moves of the stack and numbers leave what the checker's rows give.
-use Rattle.std.proofs.Common.{◌≡◌, ℕ, ℤ, List, [], ◌∷◌, length, codes, Some, refl, ap}
+use Rattle.std.proofs.Common.{◌≡◌, ℕ, ℤ, List, [], ◌∷◌, codes, Some, refl, ap}
 use Rattle.fm_alu.specs.Operations.{result_of_op}
 use Rattle.fm_code.specs.declared.instructions.Insn.{Insn}
 use Rattle.fm_code.specs.declared.instructions.Insn.TheVariants as insn
@@ -11,7 +11,6 @@ use Rattle.fm_code.specs.declared.operations.Reg.TheVariants as reg
 use Rattle.fm_code.specs.declared.operations.Shift.{Shift}
 use Rattle.fm_types.specs.NumberRows.{constant_row, convert_row, increment_row, load_row, store_row}
 use Rattle.fm_types.specs.States.{local_at, TypeState, worked}
-use Rattle.fm_types.specs.declared.slots.Slot.{Slot}
 use Rattle.fm_types.specs.declared.slots.Slot.TheVariants as slot
 use Rattle.fm_world.specs.Programs.{Outline}
 use Rattle.fm_world.specs.declared.uses.Use.{Use}
@@ -95,10 +94,6 @@ module _ (o : Outline) (s : TypeState) (f : Frame) (h : FrameHasKinds s f.locals
   )
 
   -- ---- numbers
-
-  pub worked_leads : (i : Insn) (wanted given : List Slot) (e : Effect) → worked o wanted given s ≡ Some after → e.takes ≡ length wanted → e.writes ≡ []
-      → GivesSlots o f given e.gives → LeavesAs o after f e
-  worked_leads i wanted given e row takes writes gives = worked_leaves o s f h wanted given after e row takes writes gives
 
   pub int_op_leads : (op : Op) (sights : List Sight) → worked o (slot.Int ∷ slot.Int ∷ []) (slot.Int ∷ []) s ≡ Some after
       → Leads (insn.IntOp op) (int_op_effect o op sights)

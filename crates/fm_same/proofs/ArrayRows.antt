@@ -221,12 +221,6 @@ abbrev both_ints : Option ℤ → Option (List ℤ) → Option (List ℤ)
 both_ints (Some n) (Some others) = Some (n ∷ others)
 both_ints n others = None
 
-both_some : (n : Option ℤ) (others : Option (List ℤ)) (counts : List ℤ) → both_ints n others ≡ Some counts
-    → (m : ℤ) × (rest : List ℤ) × (others ≡ Some rest) × (m ∷ rest ≡ counts)
-both_some (Some n) (Some others) counts h = (n, others, refl, same_Some (n ∷ others) counts h)
-both_some (Some n) None counts h = absurd (cc)
-both_some None others counts h = absurd (cc)
-
 multi_dims : (o : Outline) (n : TypeId) (t : TypeRef) (dimensions : ℕ) (s after : TypeState) → slice_get o.types n.0 ≡ Some t
     → multi_array_row o (resolved.OfType n) dimensions s ≡ Some after → dimensions ≤ t.dims
 unfolding multi_array_row

@@ -1,6 +1,6 @@
 -- The rows of built-in methods: what they give or keep is joined through the ends that they link, and a new text's home is the word that it becomes, or the
 -- object that it is put into.
-use Rattle.std.proofs.Common.{◌≡◌, ℕ, not, ◌||◌, zero, suc, ◌+◌, ◌-◌, ◌≤◌, ◌==◌, ◌&&◌, Bool, true, false, List, [], ◌∷◌, length, Option, Some, cond, Contains, refl, sym, ◌∙◌, ap, subst, inl, inr, slice_get, arith, eqb-true}
+use Rattle.std.proofs.Common.{◌≡◌, ℕ, not, ◌||◌, zero, suc, ◌+◌, ◌-◌, ◌≤◌, ◌==◌, ◌&&◌, Bool, true, false, List, [], ◌∷◌, length, Option, Some, cond, refl, sym, ◌∙◌, ap, subst, inl, inr, slice_get, arith, eqb-true}
 use Rattle.std.proofs.lemmas.Bool.{and_parts}
 use Rattle.std.proofs.lemmas.Option.{same_Some}
 use Rattle.fm_base.proofs.OptionFacts.{IsSomeAnd-from_some}
@@ -94,9 +94,6 @@ number_of : (number : ℕ) (row : Native) → same_linking row row ≡ true → 
 number_of number row links at = let is : 0 + number ≡ place_of row = placed 0 natives number row links refl at in omega (arith, is)
 
 -- ---- what rows link
-
-receiver_link : (links : List (End2 × End2)) → links ≡ result_and_receiver → Contains links (end.Return, end.Parameter 0)
-receiver_link links is = subst (λ l. Contains l (end.Return, end.Parameter 0)) (sym is) (0, omega arith, refl)
 
 to_string_link : IsNativeLink (place_of StringToString) end.Return (end.Parameter 0)
 unfolding native_links built_in methods_of chain_of

@@ -7,7 +7,7 @@ use Rattle.fm_cells.specs.Stores.{Store}
 use Rattle.fm_code.specs.Edges.{IsNormalEdge}
 use Rattle.fm_conn.specs.Facts.{AreFacts, Facts}
 use Rattle.fm_conn.specs.Links.{Linked}
-use Rattle.fm_conn.specs.Nodes.{IsNode, Local, Node, Return, Slot}
+use Rattle.fm_conn.specs.Nodes.{IsNode, Local, Return, Slot}
 use Rattle.fm_conn.specs.Pairs.{IsEnd, PairAt}
 use Rattle.fm_conn.specs.declared.ends.End2.TheVariants as end
 use Rattle.fm_world.specs.Programs.{Outline, Program}
@@ -266,9 +266,6 @@ module _ (p : Program) (facts : Facts) (exact : AreFacts p facts) (f g : Frame) 
     module _ (v : Value) (found : slice_get f.stack 0 ≡ Some v) (leads : IsReference v) (one : n ≡ 1) where
       first_is : (slice_get (take n f.stack ++ g.stack) 0 ≡ Some v) × (length (take n f.stack) ≡ 1)
       first_is = first_given n f.stack g.stack v one found
-
-      top : Node
-      top = Slot (g.item + 1) (length g.stack)
 
       only : (q : ℕ) (w : Value) → slice_get (take n f.stack) q ≡ Some w → (w ≡ v) × (node_of_word resumed q ≡ Slot (g.item + 1) (length g.stack))
       only q w at_q =

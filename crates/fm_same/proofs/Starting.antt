@@ -1,5 +1,5 @@
 -- What the start of a class makes of an effect owes no more than the effect; so the next effect of a sound state owes what it should.
-use Rattle.std.proofs.Common.{◌≡◌, ℕ, ◌==◌, Bool, true, false, List, [], ◌∷◌, Option, Some, None, codes, refl, sym, ◌∙◌, ap, subst, slice_get, eq-eqb}
+use Rattle.std.proofs.Common.{◌≡◌, ℕ, Bool, true, List, [], ◌∷◌, Option, Some, None, codes, refl, sym, ◌∙◌, ap, subst, slice_get, eq-eqb}
 use Rattle.std.specs.List.{AllByRecursion, cons_option}
 use Rattle.fm_base.proofs.ListFacts.{AllByRecursion-append}
 use Rattle.fm_base.specs.Texts.{units}
@@ -18,7 +18,7 @@ use Rattle.fm_frames.proofs.Programs.{start_by}
 use Rattle.fm_frames.specs.Effects.{Effect, OfLiteral, Plain}
 use Rattle.fm_frames.specs.ObjectRows.{kind_of_field}
 use Rattle.fm_frames.specs.Sights.{sights}
-use Rattle.fm_frames.specs.Starts.{fields_at, set_constant, start_actions, start_methods, start_of_class, to_start, with_start}
+use Rattle.fm_frames.specs.Starts.{fields_at, set_constant, start_actions, start_methods, start_of_class, to_start}
 use Rattle.fm_frames.specs.States.{Frame, State}
 use Rattle.fm_frames.specs.Steps.{effect_at, effect_by, is_start, next_effect}
 use Rattle.fm_frames.specs.declared.values.Value.{Value}
@@ -73,9 +73,6 @@ starts_even o x home numbers classes =
 abbrev by_class : Outline → List Bool → Effect → Option ℕ → Effect
 by_class o started e None = e
 by_class o started e (Some class) = after_methods o (to_start o started class) e (start_methods o (to_start o started class))
-
-start_is : (o : Outline) (started : List Bool) (e : Effect) → with_start o started e ≡ by_class o started e e.starts
-start_is o started e = refl
 
 abbrev Both : Outline → Point → Insn → Store → List Value → Effect → Type 0
 Both o x i store stack e = Obeys o x i e × PlacesAgree o store stack e

@@ -1,12 +1,12 @@
 -- Classes that are a tree below Object: superclasses, what counts as Object, and the nearest superclass of two classes.
-use Rattle.std.proofs.Common.{◌≡◌, ◌⊎◌, inl, inr, refl, sym, ◌∙◌, ap, subst, ℕ, zero, suc, ◌<◌, ◌≤◌, ◌||◌, Bool, true, false, List, [], ◌∷◌, length, reverse, get_or, nat_eq, Option, Some, None, option_and_then, cond, unwrap_or, arith}
+use Rattle.std.proofs.Common.{◌≡◌, ◌⊎◌, inl, inr, refl, sym, ◌∙◌, ap, subst, ℕ, zero, suc, ◌<◌, ◌≤◌, ◌||◌, Bool, true, false, List, [], ◌∷◌, length, reverse, nat_eq, Option, Some, None, option_and_then, cond, unwrap_or, arith}
 use Rattle.std.specs.List.{find}
 use Rattle.std.proofs.lemmas.Bool.{cases_lt, eqb-true, eq-eqb, false≢true, or_cases, or_left, or_right}
 use Rattle.std.proofs.lemmas.List.{reverse-reverse}
 use Rattle.std.proofs.lemmas.List.Folds.{list_any-append}
 use Rattle.fm_types.specs.Fits.{AreTree, is_seen_as_object, object_of}
 use Rattle.fm_types.specs.Joins.{common_class}
-use Rattle.fm_world.proofs.Displays.{chain_ends, class_number-within, is_among-reverse, is_among_at, parent_of-within}
+use Rattle.fm_world.proofs.Displays.{chain_ends, class_number-within, parent_of-within}
 use Rattle.fm_code.specs.AccessFlags.{is_interface}
 use Rattle.fm_world.specs.BuiltIns.{object_name}
 use Rattle.fm_world.specs.Chains.{chain_of, class_at, is_among, parent_of, upwards}
@@ -120,9 +120,6 @@ pub seen_above : (classes : List DeclaredClass) → AreTree classes → (class x
     → is_among x (chain_of classes class) ≡ true
     → is_seen_as_object classes x ≡ true
 seen_above classes tree class x seen among = by_seen (or_cases (is_interface_at classes class) (nat_eq class (object_of classes)) seen) where
-  is_seen : ℕ → Type 0
-  is_seen n = is_seen_as_object classes n ≡ true
-
   by_place : (x ≡ class) ⊎ (x ≡ object_of classes) → is_seen_as_object classes x ≡ true
   by_place (inl e) = ap (is_seen_as_object classes) e ∙ seen
   by_place (inr e) = ap (is_seen_as_object classes) e ∙ seen-object classes
@@ -356,14 +353,6 @@ common-alone classes c d p past test = by_test p test ∙ sym (ap (λ found. unw
       → cond p c (object_of classes) ≡ unwrap_or (cond (is_among c (chain_of classes d)) (Some c) None) (object_of classes)
   by_test true e = ap (λ b. unwrap_or (cond b (Some c) None) (object_of classes)) (sym e)
   by_test false e = ap (λ b. unwrap_or (cond b (Some c) None) (object_of classes)) (sym e)
-
--- so are those of a display
-pub display-within : (classes : List DeclaredClass) (class : ℕ) (lower : List ℕ) (k x : ℕ) → class < length classes
-    → lower ≡ reverse (chain_of classes class) → k < length lower
-    → get_or lower k 0 ≡ x → x < length classes
-display-within classes class lower k x inside lower_is h there =
-    among-within classes class x inside
-    (sym (is_among-reverse x (chain_of classes class)) ∙ sym (ap (is_among x) lower_is) ∙ is_among_at lower k x h there)
 
 -- where none of a display is in the other chain, the nearest one is Object
 pub common-none : (classes : List DeclaredClass) (c d object : ℕ) (lower : List ℕ) → lower ≡ reverse (chain_of classes c)

@@ -52,10 +52,6 @@ Follows R x None = Unit {0}
 Follows R None (Some b) = ⊥
 Follows R (Some a) (Some b) = R a b
 
-pub follows-refl : {A : Type 0} (R : A → A → Type 0) → ((a : A) → R a a) → (x : Option A) → Follows R x x
-follows-refl R same None = tt
-follows-refl R same (Some a) = same a
-
 pub follows-then : {A B C D : Type 0} (R : A → B → Type 0) (S : C → D → Type 0) (f : A → Option C) (g : B → Option D) (x : Option A) (y : Option B)
     → Follows R x y → ((a : A) (b : B) → R a b → Follows S (f a) (g b)) → Follows S (option_and_then f x) (option_and_then g y)
 follows-then R S f g x None h each = tt
