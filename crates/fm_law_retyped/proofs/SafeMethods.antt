@@ -1,5 +1,5 @@
 -- A method with safe insertions is typed again, and so are all methods of classes with such.
-use Rattle.std.proofs.Common.{◌≡◌, refl, sym, ◌∙◌, ap, subst, ℕ, zero, suc, ◌<◌, ◌≤◌, ◌==◌, ◌&&◌, ◌⊎◌, inl, inr, Bool, true, false, cond, List, [], ◌∷◌, length, map, Option, Some, None, is_some, option_and_then, option_map, Contains, slice_get, arith}
+use Rattle.std.proofs.Common.{◌≡◌, refl, sym, ◌∙◌, ap, subst, ℕ, zero, suc, ◌<◌, ◌≤◌, ◌==◌, ◌⊎◌, inl, inr, Bool, true, false, cond, List, [], ◌∷◌, length, map, Option, Some, None, is_some, option_and_then, option_map, Contains, slice_get, arith}
 use Rattle.std.specs.List.{AllByRecursion}
 use Rattle.std.proofs.lemmas.Bool.{cases_lt, eqb-true, false≢true}
 use Rattle.std.proofs.lemmas.List.{get_or_past, length-map}
@@ -58,7 +58,7 @@ use Rattle.fm_types.specs.declared.slots.Slot.{Slot}
 use Rattle.fm_types.specs.declared.slots.Slot.TheVariants as slot
 use Rattle.fm_world.specs.Members.{method_at}
 use Rattle.fm_world.specs.Numbers.{type_of_class}
-use Rattle.fm_world.specs.Programs.{code_at, Outline, Program, program_of}
+use Rattle.fm_world.specs.Programs.{code_at, Outline, program_of}
 use Rattle.fm_code.specs.Operands.{pool_index}
 use Rattle.fm_world.specs.declared.uses.Use.TheVariants as resolved
 use Rattle.fm_same.proofs.SiteNodes.{sites-fall}
@@ -156,12 +156,6 @@ safe_can facts t plan safe = record {
 module _ (numbered : ClassTypesAreNumbered) (stand : CodesStand) (given : List ClassDef) (main : List ℕ) (plans : Plans) (spelled : AllByRecursion HasSpelling given)
     (linked : IsLinkedWell (program_of given main)) (steps : StepsAreLinked (program_of given main)) (facts : Facts) (exact : AreFacts (program_of given main) facts)
     (method : ℕ) (code : Code) (code_is : code_at (program_of given main) method ≡ Some code) where
-  abbrev p : Program
-  p = program_of given main
-
-  abbrev q : Program
-  q = program_of (rewritten plans given) main
-
   x : IsWritten given main plans method code
   x = written_method given main plans method code code_is
 

@@ -24,7 +24,7 @@ use Rattle.fm_law_woven_flow.proofs.Caught.{handler_valid}
 use Rattle.fm_place.specs.Rewriting.{Plans}
 use Rattle.fm_same.proofs.EdgesKeep.{handler_edge}
 use Rattle.fm_types.specs.Named.{class_of_method}
-use Rattle.fm_types.specs.Typed.{type_of_use, use_in}
+use Rattle.fm_types.specs.Typed.{type_of_use}
 use Rattle.fm_world.specs.Chains.{is_sub}
 use Rattle.fm_world.specs.Programs.{code_at, Outline, Program}
 use Rattle.fm_world.specs.declared.uses.Use.{Use}
@@ -35,10 +35,6 @@ takes_by o t class u = if class == 0 then true else unwrap_or (option_map (is_su
 
 abbrev catches_by : (start end item : ℕ) → Bool → Bool
 catches_by start end item takes = nat_le start item && nat_lt item end && takes
-
-catches_are : (p : Program) (f : Frame) (t : TypeRef) (h : Handler)
-    → catches p f t h ≡ catches_by h.start h.end f.item (takes_by p.outline t h.catch_class (use_in p f.method h.catch_class))
-catches_are p f t h = refl
 
 -- tests that agree where orders do
 le_same : (a b c d : ℕ) → (a ≤ b → c ≤ d) → (c ≤ d → a ≤ b) → nat_le a b ≡ nat_le c d

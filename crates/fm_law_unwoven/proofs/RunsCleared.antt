@@ -21,9 +21,6 @@ use Rattle.fm_place.specs.Rewriting.{Plans}
 use Rattle.fm_world.specs.Programs.{Program}
 
 module _ (p q : Program) (facts : Facts) (plans : Plans) (marks : Marks) (from : IsWovenFrom p q facts plans marks) (choose : Choose) where
-  abbrev ch : Choose
-  ch = lawful choose
-
   abbrev Comes : State → Type 0
   Comes y = ComesToKept p q facts plans marks (lawful choose) y
 
