@@ -12,6 +12,7 @@ use Rattle.fm_code.specs.declared.instructions.Insn.TheVariants as insn
 use Rattle.fm_code.specs.declared.operations.Op.TheVariants as op
 use Rattle.fm_code.specs.declared.operations.Reg.TheVariants as reg
 use Rattle.fm_types.specs.Typed.{use_by}
+use Rattle.fm_world.specs.BuiltIns.{built_in_methods}
 use Rattle.fm_world.specs.Example.{class_with, item}
 use Rattle.fm_world.specs.Numbers.{type_of_class}
 use Rattle.fm_world.specs.Programs.{Program, program_of}
@@ -60,7 +61,7 @@ effects_in p method seen = map (λ x. effect_of p.outline method (use_by p metho
 
 -- main is the method after the built-in ones
 abbrev pub main_number : ℕ
-main_number = 86
+main_number = built_in_methods
 
 -- ---- what is seen
 

@@ -29,7 +29,7 @@ use Rattle.fm_link_program.specs.declared.member_infos.MemberInfos.{MemberInfos}
 use Rattle.fm_link_program.specs.inner.MemberLists.{descriptors_in}
 use Rattle.fm_link_program.specs.inner.MemberInfos.{AreMemberInfos}
 use Rattle.fm_world.proofs.Example.{methods_are as methods-counted}
-use Rattle.fm_world.specs.BuiltIns.{built_in}
+use Rattle.fm_world.specs.BuiltIns.{built_in, built_in_methods}
 use Rattle.fm_world.specs.Members.{fields_of, methods_of, slot_of, statics_of}
 use Rattle.fm_world.specs.Programs.{Outline, class_uses, classes_of, codes_of, uses_of}
 use Rattle.fm_world.specs.declared.declarations.DeclaredClass.{DeclaredClass}
@@ -43,7 +43,7 @@ codes-files [] = refl
 codes-files (f ∷ files) = ap (λ cs. codes_in f ++ cs) (codes-files files)
 
 -- the codes of built-in methods, and those of files
-pub codes-given : (files : List GivenFile) → replicate 86 None ++ flat_map codes_in files ≡ codes_of (given_in files)
+pub codes-given : (files : List GivenFile) → replicate built_in_methods None ++ flat_map codes_in files ≡ codes_of (given_in files)
 unfolding codes_of
 codes-given files =
     ap (λ n. replicate n None ++ flat_map codes_in files) (sym methods-counted)

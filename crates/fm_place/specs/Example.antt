@@ -17,6 +17,7 @@ use Rattle.fm_layout.specs.declared.new_items.NewItem.{NewItem}
 use Rattle.fm_types.specs.States.{TypeState}
 use Rattle.fm_types.specs.declared.slots.Slot as slots
 use Rattle.fm_types.specs.declared.slots.Slot.TheVariants as slot
+use Rattle.fm_world.specs.BuiltIns.{built_in_methods}
 use Rattle.fm_world.specs.Descriptors.{of_class}
 use Rattle.fm_world.specs.Programs.{Program, program_of}
 use Rattle.fm_place.specs.Insertions.{Holder, Insertions}
@@ -50,9 +51,9 @@ popping_class = record example_record {
 abbrev pub popping_program : Program
 popping_program = program_of (popping_class ∷ []) (codes "M")
 
--- the built-in classes have 86 methods, so that main is method 86
+-- main is the method after the built-in ones
 abbrev pub main_number : ℕ
-main_number = 86
+main_number = built_in_methods
 
 -- ---- what is known of it
 

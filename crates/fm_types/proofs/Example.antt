@@ -7,7 +7,7 @@ use Rattle.fm_code.specs.Edges.{Catches, falls_through, FallsOff, IsEdge, IsFlow
 use Rattle.fm_code.specs.declared.code_array.Code.{Code}
 use Rattle.fm_code.specs.declared.code_array.Handler.{Handler}
 use Rattle.fm_types.specs.CallRows.{special_call_row, return_row}
-use Rattle.fm_types.specs.Example.{array, joined, of_number, program_with, strings, of_b, of_throwable, typed_code, typed_states, untyped_code}
+use Rattle.fm_types.specs.Example.{main_number, array, joined, of_number, program_with, strings, of_b, of_throwable, typed_code, typed_states, untyped_code}
 use Rattle.fm_types.specs.Fits.{fits, fits_type}
 use Rattle.fm_types.specs.Joins.{join, join_type}
 use Rattle.fm_types.specs.NumberRows.{load_row, move_row, store_row}
@@ -28,15 +28,15 @@ use Rattle.fm_world.specs.Uses.{used_indices}
 
 -- ---- the method, and the state that it begins with
 
-pub typed_code_is : code_at (program_with typed_code) 86 ≡ Some typed_code
+pub typed_code_is : code_at (program_with typed_code) main_number ≡ Some typed_code
 unfolding built_in chain_of resolved_field resolved_method fields_of methods_of texts_of types_of classes_of outline_of uses_of codes_of program_of used_indices fits fits_type state_fits entry_state caught_type row_after new_row special_call_row return_row load_row move_row store_row
 typed_code_is = refl
 
-pub untyped_code_is : code_at (program_with untyped_code) 86 ≡ Some untyped_code
+pub untyped_code_is : code_at (program_with untyped_code) main_number ≡ Some untyped_code
 unfolding built_in chain_of resolved_field resolved_method fields_of methods_of texts_of types_of classes_of outline_of uses_of codes_of program_of used_indices fits fits_type state_fits entry_state caught_type row_after new_row special_call_row return_row load_row move_row store_row
 untyped_code_is = refl
 
-typed_first : state_at typed_states 0 ≡ Some (entry_state (program_with typed_code).outline 86 typed_code)
+typed_first : state_at typed_states 0 ≡ Some (entry_state (program_with typed_code).outline main_number typed_code)
 unfolding built_in chain_of resolved_field resolved_method fields_of methods_of texts_of types_of classes_of outline_of uses_of codes_of program_of used_indices fits fits_type state_fits entry_state caught_type row_after new_row special_call_row return_row load_row move_row store_row
 typed_first = refl
 
@@ -55,7 +55,7 @@ never_next P j next (inr (falls, same)) = absurd (false≢true falls)
 -- what the item asks of its state in the example
 abbrev Meets : ℕ → Slot → List Slot → Type 0
 Meets j second stack =
-    MeetsItem (program_with typed_code) 86 typed_code typed_states j (record { locals = strings ∷ second ∷ []; stack = stack; built = true })
+    MeetsItem (program_with typed_code) main_number typed_code typed_states j (record { locals = strings ∷ second ∷ []; stack = stack; built = true })
 
 abbrev Fitting : Slot → List Slot → ℕ → Type 0
 Fitting second stack next =
@@ -134,14 +134,14 @@ meets_6 = record {
 state-is : {a b : TypeState} → Some a ≡ Some b → a ≡ b
 state-is e = cc
 
-items_meet : (j : ℕ) (s : TypeState) → state_at typed_states j ≡ Some s → MeetsItem (program_with typed_code) 86 typed_code typed_states j s
+items_meet : (j : ℕ) (s : TypeState) → state_at typed_states j ≡ Some s → MeetsItem (program_with typed_code) main_number typed_code typed_states j s
 items_meet j s e = by_item j e where
-  at_item : (k : ℕ) (t : TypeState) → MeetsItem (program_with typed_code) 86 typed_code typed_states k t → Some t ≡ Some s
-      → MeetsItem (program_with typed_code) 86 typed_code typed_states k s
+  at_item : (k : ℕ) (t : TypeState) → MeetsItem (program_with typed_code) main_number typed_code typed_states k t → Some t ≡ Some s
+      → MeetsItem (program_with typed_code) main_number typed_code typed_states k s
   at_item k t meets same =
-      let P : TypeState → Type 0 = λ u. MeetsItem (program_with typed_code) 86 typed_code typed_states k u in subst P (state-is same) meets
+      let P : TypeState → Type 0 = λ u. MeetsItem (program_with typed_code) main_number typed_code typed_states k u in subst P (state-is same) meets
 
-  by_item : (k : ℕ) → state_at typed_states k ≡ Some s → MeetsItem (program_with typed_code) 86 typed_code typed_states k s
+  by_item : (k : ℕ) → state_at typed_states k ≡ Some s → MeetsItem (program_with typed_code) main_number typed_code typed_states k s
   by_item zero h = at_item 0 _ meets_0 h
   by_item (suc zero) h = at_item 1 _ meets_1 h
   by_item (suc (suc zero)) h = at_item 2 _ meets_2 h
@@ -216,28 +216,28 @@ stays f =
 
 -- ---- both methods
 
-pub example_typed : Typed (program_with typed_code) 86
-example_typed = (typed_states, by_code (code_at (program_with typed_code) 86) typed_code_is) where
-  typing : IsTypingOf (program_with typed_code) 86 typed_code typed_states
+pub example_typed : Typed (program_with typed_code) main_number
+example_typed = (typed_states, by_code (code_at (program_with typed_code) main_number) typed_code_is) where
+  typing : IsTypingOf (program_with typed_code) main_number typed_code typed_states
   typing = record { one_each = refl; reachable = (λ j. (reached j, within j)); stays_inside = stays; first = typed_first; items = items_meet }
 
-  by_code : (o : Option Code) → o ≡ Some typed_code → IsSomeAnd o (λ code. IsTypingOf (program_with typed_code) 86 code typed_states)
+  by_code : (o : Option Code) → o ≡ Some typed_code → IsSomeAnd o (λ code. IsTypingOf (program_with typed_code) main_number code typed_states)
   by_code o e =
-      let P : Option Code → Type 0 = λ x. IsSomeAnd x (λ code. IsTypingOf (program_with typed_code) 86 code typed_states) in subst P (sym e) typing
+      let P : Option Code → Type 0 = λ x. IsSomeAnd x (λ code. IsTypingOf (program_with typed_code) main_number code typed_states) in subst P (sym e) typing
 
 -- the first item asks for an int
 no_row : (states : List (Option TypeState))
-    → MeetsItem (program_with untyped_code) 86 untyped_code states 0 (entry_state (program_with untyped_code).outline 86 untyped_code) → ⊥
+    → MeetsItem (program_with untyped_code) main_number untyped_code states 0 (entry_state (program_with untyped_code).outline main_number untyped_code) → ⊥
 unfolding built_in chain_of resolved_field resolved_method fields_of methods_of texts_of types_of classes_of outline_of uses_of codes_of program_of used_indices fits fits_type state_fits entry_state caught_type row_after new_row special_call_row return_row load_row move_row store_row
 no_row states m = m.row
 
-pub example_untyped : ¬ Typed (program_with untyped_code) 86
+pub example_untyped : ¬ Typed (program_with untyped_code) main_number
 example_untyped (states, typing) = by_code (subst P untyped_code_is typing) where
   P : Option Code → Type 0
-  P o = IsSomeAnd o (λ code. IsTypingOf (program_with untyped_code) 86 code states)
+  P o = IsSomeAnd o (λ code. IsTypingOf (program_with untyped_code) main_number code states)
 
-  by_code : IsTypingOf (program_with untyped_code) 86 untyped_code states → ⊥
-  by_code t = no_row states (t.items 0 (entry_state (program_with untyped_code).outline 86 untyped_code) t.first)
+  by_code : IsTypingOf (program_with untyped_code) main_number untyped_code states → ⊥
+  by_code t = no_row states (t.items 0 (entry_state (program_with untyped_code).outline main_number untyped_code) t.first)
 
 -- ---- joins
 

@@ -12,11 +12,16 @@ use Rattle.fm_types.specs.Joins.{join}
 use Rattle.fm_types.specs.States.{TypeState}
 use Rattle.fm_types.specs.declared.slots.Slot.{Slot}
 use Rattle.fm_types.specs.declared.slots.Slot.TheVariants as slot
+use Rattle.fm_world.specs.BuiltIns.{built_in_methods}
 use Rattle.fm_world.specs.Descriptors.{of_class}
 use Rattle.fm_world.specs.Example.{class_with, example_lower, example_upper, item, main_entries}
 use Rattle.fm_world.specs.Programs.{Program, program_of}
 
--- ---- a class M with a main of this code, beside A and B below A; M is class 28, A 29 and B 30, and the main is method 86
+-- ---- a class M with a main of this code, beside A and B below A; M is class 28, A 29 and B 30
+
+-- the main is the method after the built-in ones
+abbrev pub main_number : ℕ
+main_number = built_in_methods
 
 -- the code of the main
 abbrev pub with_main : List Item → List Handler → Code

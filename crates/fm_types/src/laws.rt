@@ -2,7 +2,7 @@
 
 ghost use Rattle.std.specs.Prelude.{◌≡◌};
 ghost use Rattle.fm_base.specs.declared.kinds.Base.TheVariants as base;
-ghost use Rattle.fm_types.specs.Example.{array, joined, of_number, program_with, typed_code, untyped_code};
+ghost use Rattle.fm_types.specs.Example.{array, joined, main_number, of_number, program_with, typed_code, untyped_code};
 ghost use Rattle.fm_types.specs.Laws.{FitsIsReflexive, FitsIsTransitive, JoinIsLeast, RowsKeepLongs, RowsKeepOrder};
 ghost use Rattle.fm_types.specs.Typed.{Typed};
 ghost use Rattle.fm_types.specs.declared.slots.Slot.TheVariants as slot;
@@ -30,8 +30,8 @@ pub fn law_rows()
 /// Two methods that are written out by hand: one makes an object and keeps it, with a handler around,
 /// and is typed; the other one loads a reference as an int, and isn't.
 pub fn law_example()
-    ensures typed { Typed (program_with typed_code) 86 }
-    ensures untyped { ¬ Typed (program_with untyped_code) 86 }
+    ensures typed { Typed (program_with typed_code) main_number }
+    ensures untyped { ¬ Typed (program_with untyped_code) main_number }
 {}
 
 /// Joins in a program whose classes are given by their numbers: of two exceptions with the

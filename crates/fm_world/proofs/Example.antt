@@ -1,13 +1,13 @@
 -- The example computed: each fact by running the definitions.
-use Rattle.std.proofs.Common.{true, false, nat_eq, ◌≡◌, refl, [], ◌∷◌, codes, drop, length, Some, slice_get}
+use Rattle.std.proofs.Common.{◌+◌, ◌-◌, true, false, nat_eq, ◌≡◌, refl, [], ◌∷◌, codes, drop, length, Some, slice_get}
 use Rattle.std.specs.List.{filter_map, list_all, list_any, range_with_len}
 use Rattle.std.specs.Option.{option_map}
 use Rattle.fm_world.specs.Rows.{hidden_kinds, row_of}
 use Rattle.fm_world.specs.Descriptors.{class_number}
-use Rattle.fm_world.specs.BuiltIns.{built_in}
+use Rattle.fm_world.specs.BuiltIns.{built_in, built_in_methods, built_in_rows}
 use Rattle.fm_world.specs.Causes.{Duplicate, BadParent, MissingClass, MissingField, NotImplemented, NoMain}
 use Rattle.fm_world.specs.Chains.{chain_of, distinct, superinterfaces_of, interfaces_of, is_sub}
-use Rattle.fm_world.specs.Example.{array_types, call_of_k, call_of_to_string, call_on_array, castable, not_castable, example, example_main, example_upper, main_uses, refusal, with_cycle, with_interfaces, with_private, with_static_field}
+use Rattle.fm_world.specs.Example.{array_types, call_of_k, call_of_to_string, call_on_array, castable, not_castable, example, example_main, example_upper, first_method, main_uses, refusal, with_cycle, with_interfaces, with_private, with_static_field}
 use Rattle.fm_world.specs.Linking.{refused_duplicates, refused_built_ins, refused_missing_classes, refused_parents, refused_fields, refused_methods, refused_not_implemented, refused_main, refusals}
 use Rattle.fm_world.specs.Lookups.{resolved_field, resolved_method, select, special_target}
 use Rattle.fm_world.specs.Members.{fields_of, kinds_of, methods_of, size_of, slot_of}
@@ -19,7 +19,7 @@ pub classes_are : length built_in ≡ 28
 unfolding built_in
 classes_are = refl
 
-pub methods_are : length (methods_of built_in) ≡ 86
+pub methods_are : length (methods_of built_in) ≡ built_in_methods
 unfolding built_in methods_of
 methods_are = refl
 
@@ -39,7 +39,7 @@ pub texts_are : (program_of example (codes "M")).outline.texts ≡ codes "hi" �
 unfolding program_of outline_of types_of texts_of uses_of codes_of built_in classes_of chain_of superinterfaces_of interfaces_of methods_of fields_of resolved_field resolved_method used_indices
 texts_are = refl
 
-pub main_is : (program_of example (codes "M")).outline.main ≡ 86
+pub main_is : (program_of example (codes "M")).outline.main ≡ built_in_methods
 unfolding program_of outline_of types_of texts_of uses_of codes_of built_in classes_of chain_of superinterfaces_of interfaces_of methods_of fields_of resolved_field resolved_method used_indices
 main_is = refl
 
@@ -55,11 +55,11 @@ pub slot_is : slot_of (classes_of example) 4 ≡ 1
 unfolding built_in chain_of classes_of fields_of slot_of
 slot_is = refl
 
-pub selected_is : select (classes_of example) 30 88 ≡ Some 90
+pub selected_is : select (classes_of example) 30 (built_in_methods + 2) ≡ Some (built_in_methods + 4)
 unfolding built_in classes_of chain_of methods_of select
 selected_is = refl
 
-pub targets_are : targets (program_of example (codes "M")) call_of_k ≡ 88 ∷ 90 ∷ []
+pub targets_are : targets (program_of example (codes "M")) call_of_k ≡ built_in_methods + 2 ∷ built_in_methods + 4 ∷ []
 unfolding targets select special_target is_sub program_of outline_of types_of texts_of uses_of codes_of built_in classes_of chain_of superinterfaces_of interfaces_of methods_of fields_of resolved_field resolved_method used_indices
 targets_are = refl
 
@@ -83,19 +83,19 @@ pub no_main_is : refusals example (codes "A") ≡ refusal NoMain (codes "A") (co
 unfolding refusals refused_duplicates refused_built_ins refused_missing_classes refused_parents refused_fields refused_methods refused_not_implemented refused_main select special_target built_in classes_of chain_of superinterfaces_of interfaces_of methods_of fields_of resolved_field resolved_method used_indices
 no_main_is = refl
 
-pub rows_are : distinct nat_eq (filter_map (λ m. m.method.row) (methods_of built_in)) ≡ range_with_len 0 44
+pub rows_are : distinct nat_eq (filter_map (λ m. m.method.row) (methods_of built_in)) ≡ range_with_len 0 built_in_rows
 unfolding built_in methods_of
 rows_are = refl
 
-pub free_row : row_of (codes "FreeMe") (codes "free") (codes "(Ljava/lang/Object;)V") ≡ Some 41
+pub free_row : row_of (codes "FreeMe") (codes "free") (codes "(Ljava/lang/Object;)V") ≡ Some (built_in_rows - 3)
 unfolding built_in methods_of
 free_row = refl
 
-pub throwable_row : row_of (codes "java/lang/Throwable") (codes "<init>") (codes "()V") ≡ Some 37
+pub throwable_row : row_of (codes "java/lang/Throwable") (codes "<init>") (codes "()V") ≡ Some (built_in_rows - 7)
 unfolding built_in methods_of
 throwable_row = refl
 
-pub last_throwable_row : row_of (codes "java/lang/IncompatibleClassChangeError") (codes "<init>") (codes "()V") ≡ Some 37
+pub last_throwable_row : row_of (codes "java/lang/IncompatibleClassChangeError") (codes "<init>") (codes "()V") ≡ Some (built_in_rows - 7)
 unfolding built_in methods_of
 last_throwable_row = refl
 
@@ -111,19 +111,19 @@ pub not_implemented : slice_get (refusals with_interfaces (codes "C")) 0 ≡ Som
 unfolding refusals refused_duplicates refused_built_ins refused_missing_classes refused_parents refused_fields refused_methods refused_not_implemented refused_main select special_target built_in classes_of chain_of superinterfaces_of interfaces_of methods_of fields_of resolved_field resolved_method used_indices
 not_implemented = refl
 
-pub passed_over : select (classes_of with_private) 30 86 ≡ Some 86
+pub passed_over : select (classes_of with_private) 30 built_in_methods ≡ Some built_in_methods
 unfolding built_in classes_of chain_of methods_of select
 passed_over = refl
 
-pub itself : select (classes_of with_private) 30 87 ≡ Some 87
+pub itself : select (classes_of with_private) 30 (built_in_methods + 1) ≡ Some (built_in_methods + 1)
 unfolding built_in classes_of chain_of methods_of select
 itself = refl
 
-pub special : special_target (classes_of with_private) 30 (Some 28) 86 ≡ 87
+pub special : special_target (classes_of with_private) 30 (Some 28) built_in_methods ≡ built_in_methods + 1
 unfolding built_in classes_of chain_of methods_of special_target
 special = refl
 
-pub of_object_are : targets (program_of example (codes "M")) call_of_to_string ≡ 3 ∷ 9 ∷ 22 ∷ 30 ∷ 48 ∷ []
+pub of_object_are : targets (program_of example (codes "M")) call_of_to_string ≡ 3 ∷ first_method 1 + 5 ∷ first_method 2 + 7 ∷ first_method 3 + 7 ∷ first_method 7 + 3 ∷ []
 unfolding targets select special_target is_sub program_of outline_of types_of texts_of uses_of codes_of built_in classes_of chain_of superinterfaces_of interfaces_of methods_of fields_of resolved_field resolved_method used_indices
 of_object_are = refl
 

@@ -146,6 +146,14 @@ free_me_methods =
     ∷ static_method (codes "freeChain") (codes "(Ljava/lang/Object;)V") 43
     ∷ []
 
+-- how many methods all classes have: those of a program come after them
+abbrev pub built_in_methods : ℕ
+built_in_methods = 86
+
+-- how many rows they have
+abbrev pub built_in_rows : ℕ
+built_in_rows = 44
+
 -- ---- fields
 
 -- a constant field without a value in its file

@@ -1,5 +1,5 @@
 -- Three classes written by hand, what they are linked to, and neighbours of them that are refused.
-use Rattle.std.specs.Prelude.{ℕ, List, [], ◌∷◌, codes, None, map, slice_set}
+use Rattle.std.specs.Prelude.{ℕ, ◌+◌, List, [], ◌∷◌, codes, length, None, map, slice_set, take}
 use Rattle.fm_base.specs.declared.kinds.Base.{Base}
 use Rattle.fm_base.specs.declared.kinds.Base.TheVariants as base
 use Rattle.fm_base.specs.declared.kinds.TypeRef.{TypeRef}
@@ -12,6 +12,8 @@ use Rattle.fm_code.specs.declared.code_array.Item.{Item}
 use Rattle.fm_code.specs.declared.instructions.Insn.{Insn}
 use Rattle.fm_code.specs.declared.instructions.Insn.TheVariants as insn
 use Rattle.fm_code.specs.declared.operations.Elem.TheVariants as elem
+use Rattle.fm_world.specs.BuiltIns.{built_in, built_in_methods}
+use Rattle.fm_world.specs.Members.{methods_of}
 use Rattle.fm_world.specs.Causes.{Cause, Refusal}
 use Rattle.fm_world.specs.Descriptors.{of_class}
 use Rattle.fm_world.specs.Programs.{class_id, method_id, field_use, method_use}
@@ -123,13 +125,13 @@ example = example_main ∷ example_upper ∷ example_lower ∷ []
 
 -- ---- what they are linked to
 
--- 28 classes are built in, with 86 methods and 2 fields: M is class 28 with method 86, A is 29 with 87 and 88, B is 30 with 89 and 90
+-- 28 classes are built in, with 2 fields: M is class 28 with the first method after the built-in ones, A is 29 with the next two, B is 30 with the two after them
 abbrev pub main_uses : List Use
 main_uses =
     resolved.Unused ∷ resolved.Unused ∷ resolved.OfType (record { 0 = 28 }) ∷ resolved.Unused ∷ resolved.OfType (record { 0 = 0 })
     ∷ resolved.Unused ∷ resolved.OfType (record { 0 = 30 }) ∷ resolved.Unused ∷ resolved.Unused ∷ resolved.Unused
-    ∷ method_use 30 89 ∷ resolved.Unused ∷ resolved.OfType (record { 0 = 29 }) ∷ resolved.Unused ∷ resolved.Unused
-    ∷ method_use 29 88 ∷ resolved.Unused ∷ resolved.Unused ∷ resolved.Unused ∷ field_use 30 2
+    ∷ method_use 30 (built_in_methods + 3) ∷ resolved.Unused ∷ resolved.OfType (record { 0 = 29 }) ∷ resolved.Unused ∷ resolved.Unused
+    ∷ method_use 29 (built_in_methods + 2) ∷ resolved.Unused ∷ resolved.Unused ∷ resolved.Unused ∷ field_use 30 2
     ∷ resolved.Unused ∷ resolved.OfText 0 ∷ resolved.Unused ∷ resolved.Unused ∷ resolved.Unused
     ∷ resolved.Unused ∷ resolved.Unused ∷ []
 
@@ -139,7 +141,11 @@ array_types = record { dims = 1; base = of_class 1 } ∷ record { dims = 1; base
 
 -- the method that the main class calls, by the class that it names
 abbrev pub call_of_k : Call
-call_of_k = record { kind = call.Virtual; named = record { dims = 0; base = of_class 29 }; method = method_id 88; caller = class_id 28 }
+call_of_k = record { kind = call.Virtual; named = record { dims = 0; base = of_class 29 }; method = method_id (built_in_methods + 2); caller = class_id 28 }
+
+-- the number of the first method of a built-in class
+abbrev pub first_method : ℕ → ℕ
+first_method class = length (methods_of (take class built_in))
 
 -- a call of toString on an Object, and on an array of ints: toString is method 3
 abbrev pub call_of_to_string : Call

@@ -7,6 +7,9 @@ const PUBLIC: u16 = 0x0001;
 
 const PUBLIC_STATIC: u16 = 0x0009;
 
+/// How many methods the built-in classes have: those of a program come after them.
+pub const BUILT_IN_METHODS: u32 = 86;
+
 pub const OBJECT_METHODS: [BuiltInMethod; 4] = [
     BuiltInMethod {
         name: "<init>",

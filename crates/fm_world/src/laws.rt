@@ -1,19 +1,20 @@
 // Laws of the definitions, each as the contract of a function that does nothing.
 
-ghost use Rattle.std.specs.Prelude.{◌≡◌, ◌<◌, ℕ, List, Result, true, false, [], ◌∷◌, codes, drop, length, nat_eq, Some, slice_get};
+ghost use Rattle.std.specs.Prelude.{◌≡◌, ◌+◌, ◌-◌, ◌<◌, ℕ, List, Result, true, false, [], ◌∷◌, codes, drop, length, nat_eq, Some, slice_get};
 ghost use Rattle.std.specs.List.{filter_map, flat_map, list_all, list_any, range_with_len};
 ghost use Rattle.std.specs.Option.{option_map};
 ghost use Rattle.fm_code.specs.declared.class_file.ClassDef.{ClassDef};
 ghost use Rattle.fm_world.specs.Acyclic.{IsAcyclic};
-ghost use Rattle.fm_world.specs.BuiltIns.{built_in};
+ghost use Rattle.fm_world.specs.BuiltIns.{built_in, built_in_methods, built_in_rows};
 ghost use Rattle.fm_world.specs.Numbers.{type_number, type_of_class, types_of};
+ghost use Rattle.fm_world.specs.declared.built_in_methods.TheConstants.{BUILT_IN_METHODS};
 ghost use Rattle.fm_world.specs.declared.declarations.DeclaredClass.{DeclaredClass};
 ghost use Rattle.fm_world.specs.inner.Tables.{IsLinear};
 ghost use Rattle.fm_world.specs.Rows.{hidden_kinds, row_of};
 ghost use Rattle.fm_world.specs.Causes.{Duplicate, BadParent, MissingClass, MissingField, NotImplemented, NoMain, Refusal};
 ghost use Rattle.fm_world.specs.Chains.{is_sub, chain_of, distinct, listed_interfaces, superinterfaces_of};
 ghost use Rattle.fm_world.specs.Descriptors.{class_number};
-ghost use Rattle.fm_world.specs.Example.{array_types, call_of_k, call_of_to_string, call_on_array, castable, not_castable, example, example_main, example_upper, main_uses, refusal, with_cycle, with_interfaces, with_private, with_static_field};
+ghost use Rattle.fm_world.specs.Example.{array_types, call_of_k, call_of_to_string, call_on_array, castable, not_castable, example, example_main, example_upper, first_method, main_uses, refusal, with_cycle, with_interfaces, with_private, with_static_field};
 ghost use Rattle.fm_world.specs.Linking.{refusals, IsLinked};
 ghost use Rattle.fm_world.specs.Lookups.{select, special_target};
 ghost use Rattle.fm_world.specs.Members.{kinds_of, methods_of, size_of, slot_of};
@@ -25,15 +26,16 @@ ghost use Rattle.fm_world.specs.Programs.{Program, classes_of, program_of, targe
 /// hidden field, which leads to a text.
 pub fn law_built_in()
     ensures classes { length built_in ≡ 28 }
-    ensures methods { length (methods_of built_in) ≡ 86 }
+    ensures methods { length (methods_of built_in) ≡ built_in_methods }
+    ensures counted { BUILT_IN_METHODS ≡ built_in_methods }
     ensures rows { distinct nat_eq (filter_map (λ m. m.method.row) (methods_of built_in))
-        ≡ range_with_len 0 44 }
+        ≡ range_with_len 0 built_in_rows }
     ensures free { row_of (codes "FreeMe") (codes "free") (codes "(Ljava/lang/Object;)V")
-        ≡ Some 41 }
+        ≡ Some (built_in_rows - 3) }
     ensures throwable { row_of (codes "java/lang/Throwable") (codes "<init>") (codes "()V")
-        ≡ Some 37 }
+        ≡ Some (built_in_rows - 7) }
     ensures last_throwable { row_of (codes "java/lang/IncompatibleClassChangeError")
-        (codes "<init>") (codes "()V") ≡ Some 37 }
+        (codes "<init>") (codes "()V") ≡ Some (built_in_rows - 7) }
     ensures hidden { option_map (kinds_of built_in)
         (class_number built_in (codes "java/lang/NullPointerException")) ≡ Some hidden_kinds }
 {}
@@ -46,9 +48,12 @@ pub fn law_lookup_examples()
         ≡ 29 ∷ 26 ∷ 28 ∷ [] }
     ensures not_implemented { slice_get (refusals with_interfaces (codes "C")) 0
         ≡ Some (refusal NotImplemented (codes "J.m()V") (codes "C")) }
-    ensures passed_over { select (classes_of with_private) 30 86 ≡ Some 86 }
-    ensures itself { select (classes_of with_private) 30 87 ≡ Some 87 }
-    ensures special { special_target (classes_of with_private) 30 (Some 28) 86 ≡ 87 }
+    ensures passed_over { select (classes_of with_private) 30 built_in_methods
+        ≡ Some built_in_methods }
+    ensures itself { select (classes_of with_private) 30 (built_in_methods + 1)
+        ≡ Some (built_in_methods + 1) }
+    ensures special { special_target (classes_of with_private) 30 (Some 28) built_in_methods
+        ≡ built_in_methods + 1 }
 {}
 
 /// The definitions at three classes that are written out by hand, M, A and B below A: nothing of them
@@ -58,14 +63,14 @@ pub fn law_example()
     ensures uses { slice_get (program_of example (codes "M")).uses 28 ≡ Some main_uses }
     ensures types { drop 31 (program_of example (codes "M")).outline.types ≡ array_types }
     ensures texts { (program_of example (codes "M")).outline.texts ≡ codes "hi" ∷ [] }
-    ensures main { (program_of example (codes "M")).outline.main ≡ 86 }
+    ensures main { (program_of example (codes "M")).outline.main ≡ built_in_methods }
     ensures chain { chain_of (classes_of example) 30 ≡ 30 ∷ 29 ∷ 0 ∷ [] }
     ensures size { size_of (classes_of example) 30 ≡ 2 }
     ensures slot { slot_of (classes_of example) 4 ≡ 1 }
-    ensures selected { select (classes_of example) 30 88 ≡ Some 90 }
-    ensures targets { targets (program_of example (codes "M")) call_of_k ≡ 88 ∷ 90 ∷ [] }
+    ensures selected { select (classes_of example) 30 (built_in_methods + 2) ≡ Some (built_in_methods + 4) }
+    ensures targets { targets (program_of example (codes "M")) call_of_k ≡ built_in_methods + 2 ∷ built_in_methods + 4 ∷ [] }
     ensures of_object { targets (program_of example (codes "M")) call_of_to_string
-        ≡ 3 ∷ 9 ∷ 22 ∷ 30 ∷ 48 ∷ [] }
+        ≡ 3 ∷ first_method 1 + 5 ∷ first_method 2 + 7 ∷ first_method 3 + 7 ∷ first_method 7 + 3 ∷ [] }
     ensures of_array { targets (program_of example (codes "M")) call_on_array ≡ 3 ∷ [] }
 {}
 

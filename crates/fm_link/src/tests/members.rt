@@ -9,7 +9,7 @@ ghost use Rattle.fm_world.specs.Programs.{IsTypeIn};
 use crate::tests::linked_program;
 use fm_base::{Base, ClassId, FieldId, MethodId, NoMemory, TypeId, TypeRef};
 use fm_test_classes::{ClassSample, MAIN, MethodSample, RETURNS};
-use fm_world::{Call, CallKind, Program, Use};
+use fm_world::{BUILT_IN_METHODS, Call, CallKind, Program, Use};
 use std::alloc::Global;
 use std::test::Fail;
 
@@ -159,7 +159,7 @@ const T: ClassSample<'static> = ClassSample {
     ..A
 };
 
-// 28 classes, 86 methods and 2 fields are built in; those of the files follow, M and its main first.
+// 28 classes, BUILT_IN_METHODS methods and 2 fields are built in; those of the files follow, M and its main first.
 const FILES: [ClassSample<'static>; 9] = [M, A, B, C, I, J, K, E, T];
 
 const MAIN_CLASS: ClassId = ClassId(28);
@@ -174,17 +174,17 @@ const OF_OBJECT: MethodId = MethodId(2);
 
 const OF_STRING: MethodId = MethodId(6);
 
-const OF_A: MethodId = MethodId(87);
+const OF_A: MethodId = MethodId(BUILT_IN_METHODS + 1);
 
-const OF_B: MethodId = MethodId(88);
+const OF_B: MethodId = MethodId(BUILT_IN_METHODS + 2);
 
-const OF_C: MethodId = MethodId(89);
+const OF_C: MethodId = MethodId(BUILT_IN_METHODS + 3);
 
-const OF_I: MethodId = MethodId(90);
+const OF_I: MethodId = MethodId(BUILT_IN_METHODS + 4);
 
-const OF_J: MethodId = MethodId(91);
+const OF_J: MethodId = MethodId(BUILT_IN_METHODS + 5);
 
-const OF_E: MethodId = MethodId(92);
+const OF_E: MethodId = MethodId(BUILT_IN_METHODS + 6);
 
 const INTS: TypeRef = TypeRef {
     dims: 1,
@@ -370,10 +370,10 @@ fn are_resolved(program: &Program) -> bool {
 fn has_numbers(program: &Program) -> bool {
     // M's own class, its superclass, and what it doesn't use
     program.classes() == 37
-        && program.methods() == 93
+        && program.methods() == BUILT_IN_METHODS + 7
         && program.fields() == 5
         && program.main_class() == MAIN_CLASS
-        && program.main() == MethodId(86)
+        && program.main() == MethodId(BUILT_IN_METHODS)
         && program.use_of(MAIN_CLASS, 0x02) == Use::OfType(TypeId(28))
         && program.use_of(MAIN_CLASS, 0x04) == Use::OfType(TypeId(0))
         && program.use_of(MAIN_CLASS, 0x15) == Use::Unused
