@@ -59,7 +59,7 @@ pub selected_is : select (classes_of example) 30 (built_in_methods + 2) ≡ Some
 unfolding built_in classes_of chain_of methods_of select
 selected_is = refl
 
-pub targets_are : targets (program_of example (codes "M")) call_of_k ≡ built_in_methods + 2 ∷ built_in_methods + 4 ∷ []
+pub targets_are : targets (program_of example (codes "M")) call_of_k ≡ (built_in_methods + 2) ∷ (built_in_methods + 4) ∷ []
 unfolding targets select special_target is_sub program_of outline_of types_of texts_of uses_of codes_of built_in classes_of chain_of superinterfaces_of interfaces_of methods_of fields_of resolved_field resolved_method used_indices
 targets_are = refl
 
@@ -123,7 +123,7 @@ pub special : special_target (classes_of with_private) 30 (Some 28) built_in_met
 unfolding built_in classes_of chain_of methods_of special_target
 special = refl
 
-pub of_object_are : targets (program_of example (codes "M")) call_of_to_string ≡ 3 ∷ first_method 1 + 5 ∷ first_method 2 + 7 ∷ first_method 3 + 7 ∷ first_method 7 + 3 ∷ []
+pub of_object_are : targets (program_of example (codes "M")) call_of_to_string ≡ 3 ∷ (first_method 1 + 5) ∷ (first_method 2 + 7) ∷ (first_method 3 + 7) ∷ (first_method 7 + 3) ∷ []
 unfolding targets select special_target is_sub program_of outline_of types_of texts_of uses_of codes_of built_in classes_of chain_of superinterfaces_of interfaces_of methods_of fields_of resolved_field resolved_method used_indices
 of_object_are = refl
 

@@ -68,9 +68,10 @@ pub fn law_example()
     ensures size { size_of (classes_of example) 30 ≡ 2 }
     ensures slot { slot_of (classes_of example) 4 ≡ 1 }
     ensures selected { select (classes_of example) 30 (built_in_methods + 2) ≡ Some (built_in_methods + 4) }
-    ensures targets { targets (program_of example (codes "M")) call_of_k ≡ built_in_methods + 2 ∷ built_in_methods + 4 ∷ [] }
+    ensures targets { targets (program_of example (codes "M")) call_of_k
+        ≡ (built_in_methods + 2) ∷ (built_in_methods + 4) ∷ [] }
     ensures of_object { targets (program_of example (codes "M")) call_of_to_string
-        ≡ 3 ∷ first_method 1 + 5 ∷ first_method 2 + 7 ∷ first_method 3 + 7 ∷ first_method 7 + 3 ∷ [] }
+        ≡ 3 ∷ (first_method 1 + 5) ∷ (first_method 2 + 7) ∷ (first_method 3 + 7) ∷ (first_method 7 + 3) ∷ [] }
     ensures of_array { targets (program_of example (codes "M")) call_on_array ≡ 3 ∷ [] }
 {}
 
