@@ -17,11 +17,11 @@ use Rattle.fm_place.specs.Rewriting.{changes, first_given, Plans, rewritten, rew
 use Rattle.fm_link_refusals.proofs.UsedIndices.{flat_map-kept}
 use Rattle.fm_types.proofs.LeastJoins.{same_type-eq}
 use Rattle.fm_world.specs.BuiltIns.{built_in}
-use Rattle.fm_world.specs.Chains.{distinct, same_type}
+use Rattle.fm_world.specs.Chains.{distinct, given_number, same_type}
 use Rattle.fm_world.specs.Declarations.{declared_from, declared_of}
 use Rattle.fm_world.specs.Descriptors.{class_type, type_in}
 use Rattle.fm_world.specs.Numbers.{argument_array, arrays_in, class_types, made_arrays, text_units, texts_of, types_of, used_types}
-use Rattle.fm_world.specs.Programs.{classes_of, given_number, main_of, outline_of}
+use Rattle.fm_world.specs.Programs.{classes_of, main_of, outline_of}
 use Rattle.fm_world.specs.Uses.{class_items, made_array, named_type, uses_in_order}
 use Rattle.fm_world.specs.declared.declarations.DeclaredClass.{DeclaredClass}
 use Rattle.fm_law_spelled.specs.Changed.{changed}

@@ -7,8 +7,9 @@ use Rattle.fm_link_records.proofs.TablesMade.{AreTables-made}
 use Rattle.fm_link_records.specs.inner.Made.{AreMade}
 use Rattle.fm_link_program.specs.declared.program_tables.ProgramTables.{ProgramTables}
 use Rattle.fm_link_program.specs.inner.Assembled.{parts_from, IsTables}
+use Rattle.fm_world.specs.Chains.{given_number}
 use Rattle.fm_world.specs.Members.{fields_of, slot_of}
-use Rattle.fm_world.specs.Programs.{classes_of, codes_of, given_number, main_of, program_of, uses_of}
+use Rattle.fm_world.specs.Programs.{classes_of, codes_of, main_of, program_of, uses_of}
 use Rattle.fm_world.specs.inner.Tables.{numbers_below, outline_in, program_in, AreTables}
 
 slots_in : List ClassDef → List ℕ

@@ -1,11 +1,12 @@
 -- A class is among another one's superclasses exactly where it is in the display of the other one at its own depth.
-use Rattle.std.proofs.Common.{◌≡◌, refl, sym, ◌∙◌, ap, subst, ℕ, zero, suc, ◌-◌, ◌<◌, ◌≤◌, ◌||◌, Bool, true, false, List, [], ◌∷◌, ◌++◌, length, reverse, get_or, nat_eq, Option, Some, None, option_and_then, arith}
+use Rattle.std.proofs.Common.{◌≡◌, refl, sym, ◌∙◌, ap, subst, ℕ, zero, suc, ◌-◌, ◌<◌, ◌≤◌, ◌||◌, ◌&&◌, Bool, true, false, cond, List, [], ◌∷◌, ◌++◌, length, reverse, get_or, nat_eq, Option, Some, None, is_none, is_some, option_and_then, arith}
 use Rattle.std.proofs.lemmas.Bool.{eqb-true, eq-eqb, false≢true}
 use Rattle.std.proofs.lemmas.List.{reverse-append, length-reverse, length-append, append_assoc, get_or_at}
 use Rattle.std.proofs.lemmas.List.Folds.{list_any-append}
 use Rattle.std.proofs.lemmas.List.Quantifiers.{position-Some}
+use Rattle.std.specs.Option.{option_or}
 use Rattle.std.specs.Str.{bytes_eq}
-use Rattle.fm_world.specs.Chains.{class_at, chain_of, is_among, parent_of}
+use Rattle.fm_world.specs.Chains.{class_at, chain_of, completion_of, given_number, is_among, parent_of}
 use Rattle.fm_world.specs.Declarations.{no_class}
 use Rattle.fm_world.specs.Descriptors.{class_number}
 use Rattle.fm_world.specs.declared.declarations.DeclaredClass.{DeclaredClass}
@@ -16,11 +17,24 @@ use Rattle.fm_world.specs.inner.Tables.{IsLinear, chain_from}
 pub class_number-within : (classes : List DeclaredClass) (name : List ℕ) (p : ℕ) → class_number classes name ≡ Some p → p < length classes
 class_number-within classes name p e = (position-Some (λ c. bytes_eq c.name name) classes p no_class e).0
 
+pub completion-within : (classes : List DeclaredClass) (c : DeclaredClass) (p : ℕ) → completion_of classes c ≡ Some p → p < length classes
+completion-within classes c p e = by_file (is_none c.file) e where
+  by_file : (b : Bool) → cond b (given_number classes c.name) None ≡ Some p → p < length classes
+  by_file true h = (position-Some (λ (d : DeclaredClass). bytes_eq d.name c.name && is_some d.file) classes p no_class h).0
+  by_file false h = cc
+
 pub parent_of-within : (classes : List DeclaredClass) (class p : ℕ) → parent_of classes class ≡ Some p → p < length classes
 parent_of-within classes class p e = by_name (class_at classes class).superclass e where
-  by_name : (name : Option (List ℕ)) → option_and_then (class_number classes) name ≡ Some p → p < length classes
+  completing : Option ℕ
+  completing = completion_of classes (class_at classes class)
+
+  by_completion : (name : List ℕ) (o : Option ℕ) → completing ≡ o → option_or o (class_number classes name) ≡ Some p → p < length classes
+  by_completion name None is h = class_number-within classes name p h
+  by_completion name (Some f) is h = completion-within classes (class_at classes class) p (is ∙ h)
+
+  by_name : (name : Option (List ℕ)) → option_and_then (λ name. option_or completing (class_number classes name)) name ≡ Some p → p < length classes
   by_name None h = cc
-  by_name (Some name) h = class_number-within classes name p h
+  by_name (Some name) h = by_completion name completing refl h
 
 -- ---- the superclasses of a class end with those of each class among them
 

@@ -5,9 +5,9 @@ use Rattle.std.specs.Option.{option_map}
 use Rattle.fm_world.specs.Rows.{hidden_kinds, row_of}
 use Rattle.fm_world.specs.Descriptors.{class_number}
 use Rattle.fm_world.specs.BuiltIns.{built_in, built_in_methods, built_in_rows}
-use Rattle.fm_world.specs.Causes.{Duplicate, BadParent, MissingClass, MissingField, NotImplemented, NoMain}
+use Rattle.fm_world.specs.Causes.{BuiltIn, Duplicate, BadParent, MissingClass, MissingField, NotImplemented, NoMain}
 use Rattle.fm_world.specs.Chains.{chain_of, distinct, superinterfaces_of, interfaces_of, is_sub}
-use Rattle.fm_world.specs.Example.{array_types, call_of_k, call_of_to_string, call_on_array, castable, not_castable, example, example_main, example_upper, first_method, main_uses, refusal, with_cycle, with_interfaces, with_private, with_static_field}
+use Rattle.fm_world.specs.Example.{array_types, call_of_k, call_of_to_string, call_on_array, castable, not_castable, example, example_main, example_upper, first_method, main_uses, refusal, with_completion, with_cycle, with_interfaces, with_private, with_static_field}
 use Rattle.fm_world.specs.Linking.{refused_duplicates, refused_built_ins, refused_missing_classes, refused_parents, refused_fields, refused_methods, refused_not_implemented, refused_main, refusals}
 use Rattle.fm_world.specs.Lookups.{resolved_field, resolved_method, select, special_target}
 use Rattle.fm_world.specs.Members.{fields_of, kinds_of, methods_of, size_of, slot_of}
@@ -122,6 +122,19 @@ itself = refl
 pub special : special_target (classes_of with_private) 30 (Some 28) built_in_methods ≡ built_in_methods + 1
 unfolding built_in classes_of chain_of methods_of special_target
 special = refl
+
+pub completed : chain_of (classes_of with_completion) 2 ≡ 2 ∷ 28 ∷ 0 ∷ []
+unfolding built_in classes_of chain_of
+completed = refl
+
+pub added : select (classes_of with_completion) 2 built_in_methods ≡ Some built_in_methods
+unfolding built_in classes_of chain_of methods_of select
+added = refl
+
+pub refused : slice_get (refusals with_completion (codes "M")) 0
+    ≡ Some (refusal BuiltIn (codes "java/lang/StringBuilder") (codes "java/lang/StringBuilder"))
+unfolding refusals refused_duplicates refused_built_ins refused_missing_classes refused_parents refused_fields refused_methods refused_not_implemented refused_main select special_target built_in classes_of chain_of superinterfaces_of interfaces_of methods_of fields_of resolved_field resolved_method used_indices
+refused = refl
 
 pub of_object_are : targets (program_of example (codes "M")) call_of_to_string ≡ 3 ∷ (first_method 1 + 5) ∷ (first_method 2 + 7) ∷ (first_method 3 + 7) ∷ (first_method 7 + 3) ∷ []
 unfolding targets select special_target is_sub program_of outline_of types_of texts_of uses_of codes_of built_in classes_of chain_of superinterfaces_of interfaces_of methods_of fields_of resolved_field resolved_method used_indices

@@ -8,4 +8,5 @@ pub mod Displays
 pub mod Marks
 mod KnownLemmas
 pub mod Acyclic
+pub mod Completions
 mod ClassTypes

@@ -15,14 +15,14 @@ use Rattle.fm_code.specs.declared.code_array.Item.{Item}
 use Rattle.fm_code.specs.declared.instructions.Insn.{Insn}
 use Rattle.fm_code.specs.declared.instructions.Insn.TheVariants as insn
 use Rattle.fm_world.specs.BuiltIns.{built_in, object_name, sealed_names}
-use Rattle.fm_world.specs.Chains.{class_at, chain_of, interfaces_of, listed_interfaces, parent_of, is_among}
+use Rattle.fm_world.specs.Chains.{class_at, chain_of, interfaces_of, listed_interfaces, parent_of, is_among, given_number}
 use Rattle.fm_world.specs.Declarations.{name_at, text_at}
 use Rattle.fm_world.specs.declared.declarations.DeclaredClass.{DeclaredClass}
 use Rattle.fm_world.specs.declared.declarations.DeclaredMethod.{DeclaredMethod}
 use Rattle.fm_world.specs.Descriptors.{class_in, class_number, class_type, types_in}
 use Rattle.fm_world.specs.Lookups.{is_interface_at, is_abstract_method, resolved_field, resolved_method, select, special_target}
 use Rattle.fm_world.specs.Members.{field_at, method_at, first_method}
-use Rattle.fm_world.specs.Programs.{given_number, main_of}
+use Rattle.fm_world.specs.Programs.{main_of}
 use Rattle.fm_code.specs.Operands.{pool_index}
 use Rattle.fm_world.specs.Uses.{class_items, named_class, named_member, uses_in_order}
 

@@ -1,8 +1,9 @@
 -- Superclasses and superinterfaces of a class in a list of classes (JVMS 5.3.5), and which type is below which at run time (JVMS 6.5.checkcast).
 -- A class goes by its number in the list; names are looked up in the list. One more than the number of classes bounds each walk, so
 -- that it ends where chains lead into a cycle; a linked program has none.
-use Rattle.std.specs.Prelude.{ℕ, zero, suc, ◌==◌, ◌||◌, ◌&&◌, not, Bool, true, false, List, [], ◌∷◌, length, drop, filter, Option, Some, None, option_and_then, nat_eq, nat_lt, if◌then◌else◌}
+use Rattle.std.specs.Prelude.{ℕ, zero, suc, ◌==◌, ◌||◌, ◌&&◌, not, Bool, true, false, List, [], ◌∷◌, length, drop, filter, Option, Some, None, is_some, is_none, option_and_then, position, nat_eq, nat_lt, if◌then◌else◌}
 use Rattle.std.specs.List.{slice_index_or, flat_map, filter_map, list_any}
+use Rattle.std.specs.Option.{option_or}
 use Rattle.std.specs.Str.{bytes_eq}
 use Rattle.fm_base.specs.declared.kinds.Base.{Base}
 use Rattle.fm_base.specs.declared.kinds.Base.TheVariants as base
@@ -37,9 +38,21 @@ is_among number numbers = list_any (nat_eq number) numbers
 abbrev pub class_at : List DeclaredClass → ℕ → DeclaredClass
 class_at classes class = slice_index_or classes class no_class
 
+-- the number of the given class of a name
+abbrev pub given_number : List DeclaredClass → List ℕ → Option ℕ
+given_number classes name = position (λ c. bytes_eq c.name name && is_some c.file) classes
+
+-- the given class that completes a built-in one: it has the same name
+abbrev pub completion_of : List DeclaredClass → DeclaredClass → Option ℕ
+completion_of classes c = if is_none c.file then given_number classes c.name else None
+
+-- the superclass of a declared class, where it names one: the class that completes it, and else the one that it names (JVMS 5.3.5)
+abbrev pub superclass_in : List DeclaredClass → DeclaredClass → Option ℕ
+superclass_in classes c = option_and_then (λ name. option_or (completion_of classes c) (class_number classes name)) c.superclass
+
 -- the superclass of a class
 abbrev pub parent_of : List DeclaredClass → ℕ → Option ℕ
-parent_of classes class = option_and_then (class_number classes) (class_at classes class).superclass
+parent_of classes class = superclass_in classes (class_at classes class)
 
 -- a class and its superclasses upwards, of at most a given number of classes
 abbrev pub upwards : ℕ → List DeclaredClass → Option ℕ → List ℕ

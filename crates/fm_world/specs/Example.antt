@@ -228,6 +228,12 @@ with_private =
     declaring (codes "P") (codes "java/lang/Object") (1 ∷ []) ∷ declaring (codes "Q") (codes "P") (2 ∷ [])
     ∷ declaring (codes "R") (codes "Q") [] ∷ []
 
+-- ---- a file with the name of a built-in class
+
+-- it has StringBuilder's name and superclass, and declares a public k()V
+abbrev pub with_completion : List ClassDef
+with_completion = declaring (codes "java/lang/StringBuilder") (codes "java/lang/Object") (1 ∷ []) ∷ []
+
 -- a refusal
 abbrev pub refusal : Cause → List ℕ → List ℕ → Refusal
 refusal cause name user = record { cause = cause; name = name; user = user }

@@ -1,7 +1,6 @@
 -- The program that class files make, and what is asked of it. All names are looked up in the list of its classes.
-use Rattle.std.specs.Prelude.{ℕ, ◌<◌, ◌==◌, ◌&&◌, not, Bool, true, List, [], ◌∷◌, ◌++◌, length, map, filter, codes, Option, Some, None, is_some, position, replicate, unwrap_or, option_map, option_and_then, option_to_list, if◌then◌else◌, ◌-◌, slice_get}
+use Rattle.std.specs.Prelude.{ℕ, ◌<◌, ◌==◌, ◌&&◌, not, Bool, true, List, [], ◌∷◌, ◌++◌, length, map, filter, codes, Option, Some, None, replicate, unwrap_or, option_map, option_and_then, option_to_list, if◌then◌else◌, ◌-◌, slice_get}
 use Rattle.std.specs.List.{slice_index_or, flat_map, filter_map, range_with_len}
-use Rattle.std.specs.Str.{bytes_eq}
 use Rattle.fm_base.specs.Rows.{has}
 use Rattle.fm_base.specs.Texts.{units}
 use Rattle.fm_base.specs.declared.ids.ClassId.{ClassId}
@@ -18,7 +17,7 @@ use Rattle.fm_code.specs.declared.constant_pool.Entry.TheVariants as entry
 use Rattle.fm_code.specs.declared.class_file.ClassDef.{ClassDef}
 use Rattle.fm_code.specs.declared.code_array.Code.{Code}
 use Rattle.fm_world.specs.BuiltIns.{built_in}
-use Rattle.fm_world.specs.Chains.{class_at, chain_of, parent_of, listed_interfaces, is_sub, is_above_arrays, is_among}
+use Rattle.fm_world.specs.Chains.{class_at, chain_of, given_number, parent_of, listed_interfaces, is_sub, is_above_arrays, is_among}
 use Rattle.fm_world.specs.Declarations.{declared_from}
 use Rattle.fm_world.specs.declared.declarations.Constant.{Constant}
 use Rattle.fm_world.specs.declared.declarations.DeclaredClass.{DeclaredClass}
@@ -63,10 +62,6 @@ pub record Program : Type 0 where
 -- the built-in classes, and then the given ones in the order of their files
 unfoldable pub classes_of : List ClassDef → List DeclaredClass
 classes_of given = built_in ++ declared_from 0 given
-
--- the number of the given class of a name
-abbrev pub given_number : List DeclaredClass → List ℕ → Option ℕ
-given_number classes name = position (λ c. bytes_eq c.name name && is_some c.file) classes
 
 -- the nearest static main([Ljava/lang/String;)V of a class and its superclasses
 abbrev pub main_of : List DeclaredClass → ℕ → Option ℕ

@@ -6,3 +6,4 @@ pub mod NameKeys
 pub mod Nodes
 pub mod Tables
 pub mod Marks
+pub mod Completions

@@ -11,10 +11,10 @@ ghost use Rattle.fm_world.specs.declared.built_in_methods.TheConstants.{BUILT_IN
 ghost use Rattle.fm_world.specs.declared.declarations.DeclaredClass.{DeclaredClass};
 ghost use Rattle.fm_world.specs.inner.Tables.{IsLinear};
 ghost use Rattle.fm_world.specs.Rows.{hidden_kinds, row_of};
-ghost use Rattle.fm_world.specs.Causes.{Duplicate, BadParent, MissingClass, MissingField, NotImplemented, NoMain, Refusal};
+ghost use Rattle.fm_world.specs.Causes.{BuiltIn, Duplicate, BadParent, MissingClass, MissingField, NotImplemented, NoMain, Refusal};
 ghost use Rattle.fm_world.specs.Chains.{is_sub, chain_of, distinct, listed_interfaces, superinterfaces_of};
 ghost use Rattle.fm_world.specs.Descriptors.{class_number};
-ghost use Rattle.fm_world.specs.Example.{array_types, call_of_k, call_of_to_string, call_on_array, castable, not_castable, example, example_main, example_upper, first_method, main_uses, refusal, with_cycle, with_interfaces, with_private, with_static_field};
+ghost use Rattle.fm_world.specs.Example.{array_types, call_of_k, call_of_to_string, call_on_array, castable, not_castable, example, example_main, example_upper, first_method, main_uses, refusal, with_completion, with_cycle, with_interfaces, with_private, with_static_field};
 ghost use Rattle.fm_world.specs.Linking.{refusals, IsLinked};
 ghost use Rattle.fm_world.specs.Lookups.{select, special_target};
 ghost use Rattle.fm_world.specs.Members.{kinds_of, methods_of, size_of, slot_of};
@@ -42,7 +42,8 @@ pub fn law_built_in()
 
 /// The definitions at interfaces and at private methods: superinterfaces come in listed order, each
 /// once; an abstract method of one is missed; a private method isn't selected for another one, but for
-/// itself, and a special call finds it.
+/// itself, and a special call finds it. And at a file with the name of a built-in class: it is right
+/// above that class, whose objects have its methods, and is refused.
 pub fn law_lookup_examples()
     ensures interfaces { superinterfaces_of (classes_of with_interfaces) 30
         ≡ 29 ∷ 26 ∷ 28 ∷ [] }
@@ -54,6 +55,10 @@ pub fn law_lookup_examples()
         ≡ Some (built_in_methods + 1) }
     ensures special { special_target (classes_of with_private) 30 (Some 28) built_in_methods
         ≡ built_in_methods + 1 }
+    ensures completed { chain_of (classes_of with_completion) 2 ≡ 2 ∷ 28 ∷ 0 ∷ [] }
+    ensures added { select (classes_of with_completion) 2 built_in_methods ≡ Some built_in_methods }
+    ensures refused { slice_get (refusals with_completion (codes "M")) 0 ≡ Some (refusal BuiltIn
+        (codes "java/lang/StringBuilder") (codes "java/lang/StringBuilder")) }
 {}
 
 /// The definitions at three classes that are written out by hand, M, A and B below A: nothing of them

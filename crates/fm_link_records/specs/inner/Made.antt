@@ -3,9 +3,10 @@ use Rattle.std.specs.Prelude.{◌≡◌, ℕ, List, length, map, Option, Some, N
 use Rattle.fm_code.specs.declared.class_file.ClassDef.{ClassDef}
 use Rattle.fm_code.specs.declared.code_array.Code.{Code}
 use Rattle.fm_link_names.specs.declared.descriptors.Kinds.{Kinds}
+use Rattle.fm_world.specs.Chains.{given_number}
 use Rattle.fm_world.specs.Members.{fields_of, methods_of, slot_of, statics_of}
 use Rattle.fm_world.specs.Numbers.{texts_of, types_of}
-use Rattle.fm_world.specs.Programs.{class_info, classes_of, given_number, main_of, uses_of}
+use Rattle.fm_world.specs.Programs.{class_info, classes_of, main_of, uses_of}
 use Rattle.fm_world.specs.declared.parts.Parts.{Parts}
 use Rattle.fm_world.specs.declared.uses.Use.{Use}
 use Rattle.fm_world.specs.inner.Tables.{numbers_below, outline_in, AnswerForCalls, AnswerForClasses, AreFew}

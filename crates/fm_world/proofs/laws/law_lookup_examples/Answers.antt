@@ -1,4 +1,4 @@
-use Rattle.fm_world.proofs.Example.{interfaces_are, not_implemented, passed_over, itself, special}
+use Rattle.fm_world.proofs.Example.{added, completed, interfaces_are, itself, not_implemented, passed_over, refused, special}
 use Rattle.fm_world.proofs.laws.law_lookup_examples.Goals as goal
 
 pub returns-clause-interfaces : goal.returns-clause-interfaces
@@ -15,3 +15,12 @@ returns-clause-itself c = itself
 
 pub returns-clause-special : goal.returns-clause-special
 returns-clause-special c = special
+
+pub returns-clause-completed : goal.returns-clause-completed
+returns-clause-completed c = completed
+
+pub returns-clause-added : goal.returns-clause-added
+returns-clause-added c = added
+
+pub returns-clause-refused : goal.returns-clause-refused
+returns-clause-refused c = refused
