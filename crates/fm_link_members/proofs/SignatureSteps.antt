@@ -9,7 +9,7 @@ use Rattle.std.proofs.lemmas.Bool.{eq-eqb, eqb-true, ltb-true}
 use Rattle.std.proofs.lemmas.Iterator.Adapters.{position_from-zero}
 use Rattle.std.proofs.lemmas.List.{map-append, take-append-drop, take_more}
 use Rattle.fm_base.proofs.TestFacts.{and_left, and_right}
-use Rattle.fm_link_supers.proofs.BuiltInParents.{found_first}
+use Rattle.fm_world.proofs.Completions.{found_first}
 use Rattle.fm_link_members.specs.declared.members.MemberRow.{MemberRow}
 use Rattle.fm_link_members.specs.inner.MemberTables.{has_key, number_of_key, signature_of}
 use Rattle.fm_link_members.specs.inner.NearestSteps.{or_else}

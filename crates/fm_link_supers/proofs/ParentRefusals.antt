@@ -15,7 +15,7 @@ use Rattle.fm_code.specs.declared.class_file.ClassDef.{ClassDef}
 use Rattle.fm_code.specs.declared.code_array.Item.{Item}
 use Rattle.fm_code.specs.declared.constant_pool.Entry.{Entry}
 use Rattle.fm_code.specs.declared.constant_pool.Entry.TheVariants as entry
-use Rattle.fm_link_supers.proofs.BuiltInParents.{built_in_fit, is_other_than_object, IsFit, object_is_class, object_number_is, object_parent_is}
+use Rattle.fm_link_supers.proofs.BuiltInParents.{are_completed, built_in_fit, is_other_than_object, IsFit, object_is_class, object_number_is, object_parent_is}
 use Rattle.fm_link_supers.proofs.Downwards.{among_head, among_left}
 use Rattle.fm_link_supers.proofs.InterfaceLemmas.{any_ends, listed_past}
 use Rattle.fm_link_supers.proofs.ParentTables.{parent_past}
@@ -23,10 +23,10 @@ use Rattle.fm_link_supers.specs.inner.Hierarchy.{AreSound}
 use Rattle.fm_world.proofs.Displays.{is_among_at}
 use Rattle.fm_world.specs.BuiltIns.{built_in, object_name}
 use Rattle.fm_world.specs.Causes.{bad_parent_at, bad_parents, bad_superclass, goes_deep, goes_up, is_bad_interface, is_bad_superclass, is_there_and, Refusal, refused_if}
-use Rattle.fm_world.specs.Chains.{class_at, is_among, listed_interfaces, parent_of}
+use Rattle.fm_world.specs.Chains.{class_at, is_among, listed_interfaces, parent_of, superclass_in}
 use Rattle.fm_world.specs.Declarations.{declared_from, declared_of, name_at, no_class}
 use Rattle.fm_world.specs.Descriptors.{class_number}
-use Rattle.fm_world.specs.Linking.{refused_parents}
+use Rattle.fm_world.specs.Linking.{refused_built_ins, refused_parents}
 use Rattle.fm_world.specs.Lookups.{is_interface_at, object_number}
 use Rattle.fm_world.specs.Programs.{classes_of}
 use Rattle.fm_code.specs.Operands.{pool_index}
@@ -199,7 +199,7 @@ file_fit classes c k m spelled none object is =
     let n = length classes in
     let there = superclass_there classes c spelled none in
     let parent : parent_of classes k ≡ class_number classes there.name =
-    ap (λ (d : DeclaredClass). option_and_then (class_number classes) d.superclass) is ∙ ap (option_and_then (class_number classes)) there.named in
+    ap (superclass_in classes) is ∙ ap (option_and_then (λ name. class_number classes name)) there.named in
     let listed : listed_interfaces classes k ≡ filter_map (class_number classes) (map (name_at c.pool.entries) c.interfaces) =
     ap (λ (d : DeclaredClass). filter_map (class_number classes) d.interfaces) is in
     let wrong = ap (list_any (is_wrong classes)) listed ∙ interfaces_good classes c spelled none in
@@ -259,9 +259,10 @@ spelled_at [] j c all at = absurd (none-some c at)
 spelled_at (d ∷ given) zero c all at = subst HasSpelling (same_Some d c at) all.0
 spelled_at (d ∷ given) (suc j) c all at = spelled_at given j c all.1 at
 
-pub all_fit : (given : List ClassDef) → AllByRecursion HasSpelling given → refused_parents given ≡ [] → (k : ℕ) → IsFit (classes_of given) k
+pub all_fit : (given : List ClassDef) → AllByRecursion HasSpelling given → refused_built_ins given ≡ [] → refused_parents given ≡ [] → (k : ℕ)
+    → IsFit (classes_of given) k
 unfolding classes_of refused_parents
-all_fit given spelled none k = by_place (cases_lt k (length built_in)) where
+all_fit given spelled apart none k = by_place (cases_lt k (length built_in)) where
   more : List DeclaredClass
   more = declared_from 0 given
 
@@ -275,7 +276,7 @@ all_fit given spelled none k = by_place (cases_lt k (length built_in)) where
       (ap (λ i. get_or (built_in ++ more) i no_class) is ∙ get_or-append-add built_in more j no_class ∙ declared.declared)
 
   by_place : (k < length built_in) ⊎ (length built_in ≤ k) → IsFit (built_in ++ more) k
-  by_place (inl own) = built_in_fit more k own
+  by_place (inl own) = built_in_fit more (are_completed given apart) k own
   by_place (inr later) = file (k - length built_in) (omega (arith, later)) (slice_get given (k - length built_in)) refl
 
 none_among : (p : ℕ → Bool) (x : ℕ) (xs : List ℕ) → list_any p xs ≡ false → is_among x xs ≡ true → p x ≡ false
@@ -287,10 +288,11 @@ none_among p x (y ∷ ys) none among =
       by_case here later (inr there) = later there
 
 -- no chain leads into a cycle, and only interfaces are listed
-pub are_sound : (given : List ClassDef) → AllByRecursion HasSpelling given → refused_parents given ≡ [] → AreSound (classes_of given)
-are_sound given spelled none =
+pub are_sound : (given : List ClassDef) → AllByRecursion HasSpelling given → refused_built_ins given ≡ [] → refused_parents given ≡ []
+    → AreSound (classes_of given)
+are_sound given spelled apart none =
     let classes = classes_of given in
-    let fit = all_fit given spelled none in
+    let fit = all_fit given spelled apart none in
     record {
       acyclic = record { superclasses = λ class within. (fit class).up; interfaces = λ class within. (fit class).deep };
       only_interfaces =
@@ -314,18 +316,18 @@ unfolding classes_of
 tree_object_is_class given = object_is_class (declared_from 0 given)
 
 -- no superclass is an interface
-pub tree_parents : (given : List ClassDef) → AllByRecursion HasSpelling given → refused_parents given ≡ [] → (class parent : ℕ)
-    → parent_of (classes_of given) class ≡ Some parent → is_interface_at (classes_of given) parent ≡ false
-tree_parents given spelled none class parent e =
-    sym (ap (is_there_and (is_interface_at (classes_of given))) e) ∙ (all_fit given spelled none class).parent
+pub tree_parents : (given : List ClassDef) → AllByRecursion HasSpelling given → refused_built_ins given ≡ [] → refused_parents given ≡ []
+    → (class parent : ℕ) → parent_of (classes_of given) class ≡ Some parent → is_interface_at (classes_of given) parent ≡ false
+tree_parents given spelled apart none class parent e =
+    sym (ap (is_there_and (is_interface_at (classes_of given))) e) ∙ (all_fit given spelled apart none class).parent
 
 object_is : (o : Option ℕ) → is_other_than_object o ≡ false → o ≡ Some 0
 object_is None e = absurd (false≢true (sym e))
 object_is (Some k) e = ap Some (eqb-true k 0 (not-false (nat_eq k 0) e))
 
 -- the superclass of an interface is Object
-pub tree_interfaces : (given : List ClassDef) → AllByRecursion HasSpelling given → refused_parents given ≡ [] → (class : ℕ)
-    → is_interface_at (classes_of given) class ≡ true → parent_of (classes_of given) class ≡ Some 0
-tree_interfaces given spelled none class is =
+pub tree_interfaces : (given : List ClassDef) → AllByRecursion HasSpelling given → refused_built_ins given ≡ [] → refused_parents given ≡ []
+    → (class : ℕ) → is_interface_at (classes_of given) class ≡ true → parent_of (classes_of given) class ≡ Some 0
+tree_interfaces given spelled apart none class is =
     object_is (parent_of (classes_of given) class)
-    (sym (ap (λ b. b && is_other_than_object (parent_of (classes_of given) class)) is) ∙ (all_fit given spelled none class).marker)
+    (sym (ap (λ b. b && is_other_than_object (parent_of (classes_of given) class)) is) ∙ (all_fit given spelled apart none class).marker)

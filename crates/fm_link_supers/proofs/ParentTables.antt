@@ -1,5 +1,5 @@
 -- The tables of superclasses return what the definitions look up by name.
-use Rattle.std.proofs.Common.{◌≡◌, refl, sym, ◌∙◌, ap, ℕ, zero, suc, ◌<◌, ◌≤◌, ◌⊎◌, inl, inr, List, [], ◌∷◌, length, map, get_or, Option, Some, None, option_and_then, arith, zero-add}
+use Rattle.std.proofs.Common.{◌≡◌, refl, sym, ◌∙◌, ap, ℕ, zero, suc, ◌<◌, ◌≤◌, ◌⊎◌, inl, inr, List, [], ◌∷◌, length, map, get_or, Option, Some, None, arith, zero-add}
 use Rattle.std.specs.Global.{Vec}
 use Rattle.std.proofs.lemmas.Bool.{cases_lt}
 use Rattle.std.proofs.lemmas.List.{get_or_past, get_or-map, length-map}
@@ -7,9 +7,8 @@ use Rattle.std.proofs.lemmas.List.FromFn.{fill_by_all, get_or-map-range_with_len
 use Rattle.fm_base.proofs.ListFacts.{map_same}
 use Rattle.fm_world.proofs.TableLemmas.{length-row}
 use Rattle.fm_world.specs.Causes.{goes_up}
-use Rattle.fm_world.specs.Chains.{chain_of, class_at, parent_of, upwards}
+use Rattle.fm_world.specs.Chains.{chain_of, class_at, parent_of, superclass_in, upwards}
 use Rattle.fm_world.specs.Declarations.{no_class}
-use Rattle.fm_world.specs.Descriptors.{class_number}
 use Rattle.fm_world.specs.declared.declarations.DeclaredClass.{DeclaredClass}
 use Rattle.fm_world.specs.inner.Tables.{numbers_below}
 use Rattle.fm_link_supers.specs.inner.ListTables.{list_in, lists}
@@ -42,7 +41,7 @@ map_classes f classes =
 -- ---- superclasses
 
 pub parent_past : (classes : List DeclaredClass) (k : ℕ) → length classes ≤ k → parent_of classes k ≡ None
-parent_past classes k h = ap (λ (c : DeclaredClass). option_and_then (class_number classes) c.superclass) (get_or_past classes k no_class h)
+parent_past classes k h = ap (superclass_in classes) (get_or_past classes k no_class h)
 
 pub parent_at_is : (classes : List DeclaredClass) (parents : List (Option ℕ)) → parents ≡ map (parent_of classes) (numbers_below (length classes)) → (k : ℕ)
     → parent_at parents k ≡ parent_of classes k

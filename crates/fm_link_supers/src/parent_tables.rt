@@ -3,11 +3,11 @@
 ghost use Rattle.std.specs.Prelude.{◌≡◌, IfOk};
 ghost use Rattle.fm_link_names.specs.inner.ClassNumbering.{number_in};
 ghost use Rattle.fm_link_supers.specs.inner.ListTables.{lists};
-ghost use Rattle.fm_link_supers.specs.inner.NamedParents.{class_listed_in, class_named_in, interfaces_by, listed_by, listed_in, parents_by, superclass_by};
+ghost use Rattle.fm_link_supers.specs.inner.NamedParents.{class_listed_in, class_named_in, interfaces_by, listed_by, listed_in, number_among, parents_by, superclass_by};
 ghost use Rattle.fm_world.specs.inner.BuiltInTable.{class_of_row};
 
 use fm_base::NoMemory;
-use fm_link_names::{ClassNumbers, GivenFile, at};
+use fm_link_names::{ClassNumbers, GivenFile, at, number_of};
 use fm_world::{BuiltInClass, built_in_classes};
 use std::alloc::Global;
 
@@ -23,7 +23,7 @@ pub fn parents_of(
 {
     let mut parents = Vec::new(alloc);
     for class in built_in_classes() {
-        parents.push(parent_of_built_in(numbers, class))?;
+        parents.push(parent_of_built_in(numbers, files, class)?)?;
     }
     for file in files {
         parents.push(class_named(by_text, file, file.class.super_class))?;
@@ -31,14 +31,35 @@ pub fn parents_of(
     Ok(parents)
 }
 
-// That of a built-in class.
-fn parent_of_built_in(numbers: &ClassNumbers, class: &BuiltInClass) -> Option<u32>
-    ensures { result ≡ superclass_by (number_in numbers.now.numbers) (class_of_row class.now) }
+// That of a built-in class: the class of a file that completes it, or else the class that it names.
+fn parent_of_built_in(
+    numbers: &ClassNumbers,
+    files: &[GivenFile],
+    class: &BuiltInClass,
+) -> Result<Option<u32>, NoMemory>
+    ensures { IfOk result (λ parent. parent
+        ≡ superclass_by (number_in numbers.now.numbers) files.now (class_of_row class.now)) }
 {
     match class.superclass {
-        Some(name) => numbers.number(name.as_bytes()),
-        None => None,
+        Some(name) => match given_class(files, class.name.as_bytes())? {
+            Some(completing) => Ok(Some(completing)),
+            None => Ok(numbers.number(name.as_bytes())),
+        },
+        None => Ok(None),
     }
+}
+
+/// The number of the class of the first file that has the name. `NoMemory` where it is 2^32 or more.
+pub fn given_class(files: &[GivenFile], name: &[u8]) -> Result<Option<u32>, NoMemory>
+    ensures { IfOk result (λ class. class ≡ number_among name.now files.now) }
+{
+    let first = built_in_classes().len();
+    for (index, file) in files.iter().enumerate() {
+        if file.name() == name {
+            return Ok(Some(number_of(first + index)?));
+        }
+    }
+    Ok(None)
 }
 
 /// The class that an index of a file names, where it names one.

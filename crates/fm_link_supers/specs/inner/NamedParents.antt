@@ -1,12 +1,15 @@
 -- The superclass and the listed interfaces of each class, by tables of the numbers of classes.
-use Rattle.std.specs.Prelude.{◌≡◌, ℕ, List, [], ◌++◌, map, Option, None, Some, option_and_then}
-use Rattle.std.specs.List.{filter_map, slice_index_or}
+use Rattle.std.specs.Prelude.{◌≡◌, ℕ, Bool, List, [], ◌++◌, length, map, Option, None, Some, is_none, option_and_then, if◌then◌else◌}
+use Rattle.std.specs.List.{filter_map, position_from, slice_index_or}
+use Rattle.std.specs.Option.{option_or}
+use Rattle.std.specs.Str.{bytes_eq}
 use Rattle.fm_code.specs.declared.class_file.ClassDef.{ClassDef}
 use Rattle.fm_link_names.specs.declared.class_numbers.ClassNumbers.{ClassNumbers}
 use Rattle.fm_link_names.specs.declared.given.GivenFile.{GivenFile}
 use Rattle.fm_link_names.specs.inner.ClassNumbering.{NumbersClasses}
 use Rattle.fm_link_names.specs.inner.Files.{AreFiles, class_text_in}
 use Rattle.fm_world.specs.BuiltIns.{built_in}
+use Rattle.fm_world.specs.Causes.{own_name}
 use Rattle.fm_world.specs.Descriptors.{class_number}
 use Rattle.fm_world.specs.Programs.{classes_of}
 use Rattle.fm_world.specs.declared.declarations.DeclaredClass.{DeclaredClass}
@@ -30,9 +33,21 @@ class_at_text find by_text (Some text) = at_text by_text text
 abbrev pub class_listed_in : (List ℕ → Option ℕ) → List (Option ℕ) → GivenFile → ℕ → Option ℕ
 class_listed_in find by_text file index = class_at_text find by_text (class_text_in file index)
 
--- the superclass of a declared class
-abbrev pub superclass_by : (List ℕ → Option ℕ) → DeclaredClass → Option ℕ
-superclass_by find class = option_and_then find class.superclass
+-- the file's class has the name
+abbrev pub is_named : List ℕ → GivenFile → Bool
+is_named name file = bytes_eq (own_name file.class.now) name
+
+-- the number of the class of the first file that has the name
+abbrev pub number_among : List ℕ → List GivenFile → Option ℕ
+number_among name files = position_from (is_named name) (length built_in) files
+
+-- that of the class that completes a declared one, which is of no file
+abbrev pub completion_among : List GivenFile → DeclaredClass → Option ℕ
+completion_among files class = if is_none class.file then number_among class.name files else None
+
+-- the superclass of a declared class, where it names one: the class that completes it, and else the one that it names
+abbrev pub superclass_by : (List ℕ → Option ℕ) → List GivenFile → DeclaredClass → Option ℕ
+superclass_by find files class = option_and_then (λ name. option_or (completion_among files class) (find name)) class.superclass
 
 -- the interfaces that a declared class lists
 abbrev pub interfaces_by : (List ℕ → Option ℕ) → DeclaredClass → List ℕ
@@ -41,7 +56,7 @@ interfaces_by find class = filter_map find class.interfaces
 -- the superclass of each class
 abbrev pub parents_by : (List ℕ → Option ℕ) → List (Option ℕ) → List GivenFile → List (Option ℕ)
 parents_by find by_text files =
-    map (superclass_by find) built_in ++ map (λ (file : GivenFile). class_named_in by_text file file.class.now.super_class) files
+    map (superclass_by find files) built_in ++ map (λ (file : GivenFile). class_named_in by_text file file.class.now.super_class) files
 
 -- the interfaces that a file's class lists
 abbrev pub listed_in : (List ℕ → Option ℕ) → List (Option ℕ) → GivenFile → List ℕ

@@ -13,22 +13,22 @@ pub loop-class-init : goal.loop-class-init
 loop-class-init c =
     let find = number_in c.args.numbers.now.numbers in
     let rows = c.built_in_classes-class-items.result.now in
-    ap (λ xs. xs ++ map (λ (row : BuiltInClass). superclass_by find (class_of_row row)) rows) c.new-parents.ensures.items
-    ∙ sym (map_twice (superclass_by find) class_of_row rows) ∙ ap (map (superclass_by find)) c.built_in_classes-class-items.ensures
+    ap (λ xs. xs ++ map (λ (row : BuiltInClass). superclass_by find c.args.files.now (class_of_row row)) rows) c.new-parents.ensures.items
+    ∙ sym (map_twice (superclass_by find c.args.files.now) class_of_row rows) ∙ ap (map (superclass_by find c.args.files.now)) c.built_in_classes-class-items.ensures
 
 pub loop-class-preserved : goal.loop-class-preserved
 loop-class-preserved c =
     let find = number_in c.args.numbers.now.numbers in
-    map_step_read (λ (row : BuiltInClass). superclass_by find (class_of_row row)) c.built_in_classes-class-items.result.now c.loop-class.class-index _
-    c.loop-class.parents.items c.push.new.self.items (map (superclass_by find) built_in) c.parent_of_built_in.result c.loop-class-test.true c.in_ok-push.ensures.items
-    c.parent_of_built_in.ensures c.loop-class.invariant
+    map_step_read (λ (row : BuiltInClass). superclass_by find c.args.files.now (class_of_row row)) c.built_in_classes-class-items.result.now c.loop-class.class-index _
+    c.loop-class.parents.items c.push.new.self.items (map (superclass_by find c.args.files.now) built_in) c.in_ok-parent_of_built_in.field-0 c.loop-class-test.true c.in_ok-push.ensures.items
+    c.in_ok-parent_of_built_in.ensures c.loop-class.invariant
 
 pub loop-file-init : goal.loop-file-init
 loop-file-init c =
     let find = number_in c.args.numbers.now.numbers in
     ap (λ xs. xs ++ map (λ (file : GivenFile). class_named_in c.args.by_text.now file file.class.now.super_class) c.args.files.now)
-    (map_end (λ (row : BuiltInClass). superclass_by find (class_of_row row)) c.built_in_classes-class-items.result.now c.loop-class.class-index c.loop-class.parents.items
-    (map (superclass_by find) built_in) c.loop-class-test.false c.loop-class.invariant)
+    (map_end (λ (row : BuiltInClass). superclass_by find c.args.files.now (class_of_row row)) c.built_in_classes-class-items.result.now c.loop-class.class-index c.loop-class.parents.items
+    (map (superclass_by find c.args.files.now) built_in) c.loop-class-test.false c.loop-class.invariant)
 
 pub loop-file-preserved : goal.loop-file-preserved
 loop-file-preserved c =

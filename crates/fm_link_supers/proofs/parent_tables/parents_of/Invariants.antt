@@ -9,8 +9,8 @@ use Rattle.fm_link_supers.proofs.parent_tables.parents_of.Given as goal
 
 abbrev pub invariant-loop-class : goal.invariant-loop-class
 invariant-loop-class l =
-    l.parents.items ++ map (λ (row : BuiltInClass). superclass_by (number_in l.numbers.numbers) (class_of_row row)) (drop l.class-index l.class-items)
-    ≡ map (superclass_by (number_in l.numbers.numbers)) built_in
+    l.parents.items ++ map (λ (row : BuiltInClass). superclass_by (number_in l.numbers.numbers) l.files (class_of_row row)) (drop l.class-index l.class-items)
+    ≡ map (superclass_by (number_in l.numbers.numbers) l.files) built_in
 
 abbrev pub invariant-loop-file : goal.invariant-loop-file
 invariant-loop-file l =
