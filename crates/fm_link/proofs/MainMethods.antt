@@ -1,23 +1,22 @@
 -- The main class and its main method, found by the tables, are those of the definitions.
-use Rattle.std.proofs.Common.{◌≡◌, refl, sym, ◌∙◌, ap, subst, ℕ, zero, suc, ◌+◌, ◌-◌, ◌<◌, ◌≤◌, ◌&&◌, ◌||◌, not, Bool, true, false, cond, List, [], ◌∷◌, ◌++◌, length, map, nat_eq, get_or, slice_get, Option, Some, None, option_and_then, option_map, is_some, arith}
-use Rattle.std.specs.List.{list_all, position_from}
+use Rattle.std.proofs.Common.{◌≡◌, refl, sym, ◌∙◌, ap, subst, ℕ, zero, suc, ◌+◌, ◌-◌, ◌<◌, ◌≤◌, ◌&&◌, ◌||◌, not, Bool, true, false, cond, List, [], ◌∷◌, length, map, nat_eq, get_or, slice_get, Option, Some, None, option_and_then, option_map, is_some, arith}
+use Rattle.std.specs.List.{position_from}
 use Rattle.std.specs.Str.{bytes_eq}
-use Rattle.std.proofs.lemmas.Bool.{and_parts, eq-eqb, eqb-true, false≢true, or_right}
-use Rattle.std.proofs.lemmas.Iterator.Adapters.{position_from-zero}
+use Rattle.std.proofs.lemmas.Bool.{eq-eqb, eqb-true, or_right}
 use Rattle.std.proofs.lemmas.List.{get_or-map, length-map}
 use Rattle.std.proofs.lemmas.Option.{none-some, same_Some, slice_get-get_or}
 use Rattle.std.proofs.lemmas.List.Quantifiers.{position-Some}
-use Rattle.fm_base.proofs.TestFacts.{and_false, and_true, same-nat_eq}
+use Rattle.fm_base.proofs.TestFacts.{same-nat_eq}
 use Rattle.fm_code.specs.AccessFlags.{is_static}
 use Rattle.fm_code.specs.declared.class_file.ClassDef.{ClassDef}
 use Rattle.fm_link_names.specs.declared.given.GivenFile.{GivenFile}
 use Rattle.fm_link_names.specs.inner.Numbering.{texts_in}
 use Rattle.fm_link_supers.proofs.Downwards.{walk_within}
-use Rattle.fm_link_names.proofs.PlaceLemmas.{position_from-map}
 use Rattle.fm_link_members.proofs.FirstOnes.{first_from-is, first_is_one, position-is}
 use Rattle.fm_link_members.proofs.NearestLemmas.{first_found-cons, widened}
+use Rattle.fm_link_supers.proofs.NamedParentLemmas.{is_given, number_given}
 use Rattle.fm_link_supers.proofs.ParentTables.{row_within}
-use Rattle.fm_link_members.proofs.SectionLemmas.{is_named as is_member_named, own_method-position, position_from-append}
+use Rattle.fm_link_members.proofs.SectionLemmas.{is_named as is_member_named, own_method-position}
 use Rattle.fm_link_members.proofs.SectionRows.{AreSections-methods}
 use Rattle.fm_link_members.specs.declared.members.MemberRow.{MemberRow}
 use Rattle.fm_link_members.specs.declared.members.Members.{Members}
@@ -25,16 +24,17 @@ use Rattle.fm_link_members.specs.inner.MemberRows.{method_alike, no_row, row_ali
 use Rattle.fm_link_members.specs.inner.MemberTables.{first_from}
 use Rattle.fm_link_members.specs.inner.NearestSteps.{or_else}
 use Rattle.fm_link_refusals.specs.declared.linking.Linking.{Linking}
-use Rattle.fm_link_refusals.specs.inner.GivenClasses.{class_in, given_in}
+use Rattle.fm_link_refusals.specs.inner.GivenClasses.{given_in}
 use Rattle.fm_link_refusals.specs.inner.Linking.{IsLinking}
-use Rattle.fm_link.specs.inner.MainClass.{is_main_at, is_main_in, is_main_row, is_named, main_between, main_descriptor, main_found, main_method_in, main_name, number_among, own_main_in}
+use Rattle.fm_link.specs.inner.MainClass.{is_main_at, is_main_in, is_main_row, main_between, main_descriptor, main_found, main_method_in, main_name, own_main_in}
+use Rattle.fm_link_supers.specs.inner.NamedParents.{is_named, number_among}
 use Rattle.fm_world.specs.BuiltIns.{built_in}
-use Rattle.fm_world.specs.Causes.{is_there_and, no_main, NoMain, own_name, Refusal, refused_if}
-use Rattle.fm_world.specs.Chains.{chain_of, first_found, is_among}
+use Rattle.fm_world.specs.Causes.{is_there_and, no_main, NoMain, Refusal, refused_if}
+use Rattle.fm_world.specs.Chains.{chain_of, first_found, given_number, is_among}
 use Rattle.fm_world.specs.Declarations.{declared_from, no_class}
 use Rattle.fm_world.specs.Linking.{refused_main}
 use Rattle.fm_world.specs.Members.{methods_of, own_method}
-use Rattle.fm_world.specs.Programs.{classes_of, given_number, main_of}
+use Rattle.fm_world.specs.Programs.{classes_of, main_of}
 use Rattle.fm_world.specs.declared.declarations.DeclaredClass.{DeclaredClass}
 
 -- ---- the first number that passes
@@ -148,42 +148,13 @@ main_method_is classes l is class within =
 
 -- ---- the main class
 
-abbrev is_given : List ℕ → DeclaredClass → Bool
-is_given name c = bytes_eq c.name name && is_some c.file
-
-not_given : (name : List ℕ) (i : ℕ) (c : DeclaredClass) (xs : List DeclaredClass) → position_from (is_given name) (i + 1) xs ≡ None → (b : Bool)
-    → is_some c.file ≡ b → (not b) ≡ true → position_from (is_given name) i (c ∷ xs) ≡ None
-not_given name i c xs rest true e h = absurd (false≢true h)
-not_given name i c xs rest false e h =
-    ap (λ b. cond (bytes_eq c.name name && b) (Some i) (position_from (is_given name) (i + 1) xs)) e
-    ∙ ap (λ b. cond b (Some i) (position_from (is_given name) (i + 1) xs)) (and_false (bytes_eq c.name name)) ∙ rest
-
-none_given : (name : List ℕ) (i : ℕ) (xs : List DeclaredClass) → list_all (λ (c : DeclaredClass). not (is_some c.file)) xs ≡ true
-    → position_from (is_given name) i xs ≡ None
-none_given name i [] e = refl
-none_given name i (c ∷ xs) e =
-    let both = and_parts (not (is_some c.file)) (list_all (λ (d : DeclaredClass). not (is_some d.file)) xs) e in
-    not_given name i c xs (none_given name (i + 1) xs both.1) (is_some c.file) refl both.0
-
-built_in_have_none : list_all (λ (c : DeclaredClass). not (is_some c.file)) built_in ≡ true
-unfolding built_in
-built_in_have_none = refl
-
-declared_given : (name : List ℕ) (i n : ℕ) (given : List ClassDef)
-    → position_from (is_given name) i (declared_from n given) ≡ position_from (λ c. bytes_eq (own_name c) name) i given
-declared_given name i n [] = refl
-declared_given name i n (c ∷ given) =
-    ap (λ b. cond b (Some i) (position_from (is_given name) (i + 1) (declared_from (n + 1) given))) (and_true (bytes_eq (own_name c) name))
-    ∙ ap (λ o. cond (bytes_eq (own_name c) name) (Some i) o) (declared_given name (i + 1) (n + 1) given)
+files_named : (name : List ℕ) (i n : ℕ) (files : List GivenFile)
+    → position_from (λ (c : DeclaredClass). bytes_eq c.name name) i (declared_from n (given_in files)) ≡ position_from (is_named name) i files
+files_named name i n [] = refl
+files_named name i n (file ∷ files) = ap (λ o. cond (is_named name file) (Some i) o) (files_named name (i + 1) (n + 1) files)
 
 pub number_is : (name : List ℕ) (files : List GivenFile) → number_among name files ≡ given_number (classes_of (given_in files)) name
-unfolding classes_of
-number_is name files =
-    let given = given_in files in
-    sym (position_from-zero (is_given name) (built_in ++ declared_from 0 given)
-    ∙ position_from-append (is_given name) 0 (length built_in) built_in (declared_from 0 given) (omega arith) (none_given name 0 built_in built_in_have_none)
-    ∙ declared_given name (length built_in) 0 given
-    ∙ position_from-map class_in (λ c. bytes_eq (own_name c) name) (is_named name) (length built_in) files (λ file. refl))
+number_is name files = sym (number_given (given_in files) name ∙ files_named name (length built_in) 0 files)
 
 number_within : (classes : List DeclaredClass) (name : List ℕ) (k : ℕ) → given_number classes name ≡ Some k → k < length classes
 number_within classes name k e = (position-Some (is_given name) classes k no_class e).0

@@ -116,14 +116,15 @@ moved : (P : List ClassDef → Type 0) (given : List ClassDef) (files : List Giv
 moved P given files is p = subst P (sym is) p
 
 pub ready_of : (given : List ClassDef) (first second third : List (List ℕ)) (texts : Texts) (files : List GivenFile) (classes : List DeclaredClass)
-    (constructor : ℕ) (fields methods : Members) → AllByRecursion HasSpelling given → AreFiles first given files
+    (constructor : ℕ) (fields methods : Members) → AllByRecursion HasSpelling given → refused_built_ins given ≡ []
+    → AreFiles first given files
     → Extends first second → Extends second third → Extends third (texts_in texts) → AreTexts texts
     → (AreFiles first given files → AreFieldRows second (classes_of given) fields)
     → (AreFiles second given files → AreMethodRows third (classes_of given) methods)
     → slice_get (texts_in texts) constructor ≡ Some constructor_name
     → ((cs : List ClassDef) → AreFiles (texts_in texts) cs files → classes ≡ classes_of cs)
     → IsReady texts files classes constructor fields methods
-ready_of given first second third texts files classes constructor fields methods spelled are one two three texts_are of_fields of_methods named
+ready_of given first second third texts files classes constructor fields methods spelled apart are one two three texts_are of_fields of_methods named
     declared =
     let is = given_is first given files are in
     let later = files_kept first second given files one are in
@@ -131,6 +132,7 @@ ready_of given first second third texts files classes constructor fields methods
     let rest = extends_through second third (texts_in texts) two three in
     record {
       spelled = moved (AllByRecursion HasSpelling) given files is spelled;
+      apart = moved (λ cs. refused_built_ins cs ≡ []) given files is apart;
       texts_are = texts_are;
       files_are = moved (λ cs. AreFiles (texts_in texts) cs files) given files is last;
       classes_are = moved (λ cs. classes ≡ classes_of cs) given files is (declared given last);

@@ -5,16 +5,16 @@ ghost use Rattle.fm_link_names.specs.inner.Numbering.{texts_in};
 ghost use Rattle.fm_link_refusals.specs.Refused.{Refuses};
 ghost use Rattle.fm_link_refusals.specs.inner.GivenClasses.{given_in, AreNumbered};
 ghost use Rattle.fm_link_refusals.specs.inner.Linking.{IsLinking};
-ghost use Rattle.fm_link.specs.inner.MainClass.{is_main_at, is_main_row, main_between, main_found, main_method_in, number_among, own_main_in, AreMain};
+ghost use Rattle.fm_link.specs.inner.MainClass.{is_main_at, is_main_row, main_between, main_found, main_method_in, own_main_in, AreMain};
 ghost use Rattle.fm_world.specs.Linking.{refused_main};
 ghost use Rattle.fm_world.specs.Programs.{classes_of};
 
 use fm_base::NoMemory;
 use fm_code::{ACC_STATIC, has_flag};
 use fm_link_members::{MemberRow, Members};
-use fm_link_names::{GivenFile, Texts, number_of};
+use fm_link_names::{GivenFile, Texts};
 use fm_link_refusals::{LinkFail, Linking, bad_of};
-use fm_world::built_in_classes;
+use fm_link_supers::given_class;
 use std::alloc::Global;
 
 /// The main class and its main method by number, or the refusal of a program that has none.
@@ -45,26 +45,13 @@ fn found_main(
     ensures { IsLinking (classes_of (given_in files.now)) linking.entry
         → IfOk result (λ found. found ≡ main_found (classes_of (given_in files.now)) main.now) }
 {
-    match main_class(files, main)? {
+    match given_class(files, main)? {
         Some(class) => match main_method(linking, class) {
             Some(method) => Ok(Some((class, method))),
             None => Ok(None),
         },
         None => Ok(None),
     }
-}
-
-// The number of the first file's class of that name.
-fn main_class(files: &[GivenFile], main: &[u8]) -> Result<Option<u32>, NoMemory>
-    ensures { IfOk result (λ class. class ≡ number_among main.now files.now) }
-{
-    let first = built_in_classes().len();
-    for (index, file) in files.iter().enumerate() {
-        if file.name() == main {
-            return Ok(Some(number_of(first + index)?));
-        }
-    }
-    Ok(None)
 }
 
 // The nearest static main([Ljava/lang/String;)V of a class and its superclasses.

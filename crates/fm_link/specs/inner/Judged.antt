@@ -1,5 +1,5 @@
 -- What is known of class files before their classes are judged and once they are, and the refusals of each stage.
-use Rattle.std.specs.Prelude.{◌≡◌, ℕ, List, ◌++◌, map, Some, slice_get}
+use Rattle.std.specs.Prelude.{◌≡◌, ℕ, List, [], ◌++◌, map, Some, slice_get}
 use Rattle.std.specs.List.{AllByRecursion}
 use Rattle.fm_code.specs.Spells.{HasSpelling}
 use Rattle.fm_code.specs.declared.class_file.ClassDef.{ClassDef}
@@ -44,9 +44,11 @@ later_refusals given main = class_refusals given ++ member_refusals given main
 
 -- ---- files with numbers
 
--- the files are spelled, the texts are theirs, the classes are theirs and the built-in ones, and the rows are those of the classes
+-- the files are spelled, none has the name of a built-in class, the texts are theirs, the classes are theirs and the built-in ones, and the rows are
+-- those of the classes
 pub record IsReady (texts : Texts) (files : List GivenFile) (classes : List DeclaredClass) (constructor : ℕ) (fields methods : Members) : Type 0 where
   pub spelled : AllByRecursion HasSpelling (given_in files)
+  pub apart : refused_built_ins (given_in files) ≡ []
   pub texts_are : AreTexts texts
   pub files_are : AreFiles (texts_in texts) (given_in files) files
   pub classes_are : classes ≡ classes_of (given_in files)

@@ -3,7 +3,8 @@ use Rattle.std.specs.Prelude.{◌≡◌, ℕ, List, Some}
 use Rattle.fm_code.specs.declared.class_file.ClassDef.{ClassDef}
 use Rattle.fm_link_program.specs.declared.program_tables.ProgramTables.{ProgramTables}
 use Rattle.fm_link_program.specs.inner.Assembled.{IsTables}
-use Rattle.fm_world.specs.Programs.{classes_of, given_number, main_of}
+use Rattle.fm_world.specs.Chains.{given_number}
+use Rattle.fm_world.specs.Programs.{classes_of, main_of}
 
 -- the tables are those of the files' classes, with the main class of that name and its main method
 pub record AreTablesOf (given : List ClassDef) (name : List ℕ) (t : ProgramTables) : Type 0 where

@@ -1,21 +1,16 @@
 -- The main class and its main method, by the tables.
-use Rattle.std.specs.Prelude.{◌≡◌, ℕ, ◌-◌, ◌&&◌, Bool, false, List, codes, length, Option, None, Some, option_and_then, option_map, slice_get}
-use Rattle.std.specs.List.{position_from}
+use Rattle.std.specs.Prelude.{◌≡◌, ℕ, ◌-◌, ◌&&◌, Bool, false, List, codes, Option, None, Some, option_and_then, option_map, slice_get}
 use Rattle.std.specs.Str.{bytes_eq}
 use Rattle.fm_code.specs.AccessFlags.{is_static}
 use Rattle.fm_code.specs.declared.class_file.ClassDef.{ClassDef}
-use Rattle.fm_link_names.specs.declared.given.GivenFile.{GivenFile}
 use Rattle.fm_link_names.specs.inner.Numbering.{text_of, texts_in}
 use Rattle.fm_link_members.specs.declared.members.MemberRow.{MemberRow}
 use Rattle.fm_link_supers.specs.inner.ListTables.{list_in}
 use Rattle.fm_link_members.specs.inner.MemberRows.{section_of}
 use Rattle.fm_link_members.specs.inner.MemberTables.{first_from}
 use Rattle.fm_link_refusals.specs.declared.linking.Linking.{Linking}
-use Rattle.fm_link_refusals.specs.inner.GivenClasses.{class_in}
-use Rattle.fm_world.specs.BuiltIns.{built_in}
-use Rattle.fm_world.specs.Causes.{own_name}
-use Rattle.fm_world.specs.Chains.{first_found}
-use Rattle.fm_world.specs.Programs.{classes_of, given_number, main_of}
+use Rattle.fm_world.specs.Chains.{first_found, given_number}
+use Rattle.fm_world.specs.Programs.{classes_of, main_of}
 use Rattle.fm_world.specs.declared.declarations.DeclaredClass.{DeclaredClass}
 
 -- ---- by names
@@ -33,14 +28,6 @@ abbrev pub main_found : List DeclaredClass → List ℕ → Option (ℕ × ℕ)
 main_found classes name = option_and_then (λ class. option_map (λ method. (class, method)) (main_of classes class)) (given_number classes name)
 
 -- ---- by the tables
-
--- the file's class has the name
-abbrev pub is_named : List ℕ → GivenFile → Bool
-is_named name file = bytes_eq (own_name (class_in file)) name
-
--- the number of the class of the first file that has the name
-abbrev pub number_among : List ℕ → List GivenFile → Option ℕ
-number_among name files = position_from (is_named name) (length built_in) files
 
 -- a static main([Ljava/lang/String;)V
 abbrev pub is_main_row : List (List ℕ) → MemberRow → Bool

@@ -65,7 +65,7 @@ returns-clause-linked c =
     let named = named-made given texts (lent c.as_slice-texts.result.now) c.args.ready.files.now c.args.ready.classes.now c.in_ok-numbers.numbers
     c.as_slice-by_text.result.now c.in_ok-named.named.items c.in_ok-ancestors.ancestors c.requires.classes_are c.requires.files_are
     c.in_ok-numbers.ensures read c.as_slice-by_text.ensures.value c.in_ok-named.ensures c.in_ok-ancestors.ensures in
-    let sound = are_sound given c.requires.spelled
+    let sound = are_sound given c.requires.spelled c.requires.apart
     (c.in_ok-refuse_parents.ensures texts (files_numbered texts c.args.ready.files.now c.requires.files_are) named.ancestors named.numbers_are
     named.by_text_is) in
     let hierarchy = c.in_ok-hierarchy.ensures classes named.ancestors sound in

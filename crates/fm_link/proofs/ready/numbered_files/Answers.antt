@@ -44,7 +44,7 @@ returns-clause-numbered c =
     record {
       given_are = given_is first given files are;
       ready = ready_of given first second (texts_in c.methods_of.new.texts) c.add.new.self files c.in_ok-classes.classes.items
-          c.in_ok-constructor.constructor c.in_ok-fields.fields c.in_ok-methods.methods c.requires are c.fields_of.ensures.extends
+          c.in_ok-constructor.constructor c.in_ok-fields.fields c.in_ok-methods.methods c.requires c.in_ok-refuse_built_ins.ensures are c.fields_of.ensures.extends
           c.methods_of.ensures.extends c.add.ensures.extends c.add.ensures.are
           (λ of. c.in_ok-fields.ensures.rows given (subst (P first) (sym same) of))
           (λ of. c.in_ok-methods.ensures.rows given (subst (P second) (sym same) of))
