@@ -11,7 +11,7 @@ use Rattle.fm_code.specs.declared.class_file.Member.{Member}
 use Rattle.fm_code.specs.declared.code_array.Code.{Code}
 use Rattle.fm_check.specs.Checking.{coded, HasCode, IsNarrow}
 use Rattle.fm_check_program.specs.Untyped.{AreCheckable}
-use Rattle.fm_check_program.proofs.Trees.{no_parent_refused, tree_of}
+use Rattle.fm_check_program.proofs.Trees.{no_built_in_refused, no_parent_refused, tree_of}
 use Rattle.fm_link_records.proofs.CodeLaws.{AreCodes-all}
 use Rattle.fm_check_rows.proofs.UseLemmas.{uses_name_members}
 use Rattle.fm_world.specs.BuiltIns.{built_in}
@@ -90,7 +90,7 @@ pub are_checkable : (given : List ClassDef) (main : List ℕ) → AllByRecursion
     → refusals given main ≡ [] → AreCheckable (program_of given main)
 unfolding program_of outline_of method_info
 are_checkable given main spelled within none = record {
-  linked = record { tree = tree_of given spelled (no_parent_refused given main none); uses = uses_name_members given main };
+  linked = record { tree = tree_of given spelled (no_built_in_refused given main none) (no_parent_refused given main none); uses = uses_name_members given main };
   codes = λ method. at method (slice_index_or (codes_of given) method None) refl;
 } where
   at : (method : ℕ) (o : Option Code) → slice_index_or (codes_of given) method None ≡ o

@@ -35,21 +35,38 @@ no_parent_refused given main none =
     (first_part to_methods (refused_not_implemented given)
     (first_part (to_methods ++ refused_not_implemented given) (refused_main given main) none))))
 
+pub no_built_in_refused : (given : List ClassDef) (main : List ℕ) → refusals given main ≡ [] → refused_built_ins given ≡ []
+unfolding refusals
+no_built_in_refused given main none =
+    let to_built_ins = refused_duplicates given ++ refused_built_ins given in
+    let to_classes = to_built_ins ++ refused_missing_classes given in
+    let to_parents = to_classes ++ refused_parents given in
+    let to_fields = to_parents ++ refused_fields given in
+    let to_methods = to_fields ++ refused_methods given in
+    second_part (refused_duplicates given) (refused_built_ins given)
+    (first_part to_built_ins (refused_missing_classes given)
+    (first_part to_classes (refused_parents given)
+    (first_part to_parents (refused_fields given)
+    (first_part to_fields (refused_methods given)
+    (first_part to_methods (refused_not_implemented given)
+    (first_part (to_methods ++ refused_not_implemented given) (refused_main given main) none))))))
+
 -- ---- the tree
 
 -- Object is the first of all classes
 object_is_first : (given : List ClassDef) → object_of (classes_of given) ≡ 0
 object_is_first given = ap (λ o. unwrap_or o 0) (tree_object given)
 
-pub tree_of : (given : List ClassDef) → AllByRecursion HasSpelling given → refused_parents given ≡ [] → AreTree (classes_of given)
-tree_of given spelled none =
+pub tree_of : (given : List ClassDef) → AllByRecursion HasSpelling given → refused_built_ins given ≡ [] → refused_parents given ≡ []
+    → AreTree (classes_of given)
+tree_of given spelled apart none =
     let classes = classes_of given in
     let first = object_is_first given in
     record {
-      linear = IsLinear-acyclic classes (are_sound given spelled none).acyclic.superclasses;
+      linear = IsLinear-acyclic classes (are_sound given spelled apart none).acyclic.superclasses;
       object = tree_object given ∙ ap Some (sym first);
       top = ap (parent_of classes) first ∙ tree_top given;
       object_is_class = ap (is_interface_at classes) first ∙ tree_object_is_class given;
-      parents = tree_parents given spelled none;
-      interfaces = λ class is. tree_interfaces given spelled none class is ∙ ap Some (sym first);
+      parents = tree_parents given spelled apart none;
+      interfaces = λ class is. tree_interfaces given spelled apart none class is ∙ ap Some (sym first);
     }
