@@ -1,5 +1,5 @@
 -- Classes that are a tree below Object: superclasses, what counts as Object, and the nearest superclass of two classes.
-use Rattle.std.proofs.Common.{◌≡◌, ◌⊎◌, inl, inr, refl, sym, ◌∙◌, ap, subst, ℕ, zero, suc, ◌<◌, ◌≤◌, ◌||◌, Bool, true, false, List, [], ◌∷◌, length, reverse, nat_eq, Option, Some, None, option_and_then, cond, unwrap_or, arith}
+use Rattle.std.proofs.Common.{◌≡◌, ◌⊎◌, inl, inr, refl, sym, ◌∙◌, ap, subst, ℕ, zero, suc, ◌<◌, ◌≤◌, ◌||◌, Bool, true, false, List, [], ◌∷◌, length, reverse, nat_eq, Option, Some, None, cond, unwrap_or, arith}
 use Rattle.std.specs.List.{find}
 use Rattle.std.proofs.lemmas.Bool.{cases_lt, eqb-true, eq-eqb, false≢true, or_cases, or_left, or_right}
 use Rattle.std.proofs.lemmas.List.{reverse-reverse}
@@ -9,9 +9,8 @@ use Rattle.fm_types.specs.Joins.{common_class}
 use Rattle.fm_world.proofs.Displays.{chain_ends, class_number-within, parent_of-within}
 use Rattle.fm_code.specs.AccessFlags.{is_interface}
 use Rattle.fm_world.specs.BuiltIns.{object_name}
-use Rattle.fm_world.specs.Chains.{chain_of, class_at, is_among, parent_of, upwards}
+use Rattle.fm_world.specs.Chains.{chain_of, class_at, is_among, parent_of, superclass_in, upwards}
 use Rattle.fm_world.specs.Declarations.{no_class}
-use Rattle.fm_world.specs.Descriptors.{class_number}
 use Rattle.fm_world.specs.Lookups.{is_interface_at, object_number}
 use Rattle.fm_world.specs.declared.declarations.DeclaredClass.{DeclaredClass}
 use Rattle.fm_world.specs.inner.Tables.{chain_from, IsLinear}
@@ -35,7 +34,7 @@ chain_past_end classes class past = by_length (suc (length classes)) (omega arit
   above (suc bound) p e = ap (upwards (suc bound) classes) e
 
   no_parent : parent_of classes class ≡ None
-  no_parent = ap (λ (c : DeclaredClass). option_and_then (class_number classes) c.superclass) (past_end classes class past)
+  no_parent = ap (superclass_in classes) (past_end classes class past)
 
   by_length : (n : ℕ) → 0 < n → upwards n classes (Some class) ≡ class ∷ []
   by_length zero h = absurd (omega (arith, h))
