@@ -8,6 +8,7 @@ use Rattle.fm_world.specs.Programs.{code_at, IsTypeIn, Outline, Program, use_of}
 use Rattle.fm_world.specs.declared.declarations.DeclaredClass.{DeclaredClass}
 use Rattle.fm_world.specs.declared.uses.Use.{Use}
 use Rattle.fm_world.specs.declared.uses.Use.TheVariants as resolved
+use Rattle.fm_world.specs.inner.Completions.{AreCompleted}
 
 -- what an index refers to is there: its type, field, method or text has a number (JVMS 5.4.3)
 abbrev pub IsUseIn : Outline → Use → Type 0
@@ -24,6 +25,8 @@ pub record IsRunnable (p : Program) : Type 0 where
   -- the classes that are given, after the built-in ones, which have the same numbers in each program
   pub given : List DeclaredClass
   pub classes : p.outline.classes ≡ built_in ++ given
+  -- what completes a built-in class leaves the superclasses of the table, and the fields of its objects (JVMS 5.3.5)
+  pub completed : AreCompleted (built_in ++ given)
   -- the number of a type fits the header of an object
   pub few_types : length p.outline.types ≤ 2 ^ 28
   -- and so does the size of an object (JVMS 4.11)
