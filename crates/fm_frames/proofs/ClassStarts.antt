@@ -1,5 +1,5 @@
 -- Classes that start: where their fields begin, whether they have started, and the frames of the methods that start them.
-use Rattle.std.proofs.Common.{◌≡◌, ◌⊎◌, inl, inr, ℕ, zero, suc, ◌+◌, ◌-◌, ◌*◌, ◌<◌, ◌≤◌, Bool, true, false, not, cond, List, [], ◌∷◌, ◌++◌, length, length-append, map, filter, take, drop, get_or, option_map, option_to_list, is_none, Option, Some, None, refl, ap, sym, ◌∙◌, subst, arith, add-one, drop-cons, drop_of_length-le, if◌then◌else◌}
+use Rattle.std.proofs.Common.{◌≡◌, ◌⊎◌, inl, inr, ℕ, zero, suc, ◌+◌, ◌-◌, ◌*◌, ◌<◌, ◌≤◌, Bool, true, false, not, cond, List, [], ◌∷◌, ◌++◌, length, length-append, map, filter, take, drop, get_or, option_map, option_to_list, is_none, Option, Some, None, refl, ap, sym, ◌∙◌, subst, arith, add-one, drop-cons, drop_of_length-le, if◌then◌else◌, reverse}
 use Rattle.std.proofs.lemmas.Bool.{cases_lt}
 use Rattle.std.proofs.lemmas.List.{append_assoc, get_or-append-add, get_or-map, get_or_append_left, get_or_default, get_or_past, length-map, map_more}
 use Rattle.std.proofs.lemmas.List.Elements.{filter_map-append, filter_more}
@@ -8,7 +8,7 @@ use Rattle.std.specs.List.{cons_option, filter_map, slice_index_or}
 use Rattle.fm_base.specs.declared.ids.ClassId.{ClassId}
 use Rattle.fm_base.specs.declared.ids.MethodId.{MethodId}
 use Rattle.fm_world.proofs.Marks.{only_found}
-use Rattle.fm_world.specs.Chains.{class_at}
+use Rattle.fm_world.specs.Chains.{chain_of, class_at}
 use Rattle.fm_world.specs.Declarations.{no_class, no_field}
 use Rattle.fm_world.specs.Members.{field_at, fields_from, fields_of, first_field, owned_fields, OwnedField, start_of}
 use Rattle.fm_world.specs.Programs.{class_info, field_info, method_id, Outline, Program}
@@ -17,7 +17,7 @@ use Rattle.fm_world.specs.declared.declarations.DeclaredField.{DeclaredField}
 use Rattle.fm_world.specs.declared.records.ClassInfo.{ClassInfo}
 use Rattle.fm_world.specs.declared.records.FieldInfo.{FieldInfo}
 use Rattle.fm_frames.proofs.Programs.{class-start}
-use Rattle.fm_frames.specs.Starts.{is_started, start_methods}
+use Rattle.fm_frames.specs.Starts.{is_started, start_methods, to_start}
 use Rattle.fm_frames.specs.States.{Frame, State}
 use Rattle.fm_frames.specs.Steps.{new_frame, start_frames}
 use Rattle.fm_frames.specs.inner.Frames.{with_start}
@@ -163,6 +163,18 @@ pub started-marked : (o : Outline) (row started : List Bool) (class : ℕ) (info
 started-marked o row started class info got is none same inside told =
     told ∙ get_or_default row class false true inside ∙ ap (λ r. slice_index_or r class true) same
     ∙ sym (ap (λ b. started_by b started class) (sym (no_file o class info is) ∙ none))
+
+-- ---- the classes that a use of one starts
+
+pub to_start-built_in : (o : Outline) (started : List Bool) (class : ℕ) (info : ClassInfo) → info ≡ class_info o class → is_none info.file ≡ true
+    → [] ≡ to_start o started class
+to_start-built_in o started class info is none =
+    sym (ap (λ b. cond b [] (filter (λ above. not (is_started o started above)) (reverse (chain_of o.classes class)))) (sym (no_file o class info is) ∙ none))
+
+pub to_start-of_file : (o : Outline) (started : List Bool) (class : ℕ) (info : ClassInfo) → info ≡ class_info o class → is_none info.file ≡ false
+    → filter (λ above. not (is_started o started above)) (reverse (chain_of o.classes class)) ≡ to_start o started class
+to_start-of_file o started class info is none =
+    sym (ap (λ b. cond b [] (filter (λ above. not (is_started o started above)) (reverse (chain_of o.classes class)))) (sym (no_file o class info is) ∙ none))
 
 -- ---- the method that starts a class
 

@@ -18,9 +18,10 @@ use Rattle.fm_frames.specs.declared.values.Value.TheVariants as value
 abbrev pub is_started : Outline → List Bool → ℕ → Bool
 is_started o started class = if is_none (class_at o.classes class).file then true else slice_index_or started class true
 
--- the class and its superclasses that aren't started yet, the uppermost first
+-- the class and its superclasses that aren't started yet, the uppermost first; none of a built-in class, which starts nothing that completes it
 abbrev pub to_start : Outline → List Bool → ℕ → List ℕ
-to_start o started class = filter (λ above. not (is_started o started above)) (reverse (chain_of o.classes class))
+to_start o started class =
+    if is_none (class_at o.classes class).file then [] else filter (λ above. not (is_started o started above)) (reverse (chain_of o.classes class))
 
 -- ---- the values of their static fields
 

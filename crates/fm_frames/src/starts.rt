@@ -125,6 +125,9 @@ impl<M: Memory> Machine<M> {
         ensures { IfOk result (λ classes. map (λ (c : ids.ClassId). c.0) classes.items
             ≡ to_start program.now.outline self.now.areas.started class.0) }
     {
+        if program.class(class).file.is_none() {
+            return Ok(Vec::new(alloc));
+        }
         not_started(alloc, self, program, program.display(class))
     }
 
