@@ -1,5 +1,5 @@
 -- Calls and returns over frames that are taken out of a machine.
-use Rattle.std.proofs.Common.{◌≡◌, ℕ, ◌+◌, ◌-◌, Bool, false, not, List, [], Option, Some, None, filter, length, option_and_then, option_map, slice_get, refl, ap, sym, ◌∙◌, subst, arith, ◌<◌}
+use Rattle.std.proofs.Common.{◌≡◌, ℕ, ◌+◌, ◌-◌, Bool, false, not, List, [], Option, Some, None, filter, length, option_and_then, option_map, slice_get, refl, ap, sym, ◌∙◌, subst, arith, ◌<◌, true, cond, reverse}
 use Rattle.std.proofs.lemmas.Option.{none-some, same_Some, slice_get-get_or}
 use Rattle.fm_base.specs.declared.ids.MethodId.{MethodId}
 use Rattle.fm_base.specs.declared.ids.TypeId.{TypeId}
@@ -44,6 +44,8 @@ use Rattle.fm_world.specs.Members.{method_at}
 use Rattle.fm_world.specs.Numbers.{type_of_class}
 use Rattle.fm_world.specs.Programs.{class_of_type, code_at, Outline, Program}
 use Rattle.fm_world.specs.declared.uses.Use.TheVariants as used
+use Rattle.std.specs.Prelude.{is_none}
+use Rattle.fm_world.specs.Chains.{chain_of, class_at}
 
 -- ---- a method is entered
 
@@ -105,9 +107,14 @@ static-over p choose x old new words m named t class steps byte enters many at o
     (sym (starting-none o x.areas.started (class_of_method o m.0) (going words (Calls m.0)) here refl)) (enters.does steps))
 
 -- the class's superclasses are those of its display
-pub none-starts : (o : Outline) (started : List Bool) (class : ℕ) (classes above : List ℕ) → classes ≡ above
-    → filter (λ class. not (is_started o started class)) classes ≡ [] → filter (λ class. not (is_started o started class)) above ≡ []
-none-starts o started class classes above is none = ap (filter (λ class. not (is_started o started class))) (sym is) ∙ none
+pub none-starts : (o : Outline) (started : List Bool) (class : ℕ) (classes : List ℕ) → classes ≡ reverse (chain_of o.classes class)
+    → filter (λ class. not (is_started o started class)) classes ≡ [] → to_start o started class ≡ []
+none-starts o started class classes is none =
+    either-none (is_none (class_at o.classes class).file) (filter (λ class. not (is_started o started class)) (reverse (chain_of o.classes class)))
+    (ap (filter (λ class. not (is_started o started class))) (sym is) ∙ none) where
+      either-none : (b : Bool) (xs : List ℕ) → xs ≡ [] → cond b [] xs ≡ []
+      either-none true xs e = refl
+      either-none false xs e = e
 
 -- ---- a receiver
 

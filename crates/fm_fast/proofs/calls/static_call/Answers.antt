@@ -1,9 +1,8 @@
-use Rattle.std.proofs.Common.{◌<◌, get_or, length, reverse, ap, sym, ◌∙◌, subst, rules}
+use Rattle.std.proofs.Common.{◌<◌, get_or, length, ap, sym, ◌∙◌, subst, rules}
 use Rattle.std.proofs.lemmas.Option.{slice_get-get_or}
 use Rattle.fm_fast.proofs.EntrySteps.{none-starts, static-over}
 use Rattle.fm_fast.proofs.calls.static_call.Goals as goal
 use Rattle.fm_frames.proofs.Programs.{method-class}
-use Rattle.fm_world.specs.Chains.{chain_of}
 use Rattle.fm_world.specs.Numbers.{type_of_class}
 use Rattle.fm_world.specs.declared.records.MethodInfo.{MethodInfo}
 
@@ -23,5 +22,5 @@ returns-clause-did g c told byte steps =
     static-over p g.M.Memory.choose x c.args.frames.now c.enter.new.frames c.words_of_arguments.result c.args.m c.args.named
     (get_or o.types c.args.named.0 (type_of_class 0)) class steps byte (c.enter.ensures.did told) c.words_of_arguments.ensures
     (slice_get-get_or o.types c.args.named.0 (type_of_class 0) c.requires.named) owner
-    (none-starts o x.areas.started class c.display.result.now (reverse (chain_of o.classes class)) c.display.ensures.value
+    (none-starts o x.areas.started class c.display.result.now c.display.ensures.value
     (c.are_started.ensures (search rules)))

@@ -1,4 +1,4 @@
-use Rattle.std.proofs.Common.{◌+◌, ◌<◌, get_or, length, reverse, refl, ap, sym, ◌∙◌, subst, rules}
+use Rattle.std.proofs.Common.{◌+◌, ◌<◌, get_or, length, refl, ap, sym, ◌∙◌, subst, rules}
 use Rattle.std.proofs.lemmas.Option.{slice_get-get_or}
 use Rattle.fm_exec_calls.proofs.UseSteps.{field-class, field-owner}
 use Rattle.fm_exec.proofs.FieldSteps.{field-kind, get_static-named}
@@ -11,7 +11,6 @@ use Rattle.fm_frames.specs.ObjectRows.{class_of_field, kind_of_field}
 use Rattle.fm_frames.specs.Starts.{to_start}
 use Rattle.fm_frames.specs.States.{word_at}
 use Rattle.fm_frames.specs.inner.Doings.{DoesIn}
-use Rattle.fm_world.specs.Chains.{chain_of}
 use Rattle.fm_world.specs.Members.{slot_of}
 use Rattle.fm_world.specs.Numbers.{type_of_class}
 use Rattle.fm_world.specs.declared.records.FieldInfo.{FieldInfo}
@@ -34,7 +33,7 @@ returns-clause-did g c told steps =
     let owner = ap (λ (i : FieldInfo). i.class.0) c.field-field.ensures ∙ field-class o c.args.f.0 in
     let kind_is = ap (λ (i : FieldInfo). i.kind) c.field-field.ensures ∙ field-kind o c.args.f.0 in
     let e = words 0 (loaded (kind_of_field o c.args.f.0) (OfStatic slot)) in
-    let none = none-starts o m.areas.started class c.display.result.now (reverse (chain_of o.classes class)) c.display.ensures.value
+    let none = none-starts o m.areas.started class c.display.result.now c.display.ensures.value
     (c.are_started.ensures (search rules)) in
     subst (Steps p g.M.Memory.choose x y)
     (sym (get_static-named o c.args.f c.args.named (get_or o.types c.args.named.0 (type_of_class 0)) (slice_get-get_or o.types c.args.named.0 (type_of_class 0) c.requires.named)))

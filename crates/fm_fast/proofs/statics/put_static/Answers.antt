@@ -1,4 +1,4 @@
-use Rattle.std.proofs.Common.{◌≡◌, ◌+◌, ◌-◌, ◌<◌, [], ◌∷◌, get_or, length, reverse, refl, ap, sym, ◌∙◌, subst, rules}
+use Rattle.std.proofs.Common.{◌≡◌, ◌+◌, ◌-◌, ◌<◌, [], ◌∷◌, get_or, length, refl, ap, sym, ◌∙◌, subst, rules}
 use Rattle.std.proofs.lemmas.Option.{slice_get-get_or}
 use Rattle.fm_exec_calls.proofs.UseSteps.{field-class, field-owner}
 use Rattle.fm_exec.proofs.FieldSteps.{field-kind, put_static-named}
@@ -17,7 +17,6 @@ use Rattle.fm_frames.specs.States.{State, word_at}
 use Rattle.fm_frames.specs.Steps.{stack_of}
 use Rattle.fm_frames.specs.inner.Doings.{DoesIn}
 use Rattle.fm_frames.specs.inner.Places.{IsOfKind}
-use Rattle.fm_world.specs.Chains.{chain_of}
 use Rattle.fm_base.specs.Kinds.{kind_words}
 use Rattle.fm_world.specs.Members.{slot_of}
 use Rattle.fm_world.specs.Numbers.{type_of_class}
@@ -60,7 +59,7 @@ returns-clause-did g c told steps =
     let many : w ≡ n = c.words-words.ensures.value ∙ ap kind_words kind_is in
     let e = acting n (SetStatic slot own (OfOperand (n - 1)) ∷ []) in
     let set = set-there m z c.slot_of.result slot c.field-field.result.now.kind own c.in-Some.value c.set_static.ensures c.slot_of.ensures kind_is in
-    let none = none-starts o m.areas.started class c.display.result.now (reverse (chain_of o.classes class)) c.display.ensures.value
+    let none = none-starts o m.areas.started class c.display.result.now c.display.ensures.value
     (c.are_started.ensures (search rules)) in
     subst (Steps p g.M.Memory.choose x y)
     (sym (put_static-named o c.args.f c.args.named (get_or o.types c.args.named.0 (type_of_class 0)) (slice_get-get_or o.types c.args.named.0 (type_of_class 0) c.requires.named)))
