@@ -94,7 +94,7 @@ module _ (classes : List DeclaredClass) where
       ∙ ap (λ n. n + length (filter_map kind_given c.fields)) (hidden_many c.hidden)
       ∙ ap (λ n. hidden_fields c + n) (given_many c.fields)
 
-  kinds_many : (chain : List ℕ) → length (kinds_along chain) ≡ size_among classes chain
+  pub kinds_many : (chain : List ℕ) → length (kinds_along chain) ≡ size_among classes chain
   kinds_many [] = refl
   kinds_many (class ∷ chain) =
       let more : length (kinds_along chain ++ own class) ≡ length (kinds_along chain) + length (own class) = length-append (kinds_along chain) (own class) in

@@ -9,6 +9,7 @@ use Rattle.fm_code.specs.Names.{object}
 use Rattle.fm_types.proofs.ClassTree.{among_one, chain_past_end}
 use Rattle.fm_types.specs.Fits.{AreTree, fits_type}
 use Rattle.fm_types.specs.Named.{built_in_type}
+use Rattle.fm_world.proofs.Completions.{count_is, kinds_completed}
 use Rattle.fm_world.specs.BuiltIns.{built_in, string_name}
 use Rattle.fm_world.specs.Chains.{chain_of, is_among}
 use Rattle.fm_world.specs.Descriptors.{class_number, declared_kind, kind_with, of_class, typed}
@@ -17,14 +18,14 @@ use Rattle.fm_world.specs.Members.{kinds_of, slot_of}
 use Rattle.fm_world.specs.Numbers.{type_of_class}
 use Rattle.fm_world.specs.Programs.{kind_at, Outline, Program}
 use Rattle.fm_world.specs.declared.declarations.DeclaredClass.{DeclaredClass}
-use Rattle.fm_frames.proofs.BuiltInTypes.{below_named, buffer_there, builder_there, no_interfaces, object_there, throwable_there}
+use Rattle.fm_world.specs.inner.Completions.{AreCompleted}
+use Rattle.fm_frames.proofs.BuiltInTypes.{below_named, buffer_there, builder_there, no_interfaces, throwable_there}
 use Rattle.fm_frames.proofs.Programs.{built_in-inside, string-is, string_number}
 use Rattle.fm_frames.specs.NativeRows.{text_kind}
 use Rattle.fm_frames.specs.ObjectRows.{kind_of_field}
 use Rattle.fm_frames.specs.Runnable.{IsRunnable}
 use Rattle.fm_law_sound.specs.Making.{HaveTextFirst, IsFieldOf}
 use Rattle.fm_law_sound.proofs.FieldPlaces.{field_place, kinds_grow}
-use Rattle.fm_law_sound.proofs.MadeObjects.{both_kinds, chain_is, object_top}
 
 -- ---- what fits a class
 
@@ -59,20 +60,20 @@ field_seen o tree field of h =
 pub hidden_kind : (given : List DeclaredClass) → declared_kind (built_in ++ given) (typed 0 (object string_name)) ≡ kind.Ref (type_of_class 1)
 hidden_kind given = ap (λ n. unwrap_or (option_map (kind_with 0) (option_map of_class n)) kind.Int) (string_number given)
 
-abbrev hidden_kinds : List DeclaredClass → List Kind
+abbrev pub hidden_kinds : List DeclaredClass → List Kind
 hidden_kinds given = declared_kind (built_in ++ given) (typed 0 (object string_name)) ∷ []
 
-builder_kinds : (given : List DeclaredClass) → kinds_of (built_in ++ given) 2 ≡ hidden_kinds given
-unfolding kinds_of built_in
-builder_kinds given = ap (both_kinds (built_in ++ given)) (chain_is given 2 (object_there given) (object_top given))
+builder_kinds : (given : List DeclaredClass) → AreCompleted (built_in ++ given) → kinds_of (built_in ++ given) 2 ≡ hidden_kinds given
+unfolding built_in chain_of
+builder_kinds given completed = kinds_completed given completed 2 (omega (arith, count_is)) refl
 
-buffer_kinds : (given : List DeclaredClass) → kinds_of (built_in ++ given) 3 ≡ hidden_kinds given
-unfolding kinds_of built_in
-buffer_kinds given = ap (both_kinds (built_in ++ given)) (chain_is given 3 (object_there given) (object_top given))
+buffer_kinds : (given : List DeclaredClass) → AreCompleted (built_in ++ given) → kinds_of (built_in ++ given) 3 ≡ hidden_kinds given
+unfolding built_in chain_of
+buffer_kinds given completed = kinds_completed given completed 3 (omega (arith, count_is)) refl
 
-throwable_kinds : (given : List DeclaredClass) → kinds_of (built_in ++ given) 7 ≡ hidden_kinds given
-unfolding kinds_of built_in
-throwable_kinds given = ap (both_kinds (built_in ++ given)) (chain_is given 7 (object_there given) (object_top given))
+pub throwable_kinds : (given : List DeclaredClass) → AreCompleted (built_in ++ given) → kinds_of (built_in ++ given) 7 ≡ hidden_kinds given
+unfolding built_in chain_of
+throwable_kinds given completed = kinds_completed given completed 7 (omega (arith, count_is)) refl
 
 module _ (p : Program) (runnable : IsRunnable p) (tree : AreTree p.outline.classes) where
   abbrev o : Outline
@@ -84,12 +85,12 @@ module _ (p : Program) (runnable : IsRunnable p) (tree : AreTree p.outline.class
   first_is : (name : List ℕ) (above : ℕ) → above < 28 → (above == 0) ≡ false
       → ((given : List DeclaredClass) → class_number (built_in ++ given) name ≡ Some above)
       → ((given : List DeclaredClass) → is_interface_at (built_in ++ given) above ≡ false)
-      → ((given : List DeclaredClass) → kinds_of (built_in ++ given) above ≡ hidden_kinds given) → (t : TypeRef)
+      → ((given : List DeclaredClass) → AreCompleted (built_in ++ given) → kinds_of (built_in ++ given) above ≡ hidden_kinds given) → (t : TypeRef)
       → fits_type o.classes t (built_in_type o name) ≡ true → kind_at o.classes t 0 ≡ Some (text_kind o)
   first_is name above early other found no_interface kinds t fits =
       let below = below_named p name above runnable other found no_interface t fits in
       let one : kinds_of o.classes above ≡ kind.Ref (type_of_class 1) ∷ [] =
-      ap (λ all. kinds_of all above) runnable.classes ∙ kinds runnable.given ∙ ap (λ k. k ∷ []) (hidden_kind runnable.given) in
+      ap (λ all. kinds_of all above) runnable.classes ∙ kinds runnable.given runnable.completed ∙ ap (λ k. k ∷ []) (hidden_kind runnable.given) in
       ap (λ u. kind_at o.classes u 0) below.1
       ∙ first_kept o.classes tree above below.0 (kind.Ref (type_of_class 1)) (built_in-inside p above runnable early) below.2 one
       ∙ ap Some text_is

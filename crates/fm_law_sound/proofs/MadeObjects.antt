@@ -1,10 +1,9 @@
 -- Objects that rows make are of types that have a number, and have their length.
-use Rattle.std.proofs.Common.{◌≡◌, ℕ, zero, suc, ◌+◌, ◌^◌, ◌<◌, ◌≤◌, ◌==◌, not, Bool, true, false, cond, List, [], ◌∷◌, ◌++◌, length, codes, reverse, Option, Some, None, refl, sym, ◌∙◌, ap, subst, inl, inr, slice_get, get_or, arith}
-use Rattle.std.specs.List.{flat_map, position_or_len}
+use Rattle.std.proofs.Common.{◌≡◌, ℕ, zero, suc, ◌+◌, ◌^◌, ◌<◌, ◌≤◌, ◌==◌, not, Bool, true, false, cond, List, [], ◌∷◌, ◌++◌, length, codes, Option, Some, None, refl, sym, ◌∙◌, ap, subst, inl, inr, slice_get, get_or, arith}
+use Rattle.std.specs.List.{position_or_len}
 use Rattle.std.specs.Str.{bytes_eq}
 use Rattle.std.proofs.lemmas.Bool.{and_parts, false≢true, lt-ltb, ne_eqb, not-true}
 use Rattle.std.proofs.lemmas.Iterator.Adapters.{position_from-zero}
-use Rattle.std.proofs.lemmas.List.{length-append}
 use Rattle.std.proofs.lemmas.List.Quantifiers.{position-Some}
 use Rattle.std.proofs.lemmas.Option.{none-some, same_Some, slice_get-get_or}
 use Rattle.fm_base.specs.declared.kinds.Base.{Base}
@@ -17,14 +16,16 @@ use Rattle.fm_code.specs.AccessFlags.{is_abstract, is_interface}
 use Rattle.fm_types.proofs.LeastJoins.{same_type-eq, same_type-refl}
 use Rattle.fm_types.specs.Named.{built_in_type}
 use Rattle.fm_types.specs.ObjectRows.{has_objects}
+use Rattle.fm_world.proofs.Completions.{count_is, kinds_completed}
 use Rattle.fm_world.specs.BuiltIns.{built_in}
-use Rattle.fm_world.specs.Chains.{chain_of, class_at, parent_of, same_type, upwards}
+use Rattle.fm_world.specs.Chains.{chain_of, class_at, same_type}
 use Rattle.fm_world.specs.Descriptors.{class_number}
-use Rattle.fm_world.specs.Members.{kinds_of, own_kinds, size_of}
+use Rattle.fm_world.specs.Members.{kinds_of, size_of}
 use Rattle.fm_world.specs.Numbers.{type_number, type_of_class}
 use Rattle.fm_world.specs.Programs.{class_of_type, kind_at, Outline, Program}
 use Rattle.fm_world.specs.declared.declarations.DeclaredClass.{DeclaredClass}
-use Rattle.fm_frames.proofs.BuiltInTypes.{object_there, named_class}
+use Rattle.fm_world.specs.inner.Completions.{AreCompleted}
+use Rattle.fm_frames.proofs.BuiltInTypes.{named_class}
 use Rattle.fm_frames.proofs.Programs.{built_in-inside, string-is}
 use Rattle.fm_frames.specs.Effects.{Make}
 use Rattle.fm_frames.specs.Elements.{is_text_type, pack_of}
@@ -35,33 +36,19 @@ use Rattle.fm_law_sound.specs.Making.{AreUnits, IsFew, IsMakeable, IsNumbered}
 use Rattle.fm_law_sound.specs.Sound.{HasLength, HasLengthBy}
 use Rattle.fm_law_sound.proofs.Counts.{type_pack}
 
--- ---- texts have no fields
+-- ---- texts and streams have no fields
 
-pub two_up : (n : ℕ) (classes : List DeclaredClass) (class : ℕ) → parent_of classes class ≡ Some 0 → parent_of classes 0 ≡ None
-    → upwards (suc (suc (suc n))) classes (Some class) ≡ class ∷ 0 ∷ []
-two_up n classes class first second =
-    ap (λ o. class ∷ upwards (suc (suc n)) classes o) first ∙ ap (λ o. class ∷ 0 ∷ upwards (suc n) classes o) second
+pub string_kinds : (given : List DeclaredClass) → AreCompleted (built_in ++ given) → kinds_of (built_in ++ given) 1 ≡ []
+unfolding built_in chain_of
+string_kinds given completed = kinds_completed given completed 1 (omega (arith, count_is)) refl
 
-pub size_is : (given : List DeclaredClass) → length (built_in ++ given) ≡ suc (suc (26 + length given))
-unfolding built_in
-size_is given = let many = length-append built_in given in omega (arith, many)
+pub output_kinds : (given : List DeclaredClass) → AreCompleted (built_in ++ given) → kinds_of (built_in ++ given) 5 ≡ []
+unfolding built_in chain_of
+output_kinds given completed = kinds_completed given completed 5 (omega (arith, count_is)) refl
 
-pub chain_is : (given : List DeclaredClass) (class : ℕ) → parent_of (built_in ++ given) class ≡ Some 0 → parent_of (built_in ++ given) 0 ≡ None
-    → chain_of (built_in ++ given) class ≡ class ∷ 0 ∷ []
-unfolding chain_of
-chain_is given class first second =
-    ap (λ n. upwards (suc n) (built_in ++ given) (Some class)) (size_is given) ∙ two_up (26 + length given) (built_in ++ given) class first second
-
-pub object_top : (given : List DeclaredClass) → parent_of (built_in ++ given) 0 ≡ None
-unfolding built_in
-object_top given = refl
-
-abbrev pub both_kinds : List DeclaredClass → List ℕ → List Kind
-both_kinds classes chain = flat_map (λ above. own_kinds classes (class_at classes above)) (reverse chain)
-
-pub string_kinds : (given : List DeclaredClass) → kinds_of (built_in ++ given) 1 ≡ []
-unfolding kinds_of built_in
-string_kinds given = ap (both_kinds (built_in ++ given)) (chain_is given 1 (object_there given) (object_top given))
+pub input_kinds : (given : List DeclaredClass) → AreCompleted (built_in ++ given) → kinds_of (built_in ++ given) 6 ≡ []
+unfolding built_in chain_of
+input_kinds given completed = kinds_completed given completed 6 (omega (arith, count_is)) refl
 
 -- ---- numbers of types
 
@@ -269,7 +256,7 @@ module _ (p : Program) (ready : IsMakeable p) where
   pub text_places : (place : ℕ) → kind_at o.classes (text_type o) place ≡ None
   text_places place =
       ap (λ t. kind_at o.classes t place) text_is
-      ∙ ap (λ kinds. slice_get kinds place) (ap (λ classes. kinds_of classes 1) ready.runnable.classes ∙ string_kinds ready.runnable.given)
+      ∙ ap (λ kinds. slice_get kinds place) (ap (λ classes. kinds_of classes 1) ready.runnable.classes ∙ string_kinds ready.runnable.given ready.runnable.completed)
 
   text_content : (units : List ℕ) → AreUnits units → ContentFits o (type_of_class 1) (length units) units
   text_content [] fit = tt

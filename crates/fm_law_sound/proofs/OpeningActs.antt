@@ -8,39 +8,46 @@ use Rattle.fm_base.specs.declared.kinds.TypeRef.{TypeRef}
 use Rattle.fm_cells.specs.Stores.{Store}
 use Rattle.fm_types.specs.Named.{built_in_type}
 use Rattle.fm_world.specs.BuiltIns.{built_in}
+use Rattle.fm_world.specs.Chains.{chain_of}
 use Rattle.fm_world.specs.Descriptors.{class_number}
-use Rattle.fm_world.specs.Members.{size_among, size_of}
+use Rattle.fm_world.specs.Members.{kinds_of, size_of}
 use Rattle.fm_world.specs.Programs.{Outline, Program}
 use Rattle.fm_world.specs.declared.declarations.DeclaredClass.{DeclaredClass}
-use Rattle.fm_frames.proofs.BuiltInTypes.{object_there, named_class}
+use Rattle.fm_world.specs.inner.Completions.{AreCompleted}
+use Rattle.fm_frames.proofs.BuiltInTypes.{named_class}
 use Rattle.fm_frames.specs.NativeRows.{text_kind, text_type}
 use Rattle.fm_frames.specs.Runs.{argument_actions, arguments_type, Job, opening_actions}
 use Rattle.fm_frames.specs.States.{Frame}
 use Rattle.fm_law_sound.specs.Acting.{ActsFit, MakeFits, PlaceFits}
 use Rattle.fm_law_sound.specs.Making.{ArgumentsFit, AreUnits, IsMakeable}
 use Rattle.fm_law_sound.specs.Sound.{HasLengthBy}
-use Rattle.fm_law_sound.proofs.MadeObjects.{array_made, chain_is, class_fits, IsPlain, object_top, text_fits}
+use Rattle.fm_law_sound.proofs.FieldPlaces.{kinds_many}
+use Rattle.fm_law_sound.proofs.MadeObjects.{array_made, class_fits, input_kinds, IsPlain, output_kinds, text_fits}
 use Rattle.fm_law_sound.proofs.NestedArrays.{array_place}
 
-output_size : (given : List DeclaredClass) → size_of (built_in ++ given) 5 ≡ 0
-unfolding size_of built_in
-output_size given = ap (size_among (built_in ++ given)) (chain_is given 5 (object_there given) (object_top given))
+-- a class whose objects have no kinds has no fields
+no_size : (classes : List DeclaredClass) (class : ℕ) → kinds_of classes class ≡ [] → size_of classes class ≡ 0
+unfolding size_of kinds_of
+no_size classes class none = sym (kinds_many classes (chain_of classes class)) ∙ ap length none
 
-input_size : (given : List DeclaredClass) → size_of (built_in ++ given) 6 ≡ 0
-unfolding size_of built_in
-input_size given = ap (size_among (built_in ++ given)) (chain_is given 6 (object_there given) (object_top given))
+output_size : (given : List DeclaredClass) → AreCompleted (built_in ++ given) → size_of (built_in ++ given) 5 ≡ 0
+output_size given completed = no_size (built_in ++ given) 5 (output_kinds given completed)
+
+input_size : (given : List DeclaredClass) → AreCompleted (built_in ++ given) → size_of (built_in ++ given) 6 ≡ 0
+input_size given completed = no_size (built_in ++ given) 6 (input_kinds given completed)
 
 module _ (p : Program) (ready : IsMakeable p) (store : Store) (f : Frame) where
   abbrev o : Outline
   o = p.outline
 
-  no_length : (class : ℕ) → ((given : List DeclaredClass) → size_of (built_in ++ given) class ≡ 0) → (is_text : Bool) → HasLengthBy o is_text (Some class) 0
+  no_length : (class : ℕ) → ((given : List DeclaredClass) → AreCompleted (built_in ++ given) → size_of (built_in ++ given) class ≡ 0) → (is_text : Bool) → HasLengthBy o is_text (Some class) 0
   no_length class size true = omega arith
-  no_length class size false = sym (ap (λ all. size_of all class) ready.runnable.classes ∙ size ready.runnable.given)
+  no_length class size false = sym (ap (λ all. size_of all class) ready.runnable.classes ∙ size ready.runnable.given ready.runnable.completed)
 
   -- an object without elements of a built-in class
   fixed_fits : (name : List ℕ) (class : ℕ) → class < 28 → ((given : List DeclaredClass) → class_number (built_in ++ given) name ≡ Some class)
-      → ((given : List DeclaredClass) → IsPlain (built_in ++ given) class) → ((given : List DeclaredClass) → size_of (built_in ++ given) class ≡ 0)
+      → ((given : List DeclaredClass) → IsPlain (built_in ++ given) class)
+      → ((given : List DeclaredClass) → AreCompleted (built_in ++ given) → size_of (built_in ++ given) class ≡ 0)
       → MakeFits o (built_in_type o name) 0 []
   fixed_fits name class early found plain size =
       subst (λ t. MakeFits o t 0 []) (sym (named_class p name class ready.runnable found))
