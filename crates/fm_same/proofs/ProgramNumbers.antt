@@ -16,21 +16,12 @@ use Rattle.fm_world.specs.Members.{kinds_of}
 use Rattle.fm_world.specs.Numbers.{type_number, type_of_class}
 use Rattle.fm_world.specs.Programs.{kind_at, Program}
 use Rattle.fm_world.specs.declared.declarations.DeclaredClass.{DeclaredClass}
-use Rattle.fm_frames.proofs.BuiltInTypes.{object_there, named_class}
+use Rattle.fm_world.specs.inner.Completions.{AreCompleted}
+use Rattle.fm_frames.proofs.BuiltInTypes.{named_class}
 use Rattle.fm_frames.proofs.Programs.{built_in-inside, string-is}
 use Rattle.fm_same.specs.Evenness.{HasNoEdge, HoldsNumbers}
 use Rattle.fm_same.specs.Resolved.{IsResolved}
-use Rattle.fm_law_sound.proofs.MadeObjects.{chain_is, object_top, string_kinds, both_kinds}
-
--- ---- the chain of a class right below Object
-
-output_kinds : (given : List DeclaredClass) → kinds_of (built_in ++ given) 5 ≡ []
-unfolding kinds_of built_in
-output_kinds given = ap (both_kinds (built_in ++ given)) (chain_is given 5 (object_there given) (object_top given))
-
-input_kinds : (given : List DeclaredClass) → kinds_of (built_in ++ given) 6 ≡ []
-unfolding kinds_of built_in
-input_kinds given = ap (both_kinds (built_in ++ given)) (chain_is given 6 (object_there given) (object_top given))
+use Rattle.fm_law_sound.proofs.MadeObjects.{input_kinds, output_kinds, string_kinds}
 
 -- ---- objects of a class without fields
 
@@ -65,5 +56,5 @@ holds_numbers p ready = record {
       (built_in-inside p 6 ready.runnable (omega arith)) (kinds 6 input_kinds);
   constants = ready.constants;
 } where
-  kinds : (class : ℕ) → ((given : List DeclaredClass) → kinds_of (built_in ++ given) class ≡ []) → kinds_of p.outline.classes class ≡ []
-  kinds class each = ap (λ cs. kinds_of cs class) ready.runnable.classes ∙ each ready.runnable.given
+  kinds : (class : ℕ) → ((given : List DeclaredClass) → AreCompleted (built_in ++ given) → kinds_of (built_in ++ given) class ≡ []) → kinds_of p.outline.classes class ≡ []
+  kinds class each = ap (λ cs. kinds_of cs class) ready.runnable.classes ∙ each ready.runnable.given ready.runnable.completed
