@@ -1,12 +1,12 @@
 -- The built-in methods of each linked program take what their rows look at, and give what these give: by computation over all of them.
-use Rattle.std.proofs.Common.{◌≡◌, ℕ, zero, suc, ◌<◌, ◌≤◌, ◌==◌, ◌&&◌, ◌||◌, ◌⊎◌, inl, inr, not, cond, Bool, true, false, List, [], ◌∷◌, ◌++◌, length, codes, nat_eq, Option, Some, None, option_and_then, option_to_list, unwrap_or, refl, sym, ◌∙◌, ap, subst, slice_index_or, eqb-true, ⊎_elim, take, drop, map, reverse, arith, ◌-◌}
-use Rattle.std.specs.List.{AllByRecursion, flat_map}
+use Rattle.std.proofs.Common.{◌≡◌, ℕ, zero, suc, ◌<◌, ◌≤◌, ◌==◌, ◌&&◌, ◌||◌, ◌⊎◌, inl, inr, not, cond, Bool, true, false, List, [], ◌∷◌, ◌++◌, length, codes, nat_eq, nat_lt, Option, Some, None, option_and_then, option_to_list, unwrap_or, refl, sym, ◌∙◌, ap, subst, slice_index_or, eqb-true, ⊎_elim, take, drop, map, reverse, arith, ◌-◌}
+use Rattle.std.specs.List.{AllByRecursion, flat_map, list_all}
 use Rattle.std.proofs.Math.Seq.{drop-append_seam, take-append_seam}
 use Rattle.std.proofs.lemmas.List.{append_assoc, append-nil, length-append, reverse-append}
 use Rattle.std.proofs.lemmas.List.Concat.{flat_map-cons}
 use Rattle.std.specs.Option.{option_map}
 use Rattle.std.specs.Str.{bytes_eq}
-use Rattle.std.proofs.lemmas.Bool.{and_parts, cases_lt, false≢true, or_cases, or_left, or_right}
+use Rattle.std.proofs.lemmas.Bool.{and_parts, cases_lt, false≢true, ltb-true, or_cases, or_left, or_right}
 use Rattle.std.proofs.lemmas.Option.{none-some}
 use Rattle.std.proofs.lemmas.Slice.Eq.{bytes_eq-Decides}
 use Rattle.fm_base.specs.declared.kinds.Kind.{Kind}
@@ -21,7 +21,7 @@ use Rattle.fm_types.specs.States.{local_slots, stack_slots}
 use Rattle.fm_types.specs.declared.slots.Slot.{Slot}
 use Rattle.fm_types.specs.declared.slots.Slot.TheVariants as slot
 use Rattle.fm_world.specs.BuiltIns.{built_in, object_name, string_name}
-use Rattle.fm_world.specs.Chains.{chain_of, is_among, parent_of}
+use Rattle.fm_world.specs.Chains.{chain_of, is_among}
 use Rattle.fm_world.specs.Declarations.{no_method}
 use Rattle.fm_world.specs.Descriptors.{class_number, declared_kind, field_type, first_type, kind_in, kind_with, of_class, parameter_kinds, parameter_types, result_kind, result_type, types_from, types_in}
 use Rattle.fm_world.specs.Members.{method_at, methods_of, OwnedMethod}
@@ -36,7 +36,7 @@ use Rattle.fm_frames.specs.Natives.{AGiven, AnObject, AShown, BuilderReceiver, f
 use Rattle.fm_frames.specs.Runnable.{IsRunnable}
 use Rattle.fm_law_sound.proofs.BuiltInMethods.{method_same}
 use Rattle.fm_law_no_fault.specs.CellsResolved.{arguments_asked, given_asked, result_given, returned_asked, suits, TakesAsAsked}
-use Rattle.fm_law_no_fault.proofs.LinkedTypes.{below, bounds_below, change_below, exception_there, fits_throwable, parents, runtime_below, runtime_there, throwable_itself}
+use Rattle.fm_law_no_fault.proofs.LinkedTypes.{below_throwable, fits_throwable}
 
 -- ---- the descriptors of the rows
 
@@ -289,73 +289,20 @@ module _ (p : Program) (runnable : IsRunnable p) (tree : AreTree p.outline.class
   abbrev given : List DeclaredClass
   given = runnable.given
 
-  tree_here : AreTree (built_in ++ given)
-  tree_here = subst AreTree runnable.classes tree
+  -- the table has it below Throwable
+  abbrev is_thrown : ℕ → Bool
+  is_thrown class = nat_lt class 28 && is_among 7 (chain_of built_in class)
 
-  parents_too : (parent_of (built_in ++ given) 12 ≡ Some 9) × (parent_of (built_in ++ given) 19 ≡ Some 11) × (parent_of (built_in ++ given) 20 ≡ Some 11)
-      × (parent_of (built_in ++ given) 21 ≡ Some 11)
-  unfolding built_in
-  parents_too = (exception_there given, runtime_there given, runtime_there given, runtime_there given)
+  thrown_below : (classes : List ℕ) → list_all is_thrown classes ≡ true → AllByRecursion (λ class. is_among 7 (chain_of (built_in ++ given) class) ≡ true) classes
+  thrown_below [] e = tt
+  thrown_below (class ∷ classes) e =
+      let both = and_parts (is_thrown class) (list_all is_thrown classes) e in
+      let here = and_parts (nat_lt class 28) (is_among 7 (chain_of built_in class)) both.0 in
+      (below_throwable given runnable.completed class (ltb-true class 28 here.0) here.1, thrown_below classes both.1)
 
   all_below : AllByRecursion (λ class. is_among 7 (chain_of (built_in ++ given) class) ≡ true) throwables
-  all_below =
-      let up = below given tree_here in
-      let above = parents given in
-      let runtime = runtime_below given tree_here in
-      let exception = up 9 7 above.0 (throwable_itself given tree_here) in
-      let error = up 10 7 above.1 (throwable_itself given tree_here) in
-      let bounds = bounds_below given tree_here in (
-        throwable_itself given tree_here,
-        (
-          exception,
-          (
-            error,
-            (
-              runtime,
-              (
-                up 12 9 parents_too.0 exception,
-                (
-                  up 13 11 above.3 runtime,
-                  (
-                    up 14 11 above.4 runtime,
-                    (
-                      up 15 11 above.5 runtime,
-                      (
-                        bounds,
-                        (
-                          up 17 11 above.7 runtime,
-                          (
-                            up 18 11 above.8 runtime,
-                            (
-                              up 19 11 parents_too.1 runtime,
-                              (
-                                up 20 11 parents_too.2 runtime,
-                                (
-                                  up 21 11 parents_too.3 runtime,
-                                  (
-                                    up 22 16 above.9 bounds,
-                                    (
-                                      up 23 16 above.10 bounds,
-                                      (
-                                        up 24 10 above.11 error,
-                                        (change_below given tree_here, tt),
-                                      ),
-                                    ),
-                                  ),
-                                ),
-                              ),
-                            ),
-                          ),
-                        ),
-                      ),
-                    ),
-                  ),
-                ),
-              ),
-            ),
-          ),
-        ),
-      )
+  unfolding built_in chain_of
+  all_below = thrown_below throwables refl
 
   text_fits : (class : ℕ) → (class == 1) ≡ true → (t : TypeRef) → fits_type out.classes t (type_of_class class) ≡ true → fits_type out.classes t (text_type out) ≡ true
   text_fits class is t fits =
@@ -380,7 +327,7 @@ module _ (p : Program) (runnable : IsRunnable p) (tree : AreTree p.outline.class
   throwable_fits class is t fits =
       let above = all_among (λ n. is_among 7 (chain_of (built_in ++ given) n) ≡ true) throwables class is all_below in
       let higher : fits_type out.classes (type_of_class class) (type_of_class 7) ≡ true =
-      ap (λ classes. fits_type classes (type_of_class class) (type_of_class 7)) runnable.classes ∙ fits_throwable given tree_here class above in
+      ap (λ classes. fits_type classes (type_of_class class) (type_of_class 7)) runnable.classes ∙ fits_throwable given class above in
       subst (λ w. fits_type out.classes t w ≡ true) (sym (named_class p (codes "java/lang/Throwable") 7 runnable throwable_there))
       (type-trans out.classes tree t (type_of_class class) (type_of_class 7) fits higher)
 

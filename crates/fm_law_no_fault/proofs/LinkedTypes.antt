@@ -10,20 +10,21 @@ use Rattle.std.proofs.lemmas.Option.{none-some}
 use Rattle.fm_base.specs.declared.kinds.Kind.TheVariants as kind
 use Rattle.fm_base.specs.declared.kinds.TypeRef.{TypeRef}
 use Rattle.fm_code.specs.AccessFlags.{is_static}
-use Rattle.fm_types.proofs.ClassTree.{among_own, among-trans}
 use Rattle.fm_types.proofs.Order.{level-fits}
 use Rattle.fm_types.specs.Fits.{AreTree, fits_type}
 use Rattle.fm_types.specs.Named.{built_in_type, throwable_type}
 use Rattle.fm_types.specs.declared.slots.Slot.TheVariants as slot
+use Rattle.fm_world.proofs.Completions.{among_completed, count_is, none_completed}
 use Rattle.fm_world.specs.BuiltIns.{built_in}
-use Rattle.fm_world.specs.Chains.{chain_of, class_at, is_among, parent_of}
+use Rattle.fm_world.specs.Chains.{chain_of, class_at, is_among}
 use Rattle.fm_world.specs.Descriptors.{class_number, kind_with, of_class}
 use Rattle.fm_world.specs.Lookups.{is_interface_at}
 use Rattle.fm_world.specs.Members.{field_at, field_kind, fields_of, kinds_of, slot_of}
 use Rattle.fm_world.specs.Numbers.{type_of_class}
 use Rattle.fm_world.specs.Programs.{kind_at, Outline, Program}
 use Rattle.fm_world.specs.declared.declarations.DeclaredClass.{DeclaredClass}
-use Rattle.fm_frames.proofs.BuiltInTypes.{below_named, buffer_there, builder_there, named_class, no_interfaces, object_there, throwable_there}
+use Rattle.fm_world.specs.inner.Completions.{AreCompleted}
+use Rattle.fm_frames.proofs.BuiltInTypes.{below_named, buffer_there, builder_there, named_class, no_interfaces, throwable_there}
 use Rattle.fm_frames.proofs.Programs.{string-is}
 use Rattle.fm_frames.specs.NativeRows.{text_type}
 use Rattle.fm_frames.specs.ObjectRows.{kind_of_field}
@@ -31,29 +32,16 @@ use Rattle.fm_frames.specs.Runnable.{IsRunnable}
 use Rattle.fm_frames.specs.Sights.{has_hidden_field}
 use Rattle.fm_law_sound.specs.Making.{is_built}
 use Rattle.fm_law_sound.specs.Sound.{field_slot, static_slots}
-use Rattle.fm_law_sound.proofs.MadeObjects.{both_kinds, chain_is, object_top, string_kinds}
+use Rattle.fm_law_sound.proofs.MadeObjects.{input_kinds, output_kinds, string_kinds}
 use Rattle.fm_law_sound.proofs.ObjectRows.{static_slot_at}
 use Rattle.fm_law_no_fault.specs.CellsResolved.{input_type, output_type, thrown_names}
 use Rattle.fm_law_no_fault.specs.Doing.{HoldsNoCell}
-use Rattle.fm_law_no_fault.proofs.BelowClasses.{parent_among}
 
 -- ---- built-in classes by name
 
 module _ (given : List DeclaredClass) where
   abbrev all : List DeclaredClass
   all = built_in ++ given
-
-  pub exception_there : class_number all (codes "java/lang/Exception") ≡ Some 9
-  unfolding built_in
-  exception_there = position_from-zero (λ (c : DeclaredClass). bytes_eq c.name (codes "java/lang/Exception")) (built_in ++ given)
-
-  error_there : class_number all (codes "java/lang/Error") ≡ Some 10
-  unfolding built_in
-  error_there = position_from-zero (λ (c : DeclaredClass). bytes_eq c.name (codes "java/lang/Error")) (built_in ++ given)
-
-  pub runtime_there : class_number all (codes "java/lang/RuntimeException") ≡ Some 11
-  unfolding built_in
-  runtime_there = position_from-zero (λ (c : DeclaredClass). bytes_eq c.name (codes "java/lang/RuntimeException")) (built_in ++ given)
 
   arithmetic_there : class_number all (codes "java/lang/ArithmeticException") ≡ Some 13
   unfolding built_in
@@ -87,10 +75,6 @@ module _ (given : List DeclaredClass) where
   unfolding built_in
   string_there = position_from-zero (λ (c : DeclaredClass). bytes_eq c.name (codes "java/lang/StringIndexOutOfBoundsException")) (built_in ++ given)
 
-  linkage_there : class_number all (codes "java/lang/LinkageError") ≡ Some 24
-  unfolding built_in
-  linkage_there = position_from-zero (λ (c : DeclaredClass). bytes_eq c.name (codes "java/lang/LinkageError")) (built_in ++ given)
-
   change_there : class_number all (codes "java/lang/IncompatibleClassChangeError") ≡ Some 25
   unfolding built_in
   change_there = position_from-zero (λ (c : DeclaredClass). bytes_eq c.name (codes "java/lang/IncompatibleClassChangeError")) (built_in ++ given)
@@ -105,71 +89,26 @@ module _ (given : List DeclaredClass) where
 
   -- ---- what is above them
 
-  -- the superclasses of throwables
-  pub parents : (parent_of all 9 ≡ Some 7) × (parent_of all 10 ≡ Some 7) × (parent_of all 11 ≡ Some 9) × (parent_of all 13 ≡ Some 11)
-      × (parent_of all 14 ≡ Some 11) × (parent_of all 15 ≡ Some 11) × (parent_of all 16 ≡ Some 11) × (parent_of all 17 ≡ Some 11)
-      × (parent_of all 18 ≡ Some 11) × (parent_of all 22 ≡ Some 16) × (parent_of all 23 ≡ Some 16) × (parent_of all 24 ≡ Some 10)
-      × (parent_of all 25 ≡ Some 24)
-  unfolding built_in
-  parents = (
-    throwable_there given,
-    throwable_there given,
-    exception_there,
-    runtime_there,
-    runtime_there,
-    runtime_there,
-    runtime_there,
-    runtime_there,
-    runtime_there,
-    bounds_there,
-    bounds_there,
-    error_there,
-    linkage_there,
-  )
-
-  some_classes : 0 < length all
-  unfolding built_in
-  some_classes = omega arith
-
-  module _ (tree : AreTree all) where
-    -- below a class that is below Throwable
-    pub below : (class parent : ℕ) → parent_of all class ≡ Some parent → is_among 7 (chain_of all parent) ≡ true → is_among 7 (chain_of all class) ≡ true
-    below class parent is h = among-trans all tree class parent 7 (parent_among all some_classes class parent is) h
-
-    pub throwable_itself : is_among 7 (chain_of all 7) ≡ true
-    throwable_itself = among_own all 7 some_classes
-
-    pub runtime_below : is_among 7 (chain_of all 11) ≡ true
-    runtime_below = below 11 9 parents.2 (below 9 7 parents.0 throwable_itself)
-
-    pub bounds_below : is_among 7 (chain_of all 16) ≡ true
-    bounds_below = below 16 11 parents.6 runtime_below
-
-    pub change_below : is_among 7 (chain_of all 25) ≡ true
-    change_below = below 25 24 parents.12 (below 24 10 parents.11 (below 10 7 parents.1 throwable_itself))
-
-    pub fits_throwable : (class : ℕ) → is_among 7 (chain_of all class) ≡ true → fits_type all (type_of_class class) (type_of_class 7) ≡ true
-    fits_throwable class h = level-fits all (type_of_class class) (type_of_class 7) refl h
-
-  -- ---- places
-
-  plain_kinds : (kinds_of all 5 ≡ []) × (kinds_of all 6 ≡ [])
-  unfolding kinds_of built_in
-  plain_kinds = (
-    ap (both_kinds (built_in ++ given)) (chain_is given 5 (object_there given) (object_top given)),
-    ap (both_kinds (built_in ++ given)) (chain_is given 6 (object_there given) (object_top given)),
-  )
+  pub fits_throwable : (class : ℕ) → is_among 7 (chain_of all class) ≡ true → fits_type all (type_of_class class) (type_of_class 7) ≡ true
+  fits_throwable class h = level-fits all (type_of_class class) (type_of_class 7) refl h
 
   abbrev is_hidden : ℕ → Bool
   is_hidden class = (class_at all class).hidden
 
-  none_hidden : (list_any is_hidden (chain_of all 1) ≡ false) × (list_any is_hidden (chain_of all 5) ≡ false) × (list_any is_hidden (chain_of all 6) ≡ false)
-  unfolding built_in
-  none_hidden = (
-    ap (list_any (λ class. (class_at (built_in ++ given) class).hidden)) (chain_is given 1 (object_there given) (object_top given)),
-    ap (list_any (λ class. (class_at (built_in ++ given) class).hidden)) (chain_is given 5 (object_there given) (object_top given)),
-    ap (list_any (λ class. (class_at (built_in ++ given) class).hidden)) (chain_is given 6 (object_there given) (object_top given)),
-  )
+  module _ (completed : AreCompleted (built_in ++ given)) where
+    -- what the table has below Throwable is below it
+    pub below_throwable : (class : ℕ) → class < 28 → is_among 7 (chain_of built_in class) ≡ true → is_among 7 (chain_of all class) ≡ true
+    below_throwable class early among = among_completed given completed class 7 (omega (arith, early, count_is)) among
+
+    -- ---- places
+
+    unhidden : (class : ℕ) → class < 28 → list_any (λ above. (class_at all above).hidden) (chain_of built_in class) ≡ false → list_any is_hidden (chain_of all class) ≡ false
+    unhidden class early none =
+        none_completed given completed is_hidden (λ k f within is. (completed k f within is).not_hidden) class (omega (arith, early, count_is)) none
+
+    none_hidden : (list_any is_hidden (chain_of all 1) ≡ false) × (list_any is_hidden (chain_of all 5) ≡ false) × (list_any is_hidden (chain_of all 6) ≡ false)
+    unfolding built_in chain_of
+    none_hidden = (unhidden 1 (omega arith) refl, unhidden 5 (omega arith) refl, unhidden 6 (omega arith) refl)
 
   some_hidden : (is_hidden 2 ≡ true) × (is_hidden 3 ≡ true) × (is_hidden 7 ≡ true)
   unfolding built_in
@@ -206,32 +145,31 @@ module _ (p : Program) (runnable : IsRunnable p) (tree : AreTree p.outline.class
   abbrev given : List DeclaredClass
   given = runnable.given
 
-  tree_here : AreTree (built_in ++ given)
-  tree_here = subst AreTree runnable.classes tree
-
-  throws : (name : List ℕ) (class : ℕ) → ((more : List DeclaredClass) → class_number (built_in ++ more) name ≡ Some class)
-      → is_among 7 (chain_of (built_in ++ given) class) ≡ true → fits_type o.classes (built_in_type o name) (throwable_type o) ≡ true
-  throws name class found h =
+  throws : (name : List ℕ) (class : ℕ) → ((more : List DeclaredClass) → class_number (built_in ++ more) name ≡ Some class) → class < 28
+      → is_among 7 (chain_of built_in class) ≡ true → fits_type o.classes (built_in_type o name) (throwable_type o) ≡ true
+  throws name class found early among =
       ap (λ t. fits_type o.classes t (throwable_type o)) (named_class p name class runnable found)
       ∙ ap (λ t. fits_type o.classes (type_of_class class) t) (named_class p (codes "java/lang/Throwable") 7 runnable throwable_there)
-      ∙ ap (λ classes. fits_type classes (type_of_class class) (type_of_class 7)) runnable.classes ∙ fits_throwable given tree_here class h
+      ∙ ap (λ classes. fits_type classes (type_of_class class) (type_of_class 7)) runnable.classes
+      ∙ fits_throwable given class (below_throwable given runnable.completed class early among)
 
   pub all_thrown : AllByRecursion (λ name. fits_type o.classes (built_in_type o name) (throwable_type o) ≡ true) thrown_names
+  unfolding built_in chain_of
   all_thrown = (
-    throws (codes "java/lang/NullPointerException") 18 null_there (below given tree_here 18 11 (parents given).8 (runtime_below given tree_here)),
+    throws (codes "java/lang/NullPointerException") 18 null_there (omega arith) refl,
     (
-      throws (codes "java/lang/ArithmeticException") 13 arithmetic_there (below given tree_here 13 11 (parents given).3 (runtime_below given tree_here)),
+      throws (codes "java/lang/ArithmeticException") 13 arithmetic_there (omega arith) refl,
       (
-        throws (codes "java/lang/ClassCastException") 15 cast_there (below given tree_here 15 11 (parents given).5 (runtime_below given tree_here)),
+        throws (codes "java/lang/ClassCastException") 15 cast_there (omega arith) refl,
         (
-          throws (codes "java/lang/ArrayIndexOutOfBoundsException") 22 array_there (below given tree_here 22 16 (parents given).9 (bounds_below given tree_here)),
+          throws (codes "java/lang/ArrayIndexOutOfBoundsException") 22 array_there (omega arith) refl,
           (
-            throws (codes "java/lang/ArrayStoreException") 14 store_there (below given tree_here 14 11 (parents given).4 (runtime_below given tree_here)),
+            throws (codes "java/lang/ArrayStoreException") 14 store_there (omega arith) refl,
             (
-              throws (codes "java/lang/NegativeArraySizeException") 17 negative_there (below given tree_here 17 11 (parents given).7 (runtime_below given tree_here)),
+              throws (codes "java/lang/NegativeArraySizeException") 17 negative_there (omega arith) refl,
               (
-                throws (codes "java/lang/IncompatibleClassChangeError") 25 change_there (change_below given tree_here),
-                (throws (codes "java/lang/StringIndexOutOfBoundsException") 23 string_there (below given tree_here 23 16 (parents given).10 (bounds_below given tree_here)), tt),
+                throws (codes "java/lang/IncompatibleClassChangeError") 25 change_there (omega arith) refl,
+                (throws (codes "java/lang/StringIndexOutOfBoundsException") 23 string_there (omega arith) refl, tt),
               ),
             ),
           ),
@@ -255,13 +193,13 @@ module _ (p : Program) (runnable : IsRunnable p) (tree : AreTree p.outline.class
   }
 
   pub text_is_plain : HoldsNoCell o (text_type o)
-  text_is_plain = plain_type (text_type o) 1 (string-is o given runnable.classes) (string_kinds given) (none_hidden given).0
+  text_is_plain = plain_type (text_type o) 1 (string-is o given runnable.classes) (string_kinds given runnable.completed) (none_hidden given runnable.completed).0
 
   pub output_is_plain : HoldsNoCell o (output_type o)
-  output_is_plain = plain_type (output_type o) 5 (named_class p (codes "java/io/PrintStream") 5 runnable output_there) (plain_kinds given).0 (none_hidden given).1
+  output_is_plain = plain_type (output_type o) 5 (named_class p (codes "java/io/PrintStream") 5 runnable output_there) (output_kinds given runnable.completed) (none_hidden given runnable.completed).1
 
   pub input_is_plain : HoldsNoCell o (input_type o)
-  input_is_plain = plain_type (input_type o) 6 (named_class p (codes "java/io/InputStream") 6 runnable input_there) (plain_kinds given).1 (none_hidden given).2
+  input_is_plain = plain_type (input_type o) 6 (named_class p (codes "java/io/InputStream") 6 runnable input_there) (input_kinds given runnable.completed) (none_hidden given runnable.completed).2
 
   -- ---- hidden fields
 
