@@ -4,7 +4,7 @@ use Rattle.std.specs.List.{list_any, range_with_len}
 use Rattle.std.proofs.lemmas.Bool.{cases_lt, false≢true}
 use Rattle.std.proofs.lemmas.Iterator.Adapters.{position_from-zero}
 use Rattle.std.specs.Str.{bytes_eq}
-use Rattle.fm_link_supers.proofs.BuiltInParents.{count_is}
+use Rattle.fm_world.proofs.Completions.{count_is}
 use Rattle.fm_base.specs.declared.kinds.TypeRef.{TypeRef}
 use Rattle.fm_code.specs.AccessFlags.{is_static}
 use Rattle.fm_code.specs.FreeEntries.{free_class, free_descriptor, free_method, free_name}

@@ -4,7 +4,7 @@ use Rattle.std.specs.Prelude.{slice_get}
 use Rattle.std.proofs.lemmas.Bool.{cases_lt}
 use Rattle.std.proofs.lemmas.List.Quantifiers.{position-Some}
 use Rattle.std.proofs.lemmas.Option.{slice_get-get_or}
-use Rattle.fm_link_supers.proofs.BuiltInParents.{count_is}
+use Rattle.fm_world.proofs.Completions.{count_is}
 use Rattle.fm_link_supers.proofs.ParentRefusals.{spelled_at}
 use Rattle.fm_law_relinked.proofs.ClassStays.{more_entries, names_free}
 use Rattle.fm_law_relinked.proofs.FreeMethod.{class_number_is, free_class_number, free_method_number, free_type, method_found, type_is}
