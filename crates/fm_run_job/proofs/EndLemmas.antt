@@ -9,7 +9,7 @@ use Rattle.fm_cells.specs.Choices.{lawful}
 use Rattle.fm_cells.specs.Objects.{Object}
 use Rattle.fm_cells.specs.Stores.{live_words, object_at, opened, Store}
 use Rattle.fm_code.specs.declared.code_array.Code.{Code}
-use Rattle.fm_link_supers.proofs.BuiltInParents.{count_is}
+use Rattle.fm_world.proofs.Completions.{count_is}
 use Rattle.fm_types.specs.Named.{class_of_method, throwable_type}
 use Rattle.fm_world.specs.BuiltIns.{built_in}
 use Rattle.fm_world.specs.Members.{methods_of}
