@@ -16,13 +16,14 @@ use Rattle.fm_code.specs.Spells.{HasSpelling}
 use Rattle.fm_code.specs.declared.class_file.ClassDef.{ClassDef}
 use Rattle.fm_code.specs.declared.code_array.Code.{Code}
 use Rattle.fm_code.specs.declared.instructions.Insn.TheVariants as insn
-use Rattle.fm_link_supers.proofs.BuiltInParents.{count_is}
+use Rattle.fm_check_program.proofs.Trees.{no_built_in_refused}
+use Rattle.fm_world.proofs.Completions.{count_is}
 use Rattle.fm_link_supers.proofs.HierarchyLemmas.{interfaces_only, superinterfaces_only}
 use Rattle.fm_link_supers.proofs.ParentRefusals.{tree_object_is_class}
 use Rattle.fm_law_linked.proofs.Calls.{call_there, IsCall}
 use Rattle.fm_law_linked.proofs.CellTypes.{above_built_in, above_seen}
 use Rattle.fm_law_linked.proofs.FieldOwners.{binary_found, found_among}
-use Rattle.fm_law_linked.proofs.GivenFiles.{no_built_in_refused, no_method_refused}
+use Rattle.fm_law_linked.proofs.GivenFiles.{no_method_refused}
 use Rattle.fm_law_linked.proofs.InterfaceCalls.{binary_type, type_named}
 use Rattle.fm_law_linked.proofs.InterfaceSets.{low_interfaces, low_supers, marker_bare}
 use Rattle.fm_law_linked.proofs.Messages.{below_of}
@@ -231,7 +232,7 @@ module _ (given : List ClassDef) (main : List ℕ) (spelled : AllByRecursion Has
         (λ object. ap (λ k. is_among k (chain_of (classes_of given) 0)) object ∙ among_own (classes_of given) 0 some)
     by_seen (inr object) =
         let is = eqb-true n (object_of (classes_of given)) object ∙ first given main spelled clean in
-        ⊎_elim (λ here. here) (λ there. absurd (marker_bare given owner place (low_interfaces given (sound given main spelled clean) 0 owner zero_low there)
+        ⊎_elim (λ here. here) (λ there. absurd (marker_bare given owner place (low_interfaces given (no_built_in_refused given main clean) (sound given main spelled clean) 0 owner zero_low there)
         (interfaces_only (classes_of given) (sound given main spelled clean) 0 owner there) inside))
         (among_either owner (chain_of (classes_of given) 0) (interfaces_of (classes_of given) 0)
         (sym (ap (λ b. is_among owner (cond b (0 ∷ (superinterfaces_of (classes_of given) 0 ++ option_to_list (object_number (classes_of given))))

@@ -2,6 +2,7 @@
 -- one of the built-in classes that have it.
 use Rattle.std.proofs.Common.{◌≡◌, ℕ, zero, suc, ◌+◌, ◌-◌, ◌<◌, ◌≤◌, ◌==◌, ◌&&◌, ◌||◌, ◌⊎◌, inl, inr, not, cond, Bool, true, false, List, [], ◌∷◌, ◌++◌, length, codes, map, nat_eq, nat_lt, replicate, slice_get, get_or, Option, Some, None, is_some, option_and_then, unwrap_or, zero-add, refl, sym, ◌∙◌, ap, subst, arith, ⊎_elim}
 use Rattle.std.specs.List.{AllByRecursion, list_any}
+use Rattle.std.specs.Option.{option_or}
 use Rattle.std.specs.Str.{bytes_eq}
 use Rattle.std.proofs.lemmas.Bool.{and_parts, cases_lt, eqb-true, false≢true, ltb-true, or_cases, or_left, or_parts, or_right}
 use Rattle.std.proofs.lemmas.List.{get_or-replicate, get_or_append_left, get_or_past, length-append}
@@ -24,13 +25,13 @@ use Rattle.fm_frames.specs.Elements.{is_text_type}
 use Rattle.fm_frames.specs.NativeRows.{text_kind, text_type}
 use Rattle.fm_frames.specs.Runnable.{IsRunnable}
 use Rattle.fm_frames.specs.Sights.{has_hidden_field}
-use Rattle.fm_link_supers.proofs.BuiltInParents.{count_is}
+use Rattle.fm_world.proofs.Completions.{count_is, from_file}
 use Rattle.fm_link_supers.proofs.Downwards.{among_head}
 use Rattle.fm_link_supers.proofs.HierarchyLemmas.{interfaces_only}
 use Rattle.fm_link_supers.proofs.ParentRefusals.{are_sound, if_true, length-declared, name_within, nil_left, none_of, not_refused, past_none, refused_not, superclass_used}
 use Rattle.fm_link_supers.specs.inner.Hierarchy.{AreSound}
 use Rattle.fm_law_linked.proofs.Constants.{text_constants}
-use Rattle.fm_law_linked.proofs.GivenFiles.{class_of_file, no_built_in_refused, none_used}
+use Rattle.fm_law_linked.proofs.GivenFiles.{class_of_file, none_used}
 use Rattle.fm_law_linked.proofs.MainMethod.{main_slots}
 use Rattle.fm_law_sound.proofs.HiddenFields.{text_first}
 use Rattle.fm_types.proofs.LeastJoins.{same_type-refl}
@@ -39,10 +40,10 @@ use Rattle.fm_types.specs.Fits.{AreTree, depth_with, fits_type, is_object_base, 
 use Rattle.fm_types.specs.Named.{built_in_type}
 use Rattle.fm_world.specs.BuiltIns.{built_in, cloneable_name, object_name, sealed_names, serializable_name, string_name}
 use Rattle.fm_world.specs.Causes.{bad_parent_at, bad_parents, bad_superclass, BuiltIn, built_in_named, is_bad_superclass, own_name, refused}
-use Rattle.fm_world.specs.Chains.{array_supers, chain_of, class_at, interfaces_of, is_above_arrays, is_among, is_base_above_arrays, is_sub, is_sub_base, parent_of, upwards}
+use Rattle.fm_world.specs.Chains.{array_supers, chain_of, class_at, completion_of, interfaces_of, is_above_arrays, is_among, is_base_above_arrays, is_sub, is_sub_base, parent_of, upwards}
 use Rattle.fm_world.specs.Declarations.{declared_from, declared_of, name_at, no_class}
 use Rattle.fm_world.specs.Descriptors.{class_number}
-use Rattle.fm_check_program.proofs.Trees.{no_parent_refused, tree_of}
+use Rattle.fm_check_program.proofs.Trees.{no_built_in_refused, no_parent_refused, tree_of}
 use Rattle.fm_world.specs.Linking.{refusals, refused_built_ins, refused_parents}
 use Rattle.fm_world.specs.Lookups.{is_interface_at}
 use Rattle.fm_world.specs.Numbers.{type_of_class}
@@ -216,18 +217,32 @@ name_of_string : (given : List ClassDef) → (class_at (classes_of given) 1).nam
 unfolding classes_of built_in
 name_of_string given = refl
 
+-- it is of no file, and so it completes no class
+completes_nothing : (given : List ClassDef) (c : DeclaredClass) → completion_of (classes_of given) c ≡ Some 1 → ⊥
+unfolding classes_of built_in
+completes_nothing given c is = false≢true (sym (from_file (declared_from 0 given) c 1 is))
+
 -- the superclass of no class is String
 not_above : (given : List ClassDef) → AllByRecursion HasSpelling given → refused_parents given ≡ [] → (class : ℕ) → parent_of (classes_of given) class ≡ Some 1 → ⊥
 not_above given spelled none class is = by_superclass (class_at classes class).superclass (no_string_parent given spelled none class) is where
   classes : List DeclaredClass
   classes = classes_of given
 
-  by_superclass : (o : Option (List ℕ)) → is_string o ≡ false → option_and_then (class_number (classes_of given)) o ≡ Some 1 → ⊥
-  by_superclass None other found = none-some 1 found
-  by_superclass (Some name) other found =
+  completing : Option ℕ
+  completing = completion_of (classes_of given) (class_at (classes_of given) class)
+
+  by_completion : (name : List ℕ) → is_string (Some name) ≡ false → (o : Option ℕ) → completing ≡ o
+      → option_or o (class_number (classes_of given) name) ≡ Some 1 → ⊥
+  by_completion name other (Some f) e found = completes_nothing given (class_at (classes_of given) class) (e ∙ found)
+  by_completion name other None e found =
       let there = position-Some (λ (c : DeclaredClass). bytes_eq c.name name) classes 1 no_class found in
       let same : (class_at classes 1).name ≡ name = (bytes_eq-Decides (class_at classes 1).name name).0 there.1 in
       false≢true (sym other ∙ (bytes_eq-Decides name string_name).1 (sym same ∙ name_of_string given))
+
+  by_superclass : (o : Option (List ℕ)) → is_string o ≡ false
+      → option_and_then (λ name. option_or completing (class_number (classes_of given) name)) o ≡ Some 1 → ⊥
+  by_superclass None other found = none-some 1 found
+  by_superclass (Some name) other found = by_completion name other completing refl found
 
 alone_up : (given : List ClassDef) → AllByRecursion HasSpelling given → refused_parents given ≡ [] → (n : ℕ) (o : Option ℕ)
     → is_among 1 (upwards n (classes_of given) o) ≡ true → o ≡ Some 1
@@ -331,10 +346,11 @@ unfolding program_of outline_of
 places_fit given main spelled none runnable =
     let p = program_of given main in
     let no_bad = no_parent_refused given main none in
-    let tree = tree_of given spelled no_bad in
+    let apart = no_built_in_refused given main none in
+    let tree = tree_of given spelled apart no_bad in
     record {
-      subtypes = subtypes_fit (classes_of given) (are_sound given spelled no_bad)
-          (above_seen given (no_built_in_refused given main none) tree (object_first p runnable));
+      subtypes = subtypes_fit (classes_of given) (are_sound given spelled apart no_bad)
+          (above_seen given apart tree (object_first p runnable));
       texts = texts_are p runnable given refl spelled no_bad;
       hidden = hidden_first p runnable given refl tree;
       main = main_slots given main none;

@@ -2,28 +2,28 @@
 use Rattle.std.proofs.Common.{◌≡◌, refl, sym, ◌∙◌, ap, ℕ, zero, suc, ◌+◌, ◌-◌, ◌<◌, ◌≤◌, ◌⊎◌, inl, inr, ◌==◌, ◌||◌, Bool, true, false, cond, List, [], ◌∷◌, ◌++◌, length, map, nat_eq, replicate, slice_get, Option, Some, None, IsSome, get_or, subst, is_none, is_some, option_and_then, unwrap_or, arith, zero-add, length-append}
 use Rattle.std.specs.List.{AllByRecursion, flat_map}
 use Rattle.std.proofs.lemmas.Bool.{cases_lt, eqb-true, false≢true, or_parts, or_right}
-use Rattle.std.proofs.lemmas.List.{get_or-replicate, get_or_append_left}
+use Rattle.std.proofs.lemmas.List.{get_or-replicate}
 use Rattle.std.proofs.lemmas.List.FromFn.{get_or-map-range_with_len}
-use Rattle.std.proofs.lemmas.Option.{none-some, same_Some}
 use Rattle.fm_base.proofs.TestFacts.{same-nat_eq}
 use Rattle.fm_code.specs.ConstantPool.{class_name_at, entry_at}
 use Rattle.fm_code.specs.Spells.{HasSpelling}
 use Rattle.fm_code.specs.declared.class_file.ClassDef.{ClassDef}
 use Rattle.fm_code.specs.declared.constant_pool.Entry.{Entry}
 use Rattle.fm_code.specs.declared.constant_pool.Entry.TheVariants as entry
-use Rattle.fm_link_supers.proofs.BuiltInParents.{count_is, number_first, object_parent_is}
+use Rattle.fm_link_supers.proofs.BuiltInParents.{not_completed}
 use Rattle.fm_link_supers.proofs.Downwards.{among_head}
 use Rattle.fm_link_supers.proofs.ParentRefusals.{tree_object, length-declared, past_none, name_within, nil_left, none_of, spelled_at, not_refused, if_true, refused_not, superclass_used, some_entries}
 use Rattle.fm_code.specs.Names.{object}
 use Rattle.fm_law_linked.proofs.GivenFiles.{class_of_file, none_used}
 use Rattle.fm_types.specs.Fits.{AreTree, object_of}
-use Rattle.fm_world.proofs.Displays.{class_number-within, parent_of-within}
+use Rattle.fm_world.proofs.Completions.{count_is, IsBelow, parent_plain, table_below}
+use Rattle.fm_world.proofs.Displays.{parent_of-within}
 use Rattle.fm_world.specs.BuiltIns.{built_in}
 use Rattle.fm_world.specs.Causes.{bad_parent_at, bad_parents, bad_superclass, is_array_name, is_bad_superclass, missing_at, missing_classes, MissingClass, missing, refused, refused_if, refused_where}
-use Rattle.fm_world.specs.Chains.{chain_of, class_at, is_among, parent_of}
-use Rattle.fm_world.specs.Declarations.{declared_from, name_at, no_class}
+use Rattle.fm_world.specs.Chains.{chain_of, is_among, parent_of, superclass_in}
+use Rattle.fm_world.specs.Declarations.{declared_from, name_at}
 use Rattle.fm_world.specs.Descriptors.{class_in, class_number, class_type, field_type, typed}
-use Rattle.fm_world.specs.Linking.{refused_missing_classes, refused_parents}
+use Rattle.fm_world.specs.Linking.{refused_built_ins, refused_missing_classes, refused_parents}
 use Rattle.fm_world.specs.Programs.{classes_of}
 use Rattle.fm_world.specs.Uses.{named_class, uses_in_order}
 use Rattle.fm_world.specs.declared.declarations.DeclaredClass.{DeclaredClass}
@@ -47,46 +47,30 @@ second_true : (a b : Bool) → a ≡ false → (a || b) ≡ true → b ≡ true
 second_true false b e h = h
 second_true true b e h = absurd (false≢true (sym e))
 
-built_in_parent : (more : List DeclaredClass) (k : ℕ) → k < length built_in → nat_eq k 0 ≡ false
-    → (p : HasParent (built_in ++ more) k) × (p.parent < length built_in)
-built_in_parent more k within other = by_superclass (class_at built_in k).superclass refl where
+-- where no file completes it, the superclass of a built-in class is that of the table
+table_parent : (given : List ClassDef) → refused_built_ins given ≡ [] → (k : ℕ) → k < length built_in → parent_of (classes_of given) k ≡ parent_of built_in k
+unfolding classes_of
+table_parent given apart k within = parent_plain (declared_from 0 given) k within (not_completed given apart k within)
+
+built_in_parent : (given : List ClassDef) → refused_built_ins given ≡ [] → (k : ℕ) → k < length built_in → nat_eq k 0 ≡ false → HasParent (classes_of given) k
+built_in_parent given apart k within other = by_parent (parent_of built_in k) refl where
   inside : k < 28
   inside = let count = count_is in omega (arith, within, count)
 
-  found : is_some (option_and_then (class_number built_in) (class_at built_in k).superclass) ≡ true
+  found : is_some (parent_of built_in k) ≡ true
   found =
       second_true (nat_eq k 0) (is_some (parent_of built_in k)) other
       (sym (get_or-map-range_with_len some_parent 0 28 k k true inside (zero-add k)) ∙ ap (λ row. get_or row k true) parents_table ∙ get_or-replicate 28 k true true inside)
 
-  by_number : (name : List ℕ) → (class_at built_in k).superclass ≡ Some name → (p : Option ℕ) → class_number built_in name ≡ p
-      → (q : HasParent (built_in ++ more) k) × (q.parent < length built_in)
-  by_number name e None n =
-      absurd (false≢true (sym (ap is_some (ap (option_and_then (class_number built_in)) e ∙ n)) ∙ found))
-  by_number name e (Some p) n = (
-    record {
-      parent = p;
-      parent_is =
-          ap (λ (c : DeclaredClass). option_and_then (class_number (built_in ++ more)) c.superclass) (get_or_append_left built_in more no_class k within)
-          ∙ ap (option_and_then (class_number (built_in ++ more))) e ∙ number_first built_in more name p n;
-    },
-    class_number-within built_in name p n,
-  )
-
-  by_superclass : (o : Option (List ℕ)) → (class_at built_in k).superclass ≡ o
-      → (q : HasParent (built_in ++ more) k) × (q.parent < length built_in)
-  by_superclass None e = absurd (false≢true (sym (ap (λ o. is_some (option_and_then (class_number built_in) o)) e) ∙ found))
-  by_superclass (Some name) e = by_number name e (class_number built_in name) refl
+  by_parent : (p : Option ℕ) → parent_of built_in k ≡ p → HasParent (classes_of given) k
+  by_parent None e = absurd (false≢true (sym (ap is_some e) ∙ found))
+  by_parent (Some p) e = record { parent = p; parent_is = table_parent given apart k within ∙ e }
 
 -- the superclass of a built-in class is built in
-pub built_in_above : (more : List DeclaredClass) (class parent : ℕ) → class < length built_in → parent_of (built_in ++ more) class ≡ Some parent
-    → parent < length built_in
-built_in_above more class parent within is = by_first (nat_eq class 0) refl where
-  by_first : (b : Bool) → nat_eq class 0 ≡ b → parent < length built_in
-  by_first true same =
-      absurd (none-some parent (sym (object_parent_is more) ∙ ap (parent_of (built_in ++ more)) (sym (eqb-true class 0 same)) ∙ is))
-  by_first false other =
-      let above = built_in_parent more class within other in
-      subst (λ p. p < length built_in) (same_Some above.0.parent parent (sym above.0.parent_is ∙ is)) above.1
+pub built_in_above : (given : List ClassDef) → refused_built_ins given ≡ [] → (class parent : ℕ) → class < length built_in
+    → parent_of (classes_of given) class ≡ Some parent → parent < length built_in
+built_in_above given apart class parent within is =
+    subst (IsBelow (length built_in)) (sym (table_parent given apart class within) ∙ is) (table_below (declared_from 0 given) class within)
 
 -- ---- classes of files
 
@@ -137,8 +121,8 @@ file_parent given j c at spelled no_bad no_missing = by_sort own.1.super_class w
   by_number name named (Some p) e found = record {
     parent = p;
     parent_is =
-        ap (λ (d : DeclaredClass). option_and_then (class_number classes) d.superclass) (class_of_file given j c at).declared
-        ∙ ap (option_and_then (class_number classes)) named ∙ e;
+        ap (superclass_in classes) (class_of_file given j c at).declared
+        ∙ ap (option_and_then (λ n. class_number classes n)) named ∙ e;
   }
 
   by_name : (o : Option (List ℕ)) → class_name_at entries c.super_class ≡ o → IsSome o → c.super_class < length entries
@@ -159,10 +143,10 @@ file_parent given j c at spelled no_bad no_missing = by_sort own.1.super_class w
 
 -- ---- chains
 
-each_parent : (given : List ClassDef) → AllByRecursion HasSpelling given → refused_parents given ≡ [] → refused_missing_classes given ≡ [] → (class : ℕ)
-    → class < length (classes_of given) → nat_eq class 0 ≡ false → HasParent (classes_of given) class
+each_parent : (given : List ClassDef) → AllByRecursion HasSpelling given → refused_built_ins given ≡ [] → refused_parents given ≡ []
+    → refused_missing_classes given ≡ [] → (class : ℕ) → class < length (classes_of given) → nat_eq class 0 ≡ false → HasParent (classes_of given) class
 unfolding classes_of
-each_parent given spelled no_bad no_missing class within other = by_place (cases_lt class (length built_in)) where
+each_parent given spelled apart no_bad no_missing class within other = by_place (cases_lt class (length built_in)) where
   file : (j : ℕ) → class ≡ length built_in + j → (o : Option ClassDef) → slice_get given j ≡ o → HasParent (built_in ++ declared_from 0 given) class
   file j is None e =
       let past = past_none given j e in
@@ -171,7 +155,7 @@ each_parent given spelled no_bad no_missing class within other = by_place (cases
       let P : ℕ → Type 0 = HasParent (built_in ++ declared_from 0 given) in subst P (sym is) (file_parent given j c e spelled no_bad no_missing)
 
   by_place : (class < length built_in) ⊎ (length built_in ≤ class) → HasParent (built_in ++ declared_from 0 given) class
-  by_place (inl own) = (built_in_parent (declared_from 0 given) class own other).0
+  by_place (inl own) = built_in_parent given apart class own other
   by_place (inr later) = file (class - length built_in) (omega (arith, later)) (slice_get given (class - length built_in)) refl
 
 -- along a chain of at most this many classes
@@ -195,9 +179,9 @@ ends_in classes top linear parents (suc bound) class few within =
           (later above.parent (omega (arith, few, long)) (parent_of-within classes class above.parent above.parent_is))
 
 -- each class is below Object
-pub below_object : (given : List ClassDef) → AllByRecursion HasSpelling given → refused_parents given ≡ [] → refused_missing_classes given ≡ []
-    → AreTree (classes_of given) → (class : ℕ) → class < length (classes_of given) → is_among (object_of (classes_of given)) (chain_of (classes_of given) class) ≡ true
-below_object given spelled no_bad no_missing tree class within =
+pub below_object : (given : List ClassDef) → AllByRecursion HasSpelling given → refused_built_ins given ≡ [] → refused_parents given ≡ []
+    → refused_missing_classes given ≡ [] → AreTree (classes_of given) → (class : ℕ) → class < length (classes_of given) → is_among (object_of (classes_of given)) (chain_of (classes_of given) class) ≡ true
+below_object given spelled apart no_bad no_missing tree class within =
     let first : object_of (classes_of given) ≡ 0 = ap (λ o. unwrap_or o 0) (tree_object given) in
     ap (λ k. is_among k (chain_of (classes_of given) class)) first
-    ∙ ends_in (classes_of given) 0 tree.linear (each_parent given spelled no_bad no_missing) (length (chain_of (classes_of given) class)) class (omega arith) within
+    ∙ ends_in (classes_of given) 0 tree.linear (each_parent given spelled apart no_bad no_missing) (length (chain_of (classes_of given) class)) class (omega arith) within

@@ -1,6 +1,6 @@
 -- The start of main's class does little: a chain of superclasses has no more classes than the program, and each of them few fields.
-use Rattle.std.proofs.Common.{◌≡◌, ℕ, suc, ◌^◌, ◌<◌, ◌≤◌, not, false, List, length, map, reverse, unwrap_or, Option, Some, None, refl, arith, length-append}
-use Rattle.std.specs.List.{AllByRecursion}
+use Rattle.std.proofs.Common.{◌≡◌, ℕ, suc, ◌^◌, ◌<◌, ◌≤◌, not, false, List, length, map, reverse, unwrap_or, Option, Some, None, refl, arith, length-append, Bool, true, cond}
+use Rattle.std.specs.List.{AllByRecursion, filter}
 use Rattle.std.proofs.lemmas.List.{length-reverse}
 use Rattle.std.proofs.lemmas.List.FromFn.{length-range_with_len}
 use Rattle.std.proofs.lemmas.List.Quantifiers.{position-Some}
@@ -14,14 +14,15 @@ use Rattle.fm_law_linked.proofs.FewTexts.{filter_few, flat_few}
 use Rattle.fm_law_linked.proofs.ObjectSizes.{classes_few, fields_few, upwards_length}
 use Rattle.fm_law_sound.proofs.Opening.{with_text}
 use Rattle.fm_world.specs.BuiltIns.{built_in}
-use Rattle.fm_world.specs.Chains.{chain_of, class_at}
+use Rattle.fm_world.specs.Chains.{chain_of, class_at, given_number}
 use Rattle.fm_world.specs.Declarations.{declared_from}
 use Rattle.fm_world.specs.Members.{field_at, first_field}
 use Rattle.fm_world.specs.Numbers.{text_number}
-use Rattle.fm_world.specs.Programs.{classes_of, given_number, Outline, outline_of}
+use Rattle.fm_world.specs.Programs.{classes_of, Outline, outline_of}
 use Rattle.fm_world.specs.declared.declarations.Constant.{Constant}
 use Rattle.fm_world.specs.declared.declarations.Constant.TheVariants as constant
 use Rattle.fm_world.specs.declared.declarations.DeclaredClass.{DeclaredClass}
+use Rattle.std.specs.Prelude.{is_none}
 
 -- ---- one class
 
@@ -47,12 +48,18 @@ chain_few : (classes : List DeclaredClass) (class : ℕ) → length (chain_of cl
 unfolding chain_of
 chain_few classes class = upwards_length (suc (length classes)) classes (Some class)
 
+either_few : (b : Bool) (xs : List ℕ) → length (cond b [] xs) ≤ length xs
+either_few true xs = omega arith
+either_few false xs = omega arith
+
 opening_few : (o : Outline) → length (opening_classes o) ≤ suc (length o.classes)
 opening_few o =
     let chain = chain_few o.classes o.main_class in
     let turned = length-reverse (chain_of o.classes o.main_class) in
     let left = filter_few (λ above. not (is_started o (map (λ class. false) o.classes) above)) (reverse (chain_of o.classes o.main_class)) in
-    omega (arith, chain, turned, left)
+    let either = either_few (is_none (class_at o.classes o.main_class).file)
+    (filter (λ above. not (is_started o (map (λ class. false) o.classes) above)) (reverse (chain_of o.classes o.main_class))) in
+    omega (arith, chain, turned, left, either)
 
 starts_few : (o : Outline) → ((class : ℕ) → length (class_at o.classes class).fields ≤ 65536) → length o.classes ≤ 4124
     → length (start_actions o (opening_classes o)) ≤ 2 ^ 30

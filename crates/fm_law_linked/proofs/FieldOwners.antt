@@ -19,7 +19,7 @@ use Rattle.fm_code.specs.Spells.{HasSpelling}
 use Rattle.fm_code.specs.declared.class_file.ClassDef.{ClassDef}
 use Rattle.fm_code.specs.declared.class_file.Member.{Member}
 use Rattle.fm_code.specs.declared.constant_pool.Entry.{Entry}
-use Rattle.fm_link_supers.proofs.BuiltInParents.{count_is}
+use Rattle.fm_world.proofs.Completions.{count_is}
 use Rattle.fm_link_supers.proofs.Downwards.{among_head}
 use Rattle.fm_link_supers.proofs.HierarchyLemmas.{superinterfaces_only}
 use Rattle.fm_link_supers.proofs.ParentRefusals.{tree_object, length-declared, past_none, spelled_at}

@@ -1,5 +1,5 @@
 -- Class files by their place: their classes, and what no cause against them says of one of them.
-use Rattle.std.proofs.Common.{◌≡◌, refl, ◌∙◌, subst, ℕ, zero, suc, ◌+◌, ◌<◌, ◌⊎◌, Bool, true, false, List, [], ◌∷◌, ◌++◌, length, slice_get, Contains, Some, arith, zero-add}
+use Rattle.std.proofs.Common.{◌≡◌, ◌∙◌, subst, ℕ, zero, suc, ◌+◌, ◌<◌, true, List, [], ◌∷◌, ◌++◌, length, slice_get, Contains, Some, arith, zero-add}
 use Rattle.std.specs.List.{AllByRecursion, flat_map}
 use Rattle.std.proofs.lemmas.List.{get_or-append-add}
 use Rattle.std.proofs.lemmas.List.FromFn.{get_or-range_with_len, length-range_with_len}
@@ -45,22 +45,6 @@ class_of_file given j c at =
     record { number = own.number; declared = get_or-append-add built_in (declared_from 0 given) j no_class ∙ own.declared }
 
 -- ---- each kind of refusals is empty
-
-pub no_built_in_refused : (given : List ClassDef) (main : List ℕ) → refusals given main ≡ [] → refused_built_ins given ≡ []
-unfolding refusals
-no_built_in_refused given main none =
-    let to_built_ins = refused_duplicates given ++ refused_built_ins given in
-    let to_classes = to_built_ins ++ refused_missing_classes given in
-    let to_parents = to_classes ++ refused_parents given in
-    let to_fields = to_parents ++ refused_fields given in
-    let to_methods = to_fields ++ refused_methods given in
-    nil_right (refused_duplicates given) (refused_built_ins given)
-    (nil_left to_built_ins (refused_missing_classes given)
-    (nil_left to_classes (refused_parents given)
-    (nil_left to_parents (refused_fields given)
-    (nil_left to_fields (refused_methods given)
-    (nil_left to_methods (refused_not_implemented given)
-    (nil_left (to_methods ++ refused_not_implemented given) (refused_main given main) none))))))
 
 pub none_missing : (given : List ClassDef) (main : List ℕ) → refusals given main ≡ [] → refused_missing_classes given ≡ []
 unfolding refusals

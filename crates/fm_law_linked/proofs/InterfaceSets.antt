@@ -6,7 +6,7 @@ use Rattle.std.proofs.lemmas.Bool.{cases_lt, eqb-true, false≢true, lt-ltb, or_
 use Rattle.std.proofs.lemmas.List.{get_or_append_left}
 use Rattle.fm_code.specs.AccessFlags.{is_interface}
 use Rattle.fm_code.specs.declared.class_file.ClassDef.{ClassDef}
-use Rattle.fm_link_supers.proofs.BuiltInParents.{count_is, number_first}
+use Rattle.fm_world.proofs.Completions.{count_is, number_first}
 use Rattle.fm_link_supers.proofs.Distinct.{among_distinct}
 use Rattle.fm_link_supers.proofs.InterfaceLemmas.{superinterfaces_past}
 use Rattle.fm_link_supers.specs.inner.Hierarchy.{AreSound}
@@ -21,6 +21,7 @@ use Rattle.fm_world.specs.BuiltIns.{built_in}
 use Rattle.fm_world.specs.Chains.{chain_of, class_at, interfaces_of, interfaces_within, is_among, listed_interfaces, superinterfaces_of}
 use Rattle.fm_world.specs.Declarations.{declared_from, no_class}
 use Rattle.fm_world.specs.Descriptors.{class_number}
+use Rattle.fm_world.specs.Linking.{refused_built_ins}
 use Rattle.fm_world.specs.Lookups.{is_interface_at}
 use Rattle.fm_world.specs.Programs.{classes_of}
 use Rattle.fm_world.specs.declared.declarations.DeclaredClass.{DeclaredClass}
@@ -152,8 +153,8 @@ unfolding superinterfaces_of
 low_supers given class x within among = low_within given (suc (length (classes_of given))) class x within among
 
 -- a built-in class has only built-in interfaces
-pub low_interfaces : (given : List ClassDef) → AreSound (classes_of given) → (class x : ℕ) → class < length built_in
+pub low_interfaces : (given : List ClassDef) → refused_built_ins given ≡ [] → AreSound (classes_of given) → (class x : ℕ) → class < length built_in
     → is_among x (interfaces_of (classes_of given) class) ≡ true → x < length built_in
-low_interfaces given sound class x within among =
+low_interfaces given apart sound class x within among =
     let found = from_interfaces (classes_of given) sound class x among in
-    low_supers given found.0 x (built_in_chain given class found.0 within found.1.0) found.1.1
+    low_supers given found.0 x (built_in_chain given apart class found.0 within found.1.0) found.1.1

@@ -30,13 +30,13 @@ use Rattle.fm_types.specs.Typed.{entry_slots}
 use Rattle.fm_types.specs.declared.slots.Slot.TheVariants as slot
 use Rattle.fm_world.specs.BuiltIns.{built_in, string_name}
 use Rattle.fm_world.specs.Causes.{is_there_and, no_main, NoMain, Refusal, refused_if}
-use Rattle.fm_world.specs.Chains.{chain_of}
+use Rattle.fm_world.specs.Chains.{chain_of, given_number}
 use Rattle.fm_world.specs.Declarations.{declared_from, no_method}
 use Rattle.fm_world.specs.Descriptors.{class_number, kind_with, of_class, parameter_kinds}
 use Rattle.fm_world.specs.Linking.{refusals, refused_built_ins, refused_duplicates, refused_fields, refused_main, refused_methods, refused_missing_classes, refused_not_implemented, refused_parents}
 use Rattle.fm_world.specs.Members.{method_at, methods_from, methods_of, own_method, OwnedMethod}
 use Rattle.fm_world.specs.Numbers.{type_of_class}
-use Rattle.fm_world.specs.Programs.{classes_of, given_number, main_of, Outline, outline_of, program_of}
+use Rattle.fm_world.specs.Programs.{classes_of, main_of, Outline, outline_of, program_of}
 use Rattle.fm_world.specs.declared.declarations.DeclaredClass.{DeclaredClass}
 
 -- ---- no cause against main

@@ -1,9 +1,6 @@
 -- Throwables have their message at the first place: Throwable gives it, and each class below keeps it there.
-use Rattle.std.proofs.Common.{◌≡◌, refl, sym, ◌∙◌, ap, ℕ, suc, ◌+◌, ◌<◌, ◌≤◌, ◌⊎◌, inl, inr, ◌==◌, ◌||◌, ◌&&◌, Bool, true, false, List, [], ◌∷◌, ◌++◌, length, reverse, nat_le, Some, unwrap_or, slice_get, arith}
-use Rattle.std.specs.List.{flat_map}
+use Rattle.std.proofs.Common.{◌≡◌, refl, sym, ◌∙◌, ap, ℕ, ◌+◌, ◌<◌, ◌≤◌, ◌⊎◌, inl, inr, ◌==◌, ◌||◌, ◌&&◌, Bool, true, false, List, [], ◌∷◌, ◌++◌, length, nat_le, Some, unwrap_or, slice_get, arith, length-append}
 use Rattle.std.proofs.lemmas.Bool.{and_parts, cases_lt, eqb-true, false≢true}
-use Rattle.std.proofs.lemmas.Grind.{flat_map-append}
-use Rattle.std.proofs.lemmas.List.{reverse-append}
 use Rattle.fm_base.specs.declared.kinds.Base.{Base}
 use Rattle.fm_base.specs.declared.kinds.Base.TheVariants as base
 use Rattle.fm_base.specs.declared.kinds.Kind.{Kind}
@@ -17,30 +14,23 @@ use Rattle.fm_frames.specs.NativeRows.{text_kind}
 use Rattle.fm_types.proofs.ClassTree.{among_one, chain_past_end}
 use Rattle.fm_types.specs.Fits.{AreTree, depth_of, fits_base, fits_type, is_objects_within, object_of}
 use Rattle.fm_types.specs.Named.{throwable_type}
-use Rattle.fm_world.proofs.Displays.{chain_ends}
+use Rattle.fm_link_supers.proofs.BuiltInParents.{are_completed}
+use Rattle.fm_world.proofs.Completions.{count_is}
 use Rattle.fm_world.specs.BuiltIns.{built_in, string_name}
-use Rattle.fm_world.specs.Chains.{chain_of, class_at, is_among, upwards}
+use Rattle.fm_world.specs.Chains.{chain_of, is_among}
 use Rattle.fm_world.specs.Declarations.{declared_from}
 use Rattle.fm_world.specs.Descriptors.{declared_kind, typed}
+use Rattle.fm_world.specs.Linking.{refused_built_ins}
 use Rattle.fm_world.specs.Lookups.{is_interface_at}
-use Rattle.fm_world.specs.Members.{kinds_of, own_kinds}
+use Rattle.fm_world.specs.Members.{kinds_of}
 use Rattle.fm_world.specs.Numbers.{type_of_class}
 use Rattle.fm_world.specs.Programs.{classes_of, kind_at, outline_of}
 use Rattle.fm_world.specs.declared.declarations.DeclaredClass.{DeclaredClass}
-use Rattle.fm_law_sound.proofs.HiddenFields.{hidden_kind}
-use Rattle.fm_law_sound.proofs.MadeObjects.{two_up, size_is, object_top, both_kinds}
+use Rattle.fm_world.specs.inner.Completions.{AreCompleted}
+use Rattle.fm_law_sound.proofs.FieldPlaces.{kinds_grow}
+use Rattle.fm_law_sound.proofs.HiddenFields.{hidden_kind, throwable_kinds}
 
 -- ---- the class of what is thrown, which has the number 7 in each program
-
-throwable_chain : (given : List DeclaredClass) → chain_of (built_in ++ given) 7 ≡ 7 ∷ 0 ∷ []
-unfolding chain_of built_in
-throwable_chain given =
-    ap (λ n. upwards (suc n) (built_in ++ given) (Some 7)) (size_is given)
-    ∙ two_up (26 + length given) (built_in ++ given) 7 (object_there given) (object_top given)
-
-throwable_kinds : (given : List DeclaredClass) → kinds_of (built_in ++ given) 7 ≡ declared_kind (built_in ++ given) (typed 0 (object string_name)) ∷ []
-unfolding kinds_of built_in
-throwable_kinds given = ap (both_kinds (built_in ++ given)) (throwable_chain given)
 
 not_interface : (given : List DeclaredClass) → is_interface_at (built_in ++ given) 7 ≡ false
 unfolding built_in
@@ -55,14 +45,9 @@ kinds_below : (classes : List DeclaredClass) → AreTree classes → (class abov
     → is_among above (chain_of classes class) ≡ true
     → kinds_of classes above ≡ k ∷ []
     → slice_get (kinds_of classes class) 0 ≡ Some k
-unfolding kinds_of
 kinds_below classes tree class above k within among is =
-    let ends = chain_ends classes tree.linear (length (chain_of classes class)) class above (omega arith) within among in
-    let own : ℕ → List Kind = λ n. own_kinds classes (class_at classes n) in
-    ap (λ chain. slice_get (both_kinds classes chain) 0) ends.joined
-    ∙ ap (λ list. slice_get (flat_map own list) 0) (reverse-append ends.front (chain_of classes above))
-    ∙ ap (λ ks. slice_get ks 0) (flat_map-append own (reverse (chain_of classes above)) (reverse ends.front))
-    ∙ first_kept (both_kinds classes (chain_of classes above)) (flat_map own (reverse ends.front)) k is
+    let grows = kinds_grow classes tree class above within among in
+    ap (λ ks. slice_get ks 0) grows.1 ∙ first_kept (kinds_of classes above) grows.0 k is
 
 -- a class that is below another one is there, where the other one is
 pub below_inside : (classes : List DeclaredClass) (class above : ℕ) → is_among above (chain_of classes class) ≡ true → above < length classes → class < length classes
@@ -115,27 +100,27 @@ below_of classes of class plain fits =
 -- ---- messages
 
 -- what is thrown has its message at the first place
-message_first : (given : List DeclaredClass) → AreTree (built_in ++ given) → (of : TypeRef)
+message_first : (given : List DeclaredClass) → AreCompleted (built_in ++ given) → AreTree (built_in ++ given) → (of : TypeRef)
     → fits_type (built_in ++ given) of (type_of_class 7) ≡ true
     → kind_at (built_in ++ given) of 0 ≡ Some (declared_kind (built_in ++ given) (typed 0 (object string_name)))
-message_first given tree of fits =
+message_first given completed tree of fits =
     let classes = built_in ++ given in
     let first : object_of classes ≡ 0 = ap (λ n. unwrap_or n 0) (object_there given) in
     let plain : (is_interface_at classes 7 || (7 == object_of classes)) ≡ false =
     ap (λ b. b || (7 == object_of classes)) (not_interface given) ∙ ap (λ n. 7 == n) first in
     let found = below_of classes of 7 plain fits in
-    let many = size_is given in
-    let inside = below_inside classes found.below 7 found.among (omega (arith, many)) in
+    let many = length-append built_in given in
+    let inside = below_inside classes found.below 7 found.among (omega (arith, many, count_is)) in
     ap (λ t. kind_at classes t 0) found.type_is
-    ∙ kinds_below classes tree found.below 7 (declared_kind classes (typed 0 (object string_name))) inside found.among (throwable_kinds given)
+    ∙ kinds_below classes tree found.below 7 (declared_kind classes (typed 0 (object string_name))) inside found.among (throwable_kinds given completed)
 
-pub message_there : (given : List ClassDef) (main : List ℕ) → AreTree (classes_of given) → (of : TypeRef)
+pub message_there : (given : List ClassDef) (main : List ℕ) → refused_built_ins given ≡ [] → AreTree (classes_of given) → (of : TypeRef)
     → fits_type (outline_of given main).classes of (throwable_type (outline_of given main)) ≡ true
     → kind_at (outline_of given main).classes of 0 ≡ Some (text_kind (outline_of given main))
 unfolding outline_of classes_of
-message_there given main tree of fits =
+message_there given main apart tree of fits =
     let o = outline_of given main in
     let more = declared_from 0 given in
     let thrown : throwable_type o ≡ type_of_class 7 = ap (λ n. type_of_class (unwrap_or n 0)) (throwable_there more) in
-    message_first more tree of (ap (fits_type (built_in ++ more) of) (sym thrown) ∙ fits)
+    message_first more (are_completed given apart) tree of (ap (fits_type (built_in ++ more) of) (sym thrown) ∙ fits)
     ∙ ap Some (hidden_kind more ∙ sym (ap kind.Ref (string-is o more refl)))

@@ -1,6 +1,6 @@
 -- The class that declares a method that is found: above the class whose objects are called, or one of its interfaces. So a method is selected for each of these
 -- objects, of a class that their type fits (JVMS 5.4.5, 5.4.6).
-use Rattle.std.proofs.Common.{◌≡◌, refl, sym, ◌∙◌, ap, subst, ℕ, zero, suc, ◌+◌, ◌-◌, ◌<◌, ◌≤◌, ◌⊎◌, inl, inr, ◌==◌, ◌&&◌, not, cond, Bool, true, false, List, [], ◌∷◌, ◌++◌, length, map, nat_eq, get_or, slice_get, position, codes, Option, Some, None, is_some, option_and_then, option_map, option_to_list, unwrap_or, zero-add, arith, ⊎_elim}
+use Rattle.std.proofs.Common.{◌≡◌, refl, sym, ◌∙◌, ap, subst, ℕ, ◌+◌, ◌-◌, ◌<◌, ◌≤◌, ◌⊎◌, inl, inr, ◌==◌, ◌&&◌, not, cond, Bool, true, false, List, [], ◌∷◌, ◌++◌, length, map, nat_eq, get_or, slice_get, position, codes, Option, Some, None, is_some, option_and_then, option_map, option_to_list, unwrap_or, zero-add, arith, ⊎_elim}
 use Rattle.std.specs.List.{AllByRecursion, flat_map}
 use Rattle.std.specs.Str.{bytes_eq}
 use Rattle.std.proofs.lemmas.Bool.{cases_lt, eqb-true, false≢true, or_cases, or_left}
@@ -18,8 +18,8 @@ use Rattle.fm_code.specs.Spells.{HasSpelling}
 use Rattle.fm_code.specs.declared.class_file.ClassDef.{ClassDef}
 use Rattle.fm_code.specs.declared.class_file.Member.{Member}
 use Rattle.fm_code.specs.declared.constant_pool.Entry.{Entry}
-use Rattle.fm_check_program.proofs.Trees.{no_parent_refused, tree_of}
-use Rattle.fm_link_supers.proofs.BuiltInParents.{count_is}
+use Rattle.fm_check_program.proofs.Trees.{no_built_in_refused, no_parent_refused, tree_of}
+use Rattle.fm_world.proofs.Completions.{count_is}
 use Rattle.fm_link_supers.proofs.Downwards.{among_head, among_left}
 use Rattle.fm_link_supers.proofs.HierarchyLemmas.{interfaces_only}
 use Rattle.fm_link_supers.proofs.ParentRefusals.{are_sound, nil_left, nil_right, none_at, past_none, refused_not, tree_object}
@@ -46,7 +46,7 @@ use Rattle.fm_world.specs.Causes.{abstract_call, abstract_methods, declared_name
 use Rattle.fm_world.specs.Chains.{chain_of, class_at, first_found, interfaces_of, is_among, superinterfaces_of}
 use Rattle.fm_world.specs.Declarations.{declared_method, declared_of, no_method}
 use Rattle.fm_world.specs.Descriptors.{class_number, class_type}
-use Rattle.fm_world.specs.Linking.{refusals, refused_parents}
+use Rattle.fm_world.specs.Linking.{refusals, refused_built_ins, refused_parents}
 use Rattle.fm_world.specs.Lookups.{any_flags, class_searched, constructor_name, is_abstract_method, is_interface_at, is_selectable, method_path, object_number, resolved_method, select}
 use Rattle.fm_world.specs.Members.{first_method, method_among, method_at, methods_from, methods_of, own_method, OwnedMethod}
 use Rattle.fm_world.specs.Numbers.{type_of_class}
@@ -215,21 +215,24 @@ module _ (given : List ClassDef) (main : List ℕ) (spelled : AllByRecursion Has
   abbrev classes : List DeclaredClass
   classes = classes_of given
 
+  pub apart : refused_built_ins given ≡ []
+  apart = no_built_in_refused given main clean
+
   pub no_bad : refused_parents given ≡ []
   no_bad = no_parent_refused given main clean
 
   pub tree : AreTree (classes_of given)
-  tree = tree_of given spelled no_bad
+  tree = tree_of given spelled apart no_bad
 
   pub sound : AreSound (classes_of given)
-  sound = are_sound given spelled no_bad
+  sound = are_sound given spelled apart no_bad
 
   pub first : object_of (classes_of given) ≡ 0
   first = ap (λ n. unwrap_or n 0) (tree_object given)
 
   pub object_top : (class : ℕ) → class < length (classes_of given) → is_among 0 (chain_of (classes_of given) class) ≡ true
   object_top class within =
-      ap (λ k. is_among k (chain_of (classes_of given) class)) (sym first) ∙ below_object given spelled no_bad (none_missing given main clean) tree class within
+      ap (λ k. is_among k (chain_of (classes_of given) class)) (sym first) ∙ below_object given spelled apart no_bad (none_missing given main clean) tree class within
 
   -- ---- along the path of a search
 
@@ -412,7 +415,7 @@ module _ (given : List ClassDef) (main : List ℕ) (spelled : AllByRecursion Has
         (own_abstract (classes_of given) any_flags name descriptor owner method found abstract_here))
 
     by_place : (class < length built_in) ⊎ (length built_in ≤ class) → is_some (select (classes_of given) class method) ≡ true
-    by_place (inl low) = absurd (marker_bare given owner own.place (low_interfaces given sound class owner low there) is own.inside)
+    by_place (inl low) = absurd (marker_bare given owner own.place (low_interfaces given apart sound class owner low there) is own.inside)
     by_place (inr later) = of_file (class - length built_in) (omega (arith, later)) (slice_get given (class - length built_in)) refl
 
   target_fits : (of : TypeRef) (r : IsReceiver given of) (owner method target : ℕ) → IsMethodOf classes owner method → Reached given r.class owner

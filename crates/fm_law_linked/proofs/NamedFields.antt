@@ -30,7 +30,7 @@ use Rattle.fm_world.proofs.Displays.{class_number-within}
 use Rattle.fm_world.specs.Causes.{static_field_wanted}
 use Rattle.fm_world.specs.Chains.{chain_of, is_among}
 use Rattle.fm_world.specs.Descriptors.{class_number, class_type, of_class, type_in, type_with}
-use Rattle.fm_world.specs.Linking.{refused_fields, refused_parents}
+use Rattle.fm_world.specs.Linking.{refused_built_ins, refused_fields, refused_parents}
 use Rattle.fm_world.specs.Lookups.{field_path, resolved_field}
 use Rattle.fm_world.specs.Members.{field_among, field_at, slot_of}
 use Rattle.fm_world.specs.Numbers.{type_of_class}
@@ -46,14 +46,14 @@ pub record IsHolder (given : List ClassDef) (of : TypeRef) (field : ℕ) : Type 
   pub type_is : of ≡ type_of_class class
   pub below : is_among (field_at (classes_of given) field).class (chain_of (classes_of given) class) ≡ true
 
-pub holder : (given : List ClassDef) (main : List ℕ) → AllByRecursion HasSpelling given → refused_parents given ≡ [] → AreTree (classes_of given) → (index : ℕ)
+pub holder : (given : List ClassDef) (main : List ℕ) → AllByRecursion HasSpelling given → refused_built_ins given ≡ [] → refused_parents given ≡ [] → AreTree (classes_of given) → (index : ℕ)
     (f : FieldId) (t : TypeId) (named of : TypeRef)
     → IsAccess given (outline_of given main) index f.0 t.0 false
     → slice_get (outline_of given main).types t.0 ≡ Some named
     → fits_type (classes_of given) of named ≡ true
     → IsHolder given of f.0
 unfolding outline_of resolved_field
-holder given main spelled no_bad tree index f t named of access at fits =
+holder given main spelled apart no_bad tree index f t named of access at fits =
     by_class (class_number classes access.at.member.class) refl access.at.found where
       classes : List DeclaredClass
       classes = classes_of given
@@ -88,7 +88,7 @@ holder given main spelled no_bad tree index f t named of access at fits =
           → IsHolder given of f.0
       by_class None e is = absurd (none-some f.0 is)
       by_class (Some k) e is =
-          let its = instance_above given spelled (are_sound given spelled no_bad) access.at.member.name access.at.member.descriptor k f.0 is access.static_is in
+          let its = instance_above given spelled (are_sound given spelled apart no_bad) access.at.member.name access.at.member.descriptor k f.0 is access.static_is in
           let plain : is_seen_as_object classes k ≡ false = not_seen k its.above its.among its.plain (is_seen_as_object classes k) refl in
           let found = below_of classes of k plain (ap (fits_type classes of) (named_is k e) ∙ fits) in
           record {
@@ -105,7 +105,7 @@ abbrev HasField : Outline → TypeRef → ℕ → Type 0
 HasField o of field = kind_at o.classes of (slot_of o.classes field) ≡ Some (kind_of_field o field)
 
 -- an access by an instruction of the program
-accessed : (given : List ClassDef) (main : List ℕ) → AllByRecursion HasSpelling given → refused_parents given ≡ [] → refused_fields given ≡ []
+accessed : (given : List ClassDef) (main : List ℕ) → AllByRecursion HasSpelling given → refused_built_ins given ≡ [] → refused_parents given ≡ [] → refused_fields given ≡ []
     → AreTree (classes_of given)
     → (method : ℕ) (i : Insn) (index : ℕ) (f : FieldId) (t : TypeId) (named of : TypeRef)
     → IsNamed (program_of given main) method i (resolved.OfField f t)
@@ -116,10 +116,10 @@ accessed : (given : List ClassDef) (main : List ℕ) → AllByRecursion HasSpell
     → fits_type (classes_of given) of named ≡ true
     → HasField (outline_of given main) of f.0
 unfolding program_of outline_of
-accessed given main spelled no_bad no_field tree method i index f t named of x operand use_is flag at fits =
+accessed given main spelled apart no_bad no_field tree method i index f t named of x operand use_is flag at fits =
     let o = outline_of given main in
     let access = access_there given main no_field method x.item x.code i index f t false x.code_is x.insn_is operand use_is flag in
-    let its = holder given main spelled no_bad tree index f t named of access at fits in
+    let its = holder given main spelled apart no_bad tree index f t named of access at fits in
     let inside = subst (NamesMember o) use_is (uses_name_members given main (class_of_method o method) index) in
     ap (λ u. kind_at o.classes u (slot_of o.classes f.0)) its.type_is ∙ field_place o.classes tree its.class f.0 its.within inside access.static_is its.below
 
@@ -127,7 +127,7 @@ true_wanted : {A : Type 0} → Some true ≡ Some false → A
 true_wanted is = absurd (false≢true (sym (same_Some true false is)))
 
 -- an object of a type that fits what is named has the field
-pub fields_there : (given : List ClassDef) (main : List ℕ) → AllByRecursion HasSpelling given → refused_parents given ≡ [] → refused_fields given ≡ []
+pub fields_there : (given : List ClassDef) (main : List ℕ) → AllByRecursion HasSpelling given → refused_built_ins given ≡ [] → refused_parents given ≡ [] → refused_fields given ≡ []
     → AreTree (classes_of given)
     → (method : ℕ) (i : Insn) (f : FieldId) (t : TypeId) (named of : TypeRef)
     → IsNamed (program_of given main) method i (resolved.OfField f t)
@@ -135,10 +135,10 @@ pub fields_there : (given : List ClassDef) (main : List ℕ) → AllByRecursion 
     → slice_get (outline_of given main).types t.0 ≡ Some named
     → fits_type (classes_of given) of named ≡ true
     → HasField (outline_of given main) of f.0
-fields_there given main spelled no_bad no_field tree method (insn.GetField index) f t named of x flag at fits =
-    accessed given main spelled no_bad no_field tree method (insn.GetField index) index f t named of x refl x.use_is flag at fits
-fields_there given main spelled no_bad no_field tree method (insn.PutField index) f t named of x flag at fits =
-    accessed given main spelled no_bad no_field tree method (insn.PutField index) index f t named of x refl x.use_is flag at fits
-fields_there given main spelled no_bad no_field tree method (insn.GetStatic index) f t named of x flag at fits = true_wanted flag
-fields_there given main spelled no_bad no_field tree method (insn.PutStatic index) f t named of x flag at fits = true_wanted flag
-fields_there given main spelled no_bad no_field tree method i f t named of x flag at fits = absurd (none-some false flag)
+fields_there given main spelled apart no_bad no_field tree method (insn.GetField index) f t named of x flag at fits =
+    accessed given main spelled apart no_bad no_field tree method (insn.GetField index) index f t named of x refl x.use_is flag at fits
+fields_there given main spelled apart no_bad no_field tree method (insn.PutField index) f t named of x flag at fits =
+    accessed given main spelled apart no_bad no_field tree method (insn.PutField index) index f t named of x refl x.use_is flag at fits
+fields_there given main spelled apart no_bad no_field tree method (insn.GetStatic index) f t named of x flag at fits = true_wanted flag
+fields_there given main spelled apart no_bad no_field tree method (insn.PutStatic index) f t named of x flag at fits = true_wanted flag
+fields_there given main spelled apart no_bad no_field tree method i f t named of x flag at fits = absurd (none-some false flag)

@@ -14,7 +14,7 @@ use Rattle.fm_code.specs.Spells.{HasSpelling}
 use Rattle.fm_code.specs.declared.class_file.ClassDef.{ClassDef}
 use Rattle.fm_code.specs.declared.class_file.Member.{Member}
 use Rattle.fm_code.specs.declared.constant_pool.Entry.{Entry}
-use Rattle.fm_link_supers.proofs.BuiltInParents.{count_is, IsBelow}
+use Rattle.fm_world.proofs.Completions.{count_is, IsBelow}
 use Rattle.fm_link_supers.proofs.Downwards.{among_head, among_right}
 use Rattle.fm_link_supers.proofs.ParentRefusals.{tree_object, length-declared, nil_left, none_at, past_none, refused_not}
 use Rattle.fm_link_refusals.proofs.LeftOver.{left_over_parts}
@@ -37,7 +37,7 @@ use Rattle.fm_world.specs.BuiltIns.{built_in}
 use Rattle.fm_world.specs.Causes.{abstract_call, abstract_from, abstract_methods, declared_name, is_left_over, left_over, method_text, NotImplemented, refused}
 use Rattle.fm_world.specs.Chains.{chain_of, class_at, interfaces_of, is_among, parent_of, upwards}
 use Rattle.fm_world.specs.Declarations.{declared_from, declared_method, declared_of, no_method}
-use Rattle.fm_world.specs.Linking.{refused_not_implemented}
+use Rattle.fm_world.specs.Linking.{refused_built_ins, refused_not_implemented}
 use Rattle.fm_world.specs.Lookups.{is_abstract_method, is_selectable, select}
 use Rattle.fm_world.specs.Members.{first_method, method_among, method_at, methods_from, methods_of, own_method, owned_methods, OwnedMethod}
 use Rattle.fm_world.specs.Programs.{class_of_type, classes_of, outline_of}
@@ -160,11 +160,11 @@ within_count classes n step (suc bound) (Some k) below above among =
       by_first later (inr rest) = later rest
 
 -- above a built-in class are only built-in classes
-pub built_in_chain : (given : List ClassDef) (class above : ℕ) → class < length built_in → is_among above (chain_of (classes_of given) class) ≡ true
+pub built_in_chain : (given : List ClassDef) → refused_built_ins given ≡ [] → (class above : ℕ) → class < length built_in → is_among above (chain_of (classes_of given) class) ≡ true
     → above < length built_in
 unfolding chain_of classes_of
-built_in_chain given class above within among =
-    within_count (classes_of given) (length built_in) (built_in_above (declared_from 0 given)) (suc (length (classes_of given))) (Some class) within above among
+built_in_chain given apart class above within among =
+    within_count (classes_of given) (length built_in) (built_in_above given apart) (suc (length (classes_of given))) (Some class) within above among
 
 -- ---- methods of files
 
@@ -200,13 +200,13 @@ found_itself classes name descriptor class above target found is =
     ∙ ap (λ d. method_among classes is_selectable name d (chain_of classes class)) found.descriptor_is ∙ is
 
 -- what is found for objects of a class, of a file or built in, isn't abstract
-found_concrete : (given : List ClassDef) → refused_not_implemented given ≡ [] → (name descriptor : List ℕ) (class above target : ℕ)
+found_concrete : (given : List ClassDef) → refused_built_ins given ≡ [] → refused_not_implemented given ≡ [] → (name descriptor : List ℕ) (class above target : ℕ)
     → (length built_in ≤ class → IsPlain (classes_of given) class)
     → is_among above (chain_of (classes_of given) class) ≡ true
     → own_method (classes_of given) is_selectable name descriptor above ≡ Some target
     → method_among (classes_of given) is_selectable name descriptor (chain_of (classes_of given) class) ≡ Some target
     → is_abstract_method (classes_of given) target ≡ false
-found_concrete given none_refused name descriptor class above target objects among own is =
+found_concrete given apart none_refused name descriptor class above target objects among own is =
     by_flag (is_abstract_method classes target) refl where
       classes : List DeclaredClass
       classes = classes_of given
@@ -242,7 +242,7 @@ found_concrete given none_refused name descriptor class above target objects amo
       by_place : is_abstract_method classes target ≡ true → (class < length built_in) ⊎ (length built_in ≤ class) → is_abstract_method classes target ≡ false
       by_place abstract (inl low) =
           built_in_concrete given target
-          (let inside = built_in_chain given class above low among in let its = found.owner in omega (arith, inside, its))
+          (let inside = built_in_chain given apart class above low among in let its = found.owner in omega (arith, inside, its))
       by_place abstract (inr later) = of_file (class - length built_in) (omega (arith, later)) abstract (slice_get given (class - length built_in)) refl
 
       by_flag : (b : Bool) → is_abstract_method classes target ≡ b → is_abstract_method classes target ≡ false
@@ -251,12 +251,12 @@ found_concrete given none_refused name descriptor class above target objects amo
 
 -- ---- what is selected
 
-selected_concrete : (given : List ClassDef) → AllByRecursion HasSpelling given → refused_not_implemented given ≡ [] → (class method target : ℕ)
+selected_concrete : (given : List ClassDef) → AllByRecursion HasSpelling given → refused_built_ins given ≡ [] → refused_not_implemented given ≡ [] → (class method target : ℕ)
     → (length built_in ≤ class → IsPlain (classes_of given) class)
     → select (classes_of given) class method ≡ Some target
     → is_abstract_method (classes_of given) target ≡ false
 unfolding select
-selected_concrete given spelled none_refused class method target objects is = by_private (is_private m.flags) refl is where
+selected_concrete given spelled apart none_refused class method target objects is = by_private (is_private m.flags) refl is where
   classes : List DeclaredClass
   classes = classes_of given
 
@@ -269,7 +269,7 @@ selected_concrete given spelled none_refused class method target objects is = by
   by_private true e same = sym (ap (is_abstract_method classes) (same_Some method target same)) ∙ private_there given spelled method e
   by_private false e found =
       let path = found_among (own_method classes is_selectable m.name m.descriptor) (chain_of classes class) target found in
-      found_concrete given none_refused m.name m.descriptor class path.0 target objects path.1.0 path.1.1 found
+      found_concrete given apart none_refused m.name m.descriptor class path.0 target objects path.1.0 path.1.1 found
 
 -- what is required of the class of a type, if it has one
 abbrev pub OfClass : List DeclaredClass → Option ℕ → Type 0
@@ -282,19 +282,19 @@ object_first given past =
     let first : object_of (classes_of given) ≡ 0 = ap (λ o. unwrap_or o 0) (tree_object given) in omega (arith, first, past, count_is)
 
 -- no abstract method is selected for an object, be it an array
-pub selected_there : (given : List ClassDef) (main : List ℕ) → AllByRecursion HasSpelling given → refused_not_implemented given ≡ []
-    → (t : TypeRef) (method target : ℕ) → HasObjects (outline_of given main) t
+pub selected_there : (given : List ClassDef) (main : List ℕ) → AllByRecursion HasSpelling given → refused_built_ins given ≡ []
+    → refused_not_implemented given ≡ [] → (t : TypeRef) (method target : ℕ) → HasObjects (outline_of given main) t
     → select (outline_of given main).classes (unwrap_or (class_of_type t) (object_of (outline_of given main).classes)) method ≡ Some target
     → is_abstract_method (outline_of given main).classes target ≡ false
 unfolding outline_of
-selected_there given main spelled none_refused t method target objects is = by_class (class_of_type t) refl where
+selected_there given main spelled apart none_refused t method target objects is = by_class (class_of_type t) refl where
   classes : List DeclaredClass
   classes = classes_of given
 
   by_class : (o : Option ℕ) → class_of_type t ≡ o → is_abstract_method classes target ≡ false
   by_class None e =
-      selected_concrete given spelled none_refused (object_of classes) method target (λ past. absurd (object_first given past))
+      selected_concrete given spelled apart none_refused (object_of classes) method target (λ past. absurd (object_first given past))
       (sym (ap (λ c. select classes (unwrap_or c (object_of classes)) method) e) ∙ is)
   by_class (Some class) e =
-      selected_concrete given spelled none_refused class method target (λ past. subst (OfClass classes) e objects)
+      selected_concrete given spelled apart none_refused class method target (λ past. subst (OfClass classes) e objects)
       (sym (ap (λ c. select classes (unwrap_or c (object_of classes)) method) e) ∙ is)

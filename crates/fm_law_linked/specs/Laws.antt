@@ -40,12 +40,15 @@ use Rattle.fm_world.specs.Programs.{class_of_type, code_at, IsTypeIn, kind_at, P
 use Rattle.fm_world.specs.declared.declarations.DeclaredClass.{DeclaredClass}
 use Rattle.fm_world.specs.declared.uses.Use.{Use}
 use Rattle.fm_world.specs.declared.uses.Use.TheVariants as resolved
+use Rattle.fm_world.specs.inner.Completions.{AreCompleted}
 
 -- what linking makes sure of
 pub record IsLinkedWell (p : Program) : Type 0 where
   -- the classes that are given, after the built-in ones, which have the same numbers in each program
   pub given : List DeclaredClass
   pub classes : p.outline.classes ≡ built_in ++ given
+  -- what completes a built-in class leaves the superclasses of the table, and the fields of its objects (JVMS 5.3.5)
+  pub completed : AreCompleted (built_in ++ given)
   -- a type that has a number is of a class that is there
   pub types : (n : ℕ) (t : TypeRef) → slice_get p.outline.types n ≡ Some t → IsTypeIn p.outline.classes t
   -- a method is of a class that is there

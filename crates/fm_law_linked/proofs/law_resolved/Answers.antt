@@ -12,6 +12,7 @@ resolved p well few small = record {
   runnable = record {
     given = well.given;
     classes = well.classes;
+    completed = well.completed;
     few_types = few;
     sizes = small;
     types = well.types;
