@@ -6,7 +6,8 @@ use Rattle.std.proofs.lemmas.Bool.{and_parts, cases_lt, false≢true, ltb-true}
 use Rattle.std.proofs.lemmas.List.{get_or_append_left}
 use Rattle.std.proofs.lemmas.Option.{none-some}
 use Rattle.fm_exec_calls.specs.Calls.{AreRowsBuiltIn}
-use Rattle.fm_frames.specs.Natives.{Native, native_of_row}
+use Rattle.fm_frames.specs.Natives.{native_of_row}
+use Rattle.fm_frames.specs.declared.natives.Native.{Native}
 use Rattle.fm_frames.specs.Runnable.{IsRunnable}
 use Rattle.fm_frames.specs.Starts.{is_started, to_start}
 use Rattle.fm_types.specs.Named.{class_of_method}

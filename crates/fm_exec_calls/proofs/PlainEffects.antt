@@ -3,7 +3,7 @@ use Rattle.std.proofs.Common.{◌≡◌, ℕ, List, Option, None, Some, refl}
 use Rattle.fm_frames.specs.CallRows.{entered}
 use Rattle.fm_frames.specs.Effects.{Effect}
 use Rattle.fm_frames.specs.NativeRows.{native_effect}
-use Rattle.fm_frames.specs.Natives.{Native}
+use Rattle.fm_frames.specs.declared.natives.Native.{Native}
 use Rattle.fm_frames.specs.Sights.{Sight}
 use Rattle.fm_world.specs.Programs.{Outline}
 use Rattle.fm_frames.proofs.EachCall.{entered_cases}

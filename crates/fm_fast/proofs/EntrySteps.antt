@@ -24,7 +24,8 @@ use Rattle.fm_frames.proofs.Calling.{called-one, left-caller}
 use Rattle.fm_frames.specs.Acts.{Choose, set_static}
 use Rattle.fm_frames.specs.CallRows.{entered, entered_as, native_of, special_effect, static_effect, words_of_arguments}
 use Rattle.fm_frames.specs.Effects.{Calls, Effect, Returns, going, words}
-use Rattle.fm_frames.specs.Natives.{ObjectInit, native_of_row}
+use Rattle.fm_frames.specs.Natives.{native_of_row}
+use Rattle.fm_frames.specs.declared.natives.Native.TheVariants.{ObjectInit}
 use Rattle.fm_frames.specs.NumberRows.{move_effect}
 use Rattle.fm_frames.specs.ObjectRows.{starting}
 use Rattle.fm_frames.specs.Starts.{is_started, started_by, to_start, with_start}

@@ -3,7 +3,7 @@
 ghost use Rattle.std.specs.Prelude.{◌≡◌, true, false, [], filter, not, Some};
 ghost use Rattle.fm_fast.specs.inner.Entries.{Enters};
 ghost use Rattle.fm_frames.specs.CallRows.{native_of};
-ghost use Rattle.fm_frames.specs.Natives.{ObjectInit};
+ghost use Rattle.fm_frames.specs.declared.natives.Native.TheVariants.{ObjectInit};
 ghost use Rattle.fm_frames.specs.Runnable.{IsRunnable};
 ghost use Rattle.fm_frames.specs.Starts.{is_started};
 ghost use Rattle.fm_frames.specs.inner.Doings.{NextFits};

@@ -14,7 +14,7 @@ use Rattle.fm_frames.specs.CallRows as calls
 use Rattle.fm_frames.specs.CallRows.{entered, entered_as, native_of, receiver_class, words_of_arguments}
 use Rattle.fm_frames.specs.Effects.{Calls, Effect, going}
 use Rattle.fm_frames.specs.NativeRows.{native_effect}
-use Rattle.fm_frames.specs.Natives.{Native}
+use Rattle.fm_frames.specs.declared.natives.Native.{Native}
 use Rattle.fm_frames.specs.ObjectRows.{starting}
 use Rattle.fm_frames.specs.Operands.{thrown, thrown_null}
 use Rattle.fm_frames.specs.Sights.{Looks, Sight, Thing}

@@ -8,7 +8,8 @@ use Rattle.fm_frames.specs.ArrayRows.{array_actions}
 use Rattle.fm_frames.specs.CallRows.{entered_as, native_of}
 use Rattle.fm_frames.specs.Effects.{acting, Effect, Exits, Falls, Free, FreeChain, going, int_word, Make, MakeLiteral, making, printing, Put, SameOperands, SetChain, SetStatic, Source, words}
 use Rattle.fm_frames.specs.NativeRows.{has_text, native_effect, text_made}
-use Rattle.fm_frames.specs.Natives.{Native, native_of_row}
+use Rattle.fm_frames.specs.Natives.{native_of_row}
+use Rattle.fm_frames.specs.declared.natives.Native.{Native}
 use Rattle.fm_frames.specs.ObjectRows as objects
 use Rattle.fm_frames.specs.Operands.{thrown}
 use Rattle.fm_frames.specs.Rows.{effect_of}

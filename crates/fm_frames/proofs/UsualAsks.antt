@@ -8,7 +8,9 @@ use Rattle.fm_world.specs.BuiltIns.{string_name}
 use Rattle.fm_world.specs.Programs.{Outline}
 use Rattle.fm_frames.specs.Effects.{Effect, faulty, Faults, going, OfPlace}
 use Rattle.fm_frames.specs.NativeRows.{is_builder, native_effect, on_built, on_shown, text_kind}
-use Rattle.fm_frames.specs.Natives.{Native, Shown, ShownBoolean, ShownChar, ShownInt, ShownLong, ShownText}
+use Rattle.fm_frames.specs.declared.natives.Native.{Native}
+use Rattle.fm_frames.specs.declared.natives.Shown.{Shown}
+use Rattle.fm_frames.specs.declared.natives.Shown.TheVariants.{Boolean as ShownBoolean, Char as ShownChar, Int as ShownInt, Long as ShownLong, Text as ShownText}
 use Rattle.fm_frames.specs.Operands.{on_inner, on_inner_of, on_text, thrown_null}
 use Rattle.fm_frames.specs.Sights.{Inner, Looks, Lost, Missing, NoField, Sight, Text}
 use Rattle.fm_frames.proofs.Cases.{by_any, by_held, by_if, by_int, by_long, by_object, by_passing}

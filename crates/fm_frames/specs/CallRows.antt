@@ -11,7 +11,8 @@ use Rattle.fm_world.specs.Programs.{class_of_type, Outline}
 use Rattle.fm_world.specs.declared.uses.Use.{Use}
 use Rattle.fm_frames.specs.Effects.{Effect, Calls, going, stuck}
 use Rattle.fm_frames.specs.NativeRows.{native_effect}
-use Rattle.fm_frames.specs.Natives.{Native, native_of_row}
+use Rattle.fm_frames.specs.Natives.{native_of_row}
+use Rattle.fm_frames.specs.declared.natives.Native.{Native}
 use Rattle.fm_frames.specs.ObjectRows.{starting}
 use Rattle.fm_frames.specs.Operands.{on_any, on_object, on_receiver, thrown}
 use Rattle.fm_frames.specs.Sights.{Sight, Looks}

@@ -17,7 +17,11 @@ use Rattle.fm_world.specs.BuiltIns.{string_name}
 use Rattle.fm_world.specs.Chains.{class_at}
 use Rattle.fm_world.specs.Programs.{Outline}
 use Rattle.fm_frames.specs.Effects.{Effect, Plain, OfOperand, OfPlace, OfMade, SameOperands, Action, Make, Put, Free, SetChain, FreeChain, Exits, words, acting, making, printing, going, stuck, int_word}
-use Rattle.fm_frames.specs.Natives.{AnObject, AShown, Given, has_receiver, native_type, Shown, ShownInt, ShownLong, ShownChar, ShownBoolean, ShownText, Native, ObjectInit, ObjectHashCode, ObjectEquals, ObjectToString, StringLength, CharAt, StringEquals, StringHashCode, CompareTo, StringToString, Substring, ValueOf, BuilderInit, Append, BuilderLength, BuilderToString, BufferInitOf, Exit, Print, Println, PrintlnNothing, Read, ThrowableInit, ThrowableInitOf, GetMessage, ThrowableToString, FreeMeFree, FreeMeLink, FreeMeFreeChain}
+use Rattle.fm_frames.specs.Natives.{AnObject, AShown, Given, has_receiver, native_type}
+use Rattle.fm_frames.specs.declared.natives.Shown.{Shown}
+use Rattle.fm_frames.specs.declared.natives.Native.{Native}
+use Rattle.fm_frames.specs.declared.natives.Native.TheVariants.{ObjectInit, ObjectHashCode, ObjectEquals, ObjectToString, StringLength, CharAt, StringEquals, StringHashCode, CompareTo, StringToString, Substring, ValueOf, BuilderInit, Append, BuilderLength, BuilderToString, BufferInitOf, Exit, Print, Println, PrintlnNothing, Read, ThrowableInit, ThrowableInitOf, GetMessage, ThrowableToString, FreeMeFree, FreeMeLink, FreeMeFreeChain}
+use Rattle.fm_frames.specs.declared.natives.Shown.TheVariants.{Int as ShownInt, Long as ShownLong, Char as ShownChar, Boolean as ShownBoolean, Text as ShownText}
 use Rattle.fm_frames.specs.Operands.{on_any, on_held, on_inner, on_int, on_long, on_object, on_passing, on_text, on_text_or_null, thrown}
 use Rattle.fm_frames.specs.Sights.{Sight, Looks}
 use Rattle.fm_frames.specs.States.{null}

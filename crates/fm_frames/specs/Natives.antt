@@ -1,47 +1,9 @@
--- The built-in methods, by the numbers of their rows, with what each of them takes and gives.
+-- The built-in methods, which are the variants of an enum of the code (src/natives.rt), by the numbers of their rows, with what each of them takes and gives.
 use Rattle.std.specs.Prelude.{ℕ, Bool, true, false, List, [], ◌∷◌, ◌++◌, Option, slice_get}
-
--- what is appended, printed or given as a text
-pub data Shown : Type 0 where
-  ShownInt : Shown
-  ShownLong : Shown
-  ShownChar : Shown
-  ShownBoolean : Shown
-  ShownText : Shown
-
--- the built-in methods; those that differ only in what is shown are one with a parameter
-pub data Native : Type 0 where
-  ObjectInit : Native
-  ObjectHashCode : Native
-  ObjectEquals : Native
-  ObjectToString : Native
-  StringLength : Native
-  CharAt : Native
-  StringEquals : Native
-  StringHashCode : Native
-  CompareTo : Native
-  StringToString : Native
-  Substring : Native
-  ValueOf : Shown → Native
-  -- the rows of a StringBuilder, which a StringBuffer has too
-  BuilderInit : Native
-  Append : Shown → Native
-  BuilderLength : Native
-  BuilderToString : Native
-  BufferInitOf : Native
-  Exit : Native
-  Print : Shown → Native
-  Println : Shown → Native
-  PrintlnNothing : Native
-  Read : Native
-  -- the constructors of all built-in throwables
-  ThrowableInit : Native
-  ThrowableInitOf : Native
-  GetMessage : Native
-  ThrowableToString : Native
-  FreeMeFree : Native
-  FreeMeLink : Native
-  FreeMeFreeChain : Native
+use Rattle.fm_frames.specs.declared.natives.Native.{Native}
+use Rattle.fm_frames.specs.declared.natives.Native.TheVariants.{ObjectInit, ObjectHashCode, ObjectEquals, ObjectToString, StringLength, CharAt, StringEquals, StringHashCode, CompareTo, StringToString, Substring, ValueOf, BuilderInit, Append, BuilderLength, BuilderToString, BufferInitOf, Exit, Print, Println, PrintlnNothing, Read, ThrowableInit, ThrowableInitOf, GetMessage, ThrowableToString, FreeMeFree, FreeMeLink, FreeMeFreeChain}
+use Rattle.fm_frames.specs.declared.natives.Shown.{Shown}
+use Rattle.fm_frames.specs.declared.natives.Shown.TheVariants.{Int as ShownInt, Long as ShownLong, Char as ShownChar, Boolean as ShownBoolean, Text as ShownText}
 
 -- the built-in methods in the order of the table of built-in methods
 abbrev pub natives : List Native

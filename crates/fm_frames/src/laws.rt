@@ -2,8 +2,10 @@
 
 ghost use Rattle.std.specs.Prelude.{◌≡◌, [], ◌∷◌};
 ghost use Rattle.fm_frames.specs.Example.{catching, dividing, effects_in, main_number, object_effects, object_handler, object_items, object_seen, program_with, sum_effects, sum_items, sum_seen};
+ghost use Rattle.fm_frames.specs.Natives.{natives};
 ghost use Rattle.fm_frames.specs.States.{ref};
 ghost use Rattle.fm_frames.specs.Steps.{caught, InFrames};
+ghost use Rattle.fm_frames.specs.declared.natives.TheConstants.{NATIVES};
 ghost use Rattle.fm_world.specs.Numbers.{type_of_class};
 
 /// The effects of a main that prints the sum of 2 and 3, instruction by instruction.
@@ -17,4 +19,9 @@ pub fn law_object_example()
         object_seen ≡ object_effects }
     ensures caught { caught (program_with object_items (object_handler ∷ []))
         (type_of_class 13) (ref 9) (dividing ∷ []) ≡ InFrames (catching ∷ []) }
+{}
+
+/// The built-in methods of the code are those of the table, in its order.
+pub fn law_natives()
+    ensures { NATIVES ≡ natives }
 {}

@@ -21,7 +21,9 @@ use Rattle.fm_world.specs.BuiltIns.{built_in}
 use Rattle.fm_world.specs.Chains.{chain_of}
 use Rattle.fm_world.specs.Members.{method_at, methods_of}
 use Rattle.fm_world.specs.Programs.{code_at, Outline, Program}
-use Rattle.fm_frames.specs.Natives.{Append, FreeMeLink, GetMessage, Native, native_of_row, natives, StringToString}
+use Rattle.fm_frames.specs.Natives.{native_of_row, natives}
+use Rattle.fm_frames.specs.declared.natives.Native.{Native}
+use Rattle.fm_frames.specs.declared.natives.Native.TheVariants.{Append, FreeMeLink, GetMessage, StringToString}
 use Rattle.fm_frames.specs.States.{Frame}
 use Rattle.fm_place.proofs.PlaceLemmas.{any-from}
 use Rattle.fm_place.specs.Sites.{may_give_old, reference_parameters}

@@ -13,7 +13,8 @@ use Rattle.fm_world.specs.declared.uses.Use.{Use}
 use Rattle.fm_frames.specs.ArrayRows.{array_made, arrays_of, ints_at, multi_array_effect, new_array_effect, new_references_effect, thrown_negative}
 use Rattle.fm_frames.specs.Effects.{Effect, Falls, faulty, making, Make, OfMade, Source, stuck}
 use Rattle.fm_frames.specs.NativeRows.{native_effect}
-use Rattle.fm_frames.specs.Natives.{Append, FreeMeLink, GetMessage, Native, StringToString}
+use Rattle.fm_frames.specs.declared.natives.Native.{Native}
+use Rattle.fm_frames.specs.declared.natives.Native.TheVariants.{Append, FreeMeLink, GetMessage, StringToString}
 use Rattle.fm_frames.specs.Operands.{thrown}
 use Rattle.fm_frames.specs.Rows.{effect_of}
 use Rattle.fm_frames.specs.Sights.{Sight}

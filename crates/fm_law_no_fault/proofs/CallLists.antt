@@ -21,7 +21,9 @@ use Rattle.fm_world.specs.Programs.{Outline}
 use Rattle.fm_world.specs.declared.uses.Use.{Use}
 use Rattle.fm_world.specs.declared.uses.Use.TheVariants as resolved
 use Rattle.fm_frames.specs.Effects.{Effect}
-use Rattle.fm_frames.specs.Natives.{FreeMeFree, FreeMeFreeChain, FreeMeLink, has_receiver, Native}
+use Rattle.fm_frames.specs.Natives.{has_receiver}
+use Rattle.fm_frames.specs.declared.natives.Native.{Native}
+use Rattle.fm_frames.specs.declared.natives.Native.TheVariants.{FreeMeFree, FreeMeFreeChain, FreeMeLink}
 use Rattle.fm_frames.specs.States.{word_at}
 use Rattle.fm_frames.specs.Uses.{by_type, on_method}
 use Rattle.fm_frames.specs.declared.values.Value.{Value}

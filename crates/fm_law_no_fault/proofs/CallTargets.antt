@@ -30,7 +30,8 @@ use Rattle.fm_frames.specs.Acts.{cell_of, value_of}
 use Rattle.fm_frames.specs.CallRows.{entered_as, native_of, words_of_arguments}
 use Rattle.fm_frames.specs.Effects.{Calls, Effect, Enters, Exits, Falls, Faults, Jumps, JumpsIfSame, Next, Returns, Throws}
 use Rattle.fm_frames.specs.NativeRows.{native_effect}
-use Rattle.fm_frames.specs.Natives.{has_receiver, Native}
+use Rattle.fm_frames.specs.Natives.{has_receiver}
+use Rattle.fm_frames.specs.declared.natives.Native.{Native}
 use Rattle.fm_frames.specs.ObjectRows.{starting}
 use Rattle.fm_frames.specs.Operands.{thrown, thrown_null}
 use Rattle.fm_frames.specs.Sights.{Looks, Sight, sights, Thing, type_numbered}

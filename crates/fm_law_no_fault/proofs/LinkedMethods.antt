@@ -32,7 +32,10 @@ use Rattle.fm_frames.proofs.BuiltInTypes.{buffer_there, builder_there, named_cla
 use Rattle.fm_frames.proofs.Programs.{string_number}
 use Rattle.fm_frames.specs.CallRows.{native_of}
 use Rattle.fm_frames.specs.NativeRows.{text_type}
-use Rattle.fm_frames.specs.Natives.{AGiven, AnObject, AShown, BuilderReceiver, from_top, Given, has_receiver, Native, native_of_row, native_type, Nothing, OwnObject, Receiver, Returned, Shown, ShownBoolean, ShownChar, ShownInt, ShownLong, ShownText, TextReceiver, ThrowableReceiver}
+use Rattle.fm_frames.specs.Natives.{AGiven, AnObject, AShown, BuilderReceiver, from_top, Given, has_receiver, native_of_row, native_type, Nothing, OwnObject, Receiver, Returned, TextReceiver, ThrowableReceiver}
+use Rattle.fm_frames.specs.declared.natives.Native.{Native}
+use Rattle.fm_frames.specs.declared.natives.Shown.{Shown}
+use Rattle.fm_frames.specs.declared.natives.Shown.TheVariants.{Boolean as ShownBoolean, Char as ShownChar, Int as ShownInt, Long as ShownLong, Text as ShownText}
 use Rattle.fm_frames.specs.Runnable.{IsRunnable}
 use Rattle.fm_law_sound.proofs.BuiltInMethods.{method_same}
 use Rattle.fm_law_no_fault.specs.CellsResolved.{arguments_asked, given_asked, result_given, returned_asked, suits, TakesAsAsked}

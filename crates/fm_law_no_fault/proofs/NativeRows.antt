@@ -16,7 +16,11 @@ use Rattle.fm_frames.specs.Acts.{cell_of}
 use Rattle.fm_frames.specs.Effects.{acting, Effect, Exits, Falls, faulty, int_word, Next, OfMade, OfOperand, OfPlace, Put, SameOperands, Source, Throws, words}
 use Rattle.fm_frames.specs.Elements.{is_text_type}
 use Rattle.fm_frames.specs.NativeRows.{arguments_words, given_words, native_words, has_text, native_effect, on_shown, shown_words, text_kind, text_type, thrown_outside}
-use Rattle.fm_frames.specs.Natives.{a_boolean, a_text, AGiven, an_int, AnObject, AnyReceiver, Append, AShown, BuilderReceiver, from_top, GetMessage, Given, has_one, has_receiver, Native, native_type, Nothing, Receiver, Returned, Shown, ShownBoolean, ShownChar, ShownInt, ShownLong, ShownText, StringToString, TextReceiver, ThrowableInitOf, ThrowableReceiver}
+use Rattle.fm_frames.specs.Natives.{a_boolean, a_text, AGiven, an_int, AnObject, AnyReceiver, AShown, BuilderReceiver, from_top, Given, has_one, has_receiver, native_type, Nothing, Receiver, Returned, TextReceiver, ThrowableReceiver}
+use Rattle.fm_frames.specs.declared.natives.Native.{Native}
+use Rattle.fm_frames.specs.declared.natives.Shown.{Shown}
+use Rattle.fm_frames.specs.declared.natives.Native.TheVariants.{Append, GetMessage, StringToString, ThrowableInitOf}
+use Rattle.fm_frames.specs.declared.natives.Shown.TheVariants.{Boolean as ShownBoolean, Char as ShownChar, Int as ShownInt, Long as ShownLong, Text as ShownText}
 use Rattle.fm_frames.specs.Operands.{on_any, on_inner, on_inner_of, on_int, on_passing, on_text, on_text_or_null, thrown}
 use Rattle.fm_frames.specs.Sights.{has_hidden_field, inner_of, Inner, led_to, Looks, looks, Lost, Missing, NoField, Sight, sights, Text, text_in, Thing, type_numbered}
 use Rattle.fm_frames.specs.States.{Areas, word_at}

@@ -10,7 +10,8 @@ use Rattle.fm_frames.specs.Acts.{cell_of}
 use Rattle.fm_frames.specs.Effects.{acting, Effect, Exits, going, int_word, printing, SameOperands, words}
 use Rattle.fm_frames.specs.Elements.{is_text_type}
 use Rattle.fm_frames.specs.NativeRows.{has_text, native_effect, shown_words, text_kind, text_type, type_name}
-use Rattle.fm_frames.specs.Natives.{Native, ThrowableInitOf}
+use Rattle.fm_frames.specs.declared.natives.Native.{Native}
+use Rattle.fm_frames.specs.declared.natives.Native.TheVariants.{ThrowableInitOf}
 use Rattle.fm_frames.specs.Sights.{led_to, Looks, looks, Lost, NoField, Sight, sights, Text, text_in, Thing, type_numbered, units_of}
 use Rattle.fm_frames.specs.States.{Frame, word_at}
 use Rattle.fm_frames.specs.declared.values.Value.{Value}

@@ -25,7 +25,8 @@ use Rattle.fm_world.specs.Programs.{Outline, Program}
 use Rattle.fm_world.specs.declared.declarations.DeclaredClass.{DeclaredClass}
 use Rattle.fm_world.specs.declared.declarations.DeclaredMethod.{DeclaredMethod}
 use Rattle.fm_frames.specs.CallRows.{native_of}
-use Rattle.fm_frames.specs.Natives.{Native, native_of_row}
+use Rattle.fm_frames.specs.Natives.{native_of_row}
+use Rattle.fm_frames.specs.declared.natives.Native.{Native}
 use Rattle.fm_frames.specs.declared.values.Value.{Value}
 use Rattle.fm_law_sound.specs.BuiltIns.{native_result, native_slots, reference}
 use Rattle.fm_law_sound.specs.Resolved.{CallsAreResolved}

@@ -8,7 +8,11 @@ use Rattle.fm_types.specs.declared.slots.Slot.TheVariants as slot
 use Rattle.fm_world.specs.Programs.{Outline}
 use Rattle.fm_frames.specs.Effects.{acting, Effect, Free, FreeChain, int_word, OfMade, OfOperand, OfPlace, Put, SameOperands, SetChain, Source, words}
 use Rattle.fm_frames.specs.NativeRows.{arguments_words, given_words, has_text, native_effect, native_words, shown_words, text_kind}
-use Rattle.fm_frames.specs.Natives.{a_boolean, a_text, AGiven, AnObject, Append, AShown, FreeMeFree, FreeMeFreeChain, FreeMeLink, from_top, GetMessage, Given, has_receiver, Native, native_type, Nothing, Returned, Shown, ShownBoolean, ShownChar, ShownInt, ShownLong, ShownText, StringToString, ThrowableInitOf}
+use Rattle.fm_frames.specs.Natives.{a_boolean, a_text, AGiven, AnObject, AShown, from_top, Given, has_receiver, native_type, Nothing, Returned}
+use Rattle.fm_frames.specs.declared.natives.Native.{Native}
+use Rattle.fm_frames.specs.declared.natives.Shown.{Shown}
+use Rattle.fm_frames.specs.declared.natives.Native.TheVariants.{Append, FreeMeFree, FreeMeFreeChain, FreeMeLink, GetMessage, StringToString, ThrowableInitOf}
+use Rattle.fm_frames.specs.declared.natives.Shown.TheVariants.{Boolean as ShownBoolean, Char as ShownChar, Int as ShownInt, Long as ShownLong, Text as ShownText}
 use Rattle.fm_frames.specs.Sights.{Sight}
 use Rattle.fm_frames.specs.States.{Frame, word_at}
 use Rattle.fm_frames.specs.declared.values.Value.{Value}

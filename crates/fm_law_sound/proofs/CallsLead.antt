@@ -9,7 +9,7 @@ use Rattle.fm_world.specs.Programs.{Program}
 use Rattle.fm_frames.specs.Acts.{value_of}
 use Rattle.fm_frames.specs.Effects.{Calls, Effect, Enters, Exits, Falls, Faults, Jumps, JumpsIfSame, Next, Returns, Throws}
 use Rattle.fm_frames.specs.NativeRows.{native_effect}
-use Rattle.fm_frames.specs.Natives.{Native}
+use Rattle.fm_frames.specs.declared.natives.Native.{Native}
 use Rattle.fm_frames.specs.ObjectRows.{starting}
 use Rattle.fm_frames.specs.Rows.{effect_of}
 use Rattle.fm_frames.specs.Sights.{sights}

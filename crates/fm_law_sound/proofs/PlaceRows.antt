@@ -21,7 +21,7 @@ use Rattle.fm_world.specs.declared.uses.Use.TheVariants as resolved
 use Rattle.fm_frames.specs.ArrayRows.{element_kind, put_element}
 use Rattle.fm_frames.specs.Effects.{acting, Effect, Exits, Falls, going, int_word, loaded, making, Next, OfOperand, OfPlace, Plain, printing, SameOperands, SetChain, Source, Throws, words}
 use Rattle.fm_frames.specs.NativeRows.{has_text, native_effect, text_kind, text_made, text_type}
-use Rattle.fm_frames.specs.Natives.{Native}
+use Rattle.fm_frames.specs.declared.natives.Native.{Native}
 use Rattle.fm_frames.specs.ObjectRows.{kind_of_field}
 use Rattle.fm_frames.specs.Rows.{effect_of}
 use Rattle.fm_frames.specs.Sights.{Sight, sights}

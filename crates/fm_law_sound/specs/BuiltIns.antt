@@ -5,7 +5,10 @@ use Rattle.fm_types.specs.declared.slots.Slot.TheVariants as slot
 use Rattle.fm_world.specs.Programs.{Outline}
 use Rattle.fm_frames.specs.Acts.{value_of}
 use Rattle.fm_frames.specs.Effects.{Effect, Next, Falls, Throws, Exits, Faults, Source}
-use Rattle.fm_frames.specs.Natives.{AGiven, AnObject, AShown, from_top, Given, has_receiver, Native, native_type, Nothing, OwnObject, Returned, Shown, ShownBoolean, ShownChar, ShownInt, ShownLong, ShownText}
+use Rattle.fm_frames.specs.Natives.{AGiven, AnObject, AShown, from_top, Given, has_receiver, native_type, Nothing, OwnObject, Returned}
+use Rattle.fm_frames.specs.declared.natives.Native.{Native}
+use Rattle.fm_frames.specs.declared.natives.Shown.{Shown}
+use Rattle.fm_frames.specs.declared.natives.Shown.TheVariants.{Boolean as ShownBoolean, Char as ShownChar, Int as ShownInt, Long as ShownLong, Text as ShownText}
 use Rattle.fm_frames.specs.States.{Areas, Frame}
 use Rattle.std.specs.Prelude.{map}
 use Rattle.fm_law_sound.specs.Leading.{sources_of}

@@ -21,7 +21,7 @@ use Rattle.fm_frames.specs.Acts.{Choose, Did, FullAt, LostAt, performed, Perform
 use Rattle.fm_world.specs.declared.uses.Use.{Use}
 use Rattle.fm_frames.specs.Effects.{Action, Effect}
 use Rattle.fm_frames.specs.NativeRows.{native_effect}
-use Rattle.fm_frames.specs.Natives.{Native}
+use Rattle.fm_frames.specs.declared.natives.Native.{Native}
 use Rattle.fm_frames.specs.ObjectRows.{kind_of_field}
 use Rattle.fm_frames.specs.Rows.{effect_of}
 use Rattle.fm_frames.specs.Sights.{Sight, sights}

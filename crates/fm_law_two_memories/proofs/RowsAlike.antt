@@ -28,7 +28,9 @@ use Rattle.fm_frames.specs.ArrayRows.{element_kind, put_element}
 use Rattle.fm_frames.specs.CallRows.{entered_as, native_of, words_of_arguments}
 use Rattle.fm_frames.specs.Effects.{acting, Calls, Effect, Exits, Falls, Faults, going, int_word, loaded, making, Next, OfOperand, OfPlace, printing, SameOperands, Source, Throws, words}
 use Rattle.fm_frames.specs.NativeRows.{has_text, native_effect, text_kind, text_made, text_type}
-use Rattle.fm_frames.specs.Natives.{FreeMeFree, FreeMeFreeChain, FreeMeLink, is_free_me, Native}
+use Rattle.fm_frames.specs.Natives.{is_free_me}
+use Rattle.fm_frames.specs.declared.natives.Native.{Native}
+use Rattle.fm_frames.specs.declared.natives.Native.TheVariants.{FreeMeFree, FreeMeFreeChain, FreeMeLink}
 use Rattle.fm_frames.specs.ObjectRows.{kind_of_field, starting}
 use Rattle.fm_frames.specs.Rows.{effect_of}
 use Rattle.fm_frames.specs.Sights.{Sight, sights}

@@ -7,7 +7,7 @@ use Rattle.fm_code.specs.declared.instructions.Insn.{Insn}
 use Rattle.fm_frames.specs.ArrayRows.{element_kind}
 use Rattle.fm_frames.specs.Effects.{Effect, Enters, Faults, int_word, Jumps, JumpsIfSame, LocalPlus, Next, OfLocal, OfOperand, OfPlace, SameOperands, Source, Throws, words}
 use Rattle.fm_frames.specs.NativeRows.{native_effect, text_kind}
-use Rattle.fm_frames.specs.Natives.{Native}
+use Rattle.fm_frames.specs.declared.natives.Native.{Native}
 use Rattle.fm_frames.specs.ObjectRows.{kind_of_field}
 use Rattle.fm_frames.specs.Rows.{effect_of}
 use Rattle.fm_frames.specs.Sights.{Sight}

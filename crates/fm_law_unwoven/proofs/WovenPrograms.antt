@@ -16,7 +16,8 @@ use Rattle.fm_conn.specs.Facts.{Facts}
 use Rattle.fm_conn.specs.Links.{typed_method}
 use Rattle.fm_exec_calls.proofs.BuiltInStarts.{nothing-starts}
 use Rattle.fm_frames.specs.CallRows.{native_of}
-use Rattle.fm_frames.specs.Natives.{FreeMeFree, native_of_row}
+use Rattle.fm_frames.specs.Natives.{native_of_row}
+use Rattle.fm_frames.specs.declared.natives.Native.TheVariants.{FreeMeFree}
 use Rattle.fm_law_linked.specs.Laws.{ProgramsAreResolved}
 use Rattle.fm_law_relinked.proofs.Codes.{codes_woven, no_code}
 use Rattle.fm_law_relinked.proofs.FreeMethod.{free_class_number, free_method_number, free_type}

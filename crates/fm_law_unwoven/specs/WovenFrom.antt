@@ -13,7 +13,7 @@ use Rattle.fm_code.specs.declared.instructions.Insn.TheVariants as insn
 use Rattle.fm_conn.specs.Facts.{Facts}
 use Rattle.fm_conn.specs.Links.{typed_method}
 use Rattle.fm_frames.specs.CallRows.{native_of}
-use Rattle.fm_frames.specs.Natives.{FreeMeFree}
+use Rattle.fm_frames.specs.declared.natives.Native.TheVariants.{FreeMeFree}
 use Rattle.fm_frames.specs.Starts.{to_start}
 use Rattle.fm_law_same_runs.specs.Beside.{Marks}
 use Rattle.fm_law_same_runs.specs.Programs.{AreTaken}

@@ -8,7 +8,7 @@ use Rattle.fm_frames.proofs.Acting.{done-none, done-one}
 use Rattle.fm_frames.specs.Acts.{all_freed, cell_of, chain_freed, chain_from, chained, Choose, Did, freed, LostAt, performed, Performed}
 use Rattle.fm_frames.specs.Effects.{Effect, Faults, Free, FreeChain, OfOperand, Plain, SetChain, acting, going, words}
 use Rattle.fm_frames.specs.NativeRows.{free_native, linked, native_effect}
-use Rattle.fm_frames.specs.Natives as table
+use Rattle.fm_frames.specs.declared.natives.Native.TheVariants.{FreeMeFree, FreeMeFreeChain, FreeMeLink}
 use Rattle.fm_frames.specs.Sights.{looks, Sight}
 use Rattle.fm_frames.specs.States.{Frame, State, word_at}
 use Rattle.fm_frames.specs.Steps.{attempted, continued, done_by, stack_of}
@@ -28,7 +28,7 @@ freeing = acting 1 (Free 0 ∷ [])
 
 pub free-is : (o : Outline) (store : Store) (x : State) (byte : Option ℕ) (s : List Sight) (found : Result (Option Held) OperandRefusal)
     → AsksHeldOrNull o store s 0 found → IfOk found (λ held. IfSome held (IsHeldAt store x 0))
-    → native_effect o table.FreeMeFree byte s ≡ passed_by (words 1 []) o 0 found (λ held. freeing)
+    → native_effect o FreeMeFree byte s ≡ passed_by (words 1 []) o 0 found (λ held. freeing)
 unfolding native_effect free_native
 free-is o store x byte s (Ok (Some held)) asks known = asks (words 1 []) (λ it. freeing) ∙ ap (on_found o store (λ it. freeing)) known.at
 free-is o store x byte s (Ok None) asks known = asks (words 1 []) (λ it. freeing)
@@ -42,25 +42,25 @@ abbrev pub passed_over : Effect
 passed_over = words 2 (OfOperand 0 ∷ [])
 
 pub link-held : (o : Outline) (store : Store) (x : State) (byte : Option ℕ) (s : List Sight) (held : Held)
-    → AsksHeldOrNull o store s 1 (Ok (Some held)) → IsHeldAt store x 1 held → native_effect o table.FreeMeLink byte s ≡ linking held.head.fixed
+    → AsksHeldOrNull o store s 1 (Ok (Some held)) → IsHeldAt store x 1 held → native_effect o FreeMeLink byte s ≡ linking held.head.fixed
 unfolding native_effect free_native looks
 link-held o store x byte s held asks known =
     asks passed_over linked ∙ ap (on_found o store linked) known.at ∙ ap (λ (h : Head). linking h.fixed) known.head_is
 
 pub link-null : (o : Outline) (store : Store) (byte : Option ℕ) (s : List Sight) → AsksHeldOrNull o store s 1 (Ok None)
-    → native_effect o table.FreeMeLink byte s ≡ passed_over
+    → native_effect o FreeMeLink byte s ≡ passed_over
 unfolding native_effect free_native
 link-null o store byte s asks = asks passed_over linked
 
 pub link-refused : (o : Outline) (store : Store) (byte : Option ℕ) (s : List Sight) (r : OperandRefusal) → AsksHeldOrNull o store s 1 (Err r)
-    → native_effect o table.FreeMeLink byte s ≡ refused o 1 r
+    → native_effect o FreeMeLink byte s ≡ refused o 1 r
 unfolding native_effect free_native
 link-refused o store byte s r asks = asks passed_over linked
 
 abbrev pub freeing_chain : Effect
 freeing_chain = acting 1 (FreeChain 0 ∷ [])
 
-pub chain-is : (o : Outline) (byte : Option ℕ) (s : List Sight) → native_effect o table.FreeMeFreeChain byte s ≡ freeing_chain
+pub chain-is : (o : Outline) (byte : Option ℕ) (s : List Sight) → native_effect o FreeMeFreeChain byte s ≡ freeing_chain
 unfolding native_effect free_native
 chain-is o byte s = refl
 

@@ -6,7 +6,8 @@ use Rattle.fm_cells.specs.Stores.{Store}
 use Rattle.fm_cells.specs.declared.answers.Head.{Head}
 use Rattle.fm_frames.specs.Effects.{Effect, OfOperand, OfPlace, Plain, Put, acting, int_word, making, words}
 use Rattle.fm_frames.specs.NativeRows.{builder_native, has_text, is_builder, native_effect, on_shown, shown_words, text_kind, text_made, throwable_native, throwable_text}
-use Rattle.fm_frames.specs.Natives as table
+use Rattle.fm_frames.specs.declared.natives.Shown.{Shown}
+use Rattle.fm_frames.specs.declared.natives.Native.TheVariants.{Append, BufferInitOf, BuilderInit, BuilderLength, BuilderToString, GetMessage, ThrowableInit, ThrowableInitOf, ThrowableToString}
 use Rattle.fm_frames.specs.Operands.{on_inner, on_inner_of, on_passing, on_text}
 use Rattle.fm_frames.specs.Sights.{inner_of, looks, Looks, Sight, type_numbered}
 use Rattle.fm_frames.specs.States.{null, State}
@@ -33,13 +34,13 @@ cleared o = acting 1 (Put (OfOperand 0) 0 (text_kind o) (Plain null) ∷ [])
 
 pub builder-init : (o : Outline) (store : Store) (x : State) (byte : Option ℕ) (s : List Sight) (found : Result Held OperandRefusal)
     → AsksFitting (is_builder o) o store s 0 found → IfOk found (IsHeldAt store x 0)
-    → native_effect o table.BuilderInit byte s ≡ asked o 0 found (λ held. cleared o)
+    → native_effect o BuilderInit byte s ≡ asked o 0 found (λ held. cleared o)
 unfolding native_effect builder_native
 builder-init o store x byte s found asks known = whole-is (is_builder o) o store x s 0 (cleared o) found asks known
 
 pub throwable-init : (o : Outline) (store : Store) (x : State) (byte : Option ℕ) (s : List Sight) (found : Result Held OperandRefusal)
     → AsksFitting (is_throwable o) o store s 0 found → IfOk found (IsHeldAt store x 0)
-    → native_effect o table.ThrowableInit byte s ≡ asked o 0 found (λ held. cleared o)
+    → native_effect o ThrowableInit byte s ≡ asked o 0 found (λ held. cleared o)
 unfolding native_effect throwable_native
 throwable-init o store x byte s found asks known = whole-is (is_throwable o) o store x s 0 (cleared o) found asks known
 
@@ -48,7 +49,7 @@ kept_message o = acting 2 (Put (OfOperand 1) 0 (text_kind o) (OfOperand 0) ∷ [
 
 pub throwable-init-of : (o : Outline) (store : Store) (x : State) (byte : Option ℕ) (s : List Sight) (found : Result Held OperandRefusal)
     → AsksFitting (is_throwable o) o store s 1 found → IfOk found (IsHeldAt store x 1)
-    → native_effect o table.ThrowableInitOf byte s ≡ asked o 1 found (λ held. kept_message o)
+    → native_effect o ThrowableInitOf byte s ≡ asked o 1 found (λ held. kept_message o)
 unfolding native_effect throwable_native
 throwable-init-of o store x byte s found asks known = whole-is (is_throwable o) o store x s 1 (kept_message o) found asks known
 
@@ -57,7 +58,7 @@ told_message o = words 1 (OfPlace 0 0 (text_kind o) ∷ [])
 
 pub message-is : (o : Outline) (store : Store) (x : State) (byte : Option ℕ) (s : List Sight) (found : Result Held OperandRefusal)
     → AsksFitting (is_throwable o) o store s 0 found → IfOk found (IsHeldAt store x 0)
-    → native_effect o table.GetMessage byte s ≡ asked o 0 found (λ held. told_message o)
+    → native_effect o GetMessage byte s ≡ asked o 0 found (λ held. told_message o)
 unfolding native_effect throwable_native
 message-is o store x byte s found asks known = whole-is (is_throwable o) o store x s 0 (told_message o) found asks known
 
@@ -67,15 +68,15 @@ message-is o store x byte s found asks known = whole-is (is_throwable o) o store
 abbrev pub appended : Outline → (operand : ℕ) → List ℕ → Effect
 appended o operand units = record (acting (operand + 1) (has_text o operand units)) { gives = OfOperand operand ∷ [] }
 
-pub append-refused : (o : Outline) (store : Store) (byte : Option ℕ) (s : List Sight) (shown : table.Shown) (r : OperandRefusal) → AsksBuilt o store s (shown_words shown) (Err r)
-    → native_effect o (table.Append shown) byte s ≡ refused o (shown_words shown) r
+pub append-refused : (o : Outline) (store : Store) (byte : Option ℕ) (s : List Sight) (shown : Shown) (r : OperandRefusal) → AsksBuilt o store s (shown_words shown) (Err r)
+    → native_effect o (Append shown) byte s ≡ refused o (shown_words shown) r
 unfolding native_effect builder_native
 append-refused o store byte s shown r asks =
     asks (λ units. on_shown o shown s (λ added. appended o (shown_words shown) (units ++ added)))
 
-pub append-is : (o : Outline) (store : Store) (byte : Option ℕ) (s : List Sight) (shown : table.Shown) (built : Built) (operand : ℕ) (found : Result (Vec ℕ) OperandRefusal)
+pub append-is : (o : Outline) (store : Store) (byte : Option ℕ) (s : List Sight) (shown : Shown) (built : Built) (operand : ℕ) (found : Result (Vec ℕ) OperandRefusal)
     → AsksBuilt o store s (shown_words shown) (Ok built) → AsksUnits o s shown operand found
-    → native_effect o (table.Append shown) byte s
+    → native_effect o (Append shown) byte s
     ≡ asked o operand found (λ added. appended o (shown_words shown) (units_so_far store built.text ++ added.items))
 unfolding native_effect builder_native
 append-is o store byte s shown built operand found asks asks-units =
@@ -83,12 +84,12 @@ append-is o store byte s shown built operand found asks asks-units =
     ∙ asks-units (λ added. appended o (shown_words shown) (units_so_far store built.text ++ added))
 
 pub built-length : (o : Outline) (store : Store) (byte : Option ℕ) (s : List Sight) (found : Result Built OperandRefusal) → AsksBuilt o store s 0 found
-    → native_effect o table.BuilderLength byte s ≡ asked o 0 found (λ built. words 1 (int_word (pos (length (units_so_far store built.text)))))
+    → native_effect o BuilderLength byte s ≡ asked o 0 found (λ built. words 1 (int_word (pos (length (units_so_far store built.text)))))
 unfolding native_effect builder_native
 built-length o store byte s found asks = asks (λ units. words 1 (int_word (pos (length units))))
 
 pub built-text : (o : Outline) (store : Store) (byte : Option ℕ) (s : List Sight) (found : Result Built OperandRefusal) → AsksBuilt o store s 0 found
-    → native_effect o table.BuilderToString byte s ≡ asked o 0 found (λ built. making 1 (text_made o (units_so_far store built.text)))
+    → native_effect o BuilderToString byte s ≡ asked o 0 found (λ built. making 1 (text_made o (units_so_far store built.text)))
 unfolding native_effect builder_native
 built-text o store byte s found asks = asks (λ units. making 1 (text_made o units))
 
@@ -97,13 +98,13 @@ abbrev begun_with : Outline → List Sight → Effect
 begun_with o s = on_text o s 0 (λ units. acting 2 (has_text o 1 units))
 
 pub buffer-refused : (o : Outline) (store : Store) (byte : Option ℕ) (s : List Sight) (r : OperandRefusal) → AsksFitting (is_builder o) o store s 1 (Err r)
-    → native_effect o table.BufferInitOf byte s ≡ refused o 1 r
+    → native_effect o BufferInitOf byte s ≡ refused o 1 r
 unfolding native_effect builder_native
 buffer-refused o store byte s r asks = asks (λ it. begun_with o s)
 
 pub buffer-is : (o : Outline) (store : Store) (x : State) (byte : Option ℕ) (s : List Sight) (held : Held) (found : Result Text OperandRefusal)
     → AsksFitting (is_builder o) o store s 1 (Ok held) → IsHeldAt store x 1 held → AsksText o store s 0 found
-    → native_effect o table.BufferInitOf byte s ≡ asked o 0 found (λ text. acting 2 (has_text o 1 (units_in store text)))
+    → native_effect o BufferInitOf byte s ≡ asked o 0 found (λ text. acting 2 (has_text o 1 (units_in store text)))
 unfolding native_effect builder_native
 buffer-is o store x byte s held found asks known asks-text =
     asks (λ it. begun_with o s) ∙ ap (on_found o store (λ it. begun_with o s)) known.at ∙ asks-text (λ units. acting 2 (has_text o 1 units))
@@ -114,7 +115,7 @@ abbrev text_of_throwable : Outline → TypeRef → Option (List ℕ) → Effect
 text_of_throwable o t message = making 1 (text_made o (throwable_text o t message))
 
 pub shown-refused : (o : Outline) (store : Store) (byte : Option ℕ) (s : List Sight) (r : OperandRefusal) → AsksFitting (is_throwable o) o store s 0 (Err r)
-    → native_effect o table.ThrowableToString byte s ≡ refused o 0 r
+    → native_effect o ThrowableToString byte s ≡ refused o 0 r
 unfolding native_effect throwable_native
 shown-refused o store byte s r asks = asks (λ it. on_inner o 0 it (λ message. text_of_throwable o it.type message))
 
@@ -130,7 +131,7 @@ typed-at o store held hides =
 
 pub shown-is : (o : Outline) (store : Store) (byte : Option ℕ) (s : List Sight) (held : Held) (found : Result (Option Text) OperandRefusal)
     → AsksFitting (is_throwable o) o store s 0 (Ok held) → HidesText o store held → AsksInner o store held found
-    → native_effect o table.ThrowableToString byte s
+    → native_effect o ThrowableToString byte s
     ≡ asked o 0 found (λ message. making 1 (text_made o (throwable_text o (type_numbered o held.head.class) (option_map (units_in store) message))))
 unfolding native_effect throwable_native
 shown-is o store byte s held found asks hides inner =

@@ -10,7 +10,7 @@ use Rattle.fm_cells.specs.declared.answers.Head.{Head}
 use Rattle.fm_frames.specs.Effects.{making}
 use Rattle.fm_frames.specs.Operands.{thrown_null}
 use Rattle.fm_frames.specs.NativeRows.{at_sign, base_text, dotted, native_effect, object_native, object_text, plain_name, spelled_type, text_made, type_name}
-use Rattle.fm_frames.specs.Natives as table
+use Rattle.fm_frames.specs.declared.natives.Native.TheVariants.{ObjectToString}
 use Rattle.fm_frames.specs.Sights.{looks, Sight, type_numbered}
 use Rattle.fm_native.specs.declared.asked.Held.{Held}
 use Rattle.fm_native.specs.declared.asked.OperandRefusal.{OperandRefusal}
@@ -53,7 +53,7 @@ spelled-is o t bytes spelled is told = told ∙ ap dotted (is ∙ by_dims t.dims
 -- ---- the text of an object
 
 pub object-refused : (o : Outline) (store : Store) (byte : Option ℕ) (s : List Sight) (r : OperandRefusal) → AsksHeld o store s 0 (Err r)
-    → native_effect o table.ObjectToString byte s ≡ refused o 0 r
+    → native_effect o ObjectToString byte s ≡ refused o 0 r
 unfolding native_effect object_native
 object-refused o store byte s r asks = asks (thrown_null o) (λ it. making 1 (text_made o (object_text o it)))
 
@@ -62,7 +62,7 @@ abbrev pub text_of_held : Outline → Held → List ℕ
 text_of_held o held = type_name_of o held ++ at_sign ∷ digits 16 false held.head.birth
 
 pub object-is : (o : Outline) (store : Store) (x : State) (byte : Option ℕ) (s : List Sight) (held : Held) → AsksHeld o store s 0 (Ok held)
-    → IsHeldAt store x 0 held → native_effect o table.ObjectToString byte s ≡ making 1 (text_made o (text_of_held o held))
+    → IsHeldAt store x 0 held → native_effect o ObjectToString byte s ≡ making 1 (text_made o (text_of_held o held))
 unfolding native_effect object_native looks
 object-is o store x byte s held asks known =
     asks (thrown_null o) (λ it. making 1 (text_made o (object_text o it)))

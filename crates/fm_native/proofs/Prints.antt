@@ -1,14 +1,13 @@
 -- Steps with what they print.
-use Rattle.std.proofs.Common.{◌≡◌, inl, inr, ℕ, List, [], Option, Some, None, option_map, Result, Ok, Err, OnOk, IsErrOf, slice_get, refl, ap, sym, ◌∙◌, subst}
+use Rattle.std.proofs.Common.{◌≡◌, inl, inr, ℕ, List, [], Option, Some, None, Result, Ok, Err, OnOk, IsErrOf, slice_get, refl, ap, sym, ◌∙◌, subst}
 use Rattle.fm_base.specs.declared.error.NoMemory.{NoMemory}
 use Rattle.fm_frames.specs.declared.turns.StepFail.{StepFail}
 use Rattle.fm_frames.specs.declared.turns.StepFail.TheVariants as fail
 use Rattle.fm_files.specs.Sink.{FailsPut, Output, with_piece}
 use Rattle.fm_frames.specs.Acts.{Choose, performed}
 use Rattle.fm_frames.specs.Effects.{Effect, printing}
-use Rattle.fm_frames.specs.Natives.{Native, native_of_row}
-use Rattle.fm_native.specs.Tables.{native_as}
-use Rattle.fm_native.specs.declared.natives.BuiltIn.{BuiltIn}
+use Rattle.fm_frames.specs.Natives.{native_of_row}
+use Rattle.fm_frames.specs.declared.natives.Native.{Native}
 use Rattle.std.proofs.lemmas.Option.{none-some, same_Some}
 use Rattle.fm_frames.specs.States.{State}
 use Rattle.fm_frames.specs.inner.Doings.{DoesIn, DoesPrinting}
@@ -50,13 +49,11 @@ quiet-fails (Ok u) result is h = let e = sym is ∙ h in absurd (cc)
 quiet-fails (Err e) result is h = let e' = sym is ∙ h in absurd (cc)
 
 -- the built-in method of a row
-pub row-of : (row : ℕ) (found : Option BuiltIn) (method : BuiltIn) (n : Native) → option_map native_as found ≡ native_of_row row → found ≡ Some method
-    → native_of_row row ≡ Some n → native_as method ≡ n
-row-of row found method n told is named = same_Some _ _ (sym (ap (option_map native_as) is) ∙ told ∙ named)
+pub row-of : (row : ℕ) (found : Option Native) (native n : Native) → found ≡ native_of_row row → found ≡ Some native → native_of_row row ≡ Some n → native ≡ n
+row-of row found native n told is named = same_Some _ _ (sym is ∙ told ∙ named)
 
-pub no-row-of : (row : ℕ) (found : Option BuiltIn) (n : Native) → option_map native_as found ≡ native_of_row row → found ≡ None
-    → native_of_row row ≡ Some n → ⊥
-no-row-of row found n told is named = none-some n (sym (ap (option_map native_as) is) ∙ told ∙ named)
+pub no-row-of : (row : ℕ) (found : Option Native) (n : Native) → found ≡ native_of_row row → found ≡ None → native_of_row row ≡ Some n → ⊥
+no-row-of row found n told is named = none-some n (sym is ∙ told ∙ named)
 
 -- an error that is handed on
 pub error-kept : {A B : Type 0} (e f : StepFail) → IsErrOf {T = A} (Err e) f → IsErrOf {T = B} (Err e) f

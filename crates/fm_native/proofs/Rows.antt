@@ -5,7 +5,8 @@ use Rattle.fm_cells.specs.declared.answers.Head.{Head}
 use Rattle.fm_frames.specs.Acts.{Choose}
 use Rattle.fm_frames.specs.Effects.{Effect, Exits, OfOperand, SameOperands, going, int_word, words}
 use Rattle.fm_frames.specs.NativeRows.{byte_read, char_at, compared, hash_from, hash_of, native_effect, object_native, stream_native, string_native}
-use Rattle.fm_frames.specs.Natives.{Native, CharAt, CompareTo, Exit, ObjectEquals, ObjectHashCode, ObjectInit, Read, StringHashCode, StringLength, StringToString}
+use Rattle.fm_frames.specs.declared.natives.Native.{Native}
+use Rattle.fm_frames.specs.declared.natives.Native.TheVariants.{CharAt, CompareTo, Exit, ObjectEquals, ObjectHashCode, ObjectInit, Read, StringHashCode, StringLength, StringToString}
 use Rattle.fm_frames.specs.Operands.{on_int, on_text, thrown_null}
 use Rattle.fm_frames.specs.Sights.{looks, Looks, Sight}
 use Rattle.fm_frames.specs.States.{State}

@@ -5,7 +5,7 @@ use Rattle.fm_world.specs.Programs.{Program}
 use Rattle.fm_frames.specs.Acts.{Choose}
 use Rattle.fm_frames.specs.Effects.{Effect}
 use Rattle.fm_frames.specs.NativeRows.{native_effect}
-use Rattle.fm_frames.specs.Natives.{Native}
+use Rattle.fm_frames.specs.declared.natives.Native.{Native}
 use Rattle.fm_frames.specs.States.{State}
 use Rattle.fm_frames.specs.Steps.{attempted}
 use Rattle.fm_frames.specs.declared.ends.Ended.{Ended}

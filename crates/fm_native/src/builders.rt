@@ -3,18 +3,17 @@
 ghost use Rattle.std.specs.Prelude.{OnOk};
 ghost use Rattle.fm_native.specs.Doing.{DoesRow};
 ghost use Rattle.fm_native.specs.Serving.{HoldsHidden};
-ghost use Rattle.fm_native.specs.Showing.{shown_as};
 ghost use Rattle.fm_native.specs.Texts.{HoldsTexts};
-ghost use Rattle.fm_frames.specs.Natives.{Append, BufferInitOf, BuilderInit, BuilderLength, BuilderToString};
+ghost use Rattle.fm_frames.specs.declared.natives.Native.TheVariants.{Append, BufferInitOf, BuilderInit, BuilderLength, BuilderToString};
 ghost use Rattle.fm_frames.specs.inner.Doings.{CanStep};
 
 use crate::asked::{refuse, text_at};
 use crate::contents::units_of;
 use crate::hidden::{builder_at, built_at, built_len, clear, joined, units_so_far};
-use crate::shown::{Shown, units_at};
+use crate::shown::units_at;
 use fm_base::NoMemory;
 use fm_cells::Memory;
-use fm_frames::{Machine, Value};
+use fm_frames::{Machine, Shown, Value};
 use fm_world::Program;
 use std::alloc::Global;
 
@@ -66,8 +65,7 @@ pub fn append<M: Memory>(
     requires can { CanStep program.now machine.old }
     requires hidden { HoldsHidden program.now.outline machine.old.areas.store }
     requires texts { HoldsTexts program.now.outline machine.old.areas.store }
-    ensures { OnOk result (DoesRow program.now M.choose machine.old machine.new
-        (Append (shown_as shown))) }
+    ensures { OnOk result (DoesRow program.now M.choose machine.old machine.new (Append shown)) }
 {
     match built_at(machine, program, shown.words()) {
         Ok(built) => {

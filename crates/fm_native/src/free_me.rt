@@ -5,7 +5,7 @@ ghost use Rattle.std.specs.Option.{option_map};
 ghost use Rattle.fm_native.specs.Doing.{DoesRow};
 ghost use Rattle.fm_cells.specs.declared.answers.Cell.{Cell};
 ghost use Rattle.fm_frames.specs.Acts.{all_freed, chain_from};
-ghost use Rattle.fm_frames.specs.Natives.{FreeMeFree, FreeMeFreeChain, FreeMeLink};
+ghost use Rattle.fm_frames.specs.declared.natives.Native.TheVariants.{FreeMeFree, FreeMeFreeChain, FreeMeLink};
 ghost use Rattle.fm_frames.specs.inner.Doings.{CanStep};
 ghost use Rattle.fm_frames.specs.inner.Places.{CountsFrees};
 ghost use Rattle.fm_native.specs.inner.Chains.{cells_in};

@@ -5,7 +5,7 @@ ghost use Rattle.fm_native.specs.Doing.{DoesRow};
 ghost use Rattle.fm_native.specs.Serving.{HoldsNames};
 ghost use Rattle.fm_frames.specs.Acts.{cell_of, told_same};
 ghost use Rattle.fm_frames.specs.NativeRows.{hash_of};
-ghost use Rattle.fm_frames.specs.Natives.{ObjectEquals, ObjectHashCode, ObjectInit, ObjectToString};
+ghost use Rattle.fm_frames.specs.declared.natives.Native.TheVariants.{ObjectEquals, ObjectHashCode, ObjectInit, ObjectToString};
 ghost use Rattle.fm_frames.specs.inner.Doings.{CanStep};
 
 use crate::asked::{held_at, refuse};
@@ -17,13 +17,14 @@ use fm_world::Program;
 use std::alloc::Global;
 
 /// The constructor of Object, which does nothing. Takes no memory.
-pub fn init<M: Memory>(machine: &mut Machine<M>, program: &Program)
+pub fn init<M: Memory>(machine: &mut Machine<M>, program: &Program) -> Result<(), NoMemory>
     requires { CanStep program.now machine.old }
-    ensures { DoesRow program.now M.choose machine.old machine.new ObjectInit }
+    ensures { OnOk result (DoesRow program.now M.choose machine.old machine.new ObjectInit) }
 {
     // For its clause: a program has fewer than 2^32 classes.
     let _classes = program.classes();
     machine.take(1);
+    Ok(())
 }
 
 // The number of an object as an int: from 2^31 on less 2^32.

@@ -3,24 +3,23 @@
 ghost use Rattle.std.specs.Prelude.{◌≡◌, slice_get, IfOk, IsErrOf, OnOk};
 ghost use Rattle.fm_files.specs.Sink.{with_piece, FailsPut};
 ghost use Rattle.fm_native.specs.Doing.{DoesRow, FailsAt, FailsRow, PrintsRow, StepsTo};
-ghost use Rattle.fm_native.specs.Showing.{shown_as};
 ghost use Rattle.fm_native.specs.Texts.{HoldsTexts};
 ghost use Rattle.fm_native.specs.inner.Shown.{print_row, shown_bytes};
 ghost use Rattle.fm_frames.specs.declared.turns.StepFail.TheVariants as StepFail;
 ghost use Rattle.fm_frames.specs.Effects.{printing};
 ghost use Rattle.fm_frames.specs.NativeRows.{native_effect};
-ghost use Rattle.fm_frames.specs.Natives.{Exit, PrintlnNothing, Read};
+ghost use Rattle.fm_frames.specs.declared.natives.Native.TheVariants.{Exit, PrintlnNothing, Read};
 ghost use Rattle.fm_frames.specs.inner.Doings.{seen, CanStep, DoesIn};
 
 use crate::asked::{int_at, refuse};
 use crate::natives::quiet;
-use crate::shown::{Shown, units_at};
+use crate::shown::units_at;
 use crate::spelling::printed_bytes;
 use fm_base::NoMemory;
 use fm_base::characters::LINE_FEED;
 use fm_cells::Memory;
 use fm_files::{PutFail, Sink};
-use fm_frames::{Machine, StepFail, Value};
+use fm_frames::{Machine, Shown, StepFail, Value};
 use fm_world::Program;
 use std::alloc::Global;
 
@@ -88,9 +87,9 @@ pub fn print<M: Memory, S: Sink>(
     requires can { CanStep program.now machine.old }
     requires texts { HoldsTexts program.now.outline machine.old.areas.store }
     ensures told { OnOk result (PrintsRow program.now M.choose machine.old machine.new
-        (S.output out.old) (S.output out.new) (print_row (shown_as shown) ends_line)) }
+        (S.output out.old) (S.output out.new) (print_row shown ends_line)) }
     ensures failed { IsErrOf result StepFail.SinkFailed → FailsRow program.now M.choose machine.old
-        (S.output out.old) (S.output out.new) (print_row (shown_as shown) ends_line) }
+        (S.output out.old) (S.output out.new) (print_row shown ends_line) }
     ensures kept { IsErrOf result StepFail.NoMemory → S.output out.new ≡ S.output out.old }
 {
     let found = units_at(alloc, machine, program, shown)?;

@@ -2,21 +2,20 @@
 
 ghost use Rattle.std.specs.Prelude.{◌≡◌, ◌<◌, ◌^◌, ◌-◌, ◌||◌, ◌≤ℤ◌, if◌then◌else◌, drop, int_lt, length, not, pos, take, unsigned_abs, IfErr, IfOk, IfSome, OnOk};
 ghost use Rattle.fm_native.specs.Doing.{DoesRow};
-ghost use Rattle.fm_native.specs.Showing.{shown_of};
 ghost use Rattle.fm_native.specs.Texts.{HoldsTexts};
 ghost use Rattle.fm_native.specs.inner.Asked.{units_in, AsksOther, equals_other, part_up_to, IsAt, IsTextAt};
 ghost use Rattle.fm_frames.specs.NativeRows.{char_at, part_of};
-ghost use Rattle.fm_frames.specs.Natives.{CharAt, CompareTo, StringEquals, StringHashCode, StringLength, StringToString, Substring, ValueOf};
+ghost use Rattle.fm_frames.specs.declared.natives.Native.TheVariants.{CharAt, CompareTo, StringEquals, StringHashCode, StringLength, StringToString, Substring, ValueOf};
 ghost use Rattle.fm_frames.specs.Runnable.{IsRunnable};
 ghost use Rattle.fm_frames.specs.inner.Doings.{seen, CanStep, DoesIn};
 
 use crate::asked::{OperandRefusal, Text, held_or_null_at, int_at, refuse, text_at, text_of};
 use crate::contents::{unit_at, units_of};
-use crate::shown::{Primitive, shown_at, units_shown};
+use crate::shown::units_at;
 use crate::units::{compare_units, hash_units};
 use fm_base::{NoMemory, TypeId};
 use fm_cells::Memory;
-use fm_frames::{Machine, STRING, STRING_INDEX_EXCEPTION, Value, is_text, type_numbered};
+use fm_frames::{Machine, STRING, STRING_INDEX_EXCEPTION, Shown, Value, is_text, type_numbered};
 use fm_types::fits_type;
 use fm_world::{Program, type_of_class};
 use std::alloc::Global;
@@ -292,17 +291,15 @@ pub fn value_of<M: Memory>(
     alloc: Global,
     machine: &mut Machine<M>,
     program: &Program,
-    primitive: Primitive,
+    shown: Shown,
 ) -> Result<(), NoMemory>
-    requires { CanStep program.now machine.old }
-    ensures { OnOk result (DoesRow program.now M.choose machine.old machine.new
-        (ValueOf (shown_of primitive))) }
+    requires can { CanStep program.now machine.old }
+    requires texts { HoldsTexts program.now.outline machine.old.areas.store }
+    ensures { OnOk result (DoesRow program.now M.choose machine.old machine.new (ValueOf shown)) }
 {
-    match shown_at(machine, program, primitive) {
-        Ok(showing) => {
-            let units = units_shown(alloc, showing)?;
-            machine.give_text(program, primitive.words(), &units)
-        }
+    let found = units_at(alloc, machine, program, shown)?;
+    match found {
+        Ok(units) => machine.give_text(program, shown.words(), &units),
         Err(refusal) => refuse(machine, program, refusal),
     }
 }

@@ -4,7 +4,7 @@ ghost use Rattle.std.specs.Prelude.{OnOk};
 ghost use Rattle.fm_native.specs.Doing.{DoesRow};
 ghost use Rattle.fm_native.specs.Serving.{HoldsHidden, HoldsNames};
 ghost use Rattle.fm_native.specs.Texts.{HoldsTexts};
-ghost use Rattle.fm_frames.specs.Natives.{GetMessage, ThrowableInit, ThrowableInitOf, ThrowableToString};
+ghost use Rattle.fm_frames.specs.declared.natives.Native.TheVariants.{GetMessage, ThrowableInit, ThrowableInitOf, ThrowableToString};
 ghost use Rattle.fm_frames.specs.inner.Doings.{CanStep};
 
 use crate::asked::refuse;

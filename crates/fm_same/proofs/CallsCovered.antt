@@ -22,7 +22,8 @@ use Rattle.fm_world.specs.Programs.{Program, targets}
 use Rattle.fm_world.specs.declared.calls.Call.{Call}
 use Rattle.fm_world.specs.declared.uses.Use.TheVariants as resolved
 use Rattle.fm_frames.specs.CallRows.{native_of, words_of_arguments}
-use Rattle.fm_frames.specs.Natives.{Native, native_of_row}
+use Rattle.fm_frames.specs.Natives.{native_of_row}
+use Rattle.fm_frames.specs.declared.natives.Native.{Native}
 use Rattle.fm_frames.specs.Runnable.{IsUseIn}
 use Rattle.fm_frames.specs.Sights.{Sight, sights}
 use Rattle.fm_frames.specs.States.{Frame, State}

@@ -33,7 +33,9 @@ use Rattle.fm_world.specs.declared.declarations.DeclaredMethod.{DeclaredMethod}
 use Rattle.fm_frames.proofs.BuiltInTypes.{builder_there, buffer_there}
 use Rattle.fm_frames.proofs.Programs.{string_number}
 use Rattle.fm_frames.specs.CallRows.{native_of, words_of_arguments}
-use Rattle.fm_frames.specs.Natives.{Append, FreeMeFree, FreeMeFreeChain, FreeMeLink, GetMessage, Native, native_of_row, StringToString, ThrowableInitOf}
+use Rattle.fm_frames.specs.Natives.{native_of_row}
+use Rattle.fm_frames.specs.declared.natives.Native.{Native}
+use Rattle.fm_frames.specs.declared.natives.Native.TheVariants.{Append, FreeMeFree, FreeMeFreeChain, FreeMeLink, GetMessage, StringToString, ThrowableInitOf}
 use Rattle.fm_same.specs.Covering.{is_free_me, native_words, NativeEnds}
 use Rattle.fm_law_sound.proofs.BuiltInMethods.{method_same}
 

@@ -19,7 +19,11 @@ use Rattle.fm_world.specs.Members.{method_at, methods_of}
 use Rattle.fm_world.specs.Programs.{Program}
 use Rattle.fm_frames.specs.Effects.{Put, Effect, OfMade, OfOperand, OfPlace, Plain, acting, Exits, Faults, going, int_word, making, printing, words}
 use Rattle.fm_frames.specs.NativeRows as table
-use Rattle.fm_frames.specs.Natives.{Append, FreeMeFree, FreeMeFreeChain, FreeMeLink, GetMessage, Native, native_of_row, natives, Shown, ShownBoolean, ShownChar, ShownInt, ShownLong, ShownText, StringToString, ThrowableInitOf}
+use Rattle.fm_frames.specs.Natives.{native_of_row, natives}
+use Rattle.fm_frames.specs.declared.natives.Native.{Native}
+use Rattle.fm_frames.specs.declared.natives.Shown.{Shown}
+use Rattle.fm_frames.specs.declared.natives.Native.TheVariants.{Append, FreeMeFree, FreeMeFreeChain, FreeMeLink, GetMessage, StringToString, ThrowableInitOf}
+use Rattle.fm_frames.specs.declared.natives.Shown.TheVariants.{Boolean as ShownBoolean, Char as ShownChar, Int as ShownInt, Long as ShownLong, Text as ShownText}
 use Rattle.fm_frames.specs.States.{Frame}
 use Rattle.fm_frames.specs.Effects.{SameOperands, Source}
 use Rattle.fm_conn.specs.Pairs.{depth_below}

@@ -18,7 +18,7 @@ use Rattle.fm_world.specs.Chains.{is_sub}
 use Rattle.fm_frames.specs.CallRows.{entered, entered_as, interface_effect, native_of, receiver_class, special_effect, static_effect, virtual_effect, words_of_arguments}
 use Rattle.fm_frames.specs.Effects.{Calls, going, int_word, Jumps, JumpsIfSame, long_words, null_word}
 use Rattle.fm_frames.specs.JumpRows.{int_jump_effect, key_target, lookup_effect, null_jump_effect, pair_jump_effect, table_effect, table_target}
-use Rattle.fm_frames.specs.Natives.{Native}
+use Rattle.fm_frames.specs.declared.natives.Native.{Native}
 use Rattle.fm_frames.specs.NumberRows.{compare_effect, convert_effect, increment_effect, int_negate_effect, int_op_effect, int_shift_effect, long_negate_effect, long_op_effect, long_shift_effect}
 use Rattle.fm_frames.specs.ObjectRows.{is_a_effect}
 use Rattle.fm_frames.specs.Rows.{effect_of}

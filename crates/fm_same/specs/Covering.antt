@@ -25,7 +25,9 @@ use Rattle.fm_world.specs.declared.uses.Use.TheVariants as resolved
 use Rattle.fm_frames.specs.CallRows.{native_of, receiver_class, words_of_arguments}
 pub use Rattle.fm_frames.specs.NativeRows.{arguments_words, given_words, native_words}
 pub use Rattle.fm_frames.specs.Natives.{is_free_me}
-use Rattle.fm_frames.specs.Natives.{Append, FreeMeFree, FreeMeFreeChain, FreeMeLink, GetMessage, Native, native_of_row, StringToString, ThrowableInitOf}
+use Rattle.fm_frames.specs.Natives.{native_of_row}
+use Rattle.fm_frames.specs.declared.natives.Native.{Native}
+use Rattle.fm_frames.specs.declared.natives.Native.TheVariants.{Append, FreeMeFree, FreeMeFreeChain, FreeMeLink, GetMessage, StringToString, ThrowableInitOf}
 use Rattle.fm_frames.specs.Sights.{Looks, Sight, sights, Thing}
 use Rattle.fm_frames.specs.States.{Frame, State}
 use Rattle.fm_frames.specs.Steps.{effect_at}

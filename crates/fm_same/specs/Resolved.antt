@@ -20,7 +20,7 @@ use Rattle.fm_world.specs.Programs.{class_of_type, kind_at, Program}
 use Rattle.fm_world.specs.declared.uses.Use.TheVariants as resolved
 use Rattle.fm_frames.specs.CallRows.{native_of}
 use Rattle.fm_frames.specs.NativeRows.{text_kind}
-use Rattle.fm_frames.specs.Natives.{Native}
+use Rattle.fm_frames.specs.declared.natives.Native.{Native}
 use Rattle.fm_frames.specs.ObjectRows.{kind_of_field}
 use Rattle.fm_frames.specs.Runnable.{IsRunnable}
 use Rattle.fm_law_sound.specs.Resolved.{IsNamed}

@@ -1,6 +1,6 @@
 use Rattle.std.proofs.Common.{Ok, Err}
 use Rattle.fm_frames.proofs.Throwing.{told-ok}
-use Rattle.fm_frames.specs.Natives.{BuilderInit}
+use Rattle.fm_frames.specs.declared.natives.Native.TheVariants.{BuilderInit}
 use Rattle.fm_frames.specs.inner.Doings.{seen}
 use Rattle.fm_native.proofs.HiddenRows.{builder-init, cleared}
 use Rattle.fm_native.proofs.Rows.{carried}

@@ -2,7 +2,7 @@ use Rattle.std.proofs.Common.{◌≡◌, Ok, Err, ap, ◌∙◌, rules}
 use Rattle.fm_frames.proofs.Throwing.{told-ok}
 use Rattle.fm_frames.specs.Effects.{acting}
 use Rattle.fm_frames.specs.NativeRows.{has_text}
-use Rattle.fm_frames.specs.Natives.{BufferInitOf}
+use Rattle.fm_frames.specs.declared.natives.Native.TheVariants.{BufferInitOf}
 use Rattle.fm_frames.specs.inner.Doings.{seen}
 use Rattle.fm_native.proofs.HiddenRows.{buffer-is, buffer-refused}
 use Rattle.fm_native.proofs.Rows.{carried}

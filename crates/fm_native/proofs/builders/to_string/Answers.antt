@@ -2,7 +2,7 @@ use Rattle.std.proofs.Common.{◌≡◌, Ok, Err, ap, ◌∙◌, rules}
 use Rattle.fm_frames.proofs.Throwing.{told-ok}
 use Rattle.fm_frames.specs.Effects.{making}
 use Rattle.fm_frames.specs.NativeRows.{text_made}
-use Rattle.fm_frames.specs.Natives.{BuilderToString}
+use Rattle.fm_frames.specs.declared.natives.Native.TheVariants.{BuilderToString}
 use Rattle.fm_frames.specs.inner.Doings.{seen}
 use Rattle.fm_native.proofs.HiddenRows.{built-text}
 use Rattle.fm_native.proofs.Rows.{carried}

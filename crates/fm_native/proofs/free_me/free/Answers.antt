@@ -1,7 +1,7 @@
 use Rattle.std.proofs.Common.{Ok, Err, Some, None, [], subst}
 use Rattle.fm_frames.proofs.Throwing.{told-ok}
 use Rattle.fm_frames.specs.Effects.{words}
-use Rattle.fm_frames.specs.Natives.{FreeMeFree}
+use Rattle.fm_frames.specs.declared.natives.Native.TheVariants.{FreeMeFree}
 use Rattle.fm_frames.specs.inner.Doings.{seen}
 use Rattle.fm_native.proofs.FreeRows.{free-is, freed-done, freeing}
 use Rattle.fm_native.proofs.Rows.{carried}

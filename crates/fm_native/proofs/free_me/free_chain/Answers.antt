@@ -2,7 +2,7 @@ use Rattle.std.proofs.Common.{◌≡◌, ap, sym, ◌∙◌, rules}
 use Rattle.fm_cells.specs.declared.answers.Cell.{Cell}
 use Rattle.fm_frames.specs.Acts.{all_freed, cell_of, chain_from}
 use Rattle.fm_frames.specs.Effects.{OfOperand}
-use Rattle.fm_frames.specs.Natives.{FreeMeFreeChain}
+use Rattle.fm_frames.specs.declared.natives.Native.TheVariants.{FreeMeFreeChain}
 use Rattle.fm_frames.specs.inner.Doings.{seen}
 use Rattle.fm_native.proofs.FreeRows.{chain-done, chain-is, chain-lost, freeing_chain}
 use Rattle.fm_native.proofs.Rows.{carried}

@@ -2,7 +2,7 @@ use Rattle.std.proofs.Common.{Ok, ap, sym, ◌∙◌, subst}
 use Rattle.fm_frames.proofs.Throwing.{told-ok}
 use Rattle.fm_frames.specs.Acts.{cell_of}
 use Rattle.fm_frames.specs.Effects.{OfOperand, Plain}
-use Rattle.fm_frames.specs.Natives.{FreeMeLink}
+use Rattle.fm_frames.specs.declared.natives.Native.TheVariants.{FreeMeLink}
 use Rattle.fm_frames.specs.inner.Doings.{seen}
 use Rattle.fm_native.proofs.FreeRows.{link-held, link-null, link-refused, linked-done, linking, passed_over}
 use Rattle.fm_native.proofs.Rows.{carried}

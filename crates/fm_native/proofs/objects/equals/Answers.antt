@@ -2,7 +2,7 @@ use Rattle.std.proofs.Common.{[], ◌∷◌, sym, ◌∙◌}
 use Rattle.fm_frames.proofs.Throwing.{told-ok}
 use Rattle.fm_frames.specs.Acts.{told_same}
 use Rattle.fm_frames.specs.Effects.{SameOperands, words}
-use Rattle.fm_frames.specs.Natives.{ObjectEquals}
+use Rattle.fm_frames.specs.declared.natives.Native.TheVariants.{ObjectEquals}
 use Rattle.fm_native.proofs.Rows.{carried, equals-is}
 use Rattle.fm_native.proofs.objects.equals.Goals as goal
 use Rattle.fm_frames.specs.inner.Doings.{seen}

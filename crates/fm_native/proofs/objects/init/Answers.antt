@@ -1,6 +1,6 @@
 use Rattle.std.proofs.Common.{[]}
 use Rattle.fm_frames.specs.Effects.{words}
-use Rattle.fm_frames.specs.Natives.{ObjectInit}
+use Rattle.fm_frames.specs.declared.natives.Native.TheVariants.{ObjectInit}
 use Rattle.fm_native.proofs.Rows.{carried, init-is}
 use Rattle.fm_native.proofs.objects.init.Goals as goal
 use Rattle.fm_frames.specs.inner.Doings.{seen}

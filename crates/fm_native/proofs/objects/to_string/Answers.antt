@@ -2,7 +2,7 @@ use Rattle.std.proofs.Common.{◌≡◌, ap, ◌∙◌, rules}
 use Rattle.fm_frames.proofs.Throwing.{told-ok}
 use Rattle.fm_frames.specs.Effects.{making}
 use Rattle.fm_frames.specs.NativeRows.{text_made}
-use Rattle.fm_frames.specs.Natives.{ObjectToString}
+use Rattle.fm_frames.specs.declared.natives.Native.TheVariants.{ObjectToString}
 use Rattle.fm_frames.specs.inner.Doings.{seen}
 use Rattle.fm_native.proofs.NameTexts.{name-fits, object-is, object-refused, text_of_held}
 use Rattle.fm_native.proofs.Rows.{carried}

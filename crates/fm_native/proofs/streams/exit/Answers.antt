@@ -2,7 +2,7 @@ use Rattle.std.proofs.Common.{◌≡◌, Ok, Err, ap, sym, ◌∙◌, arith, w32
 use Rattle.std.proofs.lemmas.Int.{ints, to_z-of_z}
 use Rattle.fm_frames.proofs.Throwing.{told-ok}
 use Rattle.fm_frames.specs.Effects.{Exits, going}
-use Rattle.fm_frames.specs.Natives.{Exit}
+use Rattle.fm_frames.specs.declared.natives.Native.TheVariants.{Exit}
 use Rattle.fm_native.proofs.Rows.{carried, exit-is}
 use Rattle.fm_native.proofs.streams.exit.Goals as goal
 use Rattle.fm_frames.specs.inner.Doings.{seen}

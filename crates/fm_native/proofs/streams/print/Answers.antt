@@ -7,22 +7,21 @@ use Rattle.fm_native.proofs.Prints.{fails-as, quiet-does, quiet-fails, quiet-tol
 use Rattle.fm_native.proofs.TextRows.{print-is}
 use Rattle.fm_native.proofs.streams.print.Goals as goal
 use Rattle.fm_native.specs.Doing.{effect_of_native}
-use Rattle.fm_native.specs.Showing.{shown_as}
 use Rattle.fm_native.specs.inner.Asked.{IsAt, refused}
-use Rattle.fm_native.specs.inner.Shown.{AsksUnits, operand_as, print_row, shown_bytes}
+use Rattle.fm_native.specs.inner.Shown.{AsksUnits, operand_of, print_row, shown_bytes}
 
 pub returns-in_ok-bytes-in-Ok-clause-told : goal.returns-in_ok-bytes-in-Ok-clause-told
 returns-in_ok-bytes-in-Ok-clause-told g c =
     let p = c.args.program.now in
     let o = p.outline in
     let x = c.args.machine.now in
-    let shown = shown_as c.args.shown in
-    let asks = subst (λ f. AsksUnits o (seen p x) shown (operand_as c.args.shown) f) c.in-Ok.is c.in_ok-found.ensures.value in
+    let shown = c.args.shown in
+    let asks = subst (λ f. AsksUnits o (seen p x) shown (operand_of c.args.shown) f) c.in-Ok.is c.in_ok-found.ensures.value in
     let told : shown_bytes c.in-Ok.units.items c.args.ends_line ≡ c.deref-in-Ok.result.now = search rules in
     told-ok c.print_bytes.result _ _
     (steps-as p g.M.Memory.choose x c.print_bytes.new.machine (g.S.Sink.output c.args.out.now) (g.S.Sink.output c.print_bytes.new.out)
     (effect_of_native p x (print_row shown c.args.ends_line)) (printing (c.words.result + 1) c.deref-in-Ok.result.now)
-    (print-is o (slice_get x.input 0) (seen p x) shown c.args.ends_line (operand_as c.args.shown) (Ok c.in-Ok.units) asks
+    (print-is o (slice_get x.input 0) (seen p x) shown c.args.ends_line (operand_of c.args.shown) (Ok c.in-Ok.units) asks
     ∙ (λ i. printing (sym c.words.ensures i + 1) (told i))))
     c.print_bytes.ensures.told
 
@@ -31,12 +30,12 @@ returns-in_ok-bytes-in-Ok-clause-failed g c failed =
     let p = c.args.program.now in
     let o = p.outline in
     let x = c.args.machine.now in
-    let shown = shown_as c.args.shown in
-    let asks = subst (λ f. AsksUnits o (seen p x) shown (operand_as c.args.shown) f) c.in-Ok.is c.in_ok-found.ensures.value in
+    let shown = c.args.shown in
+    let asks = subst (λ f. AsksUnits o (seen p x) shown (operand_of c.args.shown) f) c.in-Ok.is c.in_ok-found.ensures.value in
     let told : shown_bytes c.in-Ok.units.items c.args.ends_line ≡ c.deref-in-Ok.result.now = search rules in
     fails-as p g.M.Memory.choose x (g.S.Sink.output c.args.out.now) (g.S.Sink.output c.print_bytes.new.out)
     (effect_of_native p x (print_row shown c.args.ends_line)) (printing (c.words.result + 1) c.deref-in-Ok.result.now)
-    (print-is o (slice_get x.input 0) (seen p x) shown c.args.ends_line (operand_as c.args.shown) (Ok c.in-Ok.units) asks
+    (print-is o (slice_get x.input 0) (seen p x) shown c.args.ends_line (operand_of c.args.shown) (Ok c.in-Ok.units) asks
     ∙ (λ i. printing (sym c.words.ensures i + 1) (told i)))
     (c.print_bytes.ensures.failed failed)
 
@@ -45,16 +44,16 @@ returns-in-Err-clause-told g c =
     let p = c.args.program.now in
     let o = p.outline in
     let x = c.args.machine.now in
-    let shown = shown_as c.args.shown in
-    let asks = subst (λ f. AsksUnits o (seen p x) shown (operand_as c.args.shown) f) c.in-Err.is c.in_ok-found.ensures.value in
-    let there = subst (λ f. IfErr f (IsAt o x (operand_as c.args.shown))) c.in-Err.is c.in_ok-found.ensures.at in
+    let shown = c.args.shown in
+    let asks = subst (λ f. AsksUnits o (seen p x) shown (operand_of c.args.shown) f) c.in-Err.is c.in_ok-found.ensures.value in
+    let there = subst (λ f. IfErr f (IsAt o x (operand_of c.args.shown))) c.in-Err.is c.in_ok-found.ensures.at in
     let out = g.S.Sink.output c.args.out.now in
     quiet-told _ _ c.refuse.result c.quiet.result c.quiet.ensures
     (λ ended.
     steps-as p g.M.Memory.choose x c.refuse.new.machine out out (effect_of_native p x (print_row shown c.args.ends_line))
-    (refused o (operand_as c.args.shown) c.in-Err.refusal)
-    (print-is o (slice_get x.input 0) (seen p x) shown c.args.ends_line (operand_as c.args.shown) (Err c.in-Err.refusal) asks)
-    (quiet-does p g.M.Memory.choose x c.refuse.new.machine out (refused o (operand_as c.args.shown) c.in-Err.refusal) (ended (operand_as c.args.shown) there)))
+    (refused o (operand_of c.args.shown) c.in-Err.refusal)
+    (print-is o (slice_get x.input 0) (seen p x) shown c.args.ends_line (operand_of c.args.shown) (Err c.in-Err.refusal) asks)
+    (quiet-does p g.M.Memory.choose x c.refuse.new.machine out (refused o (operand_of c.args.shown) c.in-Err.refusal) (ended (operand_of c.args.shown) there)))
     c.refuse.ensures
 
 pub returns-in-Err-clause-failed : goal.returns-in-Err-clause-failed

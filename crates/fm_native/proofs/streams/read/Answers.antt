@@ -2,7 +2,7 @@ use Rattle.std.proofs.Common.{pos, negsuc, true, Some, None, slice_get, rules}
 use Rattle.fm_frames.proofs.Throwing.{told-ok}
 use Rattle.fm_frames.specs.Effects.{Plain, int_word, words}
 use Rattle.fm_frames.specs.NativeRows.{native_effect}
-use Rattle.fm_frames.specs.Natives.{Read}
+use Rattle.fm_frames.specs.declared.natives.Native.TheVariants.{Read}
 use Rattle.fm_frames.specs.declared.values.Value.TheVariants as value
 use Rattle.fm_native.proofs.Rows.{carried-one, read-is}
 use Rattle.fm_native.proofs.streams.read.Goals as goal

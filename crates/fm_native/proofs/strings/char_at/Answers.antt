@@ -2,7 +2,7 @@ use Rattle.std.proofs.Common.{◌≡◌, Ok, Err, ap, sym, ◌∙◌, arith, w32
 use Rattle.std.proofs.lemmas.Int.{ints, to_z-of_z}
 use Rattle.fm_frames.proofs.Throwing.{told-ok}
 use Rattle.fm_frames.specs.NativeRows.{char_at}
-use Rattle.fm_frames.specs.Natives.{CharAt}
+use Rattle.fm_frames.specs.declared.natives.Native.TheVariants.{CharAt}
 use Rattle.fm_native.proofs.Rows.{carried, char-is, char-refused}
 use Rattle.fm_native.proofs.strings.char_at.Goals as goal
 use Rattle.fm_frames.specs.inner.Doings.{seen}

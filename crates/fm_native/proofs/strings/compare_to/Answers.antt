@@ -2,7 +2,7 @@ use Rattle.std.proofs.Common.{◌≡◌, Ok, Err, ap, ◌∙◌, rules}
 use Rattle.fm_frames.proofs.Throwing.{told-ok}
 use Rattle.fm_frames.specs.Effects.{Plain, int_word, words}
 use Rattle.fm_frames.specs.NativeRows.{compared}
-use Rattle.fm_frames.specs.Natives.{CompareTo}
+use Rattle.fm_frames.specs.declared.natives.Native.TheVariants.{CompareTo}
 use Rattle.fm_frames.specs.declared.values.Value.TheVariants as value
 use Rattle.fm_native.proofs.Rows.{carried, compared-is, compared-refused}
 use Rattle.fm_native.proofs.strings.compare_to.Goals as goal

@@ -1,7 +1,7 @@
 use Rattle.std.proofs.Common.{Ok, Err, pos, ap, ◌∙◌, rules}
 use Rattle.fm_frames.proofs.Throwing.{told-ok}
 use Rattle.fm_frames.specs.Effects.{Plain, int_word, words}
-use Rattle.fm_frames.specs.Natives.{StringLength}
+use Rattle.fm_frames.specs.declared.natives.Native.TheVariants.{StringLength}
 use Rattle.fm_frames.specs.declared.values.Value.TheVariants as value
 use Rattle.fm_native.proofs.Rows.{carried, length-is}
 use Rattle.fm_native.proofs.strings.length.Goals as goal

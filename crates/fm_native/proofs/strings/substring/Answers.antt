@@ -1,7 +1,7 @@
 use Rattle.std.proofs.Common.{◌≡◌, Ok, Err, ap, sym, ◌∙◌, arith, w32, to_z, of_z}
 use Rattle.std.proofs.lemmas.Int.{ints, to_z-of_z}
 use Rattle.fm_frames.proofs.Throwing.{told-ok}
-use Rattle.fm_frames.specs.Natives.{Substring}
+use Rattle.fm_frames.specs.declared.natives.Native.TheVariants.{Substring}
 use Rattle.fm_frames.specs.inner.Doings.{seen}
 use Rattle.fm_native.proofs.Rows.{carried}
 use Rattle.fm_native.proofs.TextRows.{part-begun, part-refused}

@@ -1,7 +1,7 @@
 use Rattle.std.proofs.Common.{Ok, Err, [], ◌∷◌, sym}
 use Rattle.fm_frames.proofs.Throwing.{told-ok}
 use Rattle.fm_frames.specs.Effects.{OfOperand, words}
-use Rattle.fm_frames.specs.Natives.{StringToString}
+use Rattle.fm_frames.specs.declared.natives.Native.TheVariants.{StringToString}
 use Rattle.fm_native.proofs.Rows.{carried, itself-is}
 use Rattle.fm_native.proofs.strings.to_string.Goals as goal
 use Rattle.fm_frames.specs.inner.Doings.{seen}

@@ -2,7 +2,7 @@ use Rattle.std.proofs.Common.{Ok, Err}
 use Rattle.fm_frames.proofs.Throwing.{told-ok}
 use Rattle.fm_frames.specs.Effects.{OfPlace}
 use Rattle.fm_frames.specs.NativeRows.{text_kind}
-use Rattle.fm_frames.specs.Natives.{GetMessage}
+use Rattle.fm_frames.specs.declared.natives.Native.TheVariants.{GetMessage}
 use Rattle.fm_frames.specs.inner.Doings.{seen}
 use Rattle.fm_native.proofs.HiddenRows.{message-is, told_message}
 use Rattle.fm_native.proofs.HiddenSteps.{message-read}

@@ -1,6 +1,6 @@
 use Rattle.std.proofs.Common.{Ok, Err}
 use Rattle.fm_frames.proofs.Throwing.{told-ok}
-use Rattle.fm_frames.specs.Natives.{ThrowableInit}
+use Rattle.fm_frames.specs.declared.natives.Native.TheVariants.{ThrowableInit}
 use Rattle.fm_frames.specs.inner.Doings.{seen}
 use Rattle.fm_native.proofs.HiddenRows.{throwable-init, cleared}
 use Rattle.fm_native.proofs.Rows.{carried}

@@ -1,7 +1,7 @@
 use Rattle.std.proofs.Common.{Ok, Err, sym, arith}
 use Rattle.fm_frames.proofs.Throwing.{told-ok}
 use Rattle.fm_frames.specs.Effects.{OfOperand}
-use Rattle.fm_frames.specs.Natives.{ThrowableInitOf}
+use Rattle.fm_frames.specs.declared.natives.Native.TheVariants.{ThrowableInitOf}
 use Rattle.fm_frames.specs.inner.Doings.{seen}
 use Rattle.fm_native.proofs.HiddenRows.{throwable-init-of, kept_message}
 use Rattle.fm_native.proofs.HiddenSteps.{message-fits, message-kept}
