@@ -1,10 +1,10 @@
 -- The example computed: each fact by running the definitions.
-use Rattle.std.proofs.Common.{◌+◌, ◌-◌, true, false, nat_eq, ◌≡◌, refl, [], ◌∷◌, codes, drop, length, Some, slice_get}
+use Rattle.std.proofs.Common.{◌+◌, true, false, nat_eq, ◌≡◌, refl, [], ◌∷◌, codes, drop, length, Some, slice_get}
 use Rattle.std.specs.List.{filter_map, list_all, list_any, range_with_len}
 use Rattle.std.specs.Option.{option_map}
 use Rattle.fm_world.specs.Rows.{hidden_kinds, row_of}
 use Rattle.fm_world.specs.Descriptors.{class_number}
-use Rattle.fm_world.specs.BuiltIns.{built_in, built_in_methods, built_in_rows}
+use Rattle.fm_world.specs.BuiltIns.{built_in, built_in_methods, built_in_rows, free_me_row, throwable_row}
 use Rattle.fm_world.specs.Causes.{BuiltIn, Duplicate, BadParent, MissingClass, MissingField, NotImplemented, NoMain}
 use Rattle.fm_world.specs.Chains.{chain_of, distinct, superinterfaces_of, interfaces_of, is_sub}
 use Rattle.fm_world.specs.Example.{array_types, call_of_k, call_of_to_string, call_on_array, castable, not_castable, example, example_main, example_upper, first_method, main_uses, refusal, with_completion, with_cycle, with_interfaces, with_private, with_static_field}
@@ -87,15 +87,15 @@ pub rows_are : distinct nat_eq (filter_map (λ m. m.method.row) (methods_of buil
 unfolding built_in methods_of
 rows_are = refl
 
-pub free_row : row_of (codes "FreeMe") (codes "free") (codes "(Ljava/lang/Object;)V") ≡ Some (built_in_rows - 3)
+pub free_row : row_of (codes "FreeMe") (codes "free") (codes "(Ljava/lang/Object;)V") ≡ Some free_me_row
 unfolding built_in methods_of
 free_row = refl
 
-pub throwable_row : row_of (codes "java/lang/Throwable") (codes "<init>") (codes "()V") ≡ Some (built_in_rows - 7)
+pub throwable_row_is : row_of (codes "java/lang/Throwable") (codes "<init>") (codes "()V") ≡ Some throwable_row
 unfolding built_in methods_of
-throwable_row = refl
+throwable_row_is = refl
 
-pub last_throwable_row : row_of (codes "java/lang/IncompatibleClassChangeError") (codes "<init>") (codes "()V") ≡ Some (built_in_rows - 7)
+pub last_throwable_row : row_of (codes "java/lang/IncompatibleClassChangeError") (codes "<init>") (codes "()V") ≡ Some throwable_row
 unfolding built_in methods_of
 last_throwable_row = refl
 

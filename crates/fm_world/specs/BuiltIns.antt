@@ -1,6 +1,6 @@
--- The built-in classes, as data: the only place where they are listed. A new built-in method is one line here, at the end of its class, and
+-- The built-in classes, as data: the only place where they are listed. A new built-in method is one line here and
 -- a row of the machine. The layers above, and the table of the code, go by this list.
-use Rattle.std.specs.Prelude.{ℕ, Bool, true, false, List, [], ◌∷◌, ◌++◌, codes, Option, Some, None}
+use Rattle.std.specs.Prelude.{ℕ, ◌+◌, Bool, true, false, List, [], ◌∷◌, ◌++◌, codes, length, Option, Some, None}
 use Rattle.fm_world.specs.declared.declarations.DeclaredField.{DeclaredField}
 use Rattle.fm_world.specs.declared.declarations.DeclaredMethod.{DeclaredMethod}
 use Rattle.fm_world.specs.declared.declarations.DeclaredClass.{DeclaredClass}
@@ -51,108 +51,143 @@ sealed_names =
     codes "java/lang/String" ∷ codes "java/lang/StringBuilder" ∷ codes "java/lang/StringBuffer" ∷ codes "java/lang/System"
     ∷ codes "java/io/PrintStream" ∷ codes "java/io/InputStream" ∷ codes "FreeMe" ∷ []
 
--- ---- methods, with the numbers of their rows
+-- ---- methods, in rows that follow one another
 
--- a method of a name, a descriptor and the number of its row
+-- a method of a name and a descriptor, in the row of that number
 abbrev pub method : List ℕ → List ℕ → ℕ → DeclaredMethod
 method name descriptor row = record { name = name; descriptor = descriptor; flags = public; row = Some row }
 
--- a static method of a name, a descriptor and the number of its row
+-- a static method of a name and a descriptor, in the row of that number
 abbrev pub static_method : List ℕ → List ℕ → ℕ → DeclaredMethod
 static_method name descriptor row = record { name = name; descriptor = descriptor; flags = public_static; row = Some row }
 
+-- methods in rows that follow one another from the first one on
+abbrev pub numbered : ℕ → List (ℕ → DeclaredMethod) → List DeclaredMethod
+numbered row [] = []
+numbered row (method ∷ methods) = method row ∷ numbered (row + 1) methods
+
 -- the methods of Object
-abbrev pub object_methods : List DeclaredMethod
+abbrev pub object_methods : List (ℕ → DeclaredMethod)
 object_methods =
-    method (codes "<init>") (codes "()V") 0
-    ∷ method (codes "hashCode") (codes "()I") 1
-    ∷ method (codes "equals") (codes "(Ljava/lang/Object;)Z") 2
-    ∷ method (codes "toString") (codes "()Ljava/lang/String;") 3
+    method (codes "<init>") (codes "()V")
+    ∷ method (codes "hashCode") (codes "()I")
+    ∷ method (codes "equals") (codes "(Ljava/lang/Object;)Z")
+    ∷ method (codes "toString") (codes "()Ljava/lang/String;")
     ∷ []
 
 -- the methods of String
-abbrev pub string_methods : List DeclaredMethod
+abbrev pub string_methods : List (ℕ → DeclaredMethod)
 string_methods =
-    method (codes "length") (codes "()I") 4
-    ∷ method (codes "charAt") (codes "(I)C") 5
-    ∷ method (codes "equals") (codes "(Ljava/lang/Object;)Z") 6
-    ∷ method (codes "hashCode") (codes "()I") 7
-    ∷ method (codes "compareTo") (codes "(Ljava/lang/String;)I") 8
-    ∷ method (codes "toString") (codes "()Ljava/lang/String;") 9
-    ∷ method (codes "substring") (codes "(II)Ljava/lang/String;") 10
-    ∷ static_method (codes "valueOf") (codes "(I)Ljava/lang/String;") 11
-    ∷ static_method (codes "valueOf") (codes "(J)Ljava/lang/String;") 12
-    ∷ static_method (codes "valueOf") (codes "(C)Ljava/lang/String;") 13
-    ∷ static_method (codes "valueOf") (codes "(Z)Ljava/lang/String;") 14
+    method (codes "length") (codes "()I")
+    ∷ method (codes "charAt") (codes "(I)C")
+    ∷ method (codes "equals") (codes "(Ljava/lang/Object;)Z")
+    ∷ method (codes "hashCode") (codes "()I")
+    ∷ method (codes "compareTo") (codes "(Ljava/lang/String;)I")
+    ∷ method (codes "toString") (codes "()Ljava/lang/String;")
+    ∷ method (codes "substring") (codes "(II)Ljava/lang/String;")
+    ∷ static_method (codes "valueOf") (codes "(I)Ljava/lang/String;")
+    ∷ static_method (codes "valueOf") (codes "(J)Ljava/lang/String;")
+    ∷ static_method (codes "valueOf") (codes "(C)Ljava/lang/String;")
+    ∷ static_method (codes "valueOf") (codes "(Z)Ljava/lang/String;")
     ∷ []
 
 -- the methods of a class that builds texts; its name is in the result type of append
-abbrev pub builder_methods : List ℕ → List DeclaredMethod
+abbrev pub builder_methods : List ℕ → List (ℕ → DeclaredMethod)
 builder_methods name =
     let answer = codes ")L" ++ name ++ codes ";" in
-    method (codes "<init>") (codes "()V") 15
-    ∷ method (codes "append") (codes "(I" ++ answer) 16
-    ∷ method (codes "append") (codes "(J" ++ answer) 17
-    ∷ method (codes "append") (codes "(C" ++ answer) 18
-    ∷ method (codes "append") (codes "(Z" ++ answer) 19
-    ∷ method (codes "append") (codes "(Ljava/lang/String;" ++ answer) 20
-    ∷ method (codes "length") (codes "()I") 21
-    ∷ method (codes "toString") (codes "()Ljava/lang/String;") 22
+    method (codes "<init>") (codes "()V")
+    ∷ method (codes "append") (codes "(I" ++ answer)
+    ∷ method (codes "append") (codes "(J" ++ answer)
+    ∷ method (codes "append") (codes "(C" ++ answer)
+    ∷ method (codes "append") (codes "(Z" ++ answer)
+    ∷ method (codes "append") (codes "(Ljava/lang/String;" ++ answer)
+    ∷ method (codes "length") (codes "()I")
+    ∷ method (codes "toString") (codes "()Ljava/lang/String;")
     ∷ []
 
 -- a StringBuffer has the rows of a StringBuilder, and a constructor more
-abbrev pub buffer_methods : List DeclaredMethod
-buffer_methods = builder_methods (codes "java/lang/StringBuffer") ++ method (codes "<init>") (codes "(Ljava/lang/String;)V") 23 ∷ []
+abbrev pub buffer_methods : List (ℕ → DeclaredMethod)
+buffer_methods = builder_methods (codes "java/lang/StringBuffer") ++ method (codes "<init>") (codes "(Ljava/lang/String;)V") ∷ []
 
 -- the methods of System
-abbrev pub system_methods : List DeclaredMethod
-system_methods = static_method (codes "exit") (codes "(I)V") 24 ∷ []
+abbrev pub system_methods : List (ℕ → DeclaredMethod)
+system_methods = static_method (codes "exit") (codes "(I)V") ∷ []
 
 -- the methods of PrintStream
-abbrev pub print_stream_methods : List DeclaredMethod
+abbrev pub print_stream_methods : List (ℕ → DeclaredMethod)
 print_stream_methods =
-    method (codes "print") (codes "(I)V") 25
-    ∷ method (codes "print") (codes "(J)V") 26
-    ∷ method (codes "print") (codes "(C)V") 27
-    ∷ method (codes "print") (codes "(Z)V") 28
-    ∷ method (codes "print") (codes "(Ljava/lang/String;)V") 29
-    ∷ method (codes "println") (codes "(I)V") 30
-    ∷ method (codes "println") (codes "(J)V") 31
-    ∷ method (codes "println") (codes "(C)V") 32
-    ∷ method (codes "println") (codes "(Z)V") 33
-    ∷ method (codes "println") (codes "(Ljava/lang/String;)V") 34
-    ∷ method (codes "println") (codes "()V") 35
+    method (codes "print") (codes "(I)V")
+    ∷ method (codes "print") (codes "(J)V")
+    ∷ method (codes "print") (codes "(C)V")
+    ∷ method (codes "print") (codes "(Z)V")
+    ∷ method (codes "print") (codes "(Ljava/lang/String;)V")
+    ∷ method (codes "println") (codes "(I)V")
+    ∷ method (codes "println") (codes "(J)V")
+    ∷ method (codes "println") (codes "(C)V")
+    ∷ method (codes "println") (codes "(Z)V")
+    ∷ method (codes "println") (codes "(Ljava/lang/String;)V")
+    ∷ method (codes "println") (codes "()V")
     ∷ []
 
 -- the methods of InputStream
-abbrev pub input_stream_methods : List DeclaredMethod
-input_stream_methods = method (codes "read") (codes "()I") 36 ∷ []
+abbrev pub input_stream_methods : List (ℕ → DeclaredMethod)
+input_stream_methods = method (codes "read") (codes "()I") ∷ []
 
 -- the constructors of Throwable, which all built-in throwables have with the same rows
-abbrev pub throwable_constructors : List DeclaredMethod
-throwable_constructors = method (codes "<init>") (codes "()V") 37 ∷ method (codes "<init>") (codes "(Ljava/lang/String;)V") 38 ∷ []
+abbrev pub throwable_constructors : List (ℕ → DeclaredMethod)
+throwable_constructors = method (codes "<init>") (codes "()V") ∷ method (codes "<init>") (codes "(Ljava/lang/String;)V") ∷ []
 
 -- the methods of Throwable
-abbrev pub throwable_methods : List DeclaredMethod
+abbrev pub throwable_methods : List (ℕ → DeclaredMethod)
 throwable_methods =
     throwable_constructors
-    ++ method (codes "getMessage") (codes "()Ljava/lang/String;") 39 ∷ method (codes "toString") (codes "()Ljava/lang/String;") 40 ∷ []
+    ++ method (codes "getMessage") (codes "()Ljava/lang/String;") ∷ method (codes "toString") (codes "()Ljava/lang/String;") ∷ []
 
 -- the methods of FreeMe
-abbrev pub free_me_methods : List DeclaredMethod
+abbrev pub free_me_methods : List (ℕ → DeclaredMethod)
 free_me_methods =
-    static_method (codes "free") (codes "(Ljava/lang/Object;)V") 41
-    ∷ static_method (codes "link") (codes "(Ljava/lang/Object;Ljava/lang/Object;)Ljava/lang/Object;") 42
-    ∷ static_method (codes "freeChain") (codes "(Ljava/lang/Object;)V") 43
+    static_method (codes "free") (codes "(Ljava/lang/Object;)V")
+    ∷ static_method (codes "link") (codes "(Ljava/lang/Object;Ljava/lang/Object;)Ljava/lang/Object;")
+    ∷ static_method (codes "freeChain") (codes "(Ljava/lang/Object;)V")
     ∷ []
+
+-- ---- the row at which the methods of a class begin: those of Object at 0, and each after those of the class before it
+
+-- that of String
+abbrev pub string_row : ℕ
+string_row = length object_methods
+
+-- that of StringBuilder and StringBuffer
+abbrev pub builder_row : ℕ
+builder_row = string_row + length string_methods
+
+-- that of System
+abbrev pub system_row : ℕ
+system_row = builder_row + length buffer_methods
+
+-- that of PrintStream
+abbrev pub print_stream_row : ℕ
+print_stream_row = system_row + length system_methods
+
+-- that of InputStream
+abbrev pub input_stream_row : ℕ
+input_stream_row = print_stream_row + length print_stream_methods
+
+-- that of all throwables
+abbrev pub throwable_row : ℕ
+throwable_row = input_stream_row + length input_stream_methods
+
+-- that of FreeMe
+abbrev pub free_me_row : ℕ
+free_me_row = throwable_row + length throwable_methods
+
+-- how many rows there are
+abbrev pub built_in_rows : ℕ
+built_in_rows = free_me_row + length free_me_methods
 
 -- how many methods all classes have: those of a program come after them
 abbrev pub built_in_methods : ℕ
 built_in_methods = 86
-
--- how many rows they have
-abbrev pub built_in_rows : ℕ
-built_in_rows = 44
 
 -- ---- fields
 
@@ -186,7 +221,7 @@ plain_class name hidden methods = class_under (Some object_name) name [] hidden 
 
 -- a throwable has its superclass's hidden field
 abbrev pub throwable_under : List ℕ → List ℕ → DeclaredClass
-throwable_under superclass name = class_under (Some superclass) name [] false [] throwable_constructors
+throwable_under superclass name = class_under (Some superclass) name [] false [] (numbered throwable_row throwable_constructors)
 
 -- an interface without methods
 abbrev pub marker : List ℕ → DeclaredClass
@@ -204,15 +239,15 @@ marker name = record {
 -- the classes by the numbers that they have in each program
 unfoldable pub built_in : List DeclaredClass
 built_in =
-    class_under None object_name [] false [] object_methods
-    ∷ class_under (Some object_name) string_name (serializable_name ∷ []) false [] string_methods
-    ∷ plain_class (codes "java/lang/StringBuilder") true (builder_methods (codes "java/lang/StringBuilder"))
-    ∷ plain_class (codes "java/lang/StringBuffer") true buffer_methods
-    ∷ class_under (Some object_name) (codes "java/lang/System") [] false system_fields system_methods
-    ∷ plain_class (codes "java/io/PrintStream") false print_stream_methods
-    ∷ plain_class (codes "java/io/InputStream") false input_stream_methods
-    ∷ class_under (Some object_name) (codes "java/lang/Throwable") (serializable_name ∷ []) true [] throwable_methods
-    ∷ plain_class (codes "FreeMe") false free_me_methods
+    class_under None object_name [] false [] (numbered 0 object_methods)
+    ∷ class_under (Some object_name) string_name (serializable_name ∷ []) false [] (numbered string_row string_methods)
+    ∷ plain_class (codes "java/lang/StringBuilder") true (numbered builder_row (builder_methods (codes "java/lang/StringBuilder")))
+    ∷ plain_class (codes "java/lang/StringBuffer") true (numbered builder_row buffer_methods)
+    ∷ class_under (Some object_name) (codes "java/lang/System") [] false system_fields (numbered system_row system_methods)
+    ∷ plain_class (codes "java/io/PrintStream") false (numbered print_stream_row print_stream_methods)
+    ∷ plain_class (codes "java/io/InputStream") false (numbered input_stream_row input_stream_methods)
+    ∷ class_under (Some object_name) (codes "java/lang/Throwable") (serializable_name ∷ []) true [] (numbered throwable_row throwable_methods)
+    ∷ plain_class (codes "FreeMe") false (numbered free_me_row free_me_methods)
     ∷ throwable_under (codes "java/lang/Throwable") (codes "java/lang/Exception")
     ∷ throwable_under (codes "java/lang/Throwable") (codes "java/lang/Error")
     ∷ throwable_under (codes "java/lang/Exception") (codes "java/lang/RuntimeException")

@@ -1,4 +1,4 @@
-// The methods of the built-in classes, each with the number of its row.
+// The methods of the built-in classes, in rows that follow one another.
 
 use crate::built_ins::BuiltInMethod;
 
@@ -10,352 +10,121 @@ const PUBLIC_STATIC: u16 = 0x0009;
 /// How many methods the built-in classes have: those of a program come after them.
 pub const BUILT_IN_METHODS: u32 = 86;
 
-pub const OBJECT_METHODS: [BuiltInMethod; 4] = [
-    BuiltInMethod {
-        name: "<init>",
-        descriptor: "()V",
-        flags: PUBLIC,
-        row: 0,
-    },
-    BuiltInMethod {
-        name: "hashCode",
-        descriptor: "()I",
-        flags: PUBLIC,
-        row: 1,
-    },
-    BuiltInMethod {
-        name: "equals",
-        descriptor: "(Ljava/lang/Object;)Z",
-        flags: PUBLIC,
-        row: 2,
-    },
-    BuiltInMethod {
-        name: "toString",
-        descriptor: "()Ljava/lang/String;",
-        flags: PUBLIC,
-        row: 3,
-    },
+// Methods by their flags, names and descriptors, in rows that follow one another from the first one on.
+macro_rules! methods {
+    (@ $row:expr, [$($done:tt)*]) => {
+        [$($done)*]
+    };
+    (@ $row:expr, [$($done:tt)*] $flags:ident $name:literal $descriptor:literal, $($rest:tt)*) => {
+        methods!(
+            @ $row + 1,
+            [
+                $($done)*
+                BuiltInMethod { name: $name, descriptor: $descriptor, flags: $flags, row: $row },
+            ]
+            $($rest)*
+        )
+    };
+    ($row:expr; $($methods:tt)*) => {
+        methods!(@ $row, [] $($methods)*)
+    };
+}
+
+// The rows at which the methods of a class begin: after those of the class before it.
+const STRING_ROW: u16 = OBJECT_METHODS.len() as u16;
+
+const BUILDER_ROW: u16 = STRING_ROW + STRING_METHODS.len() as u16;
+
+const SYSTEM_ROW: u16 = BUILDER_ROW + STRING_BUFFER_METHODS.len() as u16;
+
+const PRINT_STREAM_ROW: u16 = SYSTEM_ROW + SYSTEM_METHODS.len() as u16;
+
+const INPUT_STREAM_ROW: u16 = PRINT_STREAM_ROW + PRINT_STREAM_METHODS.len() as u16;
+
+const THROWABLE_ROW: u16 = INPUT_STREAM_ROW + INPUT_STREAM_METHODS.len() as u16;
+
+const FREE_ME_ROW: u16 = THROWABLE_ROW + THROWABLE_METHODS.len() as u16;
+
+pub const OBJECT_METHODS: [BuiltInMethod; 4] = methods![0;
+    PUBLIC "<init>" "()V",
+    PUBLIC "hashCode" "()I",
+    PUBLIC "equals" "(Ljava/lang/Object;)Z",
+    PUBLIC "toString" "()Ljava/lang/String;",
 ];
 
-pub const STRING_METHODS: [BuiltInMethod; 11] = [
-    BuiltInMethod {
-        name: "length",
-        descriptor: "()I",
-        flags: PUBLIC,
-        row: 4,
-    },
-    BuiltInMethod {
-        name: "charAt",
-        descriptor: "(I)C",
-        flags: PUBLIC,
-        row: 5,
-    },
-    BuiltInMethod {
-        name: "equals",
-        descriptor: "(Ljava/lang/Object;)Z",
-        flags: PUBLIC,
-        row: 6,
-    },
-    BuiltInMethod {
-        name: "hashCode",
-        descriptor: "()I",
-        flags: PUBLIC,
-        row: 7,
-    },
-    BuiltInMethod {
-        name: "compareTo",
-        descriptor: "(Ljava/lang/String;)I",
-        flags: PUBLIC,
-        row: 8,
-    },
-    BuiltInMethod {
-        name: "toString",
-        descriptor: "()Ljava/lang/String;",
-        flags: PUBLIC,
-        row: 9,
-    },
-    BuiltInMethod {
-        name: "substring",
-        descriptor: "(II)Ljava/lang/String;",
-        flags: PUBLIC,
-        row: 10,
-    },
-    BuiltInMethod {
-        name: "valueOf",
-        descriptor: "(I)Ljava/lang/String;",
-        flags: PUBLIC_STATIC,
-        row: 11,
-    },
-    BuiltInMethod {
-        name: "valueOf",
-        descriptor: "(J)Ljava/lang/String;",
-        flags: PUBLIC_STATIC,
-        row: 12,
-    },
-    BuiltInMethod {
-        name: "valueOf",
-        descriptor: "(C)Ljava/lang/String;",
-        flags: PUBLIC_STATIC,
-        row: 13,
-    },
-    BuiltInMethod {
-        name: "valueOf",
-        descriptor: "(Z)Ljava/lang/String;",
-        flags: PUBLIC_STATIC,
-        row: 14,
-    },
+pub const STRING_METHODS: [BuiltInMethod; 11] = methods![STRING_ROW;
+    PUBLIC "length" "()I",
+    PUBLIC "charAt" "(I)C",
+    PUBLIC "equals" "(Ljava/lang/Object;)Z",
+    PUBLIC "hashCode" "()I",
+    PUBLIC "compareTo" "(Ljava/lang/String;)I",
+    PUBLIC "toString" "()Ljava/lang/String;",
+    PUBLIC "substring" "(II)Ljava/lang/String;",
+    PUBLIC_STATIC "valueOf" "(I)Ljava/lang/String;",
+    PUBLIC_STATIC "valueOf" "(J)Ljava/lang/String;",
+    PUBLIC_STATIC "valueOf" "(C)Ljava/lang/String;",
+    PUBLIC_STATIC "valueOf" "(Z)Ljava/lang/String;",
 ];
 
-pub const STRING_BUILDER_METHODS: [BuiltInMethod; 8] = [
-    BuiltInMethod {
-        name: "<init>",
-        descriptor: "()V",
-        flags: PUBLIC,
-        row: 15,
-    },
-    BuiltInMethod {
-        name: "append",
-        descriptor: "(I)Ljava/lang/StringBuilder;",
-        flags: PUBLIC,
-        row: 16,
-    },
-    BuiltInMethod {
-        name: "append",
-        descriptor: "(J)Ljava/lang/StringBuilder;",
-        flags: PUBLIC,
-        row: 17,
-    },
-    BuiltInMethod {
-        name: "append",
-        descriptor: "(C)Ljava/lang/StringBuilder;",
-        flags: PUBLIC,
-        row: 18,
-    },
-    BuiltInMethod {
-        name: "append",
-        descriptor: "(Z)Ljava/lang/StringBuilder;",
-        flags: PUBLIC,
-        row: 19,
-    },
-    BuiltInMethod {
-        name: "append",
-        descriptor: "(Ljava/lang/String;)Ljava/lang/StringBuilder;",
-        flags: PUBLIC,
-        row: 20,
-    },
-    BuiltInMethod {
-        name: "length",
-        descriptor: "()I",
-        flags: PUBLIC,
-        row: 21,
-    },
-    BuiltInMethod {
-        name: "toString",
-        descriptor: "()Ljava/lang/String;",
-        flags: PUBLIC,
-        row: 22,
-    },
+pub const STRING_BUILDER_METHODS: [BuiltInMethod; 8] = methods![BUILDER_ROW;
+    PUBLIC "<init>" "()V",
+    PUBLIC "append" "(I)Ljava/lang/StringBuilder;",
+    PUBLIC "append" "(J)Ljava/lang/StringBuilder;",
+    PUBLIC "append" "(C)Ljava/lang/StringBuilder;",
+    PUBLIC "append" "(Z)Ljava/lang/StringBuilder;",
+    PUBLIC "append" "(Ljava/lang/String;)Ljava/lang/StringBuilder;",
+    PUBLIC "length" "()I",
+    PUBLIC "toString" "()Ljava/lang/String;",
 ];
 
-pub const STRING_BUFFER_METHODS: [BuiltInMethod; 9] = [
-    BuiltInMethod {
-        name: "<init>",
-        descriptor: "()V",
-        flags: PUBLIC,
-        row: 15,
-    },
-    BuiltInMethod {
-        name: "append",
-        descriptor: "(I)Ljava/lang/StringBuffer;",
-        flags: PUBLIC,
-        row: 16,
-    },
-    BuiltInMethod {
-        name: "append",
-        descriptor: "(J)Ljava/lang/StringBuffer;",
-        flags: PUBLIC,
-        row: 17,
-    },
-    BuiltInMethod {
-        name: "append",
-        descriptor: "(C)Ljava/lang/StringBuffer;",
-        flags: PUBLIC,
-        row: 18,
-    },
-    BuiltInMethod {
-        name: "append",
-        descriptor: "(Z)Ljava/lang/StringBuffer;",
-        flags: PUBLIC,
-        row: 19,
-    },
-    BuiltInMethod {
-        name: "append",
-        descriptor: "(Ljava/lang/String;)Ljava/lang/StringBuffer;",
-        flags: PUBLIC,
-        row: 20,
-    },
-    BuiltInMethod {
-        name: "length",
-        descriptor: "()I",
-        flags: PUBLIC,
-        row: 21,
-    },
-    BuiltInMethod {
-        name: "toString",
-        descriptor: "()Ljava/lang/String;",
-        flags: PUBLIC,
-        row: 22,
-    },
-    BuiltInMethod {
-        name: "<init>",
-        descriptor: "(Ljava/lang/String;)V",
-        flags: PUBLIC,
-        row: 23,
-    },
+pub const STRING_BUFFER_METHODS: [BuiltInMethod; 9] = methods![BUILDER_ROW;
+    PUBLIC "<init>" "()V",
+    PUBLIC "append" "(I)Ljava/lang/StringBuffer;",
+    PUBLIC "append" "(J)Ljava/lang/StringBuffer;",
+    PUBLIC "append" "(C)Ljava/lang/StringBuffer;",
+    PUBLIC "append" "(Z)Ljava/lang/StringBuffer;",
+    PUBLIC "append" "(Ljava/lang/String;)Ljava/lang/StringBuffer;",
+    PUBLIC "length" "()I",
+    PUBLIC "toString" "()Ljava/lang/String;",
+    PUBLIC "<init>" "(Ljava/lang/String;)V",
 ];
 
-pub const SYSTEM_METHODS: [BuiltInMethod; 1] = [BuiltInMethod {
-    name: "exit",
-    descriptor: "(I)V",
-    flags: PUBLIC_STATIC,
-    row: 24,
-}];
-
-pub const PRINT_STREAM_METHODS: [BuiltInMethod; 11] = [
-    BuiltInMethod {
-        name: "print",
-        descriptor: "(I)V",
-        flags: PUBLIC,
-        row: 25,
-    },
-    BuiltInMethod {
-        name: "print",
-        descriptor: "(J)V",
-        flags: PUBLIC,
-        row: 26,
-    },
-    BuiltInMethod {
-        name: "print",
-        descriptor: "(C)V",
-        flags: PUBLIC,
-        row: 27,
-    },
-    BuiltInMethod {
-        name: "print",
-        descriptor: "(Z)V",
-        flags: PUBLIC,
-        row: 28,
-    },
-    BuiltInMethod {
-        name: "print",
-        descriptor: "(Ljava/lang/String;)V",
-        flags: PUBLIC,
-        row: 29,
-    },
-    BuiltInMethod {
-        name: "println",
-        descriptor: "(I)V",
-        flags: PUBLIC,
-        row: 30,
-    },
-    BuiltInMethod {
-        name: "println",
-        descriptor: "(J)V",
-        flags: PUBLIC,
-        row: 31,
-    },
-    BuiltInMethod {
-        name: "println",
-        descriptor: "(C)V",
-        flags: PUBLIC,
-        row: 32,
-    },
-    BuiltInMethod {
-        name: "println",
-        descriptor: "(Z)V",
-        flags: PUBLIC,
-        row: 33,
-    },
-    BuiltInMethod {
-        name: "println",
-        descriptor: "(Ljava/lang/String;)V",
-        flags: PUBLIC,
-        row: 34,
-    },
-    BuiltInMethod {
-        name: "println",
-        descriptor: "()V",
-        flags: PUBLIC,
-        row: 35,
-    },
+pub const SYSTEM_METHODS: [BuiltInMethod; 1] = methods![SYSTEM_ROW;
+    PUBLIC_STATIC "exit" "(I)V",
 ];
 
-pub const INPUT_STREAM_METHODS: [BuiltInMethod; 1] = [BuiltInMethod {
-    name: "read",
-    descriptor: "()I",
-    flags: PUBLIC,
-    row: 36,
-}];
-
-pub const THROWABLE_METHODS: [BuiltInMethod; 4] = [
-    BuiltInMethod {
-        name: "<init>",
-        descriptor: "()V",
-        flags: PUBLIC,
-        row: 37,
-    },
-    BuiltInMethod {
-        name: "<init>",
-        descriptor: "(Ljava/lang/String;)V",
-        flags: PUBLIC,
-        row: 38,
-    },
-    BuiltInMethod {
-        name: "getMessage",
-        descriptor: "()Ljava/lang/String;",
-        flags: PUBLIC,
-        row: 39,
-    },
-    BuiltInMethod {
-        name: "toString",
-        descriptor: "()Ljava/lang/String;",
-        flags: PUBLIC,
-        row: 40,
-    },
+pub const PRINT_STREAM_METHODS: [BuiltInMethod; 11] = methods![PRINT_STREAM_ROW;
+    PUBLIC "print" "(I)V",
+    PUBLIC "print" "(J)V",
+    PUBLIC "print" "(C)V",
+    PUBLIC "print" "(Z)V",
+    PUBLIC "print" "(Ljava/lang/String;)V",
+    PUBLIC "println" "(I)V",
+    PUBLIC "println" "(J)V",
+    PUBLIC "println" "(C)V",
+    PUBLIC "println" "(Z)V",
+    PUBLIC "println" "(Ljava/lang/String;)V",
+    PUBLIC "println" "()V",
 ];
 
-pub const THROWABLE_CONSTRUCTORS: [BuiltInMethod; 2] = [
-    BuiltInMethod {
-        name: "<init>",
-        descriptor: "()V",
-        flags: PUBLIC,
-        row: 37,
-    },
-    BuiltInMethod {
-        name: "<init>",
-        descriptor: "(Ljava/lang/String;)V",
-        flags: PUBLIC,
-        row: 38,
-    },
+pub const INPUT_STREAM_METHODS: [BuiltInMethod; 1] = methods![INPUT_STREAM_ROW;
+    PUBLIC "read" "()I",
 ];
 
-pub const FREE_ME_METHODS: [BuiltInMethod; 3] = [
-    BuiltInMethod {
-        name: "free",
-        descriptor: "(Ljava/lang/Object;)V",
-        flags: PUBLIC_STATIC,
-        row: 41,
-    },
-    BuiltInMethod {
-        name: "link",
-        descriptor: "(Ljava/lang/Object;Ljava/lang/Object;)Ljava/lang/Object;",
-        flags: PUBLIC_STATIC,
-        row: 42,
-    },
-    BuiltInMethod {
-        name: "freeChain",
-        descriptor: "(Ljava/lang/Object;)V",
-        flags: PUBLIC_STATIC,
-        row: 43,
-    },
+pub const THROWABLE_METHODS: [BuiltInMethod; 4] = methods![THROWABLE_ROW;
+    PUBLIC "<init>" "()V",
+    PUBLIC "<init>" "(Ljava/lang/String;)V",
+    PUBLIC "getMessage" "()Ljava/lang/String;",
+    PUBLIC "toString" "()Ljava/lang/String;",
+];
+
+pub const THROWABLE_CONSTRUCTORS: [BuiltInMethod; 2] = methods![THROWABLE_ROW;
+    PUBLIC "<init>" "()V",
+    PUBLIC "<init>" "(Ljava/lang/String;)V",
+];
+
+pub const FREE_ME_METHODS: [BuiltInMethod; 3] = methods![FREE_ME_ROW;
+    PUBLIC_STATIC "free" "(Ljava/lang/Object;)V",
+    PUBLIC_STATIC "link" "(Ljava/lang/Object;Ljava/lang/Object;)Ljava/lang/Object;",
+    PUBLIC_STATIC "freeChain" "(Ljava/lang/Object;)V",
 ];

@@ -1,11 +1,11 @@
 // Laws of the definitions, each as the contract of a function that does nothing.
 
-ghost use Rattle.std.specs.Prelude.{◌≡◌, ◌+◌, ◌-◌, ◌<◌, ℕ, List, Result, true, false, [], ◌∷◌, codes, drop, length, nat_eq, Some, slice_get};
+ghost use Rattle.std.specs.Prelude.{◌≡◌, ◌+◌, ◌<◌, ℕ, List, Result, true, false, [], ◌∷◌, codes, drop, length, nat_eq, Some, slice_get};
 ghost use Rattle.std.specs.List.{filter_map, flat_map, list_all, list_any, range_with_len};
 ghost use Rattle.std.specs.Option.{option_map};
 ghost use Rattle.fm_code.specs.declared.class_file.ClassDef.{ClassDef};
 ghost use Rattle.fm_world.specs.Acyclic.{IsAcyclic};
-ghost use Rattle.fm_world.specs.BuiltIns.{built_in, built_in_methods, built_in_rows};
+ghost use Rattle.fm_world.specs.BuiltIns.{built_in, built_in_methods, built_in_rows, free_me_row, throwable_row};
 ghost use Rattle.fm_world.specs.Numbers.{type_number, type_of_class, types_of};
 ghost use Rattle.fm_world.specs.declared.built_in_methods.TheConstants.{BUILT_IN_METHODS};
 ghost use Rattle.fm_world.specs.declared.declarations.DeclaredClass.{DeclaredClass};
@@ -31,11 +31,11 @@ pub fn law_built_in()
     ensures rows { distinct nat_eq (filter_map (λ m. m.method.row) (methods_of built_in))
         ≡ range_with_len 0 built_in_rows }
     ensures free { row_of (codes "FreeMe") (codes "free") (codes "(Ljava/lang/Object;)V")
-        ≡ Some (built_in_rows - 3) }
+        ≡ Some free_me_row }
     ensures throwable { row_of (codes "java/lang/Throwable") (codes "<init>") (codes "()V")
-        ≡ Some (built_in_rows - 7) }
+        ≡ Some throwable_row }
     ensures last_throwable { row_of (codes "java/lang/IncompatibleClassChangeError")
-        (codes "<init>") (codes "()V") ≡ Some (built_in_rows - 7) }
+        (codes "<init>") (codes "()V") ≡ Some throwable_row }
     ensures hidden { option_map (kinds_of built_in)
         (class_number built_in (codes "java/lang/NullPointerException")) ≡ Some hidden_kinds }
 {}

@@ -1,4 +1,4 @@
-use Rattle.fm_world.proofs.Example.{classes_are, methods_are, rows_are, free_row, throwable_row, last_throwable_row, hidden_is}
+use Rattle.fm_world.proofs.Example.{classes_are, methods_are, rows_are, free_row, throwable_row_is, last_throwable_row, hidden_is}
 use Rattle.fm_world.proofs.laws.law_built_in.Goals as goal
 
 pub returns-clause-classes : goal.returns-clause-classes
@@ -14,7 +14,7 @@ pub returns-clause-free : goal.returns-clause-free
 returns-clause-free c = free_row
 
 pub returns-clause-throwable : goal.returns-clause-throwable
-returns-clause-throwable c = throwable_row
+returns-clause-throwable c = throwable_row_is
 
 pub returns-clause-last_throwable : goal.returns-clause-last_throwable
 returns-clause-last_throwable c = last_throwable_row
