@@ -4,14 +4,13 @@ ghost use Rattle.std.specs.Prelude.{◌≡◌, ◌++◌, IfOk, OnOk, None, map, 
 ghost use Rattle.std.specs.List.{flat_map};
 ghost use Rattle.fm_code.specs.Members.{code_of};
 ghost use Rattle.fm_link_records.specs.inner.Rows.{codes_in, lent_codes};
+ghost use Rattle.fm_world.specs.BuiltIns.{built_in_methods};
 
 use fm_base::NoMemory;
 use fm_code::{Code, Member};
 use fm_link_names::GivenFile;
+use fm_world::BUILT_IN_METHODS;
 use std::alloc::Global;
-
-// The number of the methods of built-in classes.
-const BUILT_IN_METHODS: usize = 86;
 
 /// The code of each method, if it has one; a built-in method has none.
 pub fn codes_of<'a>(
@@ -19,7 +18,7 @@ pub fn codes_of<'a>(
     files: &[GivenFile<'a>],
 ) -> Result<Vec<Option<&'a Code>>, NoMemory>
     ensures { IfOk result (λ codes. lent_codes codes.items
-        ≡ replicate BUILT_IN_METHODS None ++ flat_map codes_in files.now) }
+        ≡ replicate built_in_methods None ++ flat_map codes_in files.now) }
 {
     let mut codes = Vec::new(alloc);
     for _ in 0..BUILT_IN_METHODS {
