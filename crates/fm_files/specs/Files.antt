@@ -1,5 +1,5 @@
 -- Files by name, as the trait `Files` shows them, and what one call changes.
-use Rattle.std.specs.Prelude.{◌≡◌, ◌≢◌, ◌<◌, ◌≤◌, ℕ, List, length, Option, Some, None, MatchOption, IfSome, IsSomeAnd}
+use Rattle.std.specs.Prelude.{◌≡◌, ◌≢◌, ◌<◌, ◌≤◌, ℕ, List, [], ◌∷◌, ◌++◌, length, Option, Some, None, MatchOption, IfSome, IsSomeAnd}
 
 -- a name, or what it holds
 abbrev pub Bytes : Type 0
@@ -13,13 +13,25 @@ Counts = Bytes → ℕ
 abbrev pub Contents : Type 0
 Contents = Option (Bytes → Option Bytes)
 
+-- a read or a write, with its name: the bytes that it returned or wrote, and none where it failed
+pub record Call : Type 0 where
+  pub name : Bytes
+  pub bytes : Option Bytes
+
+-- calls in order, and one more
+abbrev pub and_call : List Call → Bytes → Option Bytes → List Call
+and_call calls name bytes = calls ++ record { name = name; bytes = bytes } ∷ []
+
 -- the files: for each name how many reads and how many writes of it failed, and the most bytes that one
--- read saw in it; and what the names hold, where that is known
+-- read saw in it; what the names hold, where that is known; and the reads and the writes of all names, in
+-- order, but those that were out of memory
 pub record Disk : Type 0 where
   pub read_faults : Counts
   pub write_faults : Counts
   pub widest_read : Counts
   pub contents : Contents
+  pub reads : List Call
+  pub writes : List Call
 
 -- the number of every name is as before
 abbrev pub AreKept : Counts → Counts → Type 0

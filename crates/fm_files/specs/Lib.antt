@@ -1,7 +1,9 @@
 pub mod inner
 pub mod Attempts
+pub mod Calls
 pub mod Files
 pub mod Folder
+pub mod History
 pub mod Memory
 pub mod Names
 pub mod Sink

@@ -2,7 +2,9 @@
 use Rattle.std.specs.Prelude.{◌≡◌, ◌≢◌, ◌<◌, ◌≤◌, ◌↔◌, ◌⊎◌, ℕ, ◌+◌, List, length, Result, Ok, Err, IfOk, IsErrOf, None, Some, IsSomeAnd, Vec, vec_len}
 use Rattle.std.specs.FinMap.{get, insert}
 use Rattle.fm_files.specs.Attempts.{Attempts, IsToFail, after_attempt}
-use Rattle.fm_files.specs.Files.{Bytes}
+use Rattle.fm_files.specs.Calls.{with_read}
+use Rattle.fm_files.specs.Files.{Bytes, and_call}
+use Rattle.fm_files.specs.History.{Past}
 use Rattle.fm_files.specs.Names.{ByName}
 use Rattle.fm_files.specs.Sink.{Got, got_piece}
 use Rattle.fm_files.specs.Tally.{tally_of, tallies_after_read, tally_after_failed_write}
@@ -19,6 +21,7 @@ pub record MemFilesState : Type 0 where
   pub held : ByName Bytes
   pub tallies : ByName Tally
   pub attempts : Attempts
+  pub past : Past
 
 -- what a read of at most `limit` bytes returns, where memory for it can be had
 pub record AnswersRead {Y : Type 0} (files : MemFilesState) (name : Bytes) (limit : ℕ) (answer : Result (Vec ℕ Y) FileFail) : Type 0 where
@@ -35,15 +38,27 @@ pub record AnswersRead {Y : Type 0} (files : MemFilesState) (name : Bytes) (limi
 abbrev pub after_read : {Y : Type 0} → MemFilesState → Bytes → ℕ → Result (Vec ℕ Y) FileFail → MemFilesState
 after_read files name limit (Err file_fail.NoMemory) = files
 after_read files name limit answer =
-    record files { tallies = tallies_after_read files.tallies name limit answer; attempts = after_attempt files.attempts }
+    record files {
+      tallies = tallies_after_read files.tallies name limit answer;
+      attempts = after_attempt files.attempts;
+      past = record files.past { reads = with_read files.past.reads name answer };
+    }
 
 -- what a write leaves, by its result: where it fails the name holds what it held, and all is as it was where
 -- memory ran out
 abbrev pub after_write : {A : Type 0} → MemFilesState → Bytes → Bytes → Result A WriteFail → MemFilesState
 after_write files name bytes (Ok _) =
-    record files { held = insert files.held name bytes; attempts = after_attempt files.attempts }
+    record files {
+      held = insert files.held name bytes;
+      attempts = after_attempt files.attempts;
+      past = record files.past { writes = and_call files.past.writes name (Some bytes) };
+    }
 after_write files name bytes (Err write_fail.Failed) =
-    record files { tallies = insert files.tallies name (tally_after_failed_write (tally_of files.tallies name)); attempts = after_attempt files.attempts }
+    record files {
+      tallies = insert files.tallies name (tally_after_failed_write (tally_of files.tallies name));
+      attempts = after_attempt files.attempts;
+      past = record files.past { writes = and_call files.past.writes name None };
+    }
 after_write files name bytes (Err write_fail.NoMemory) = files
 
 -- a sink in memory: what it got, how many puts failed, and the puts

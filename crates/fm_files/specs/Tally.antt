@@ -2,6 +2,7 @@
 use Rattle.std.specs.Prelude.{ℕ, ◌+◌, max, Result, Ok, Err, Vec, vec_len, unwrap_or}
 use Rattle.std.specs.FinMap.{get, insert}
 use Rattle.fm_files.specs.Files.{Bytes, Contents, Disk}
+use Rattle.fm_files.specs.History.{Past}
 use Rattle.fm_files.specs.Names.{ByName}
 use Rattle.fm_files.specs.declared.tally.Tally.{Tally}
 use Rattle.fm_files.specs.declared.error.FileFail.{FileFail}
@@ -15,13 +16,15 @@ no_tally = record { read_faults = 0; write_faults = 0; widest_read = 0 }
 abbrev pub tally_of : ByName Tally → Bytes → Tally
 tally_of tallies name = unwrap_or (get tallies name) no_tally
 
--- the disk of these numbers and contents
-abbrev pub disk_of : ByName Tally → Contents → Disk
-disk_of tallies contents = record {
+-- the disk of these numbers and contents, and of what was asked for
+abbrev pub disk_of : ByName Tally → Contents → Past → Disk
+disk_of tallies contents past = record {
   read_faults = λ name. (tally_of tallies name).read_faults;
   write_faults = λ name. (tally_of tallies name).write_faults;
   widest_read = λ name. (tally_of tallies name).widest_read;
   contents = contents;
+  reads = past.reads;
+  writes = past.writes;
 }
 
 -- a name's numbers after a read of at most `limit` bytes, by its result

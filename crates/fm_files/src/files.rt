@@ -1,6 +1,7 @@
 // Files by name, as generic code sees them.
 
 ghost use Rattle.std.specs.Prelude.{◌≡◌, ◌<◌, ◌≤◌, ◌↔◌, ◌+◌, max, vec_len, IfOk, OnOk, IsErrOf};
+ghost use Rattle.fm_files.specs.Calls.{with_read, with_write};
 ghost use Rattle.fm_files.specs.Files.{Disk, AreKept, RisesAt, OthersAreKept, Holds, HoldsMoreThan};
 
 use crate::error::{FileFail, WriteFail};
@@ -12,7 +13,8 @@ use std::alloc::Global;
 /// rise by itself: the calls below are all that it has. A failure that can't be counted any more, since
 /// the count is at its end, is returned as NoMemory.
 pub trait Files {
-    /// The faults and the widest read of each name, and what it holds, where that is known.
+    /// The faults and the widest read of each name, what it holds, where that is known, and all reads and
+    /// writes.
     ghost disk: { Self → Disk };
 
     /// The bytes of the name, where there are at most `limit`, and TooLong where there are more. Where
@@ -23,6 +25,10 @@ pub trait Files {
         ensures write_faults_kept { AreKept (disk self.old).write_faults (disk self.new).write_faults }
         ensures read_faults_rise { RisesAt name.now (disk self.old).read_faults (disk self.new).read_faults }
         ensures widest_read_rises { RisesAt name.now (disk self.old).widest_read (disk self.new).widest_read }
+
+        // It is one more read of the name, with what it returns.
+        ensures reads { (disk self.new).reads ≡ with_read (disk self.old).reads name.now result }
+        ensures writes { (disk self.new).writes ≡ (disk self.old).writes }
 
         // No more is read than shows that the name holds too many bytes.
         ensures widest_read_within { (disk self.new).widest_read name.now
@@ -53,6 +59,11 @@ pub trait Files {
         ensures widest_read_kept { AreKept (disk self.old).widest_read (disk self.new).widest_read }
         ensures write_faults_rise { RisesAt name.now (disk self.old).write_faults (disk self.new).write_faults }
         ensures others_kept { OthersAreKept name.now (disk self.old).contents (disk self.new).contents }
+
+        // It is one more write of the bytes to the name.
+        ensures reads { (disk self.new).reads ≡ (disk self.old).reads }
+        ensures writes { (disk self.new).writes
+            ≡ with_write (disk self.old).writes name.now bytes.now result }
 
         // What each result means.
         ensures written { OnOk result (Holds (disk self.new).contents name.now bytes.now) }

@@ -2,11 +2,13 @@
 
 ghost use Rattle.std.specs.Prelude.{◌≡◌, ◌≤◌, None, vec_len, IfOk};
 ghost use Rattle.std.specs.FinMap as map;
-ghost use Rattle.fm_files.specs.Folder.{after_folder_write};
-ghost use Rattle.fm_files.specs.Tally.{disk_of, tallies_after_read};
+ghost use Rattle.fm_files.specs.Folder.{after_folder_read, after_folder_write};
+ghost use Rattle.fm_files.specs.History.{no_past};
+ghost use Rattle.fm_files.specs.Tally.{disk_of};
 
 use crate::error::{FileFail, WriteFail};
 use crate::files::Files;
+use crate::history::History;
 use crate::names::NameMap;
 use crate::tally::Tally;
 use crate::transfer::{read_within, write_whole};
@@ -22,44 +24,45 @@ use std::rt::Files as FileSystem;
 // The most names that are tried for a new file.
 const MAX_NAMES: u32 = 1000;
 
-/// The files of the system: a name is a path. Contracts see the numbers of each name, and nothing of
-/// what the files hold.
+/// The files of the system: a name is a path. Contracts see the numbers of each name and all reads and
+/// writes, with what was read and written, and nothing else of what the files hold.
 #[derive(Drop)]
 pub struct FolderFiles<R> {
     rt: R,
     tallies: NameMap<Tally>,
+    history: History,
 }
 
 impl<R> Model for FolderFiles<R> {
-    ghost use Rattle.fm_files.specs.inner.Codes.{coded_by_name, coded_tally};
-    ghost use Rattle.fm_files.specs.Names.{ByName};
-    ghost use Rattle.fm_files.specs.declared.tally.Tally.{Tally};
+    ghost use Rattle.fm_files.specs.inner.Codes.{coded_folder_files};
+    ghost use Rattle.fm_files.specs.Folder.{FolderFilesState};
 
-    ghost Value = { ByName Tally };
+    ghost Value = { FolderFilesState };
 
-    ghost coded = { coded_by_name coded_tally };
+    ghost coded = { coded_folder_files };
 
-    ghost view = { λ f. f.tallies };
+    ghost view = { λ f. record { tallies = f.tallies; past = f.history.past } };
 }
 
 impl<R> FolderFiles<R> {
     /// The files that the runtime reaches, of which none was asked for. Takes no memory.
     pub fn new(rt: R, alloc: Global) -> FolderFiles<R>
-        ensures { result ≡ map.empty }
+        ensures { result ≡ record { tallies = map.empty; past = no_past } }
     {
         FolderFiles {
             rt,
             tallies: NameMap::new(alloc),
+            history: History::new(),
         }
     }
 }
 
 impl<R: FileSystem + Drop> Files for FolderFiles<R> {
-    ghost disk = { λ tallies. disk_of tallies None };
+    ghost disk = { λ f. disk_of f.tallies None f.past };
 
     /// A path that is missing, that names a folder or that the system doesn't take is Failed.
     fn read(&mut self, alloc: Global, name: &str, limit: u32) -> Result<Vec<u8>, FileFail>
-        ensures after { self.new ≡ tallies_after_read self.old name.now limit result }
+        ensures after { self.new ≡ after_folder_read self.old name.now limit result }
         ensures within_limit { IfOk result (λ bytes. vec_len bytes ≤ limit) }
     {
         let is_new = self.tallies.keep(name)?;
@@ -67,6 +70,7 @@ impl<R: FileSystem + Drop> Files for FolderFiles<R> {
         match self.tallies.tally(name).after_read(limit, &answer) {
             Ok(tally) => {
                 self.tallies.replace(name, tally);
+                self.history = self.history.after_read(name, &answer);
                 answer
             }
             Err(NoMemory) => {
@@ -79,21 +83,18 @@ impl<R: FileSystem + Drop> Files for FolderFiles<R> {
     /// Makes the folders of the path that are missing, and puts a file of the bytes in the place of what
     /// was there. Until the bytes are written that stays, and it stays after Failed and NoMemory.
     fn write(&mut self, alloc: Global, name: &str, bytes: &[u8]) -> Result<(), WriteFail>
-        ensures after { self.new ≡ after_folder_write self.old name.now result }
+        ensures after { self.new ≡ after_folder_write self.old name.now bytes.now result }
     {
         let after_failure = self.tallies.tally(name).after_failed_write()?;
         let is_new = self.tallies.keep(name)?;
-        match write_file(&self.rt, alloc, name, bytes) {
-            Ok(()) => Ok(()),
-            Err(WriteFail::Failed) => {
-                self.tallies.replace(name, after_failure);
-                Err(WriteFail::Failed)
-            }
-            Err(WriteFail::NoMemory) => {
-                self.tallies.release(name, is_new);
-                Err(WriteFail::NoMemory)
-            }
+        let answer = write_file(&self.rt, alloc, name, bytes);
+        match answer {
+            Ok(()) => {}
+            Err(WriteFail::Failed) => self.tallies.replace(name, after_failure),
+            Err(WriteFail::NoMemory) => self.tallies.release(name, is_new),
         }
+        self.history = self.history.after_write(name, bytes, &answer);
+        answer
     }
 }
 

@@ -3,12 +3,14 @@
 ghost use Rattle.std.specs.Prelude.{◌≡◌, ◌≢◌, ◌↔◌, [], Some, option_copied, OnOk, OnErr, IsErrOf};
 ghost use Rattle.std.specs.FinMap as map;
 ghost use Rattle.fm_files.specs.Attempts.{IsToFail, no_attempts};
+ghost use Rattle.fm_files.specs.History.{no_past};
 ghost use Rattle.fm_files.specs.Memory.{AnswersRead, after_read, after_write, after_put};
 ghost use Rattle.fm_files.specs.Tally.{disk_of};
 
 use crate::attempts::CountedAttempts;
 use crate::error::{FileFail, PutFail, WriteFail};
 use crate::files::Files;
+use crate::history::{History, Note};
 use crate::names::NameMap;
 use crate::pieces::Pieces;
 use crate::sink::Sink;
@@ -19,12 +21,13 @@ use std::marker::Model;
 
 /// Files in memory, of whose reads and writes some are to fail. One that returns NoMemory isn't
 /// counted. Contracts see what each name holds, the numbers of each name, and the reads and writes.
-#[derive(Debug, Drop)]
+#[derive(Drop)]
 pub struct MemFiles {
     alloc: Global,
     held: NameMap<Seq<u8>>,
     tallies: NameMap<Tally>,
     attempts: CountedAttempts,
+    history: History,
 }
 
 impl Model for MemFiles {
@@ -35,7 +38,12 @@ impl Model for MemFiles {
 
     ghost coded = { coded_mem_files };
 
-    ghost view = { λ f. record { held = f.held; tallies = f.tallies; attempts = f.attempts } };
+    ghost view = { λ f. record {
+      held = f.held;
+      tallies = f.tallies;
+      attempts = f.attempts;
+      past = f.history.past;
+    } };
 }
 
 impl MemFiles {
@@ -46,6 +54,7 @@ impl MemFiles {
           held = map.empty;
           tallies = map.empty;
           attempts = no_attempts failing.items;
+          past = no_past;
         } }
     {
         MemFiles {
@@ -53,6 +62,7 @@ impl MemFiles {
             held: NameMap::new(alloc),
             tallies: NameMap::new(alloc),
             attempts: CountedAttempts::new(failing),
+            history: History::new(),
         }
     }
 
@@ -92,7 +102,7 @@ impl MemFiles {
 }
 
 impl Files for MemFiles {
-    ghost disk = { λ f. disk_of f.tallies (Some (map.get f.held)) };
+    ghost disk = { λ f. disk_of f.tallies (Some (map.get f.held)) f.past };
 
     fn read(&mut self, alloc: Global, name: &str, limit: u32) -> Result<Vec<u8>, FileFail>
         ensures after { self.new ≡ after_read self.old name.now limit result }
@@ -102,6 +112,7 @@ impl Files for MemFiles {
         let tally = self.tallies.tally(name).after_read(limit, &answer)?;
         self.tallies.insert(name, tally)?;
         self.attempts.count();
+        self.history = self.history.after_read(name, &answer);
         answer
     }
 
@@ -114,11 +125,13 @@ impl Files for MemFiles {
             let tally = self.tallies.tally(name).after_failed_write()?;
             self.tallies.insert(name, tally)?;
             self.attempts.count();
+            self.history = self.history.after(&Note::WriteFailed(name));
             return Err(WriteFail::Failed);
         }
         let content = Vec::from_slice(alloc, bytes)?;
         self.held.insert(name, Seq::new(content))?;
         self.attempts.count();
+        self.history = self.history.after(&Note::Written(name, bytes));
         Ok(())
     }
 }

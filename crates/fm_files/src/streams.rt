@@ -25,7 +25,7 @@ impl Model for StdSink {
 
     ghost Value = { StdSinkState };
 
-    ghost view = { λ s. record { is_error = s.error; faults = s.faults; got = s.history.got } };
+    ghost view = { λ s. record { is_error = s.error; faults = s.faults; got = s.history.past.got } };
 }
 
 impl StdSink {

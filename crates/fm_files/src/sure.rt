@@ -2,11 +2,13 @@
 
 ghost use Rattle.std.specs.Prelude.{◌≡◌, ◌≢◌, ◌<◌, ◌≤◌, [], Some, length, vec_len, max, option_copied, IfOk, OnOk, OnErr, IsErrOf};
 ghost use Rattle.std.specs.FinMap as map;
+ghost use Rattle.fm_files.specs.History.{no_past};
 ghost use Rattle.fm_files.specs.Sink.{got_piece};
-ghost use Rattle.fm_files.specs.Sure.{held_by, widest_of, sure_disk, after_sure_read};
+ghost use Rattle.fm_files.specs.Sure.{held_by, widest_of, sure_disk, after_sure_read, after_sure_write};
 
 use crate::error::{FileFail, PutFail, WriteFail};
 use crate::files::Files;
+use crate::history::{History, Note};
 use crate::names::NameMap;
 use crate::pieces::Pieces;
 use crate::sink::Sink;
@@ -16,11 +18,12 @@ use std::marker::Model;
 
 /// Files in memory that never fail. A name that was never given bytes holds none, and is read as
 /// such. Contracts see what was given, and the widest read of each name.
-#[derive(Debug, Drop)]
+#[derive(Drop)]
 pub struct SureFiles {
     alloc: Global,
     given: NameMap<Seq<u8>>,
     widest: NameMap<u64>,
+    history: History,
 }
 
 impl Model for SureFiles {
@@ -31,18 +34,19 @@ impl Model for SureFiles {
 
     ghost coded = { coded_sure_files };
 
-    ghost view = { λ f. record { given = f.given; widest = f.widest } };
+    ghost view = { λ f. record { given = f.given; widest = f.widest; past = f.history.past } };
 }
 
 impl SureFiles {
     /// Files of which none was given bytes. Takes no memory.
     pub fn new(alloc: Global) -> SureFiles
-        ensures { result ≡ record { given = map.empty; widest = map.empty } }
+        ensures { result ≡ record { given = map.empty; widest = map.empty; past = no_past } }
     {
         SureFiles {
             alloc,
             given: NameMap::new(alloc),
             widest: NameMap::new(alloc),
+            history: History::new(),
         }
     }
 
@@ -97,20 +101,23 @@ impl Files for SureFiles {
         let held = self.held(name);
         if held.len() > limit as usize {
             self.keep_seen(name, u64::from(limit) + 1)?;
+            self.history = self.history.after(&Note::ReadFailed(name));
             return Err(FileFail::TooLong);
         }
         let bytes = Vec::from_slice(alloc, held)?;
         self.keep_seen(name, bytes.len() as u64)?;
+        self.history = self.history.after(&Note::Read(name, bytes.as_slice()));
         Ok(bytes)
     }
 
     fn write(&mut self, _alloc: Global, name: &str, bytes: &[u8]) -> Result<(), WriteFail>
-        ensures ok { OnOk result
-            (self.new ≡ record self.old { given = map.insert self.old.given name.now bytes.now }) }
+        ensures ok { OnOk result (self.new ≡ after_sure_write self.old name.now bytes.now) }
         ensures err { OnErr result (self.new ≡ self.old) }
         ensures sure { result ≢ Err WriteFail.Failed }
     {
-        Ok(self.add(name, bytes)?)
+        self.add(name, bytes)?;
+        self.history = self.history.after(&Note::Written(name, bytes));
+        Ok(())
     }
 }
 

@@ -1,8 +1,9 @@
 use Rattle.std.proofs.Common.{Some, ap, ◌∙◌}
 use Rattle.std.specs.FinMap.{get}
+use Rattle.fm_files.specs.History.{Past}
 use Rattle.fm_files.specs.Memory.{MemFilesState, after_write}
 use Rattle.fm_files.proofs.TallyLemmas.{IsSetAt-after_read, read_numbers, write_numbers}
-use Rattle.fm_files.proofs.MemoryLemmas.{held-after_read, tallies-after_read, tallies-after_write, held-after_write, written-after_write}
+use Rattle.fm_files.proofs.MemoryLemmas.{held-after_read, tallies-after_read, tallies-after_write, held-after_write, past-after_read, past-after_write, written-after_write}
 use Rattle.fm_files.proofs.memory.MemFilesFiles.TheImpl.Goals as goal
 
 pub read-tells : goal.read-tells
@@ -14,6 +15,8 @@ read-tells c =
       write_faults_kept = numbers.write_faults_kept;
       read_faults_rise = numbers.read_faults_rise;
       widest_read_rises = numbers.widest_read_rises;
+      reads = ap (λ (f : MemFilesState). f.past.reads) c.ensures.after ∙ ap (λ (p : Past). p.reads) (past-after_read old c.args.name.now c.args.limit c.result);
+      writes = ap (λ (f : MemFilesState). f.past.writes) c.ensures.after ∙ ap (λ (p : Past). p.writes) (past-after_read old c.args.name.now c.args.limit c.result);
       widest_read_within = numbers.widest_read_within;
       within_limit = c.ensures.answers.within_limit;
       seen = numbers.seen;
@@ -33,6 +36,8 @@ write-tells c =
       widest_read_kept = numbers.widest_read_kept;
       write_faults_rise = numbers.write_faults_rise;
       others_kept = λ name other. rw c.ensures.after (held-after_write old c.args.name.now c.args.bytes.now c.result name other);
+      reads = ap (λ (f : MemFilesState). f.past.reads) c.ensures.after ∙ ap (λ (p : Past). p.reads) (past-after_write old c.args.name.now c.args.bytes.now c.result);
+      writes = ap (λ (f : MemFilesState). f.past.writes) c.ensures.after ∙ ap (λ (p : Past). p.writes) (past-after_write old c.args.name.now c.args.bytes.now c.result);
       written = rw c.ensures.after (written-after_write old c.args.name.now c.args.bytes.now c.result);
       failed = numbers.failed;
       no_memory = λ e. (ap (λ (f : MemFilesState). Some (get f.held)) (c.ensures.after ∙ ap (after_write old c.args.name.now c.args.bytes.now) e), numbers.no_memory e);
