@@ -22,7 +22,7 @@ use std::path::{Path, PathBuf};
 use std::rt::Files as FileSystem;
 
 // The most names that are tried for a new file.
-const MAX_NAMES: u32 = 1000;
+const MAX_NAMES: u32 = 1_000_000;
 
 /// The files of the system: a name is a path. Contracts see the numbers of each name and all reads and
 /// writes, with what was read and written, and nothing else of what the files hold.
