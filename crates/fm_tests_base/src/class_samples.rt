@@ -1,6 +1,9 @@
 // The length of each file, as it was where the file was first written, and what a change of one part makes.
 
-use crate::*;
+use fm_test_classes::{
+    CALLS_ITSELF, COMPUTES, ClassSample, DIVIDES_BY_ZERO, EVERY_PART, INTERFACE,
+    MAIN_OF_NO_ARGUMENTS, MAKES_ARRAY, PRINTS_FOREVER, PRINTS_SUM, RETURNS,
+};
 use std::test::Fail;
 
 #[test]

@@ -1,7 +1,7 @@
 // What no clause says: that lines can be had and put where there is memory, and the words of a process.
 
-use crate::{CommandRefusal, command_words, modified, printed, put_line};
 use fm_base::Name;
+use fm_cli::{CommandRefusal, command_words, modified, printed, put_line};
 use fm_files::MemSink;
 use std::env;
 use std::test::Fail;

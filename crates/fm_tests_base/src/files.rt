@@ -1,14 +1,12 @@
 // What no clause says: that calls succeed where there is memory, and what the system does.
 
-use crate::full_disk::FullDisk;
-use crate::transfer::{read_within, write_whole};
-use crate::{
+use crate::faulty_disk::FaultyDisk;
+use fm_base::Seq;
+use fm_files::{
     FileFail, Files, FolderFiles, MemFiles, MemSink, PutFail, Sink, StdSink, SureFiles, SureSink,
     WriteFail,
 };
-use fm_base::Seq;
 use std::alloc::Global;
-use std::io::{Read, Write};
 use std::path::{Path, PathBuf};
 use std::process::Abort;
 use std::test::Fail;
@@ -118,70 +116,6 @@ fn sure_files_and_a_sure_sink_hold_what_they_were_given(rt: HostRuntime) -> Resu
     Ok(())
 }
 
-// A writer that takes at most a given number of bytes at once.
-#[derive(Drop)]
-struct Sip {
-    most: usize,
-    taken: Vec<u8>,
-}
-
-impl Write for Sip {
-    fn write(&mut self, buf: &[u8]) -> io::Result<usize> {
-        let n = buf.len().min(self.most);
-        self.taken.extend_from_slice(&buf[..n])?;
-        Ok(n)
-    }
-
-    fn flush(&mut self) -> io::Result<()> {
-        Ok(())
-    }
-}
-
-#[test]
-fn a_short_write_is_continued_and_an_empty_one_is_an_error(rt: HostRuntime) {
-    for (most, whole) in [(100, true), (3, true), (1, true), (0, false)] {
-        let taken = Vec::new(rt.alloc());
-        let mut sip = Sip { most, taken };
-        assert!(rt;
-            write_whole(&mut sip, b"abcdefgh").is_ok() == whole,
-            "{most} at once"
-        );
-        assert!(rt;
-            (sip.taken.as_slice() == b"abcdefgh".as_slice()) == whole,
-            "{most} at once"
-        );
-    }
-}
-
-// A reader that gives some bytes, one at a time, and then fails.
-#[derive(Drop)]
-struct Broken {
-    left: usize,
-}
-
-impl Read for Broken {
-    fn read(&mut self, buf: &mut [u8]) -> io::Result<usize> {
-        if self.left == 0 {
-            return Err(io::Error::from(io::ErrorKind::Other));
-        }
-        self.left -= 1;
-        match buf.first_mut() {
-            Some(byte) => *byte = b'x',
-            None => return Ok(0),
-        }
-        Ok(1)
-    }
-}
-
-#[test]
-fn a_read_that_breaks_off_fails(rt: HostRuntime) {
-    for (limit, want) in [(3, FileFail::Failed), (2, FileFail::TooLong)] {
-        let mut broken = Broken { left: 3 };
-        let got = read_within(rt.alloc(), &mut broken, limit);
-        assert!(rt; got.err() == Some(want), "at {limit}");
-    }
-}
-
 // A folder for one test, which isn't there yet.
 fn test_folder(rt: HostRuntime, test: &str) -> Result<PathBuf, Fail> {
     let alloc = rt.alloc();
@@ -246,6 +180,62 @@ fn a_name_that_the_system_refuses_is_a_fault(rt: HostRuntime) -> Result<(), Fail
     Ok(())
 }
 
+#[test]
+fn a_short_write_is_continued_and_an_empty_one_is_an_error(rt: HostRuntime) -> Result<(), Fail> {
+    let alloc = rt.alloc();
+    let top = test_folder(rt, "short")?;
+    for (name, at_once, written, read) in [
+        ("hundred", 100, Ok(()), Ok(b"abcdefgh".as_slice())),
+        ("three", 3, Ok(()), Ok(b"abcdefgh".as_slice())),
+        ("one", 1, Ok(()), Ok(b"abcdefgh".as_slice())),
+        ("none", 0, Err(WriteFail::Failed), Err(FileFail::Failed)),
+    ] {
+        let path = top.join(alloc, name)?;
+        let disk = FaultyDisk {
+            rt,
+            at_once,
+            room: usize::MAX,
+            left: usize::MAX,
+        };
+        let mut files = FolderFiles::new(disk, alloc);
+        assert!(rt;
+            writes(&mut files, alloc, path.as_str(), b"abcdefgh", written),
+            "{at_once} at once"
+        );
+        let mut files = FolderFiles::new(rt, alloc);
+        assert!(rt;
+            reads(&mut files, alloc, path.as_str(), 8, read),
+            "{at_once} at once"
+        );
+    }
+    fs::remove_dir_all(&rt, top.as_path())?;
+    Ok(())
+}
+
+#[test]
+fn a_read_that_breaks_off_fails(rt: HostRuntime) -> Result<(), Fail> {
+    let alloc = rt.alloc();
+    let top = test_folder(rt, "broken")?;
+    let path = top.join(alloc, "Main.class")?;
+    fs::create_dir_all(&rt, top.as_path())?;
+    fs::write(&rt, path.as_path(), "xxxxx")?;
+    for (limit, want) in [(3, FileFail::Failed), (2, FileFail::TooLong)] {
+        let disk = FaultyDisk {
+            rt,
+            at_once: 1,
+            room: usize::MAX,
+            left: 3,
+        };
+        let mut files = FolderFiles::new(disk, alloc);
+        assert!(rt;
+            reads(&mut files, alloc, path.as_str(), limit, Err(want)),
+            "at {limit}"
+        );
+    }
+    fs::remove_dir_all(&rt, top.as_path())?;
+    Ok(())
+}
+
 // How many files and folders the folder holds.
 fn count_in(rt: HostRuntime, folder: Path<'_>) -> io::Result<usize> {
     let mut count = 0usize;
@@ -267,7 +257,13 @@ fn a_write_that_fails_leaves_the_old_file_and_no_other(rt: HostRuntime) -> Resul
     fs::create_dir_all(&rt, folder.as_path())?;
     fs::write(&rt, path.as_path(), "old")?;
     fs::write(&rt, other.as_path(), "other")?;
-    let mut files = FolderFiles::new(FullDisk { rt, room: 5 }, alloc);
+    let disk = FaultyDisk {
+        rt,
+        at_once: usize::MAX,
+        room: 5,
+        left: usize::MAX,
+    };
+    let mut files = FolderFiles::new(disk, alloc);
     assert!(rt;
         writes(&mut files, alloc, name, b"abcdef", Err(WriteFail::Failed)),
         "half way"

@@ -1,6 +1,6 @@
 // Each public call once with ample memory, and the graphs whose components are known.
 
-use crate::{Name, Row, Seq, Units, components, is_modified_utf8};
+use fm_base::{Name, Row, Seq, Units, components, is_modified_utf8};
 use std::test::Fail;
 
 // A record that holds lists, as those of class files do.

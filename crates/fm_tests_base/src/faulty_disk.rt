@@ -1,5 +1,4 @@
-// A disk that is full after some bytes, for tests: the files of the system, of which no more than a
-// given number of bytes can be written.
+// A disk with faults: the files of the system, which take or give only so much.
 
 use std::alloc::Allocator;
 use std::fs::{File, Metadata, OpenFile, OpenOptions};
@@ -7,32 +6,43 @@ use std::io;
 use std::io::{Read, Seek, SeekFrom, Write};
 use std::rt::Files as FileSystem;
 
-// A runtime of whose files each takes at most `room` bytes.
+// A runtime of whose files each takes and gives at most `at_once` bytes by a call, takes at most `room`
+// bytes, and gives at most `left`, and then fails.
 #[derive(Drop)]
-pub(crate) struct FullDisk {
+pub(crate) struct FaultyDisk {
     pub(crate) rt: HostRuntime,
+    pub(crate) at_once: usize,
     pub(crate) room: usize,
+    pub(crate) left: usize,
 }
 
-// A file that takes at most `room` more bytes.
+// A file of such a runtime, with the bytes that it still takes and gives.
 #[derive(Drop)]
-pub(crate) struct FullFile {
+pub(crate) struct FaultyFile {
     file: File,
+    at_once: usize,
     room: usize,
+    left: usize,
 }
 
-impl Read for FullFile {
+impl Read for FaultyFile {
     fn read(&mut self, buf: &mut [u8]) -> io::Result<usize> {
-        self.file.read(buf)
+        if self.left == 0 {
+            return Err(io::Error::from(io::ErrorKind::Other));
+        }
+        let some = buf.len().min(self.at_once).min(self.left);
+        let n = self.file.read(&mut buf[..some])?;
+        self.left = self.left.saturating_sub(n);
+        Ok(n)
     }
 }
 
-impl Write for FullFile {
+impl Write for FaultyFile {
     fn write(&mut self, buf: &[u8]) -> io::Result<usize> {
-        let some = buf.len().min(self.room);
-        if some == 0 && !buf.is_empty() {
+        if self.room == 0 && !buf.is_empty() {
             return Err(io::Error::from(io::ErrorKind::StorageFull));
         }
+        let some = buf.len().min(self.at_once).min(self.room);
         let n = self.file.write(&buf[..some])?;
         self.room = self.room.saturating_sub(n);
         Ok(n)
@@ -43,13 +53,13 @@ impl Write for FullFile {
     }
 }
 
-impl Seek for FullFile {
+impl Seek for FaultyFile {
     fn seek(&mut self, pos: SeekFrom) -> io::Result<u64> {
         self.file.seek(pos)
     }
 }
 
-impl OpenFile for FullFile {
+impl OpenFile for FaultyFile {
     fn metadata(&self) -> io::Result<Metadata> {
         self.file.metadata()
     }
@@ -67,16 +77,18 @@ impl OpenFile for FullFile {
     }
 }
 
-impl FileSystem for FullDisk {
-    type File = FullFile;
+impl FileSystem for FaultyDisk {
+    type File = FaultyFile;
 
     type Dir = <HostRuntime as FileSystem>::Dir;
 
-    fn open_file(&self, how: &OpenOptions, path: &str) -> io::Result<FullFile> {
+    fn open_file(&self, how: &OpenOptions, path: &str) -> io::Result<FaultyFile> {
         let file = self.rt.open_file(how, path)?;
-        Ok(FullFile {
+        Ok(FaultyFile {
             file,
+            at_once: self.at_once,
             room: self.room,
+            left: self.left,
         })
     }
 

@@ -1,8 +1,8 @@
-// What words ask for, in clap's ways.
+// What words ask freeme for, in clap's ways.
 
-use crate::freeme_request::{FreemeRequest, request_of};
-use crate::tests::split_words;
+use crate::fmrun_words::split_words;
 use fm_base::NoMemory;
+use fm_cli_requests::freeme_request::{FreemeRequest, request_of};
 use std::alloc::Global;
 use std::test::Fail;
 

@@ -1,5 +1,5 @@
 // The values that a Java virtual machine (OpenJDK 17) gave for the same operations, at the edges.
-use crate::{compare, convert, int_op, int_shift, long_op, long_shift};
+use fm_alu::{compare, convert, int_op, int_shift, long_op, long_shift};
 use fm_code::{Conv, Op, Shift};
 
 // A row: a and b, the results of add, sub, mul, and, or and xor, and those of div and rem.

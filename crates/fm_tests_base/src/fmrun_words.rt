@@ -1,10 +1,9 @@
 // What words ask fmrun for, in clap's ways, the arguments that a text gives, and the words that ask for
 // a text of a program.
 
-use crate::arguments::arguments_of;
-use crate::fmrun_request::{FmrunRequest, request_of};
-use crate::program_text::ProgramText;
 use fm_base::{NoMemory, Units};
+use fm_cli_requests::fmrun_request::{FmrunRequest, request_of};
+use fm_cli_requests::{ProgramText, arguments_of};
 use std::alloc::Global;
 use std::test::Fail;
 

@@ -3,7 +3,7 @@
 ghost use Rattle.std.specs.Prelude.{◌^◌, ◌<◌};
 ghost use Rattle.fm_cells.specs.Sizes.{IsPack};
 
-use crate::{Cell, Freed, Head, MakeFail, Memory, NotHeld, PlainCells, WordCells};
+use fm_cells::{Cell, Freed, Head, MakeFail, Memory, NotHeld, PlainCells, WordCells};
 
 /// Makes an object of type 7 that isn't fixed.
 fn make<M: Memory>(cells: &mut M, len: u32, pack: u8) -> Result<Cell, MakeFail>

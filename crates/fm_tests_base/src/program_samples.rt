@@ -1,6 +1,8 @@
 // The lengths of some files, as they were where the files were first written.
 
-use crate::*;
+use fm_test_programs::{
+    ARRAY_POPPED, INIT_FAILED, POINTS_IN_LOOP, POOL_FITS, Repeated, TEXT_CONCATENATION, WIDE_GOTO,
+};
 use std::test::Fail;
 
 #[test]
