@@ -8,9 +8,9 @@ ghost use Rattle.fm_layout.specs.Example.{inserted, kept, popped_anchors, popped
 ghost use Rattle.fm_layout.specs.Laid.{laid_of};
 ghost use Rattle.fm_layout.specs.Tables.{AreAnchors};
 
-use crate::{Laid, LayFail, NewItem, layout, move_tables};
 use fm_base::{NoMemory, Seq};
 use fm_code::{Code, Elem, Handler, Insn, InsnBytes, Item, Reg};
+use fm_layout::{Laid, LayFail, NewItem, layout, move_tables};
 use std::alloc::Global;
 use std::test::Fail;
 

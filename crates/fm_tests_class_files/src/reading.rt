@@ -1,7 +1,8 @@
 // A class file written by hand, and others beside it.
 
-use super::*;
 use fm_code::{Code, Elem, Entry, Insn, Item, Member, MemberAttr};
+use fm_read::{ReadFail, read_class};
+use std::alloc::Global;
 use std::test::Fail;
 
 // The class M, whose main makes an array of one int and drops it.

@@ -5,7 +5,7 @@ use Rattle.fm_layout.proofs.ExampleLemmas.{popped_meets_rules, popped_anchors_re
 use Rattle.fm_layout.specs.Example.{popped_anchors, popped_code}
 use Rattle.fm_layout.specs.Tables.{AreAnchors}
 use Rattle.fm_layout.specs.declared.laying.Laid.{Laid}
-use Rattle.fm_layout.proofs.tests.moved_handler.Goals as goal
+use Rattle.fm_tests_class_files.proofs.layouts.moved_handler.Goals as goal
 
 pub move_tables-requires : goal.move_tables-requires
 move_tables-requires c = record {

@@ -1,8 +1,8 @@
 // Texts written by hand: what is known of them, and their numbers.
 
-use crate::{TextNumbers, facts_of_entries};
 use fm_base::{Name, Seq};
 use fm_code::{Entry, Member};
+use fm_pool_texts::{TextNumbers, facts_of_entries};
 use std::alloc::{AllocError, Global};
 use std::test::Fail;
 

@@ -2,8 +2,8 @@
 
 ghost use Rattle.std.specs.Prelude.{◌≤◌};
 
-use crate::made;
 use fm_base::NoMemory;
+use fm_gen::made;
 use std::alloc::Global;
 use std::test::Fail;
 

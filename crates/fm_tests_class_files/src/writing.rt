@@ -3,11 +3,11 @@
 ghost use Rattle.std.specs.Prelude.{◌≡◌, IfOk};
 ghost use Rattle.fm_code.specs.Example.{example_code, example_entries, example_record};
 
-use crate::write_class;
 use fm_base::{Name, NoMemory, Seq};
 use fm_code::{ClassDef, Code, Entry, Insn, InsnBytes, Item, Member, MemberAttr, Pool};
 use fm_read::read_class;
 use fm_test_classes::{COMPUTES, MAKES_ARRAY, RETURNS};
+use fm_write::write_class;
 use std::alloc::Global;
 use std::test::Fail;
 

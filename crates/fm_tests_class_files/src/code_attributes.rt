@@ -1,9 +1,9 @@
 // A Code attribute written by hand, with a table of one line.
 
-use crate::code_of;
 use fm_base::{Name, Seq};
 use fm_code::{CodeAttr, Entry, PieceFail, Pool};
 use fm_pool::KnownPool;
+use fm_read::code_of;
 use std::alloc::Global;
 use std::test::Fail;
 

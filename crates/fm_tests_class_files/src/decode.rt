@@ -1,6 +1,6 @@
 // Code arrays written by hand, each with what the specification makes of it (JVMS 6.5).
 
-use super::*;
+use fm_decode::{DecodeFail, decode};
 use std::alloc::Global;
 use std::test::Fail;
 

@@ -1,9 +1,9 @@
 // Pools written by hand, one row each: what is read of them, asked and added, and what is written again
 // (JVMS 4.4).
 
-use crate::{AddFail, KnownPool, PoolFail, find_or_add_free, read_pool, write_pool};
 use fm_base::NoMemory;
 use fm_code::{Entry, Pool};
+use fm_pool::{AddFail, KnownPool, PoolFail, find_or_add_free, read_pool, write_pool};
 use std::alloc::Global;
 use std::test::Fail;
 

@@ -4,7 +4,7 @@ use Rattle.fm_layout.proofs.ExampleLemmas.{popped_old_ready, popped_new_ready}
 use Rattle.fm_layout.specs.Conditions.{AreNewItems, AreOldItems}
 use Rattle.fm_layout.specs.Example.{popped_old}
 use Rattle.fm_layout.specs.declared.new_items.NewItem.{NewItem}
-use Rattle.fm_layout.proofs.tests.laid.Goals as goal
+use Rattle.fm_tests_class_files.proofs.layouts.laid.Goals as goal
 
 pub layout-requires : goal.layout-requires
 layout-requires c =
