@@ -8,8 +8,6 @@
 mod conversions;
 mod operations;
 mod shifts;
-#[cfg(test)]
-mod tests;
 
 pub use conversions::{compare, convert};
 pub use operations::{int_op, long_op};

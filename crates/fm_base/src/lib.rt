@@ -17,8 +17,6 @@ mod modified_utf8;
 mod numbers;
 mod rows;
 mod sequence;
-#[cfg(test)]
-mod tests;
 mod texts;
 
 pub use error::NoMemory;

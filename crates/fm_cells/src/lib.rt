@@ -18,8 +18,6 @@ mod marks;
 mod memories;
 mod plain_cells;
 mod sizes;
-#[cfg(test)]
-mod tests;
 mod word_cells;
 
 pub use answers::{Cell, Freed, Head, MakeFail, NotHeld};

@@ -10,8 +10,6 @@ mod encoding;
 mod line;
 mod printing;
 pub mod status;
-#[cfg(test)]
-mod tests;
 mod words;
 
 pub use command_refusal::CommandRefusal;

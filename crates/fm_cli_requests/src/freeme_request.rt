@@ -6,9 +6,6 @@ ghost use Rattle.fm_cli.specs.Words.{texts};
 ghost use Rattle.fm_cli_requests.specs.Values.{wanted_option_rule};
 ghost use Rattle.fm_cli_requests.specs.FreemeRequest.{Asks, AskNoJob, HasValuesOf, HasNoValues, freeme_command, job_of};
 
-#[cfg(test)]
-mod tests;
-
 use crate::values::{are_values, command, files, is_value};
 use clap::error::ErrorKind;
 use clap::{Arg, ArgMatches, Command};

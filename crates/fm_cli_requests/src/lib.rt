@@ -9,8 +9,6 @@ mod arguments;
 pub mod fmrun_request;
 pub mod freeme_request;
 mod program_text;
-#[cfg(test)]
-mod tests;
 mod values;
 
 pub use arguments::arguments_of;

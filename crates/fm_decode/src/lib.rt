@@ -12,8 +12,6 @@ mod operands;
 mod shapes;
 mod switches;
 mod targets;
-#[cfg(test)]
-mod tests;
 
 pub use decoding::decode;
 pub use error::DecodeFail;

@@ -14,8 +14,6 @@ mod attempts;
 mod error;
 mod files;
 mod folder;
-#[cfg(test)]
-mod full_disk;
 mod history;
 mod memory;
 mod names;
@@ -24,8 +22,6 @@ mod sink;
 mod streams;
 mod sure;
 mod tally;
-#[cfg(test)]
-mod tests;
 mod transfer;
 
 pub use error::{FileFail, PutFail, WriteFail};

@@ -15,8 +15,6 @@ mod live_rows;
 mod live_walk;
 mod reach;
 mod sources;
-#[cfg(test)]
-mod tests;
 mod uses;
 
 pub use error::FlowFail;

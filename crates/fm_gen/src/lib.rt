@@ -10,8 +10,6 @@ mod code;
 mod insns;
 mod laws;
 mod pool;
-#[cfg(test)]
-mod tests;
 
 pub use class::made;
 pub use laws::law_made;

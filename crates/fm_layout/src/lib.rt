@@ -13,8 +13,6 @@ mod rooms;
 mod rounds;
 mod spelling;
 mod tables;
-#[cfg(test)]
-mod tests;
 
 pub use error::LayFail;
 pub use laws::{law_example, law_laid_items, law_moved_tables, law_settled, law_spelled};

@@ -8,8 +8,6 @@ mod linked;
 mod linking;
 mod main_class;
 mod ready;
-#[cfg(test)]
-mod tests;
 
 pub use fm_link_refusals::{LinkBad, LinkFail};
 pub use linking::link;

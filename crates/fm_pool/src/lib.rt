@@ -12,8 +12,6 @@ mod known_pool;
 mod put;
 mod reading;
 mod rules;
-#[cfg(test)]
-mod tests;
 mod writing;
 
 pub use error::{AddFail, PoolFail};

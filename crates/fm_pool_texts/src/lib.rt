@@ -7,8 +7,6 @@
 mod descriptors;
 mod facts;
 mod names;
-#[cfg(test)]
-mod tests;
 mod text_numbers;
 
 pub use descriptors::MethodFacts;

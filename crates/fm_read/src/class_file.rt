@@ -150,6 +150,3 @@ fn raws_of(alloc: Global, attributes: &[AttributeParts<'_>]) -> Result<Vec<Raw>,
     }
     Ok(raws)
 }
-
-#[cfg(test)]
-mod tests;

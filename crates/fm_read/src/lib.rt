@@ -17,8 +17,6 @@ mod operands;
 mod parts;
 mod places;
 mod tables;
-#[cfg(test)]
-mod tests;
 
 pub use class_file::read_class;
 pub use code::code_of;

@@ -1,4 +1,3 @@
 pub mod AcceptedLemmas
 pub mod LeastLemmas
 pub mod ShapesLemmas
-pub mod TestLemmas

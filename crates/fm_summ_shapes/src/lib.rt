@@ -6,8 +6,6 @@
 
 mod laws;
 mod shapes;
-#[cfg(test)]
-mod tests;
 mod typed;
 
 pub use laws::{law_accepted, law_least};

@@ -6,8 +6,6 @@ mod classes;
 mod computes;
 mod every_part;
 mod samples;
-#[cfg(test)]
-mod tests;
 
 pub use classes::{
     CALLS_ITSELF, DIVIDES_BY_ZERO, MAIN, MAIN_OF_NO_ARGUMENTS, MAKES_ARRAY, PRINTS_FOREVER,

@@ -6,8 +6,6 @@ mod ends;
 mod files;
 mod long;
 mod objects;
-#[cfg(test)]
-mod tests;
 
 pub use calls::{
     HANDLER, INTERFACE_MISS, JUMP_TO_START, LITERAL_FACTORY, MUTUAL_RECURSION, STRING_BUFFER,

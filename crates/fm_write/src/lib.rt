@@ -9,7 +9,5 @@ mod class_file;
 mod code;
 mod members;
 mod tables;
-#[cfg(test)]
-mod tests;
 
 pub use class_file::write_class;

@@ -1,6 +1,0 @@
-use Rattle.std.specs.List.{AllByRecursion}
-use Rattle.fm_code.specs.Spells.{HasSpelling}
-use Rattle.fm_link.proofs.tests.causes.classes_at.Given as goal
-
-abbrev pub invariant-loop-place : goal.invariant-loop-place
-invariant-loop-place l = AllByRecursion HasSpelling l.classes.items

@@ -1,6 +1,0 @@
-use Rattle.std.specs.List.{AllByRecursion}
-use Rattle.fm_code.specs.Spells.{HasSpelling}
-use Rattle.fm_link.proofs.tests.large.chain.Given as goal
-
-abbrev pub invariant-loop-number : goal.invariant-loop-number
-invariant-loop-number l = AllByRecursion HasSpelling l.classes.items

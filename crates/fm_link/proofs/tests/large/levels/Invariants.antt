@@ -1,6 +1,0 @@
-use Rattle.std.specs.List.{AllByRecursion}
-use Rattle.fm_code.specs.Spells.{HasSpelling}
-use Rattle.fm_link.proofs.tests.large.levels.Given as goal
-
-abbrev pub invariant-loop-level : goal.invariant-loop-level
-invariant-loop-level l = AllByRecursion HasSpelling l.classes.items

@@ -1,0 +1,93 @@
+// What words ask freeme for, in clap's ways.
+
+use crate::fmrun_words::split_words;
+use fm_base::NoMemory;
+use fm_cli_requests::freeme_request::{FreemeRequest, request_of};
+use std::alloc::Global;
+use std::test::Fail;
+
+// The words, a `|` between each two, and the values of the job that they ask for, or nothing.
+const CASES: [(&str, &str); 22] = [
+    ("--out|d|--main|M|M.class", "d M M.class"),
+    ("--main|M|--out|d|M.class", "d M M.class"),
+    ("M.class|--main|M|--out|d", "d M M.class"),
+    (
+        "A.class|--out|d|B.class|--main|M|C.class",
+        "d M A.class B.class C.class",
+    ),
+    ("--out=d|--main=M|M.class", "d M M.class"),
+    ("--out|d|--main|M|--|M.class", "d M M.class"),
+    ("--out|d|--main|M|--|--x|-", "d M --x -"),
+    ("--out|-|--main|-|-", "- - -"),
+    ("--out=-x|--main=--y|-", "-x --y -"),
+    ("", ""),
+    ("--out|d|M.class", ""),
+    ("--main|M|M.class", ""),
+    ("--out|d|--main|M", ""),
+    ("--out|d|--main|M|--", ""),
+    ("--out|d|--main|M|--out|e|M.class", ""),
+    ("--out|d|--main|M|--out|d|M.class", ""),
+    ("--out|d|--main|M|M.class|--help", ""),
+    ("--help", ""),
+    ("--out||--main|M|M.class", ""),
+    ("--out|d|--main|M|", ""),
+    ("--out|-x|--main|M|M.class", ""),
+    ("--out|d|--main|M|--steps|M.class", ""),
+];
+
+// The values of a request, a space between each two.
+fn values(alloc: Global, request: &FreemeRequest<'_>) -> Result<String, NoMemory> {
+    let mut text = format!(in alloc; "{} {}", request.folder, request.main)?;
+    for file in request.files.iter() {
+        text.push(' ')?;
+        text.push_str(file)?;
+    }
+    Ok(text)
+}
+
+// Whether the words ask for this, or for nothing where it's empty.
+fn asks(alloc: Global, text: &str, asked: &str) -> Result<bool, NoMemory> {
+    let words = split_words(alloc, text)?;
+    match request_of(alloc, &words)? {
+        Some(request) => {
+            let found = values(alloc, &request)?;
+            Ok(found.as_str() == asked)
+        }
+        None => Ok(asked.is_empty()),
+    }
+}
+
+// The place of the first case whose words ask for something else.
+fn first_other(alloc: Global, cases: &[(&str, &str)]) -> Result<Option<usize>, NoMemory> {
+    for (place, (text, asked)) in cases.iter().enumerate() {
+        if !asks(alloc, text, asked)? {
+            return Ok(Some(place));
+        }
+    }
+    Ok(None)
+}
+
+#[test]
+fn words_are_read_in_the_ways_of_clap(rt: HostRuntime) -> Result<(), Fail> {
+    assert_eq!(rt; first_other(rt.alloc(), &CASES)?, None);
+    Ok(())
+}
+
+// Whether words with a file of a name of `length` letters ask for something.
+fn asks_for_name(alloc: Global, length: u32) -> Result<bool, NoMemory> {
+    let mut words = split_words(alloc, "--out|d|--main|M")?;
+    let mut name = String::new(alloc);
+    for _ in 0..length {
+        name.push('M')?;
+    }
+    words.push(name)?;
+    let request = request_of(alloc, &words)?;
+    Ok(request.is_some())
+}
+
+#[test]
+fn a_value_of_the_limit_is_taken_and_a_longer_one_refused(rt: HostRuntime) -> Result<(), Fail> {
+    assert!(rt; asks_for_name(rt.alloc(), 8_388_608)?);
+    assert!(rt; !asks_for_name(rt.alloc(), 8_388_609)?);
+    Ok(())
+}

@@ -1,0 +1,8 @@
+use Rattle.std.proofs.Common.{◌∙◌, sym, ap}
+use Rattle.fm_conn.proofs.CodedLemmas.{coded_at}
+use Rattle.fm_world.specs.declared.records.MethodInfo.{MethodInfo}
+use Rattle.fm_tests_linked.proofs.analysis.are_one_class.Goals as goal
+
+pub of-requires-clause-code : goal.of-requires-clause-code
+of-requires-clause-code c =
+    coded_at c.args.program.now c.args.method.0 c.in-Coded.code (ap (λ (m : MethodInfo). m.body) (sym c.method.ensures) ∙ c.in-Coded.is)

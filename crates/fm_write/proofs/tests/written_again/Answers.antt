@@ -1,4 +1,0 @@
-use Rattle.fm_write.proofs.tests.written_again.Goals as goal
-
-pub write_class-requires : goal.write_class-requires
-write_class-requires c = (c.args.bytes.now, c.in_ok-class.ensures.found)
