@@ -1,5 +1,5 @@
 -- The start of main's class does little: a chain of superclasses has no more classes than the program, and each of them few fields.
-use Rattle.std.proofs.Common.{◌≡◌, ℕ, suc, ◌^◌, ◌<◌, ◌≤◌, not, false, List, length, map, reverse, unwrap_or, Option, Some, None, refl, arith, length-append, Bool, true, cond}
+use Rattle.std.proofs.Common.{◌≡◌, ℕ, suc, ◌^◌, ◌<◌, ◌≤◌, not, Bool, true, false, cond, List, [], length, map, reverse, unwrap_or, Option, Some, None, is_none, refl, arith, length-append}
 use Rattle.std.specs.List.{AllByRecursion, filter}
 use Rattle.std.proofs.lemmas.List.{length-reverse}
 use Rattle.std.proofs.lemmas.List.FromFn.{length-range_with_len}
@@ -22,7 +22,6 @@ use Rattle.fm_world.specs.Programs.{classes_of, Outline, outline_of}
 use Rattle.fm_world.specs.declared.declarations.Constant.{Constant}
 use Rattle.fm_world.specs.declared.declarations.Constant.TheVariants as constant
 use Rattle.fm_world.specs.declared.declarations.DeclaredClass.{DeclaredClass}
-use Rattle.std.specs.Prelude.{is_none}
 
 -- ---- one class
 

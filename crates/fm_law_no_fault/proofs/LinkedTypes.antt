@@ -11,7 +11,7 @@ use Rattle.fm_base.specs.declared.kinds.Kind.TheVariants as kind
 use Rattle.fm_base.specs.declared.kinds.TypeRef.{TypeRef}
 use Rattle.fm_code.specs.AccessFlags.{is_static}
 use Rattle.fm_types.proofs.Order.{level-fits}
-use Rattle.fm_types.specs.Fits.{AreTree, fits_type}
+use Rattle.fm_types.specs.Fits.{fits_type}
 use Rattle.fm_types.specs.Named.{built_in_type, throwable_type}
 use Rattle.fm_types.specs.declared.slots.Slot.TheVariants as slot
 use Rattle.fm_world.proofs.Completions.{among_completed, count_is, none_completed}
@@ -138,7 +138,7 @@ module _ (given : List DeclaredClass) where
 
 -- ---- in each program
 
-module _ (p : Program) (runnable : IsRunnable p) (tree : AreTree p.outline.classes) where
+module _ (p : Program) (runnable : IsRunnable p) where
   abbrev o : Outline
   o = p.outline
 

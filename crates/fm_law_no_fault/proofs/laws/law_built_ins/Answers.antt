@@ -4,13 +4,13 @@ use Rattle.fm_law_no_fault.proofs.laws.law_built_ins.Goals as goal
 
 pub returns : goal.returns
 returns c = λ p resolved. record {
-  text_plain = text_is_plain p resolved.runnable resolved.tree;
-  output_plain = output_is_plain p resolved.runnable resolved.tree;
-  input_plain = input_is_plain p resolved.runnable resolved.tree;
-  builders = builders_hide p resolved.runnable resolved.tree;
-  throwables = throwables_hide p resolved.runnable resolved.tree;
-  thrown = all_thrown p resolved.runnable resolved.tree;
-  output = output_slot p resolved.runnable resolved.tree;
-  input = input_slot p resolved.runnable resolved.tree;
+  text_plain = text_is_plain p resolved.runnable;
+  output_plain = output_is_plain p resolved.runnable;
+  input_plain = input_is_plain p resolved.runnable;
+  builders = builders_hide p resolved.runnable;
+  throwables = throwables_hide p resolved.runnable;
+  thrown = all_thrown p resolved.runnable;
+  output = output_slot p resolved.runnable;
+  input = input_slot p resolved.runnable;
   methods = built_ins_asked p resolved.runnable resolved.tree resolved.rows;
 }
