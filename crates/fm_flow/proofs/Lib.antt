@@ -2,7 +2,6 @@ pub mod AnyLemmas
 pub mod CodeFacts
 pub mod EdgeListsLemmas
 pub mod EdgesOfLemmas
-pub mod HandOverLemmas
 pub mod HandlerLemmas
 pub mod ListsByLemmas
 pub mod LiveLemmas

@@ -1,9 +1,9 @@
 -- Rows of bits: what a set bit means.
-use Rattle.std.proofs.Common.{◌≡◌, ◌≢◌, ℕ, zero, suc, ◌+◌, ◌<◌, ◌≤◌, ◌⊎◌, ◌||◌, replicate, Bool, true, false, not, cond, List, [], ◌∷◌, length, get_or, set, refl, inl, inr, ⊎_elim, ap, sym, ◌∙◌, arith}
+use Rattle.std.proofs.Common.{◌≡◌, ◌≢◌, ℕ, zero, suc, ◌+◌, ◌<◌, ◌≤◌, ◌⊎◌, replicate, Bool, true, false, not, cond, List, [], ◌∷◌, length, get_or, set, refl, inl, inr, ⊎_elim, ap, sym, ◌∙◌, arith}
 use Rattle.std.proofs.lemmas.Bool.{cases_eq, cases_lt, false≢true}
-use Rattle.std.proofs.lemmas.List.{ext_get_or, get_or-set_same, get_or-set_other, get_or_past, get_or-replicate, length-replicate}
+use Rattle.std.proofs.lemmas.List.{get_or-set_same, get_or-set_other, get_or_past, get_or-replicate, length-replicate}
 use Rattle.std.proofs.lemmas.List.Sums.{sum_by-cons, sum_by-set}
-use Rattle.fm_base.specs.Rows.{has, IsUnion}
+use Rattle.fm_base.specs.Rows.{has}
 use Rattle.fm_flow.specs.inner.Walks.{unset}
 
 -- a bit that is set lies in the row
@@ -47,12 +47,6 @@ has-replicate n i =
     ⊎_elim (λ below. get_or-replicate n i false false below)
     (λ past. get_or_past (replicate n false) i false (let e = length-replicate n false in omega arith))
     (cases_lt i n)
-
--- the union of such a row and another is the other
-pub IsUnion-unset : (n : ℕ) (row new : List Bool) → length row ≡ n → IsUnion (replicate n false) row new → new ≡ row
-IsUnion-unset n row new size union =
-    ext_get_or false new row (union.same_length ∙ length-replicate n false ∙ sym size)
-    (λ i inside. union.members i ∙ ap (λ b. b || has row i) (has-replicate n i))
 
 -- ---- how many bits aren't set
 

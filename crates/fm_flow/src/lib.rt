@@ -2,7 +2,7 @@
 //
 // The layers above use that the edges of a flow are those of its code, that it says which items are
 // reachable, and that a local is said to be live exactly where a path leads to a load of it. Walks of
-// their own share the steps with rows of bits.
+// their own share the step that marks items.
 #![tactic(auto)]
 
 mod edge_lists;
@@ -19,5 +19,6 @@ mod uses;
 
 pub use error::FlowFail;
 pub use flow::Flow;
-pub use item_rows::{copy_of, empty_rows, hand_over};
+pub use item_rows::empty_rows;
 pub use live_rows::{LiveRows, live};
+pub use reach::mark;

@@ -1,17 +1,18 @@
--- Groups of classes, one holder more, and rows of bits in which the holders of a class are set.
+-- Groups of classes, one holder more, and rows of bits in which the items of a class are set.
 use Rattle.std.proofs.Common.{◌≡◌, ◌≢◌, ◌⊎◌, ℕ, zero, suc, ◌+◌, ◌<◌, ◌≤◌, ◌||◌, ◌&&◌, Bool, true, false, cond, List, [], ◌∷◌, ◌++◌, length, map, replicate, get_or, set, Option, Some, None, unwrap_or, refl, inl, inr, ⊎_elim, ap, sym, ◌∙◌, subst, eq-eqb, arith, le-ltb, length-append, length-set, lt-ltb}
 use Rattle.std.specs.Prelude.{nat_eq, nat_lt, slice_get}
 use Rattle.std.proofs.lemmas.Bool.{cases_eq, cases_lt, eqb-true}
 use Rattle.std.proofs.lemmas.List.{get_or-replicate, get_or-set_other, get_or-set_same, get_or_push, length-map, length-replicate}
-use Rattle.std.proofs.lemmas.Option.{none-some, same_Some, slice_get-get_or, slice_get_within}
+use Rattle.std.proofs.lemmas.Option.{none-some, same_Some, slice_get_within}
 use Rattle.std.proofs.Math.Bool.{or-false, or-true}
 use Rattle.std.proofs.Math.ListN.{get_or-append}
 use Rattle.fm_base.proofs.ListFacts.{slice_get_push}
 use Rattle.fm_base.proofs.TestFacts.{apart-nat_eq, same_test}
-use Rattle.fm_base.specs.Rows.{has, IsUnion}
+use Rattle.fm_base.specs.Rows.{has}
 use Rattle.fm_flow.proofs.RowFacts.{has-replicate}
 use Rattle.fm_flow.specs.inner.LiveWalks.{row_of}
-use Rattle.fm_place.specs.inner.PlanRows.{AreBelow, AreMembers, classes_of, is_class, IsGroupsOf, IsRowOf, SetsBit}
+use Rattle.fm_place.specs.declared.groups.Groups.{Groups}
+use Rattle.fm_place.specs.inner.PlanRows.{AreGroups, AreRowsIn, classes_of, is_class, IsGroupsOf, IsRowOf, number_in, SetsBit}
 
 -- ---- elements
 
@@ -82,29 +83,6 @@ module _ (held of_holders : List ℕ) (numbers after : ℕ → Option ℕ) (clas
     known = known-more;
     each = each-more;
   }
-
--- ---- rows
-
-pub row_retested : (held : List (ℕ × ℕ)) (test other : ℕ × ℕ → Bool) (row : List Bool)
-    → ((h : ℕ) (pair : ℕ × ℕ) → slice_get held h ≡ Some pair → test pair ≡ other pair) → IsRowOf held test row → IsRowOf held other row
-row_retested held test other row same is = record { wide = is.wide; each = λ h pair there. is.each h pair there ∙ same h pair there }
-
--- the holders of a class are set
-pub row_joined : (held : List (ℕ × ℕ)) (test : ℕ → Bool) (class : ℕ) (row members union : List Bool) → IsRowOf held (λ pair. test pair.1) row
-    → IsRowOf held (λ pair. is_class (Some class) pair.1) members → IsUnion row members union
-    → IsRowOf held (λ pair. test pair.1 || is_class (Some class) pair.1) union
-row_joined held test class row members union is of_class joined = record {
-  wide = joined.same_length ∙ is.wide;
-  each = λ h pair there. joined.members h ∙ (λ k. is.each h pair there k || of_class.each h pair there k);
-}
-
--- a class that no holder has sets none
-pub row_unmarked : (held : List (ℕ × ℕ)) (test : ℕ → Bool) (class : ℕ) (row : List Bool)
-    → ((h : ℕ) (pair : ℕ × ℕ) → slice_get held h ≡ Some pair → class ≢ pair.1) → IsRowOf held (λ pair. test pair.1) row
-    → IsRowOf held (λ pair. test pair.1 || is_class (Some class) pair.1) row
-row_unmarked held test class row none is =
-    row_retested held (λ pair. test pair.1) (λ pair. test pair.1 || is_class (Some class) pair.1) row
-    (λ h pair there. sym (or-false (test pair.1)) ∙ ap (λ b. test pair.1 || b) (sym (apart-nat_eq class pair.1 (none h pair there)))) is
 
 -- ---- elements of pairs
 
@@ -203,79 +181,82 @@ sets_none item bit rows past = record {
       sym (or-false (has (row_of rows j) k)) ∙ ap (λ b. has (row_of rows j) k || (b && nat_eq bit k)) (sym (apart-nat_eq item j apart));
 }
 
--- ---- the holders of groups
+-- ---- rows by class
 
-pub members_none : (groups : List ℕ) (rows : List (List Bool)) → rows ≡ replicate (length groups) (replicate (length groups) false) → AreMembers groups 0 rows
-members_none groups rows is = subst (AreMembers groups 0) (sym is) (record {
-  one_each = length-replicate (length groups) none;
-  wide = λ g inside. ap (λ (row : List Bool). length row) (row g inside) ∙ length-replicate (length groups) false;
-  members = λ g h inside.
-      ap (λ (r : List Bool). has r h) (row g inside) ∙ has-replicate (length groups) h
-      ∙ sym (ap (λ b. b && nat_eq (get_or groups h 0) g) (le-ltb h 0 (omega arith)));
-}) where
-  none : List Bool
-  none = replicate (length groups) false
+-- a number of a class is below the number of holders
+group_within : {g : Groups} → AreGroups g → (class n : ℕ) → number_in g.numbers class ≡ Some n → n < length g.held.now
+group_within {g} groups class n there =
+    let inside = slice_get_within (classes_of g.held.now) n class (groups.numbered.known class n there) in
+    omega (arith, inside, length-map g.held.now (λ (p : ℕ × ℕ). p.1))
 
-  row : (g : ℕ) → g < length groups → get_or (replicate (length groups) none) g [] ≡ none
-  row g inside = get_or-replicate (length groups) g none [] inside
+module _ (g : Groups) (count : ℕ) (test : ℕ → ℕ → Bool) (rows : List (List Bool)) where
+  -- at first no item is set
+  pub rows_unset : AreGroups g → rows ≡ replicate (length g.held.now) (replicate count false) → ((class j : ℕ) → test j class ≡ false) → AreRowsIn g count test rows
+  rows_unset groups is none = subst (AreRowsIn g count test) (sym is) (record {
+    one_each = size;
+    wide = λ n inside. ap (λ (row : List Bool). length row) (row n (omega (arith, inside, size))) ∙ length-replicate count false;
+    each = λ class n there j inside.
+        ap (λ (r : List Bool). has r j) (row n (group_within groups class n there)) ∙ has-replicate count j ∙ sym (none class j);
+  }) where
+    size : length (replicate (length g.held.now) (replicate count false)) ≡ length g.held.now
+    size = length-replicate (length g.held.now) (replicate count false)
 
-pub members_more : (groups : List ℕ) (i : ℕ) (rows after : List (List Bool)) → AreMembers groups i rows → SetsBit (get_or groups i 0) i rows after
-    → AreMembers groups (i + 1) after
-members_more groups i rows after so_far sets = record {
-  one_each = sets.same_count ∙ so_far.one_each;
-  wide = λ g inside. sets.same_width g ∙ so_far.wide g inside;
-  members = λ g h inside.
-      sets.members g h (omega (arith, so_far.one_each, inside))
-      ∙ ap (λ b. b || (nat_eq (get_or groups i 0) g && nat_eq i h)) (so_far.members g h inside)
-      ∙ bits_more h i (nat_eq (get_or groups h 0) g) (nat_eq (get_or groups i 0) g) (λ same. ap (λ n. nat_eq (get_or groups n 0) g) (sym same));
-}
+    row : (n : ℕ) → n < length g.held.now → row_of (replicate (length g.held.now) (replicate count false)) n ≡ replicate count false
+    row n inside = get_or-replicate (length g.held.now) n (replicate count false) [] inside
 
--- ---- all groups
+  -- another test agrees with this one
+  pub rows_retested : (other : ℕ → ℕ → Bool) → ((class j : ℕ) → j < count → test j class ≡ other j class) → AreRowsIn g count test rows → AreRowsIn g count other rows
+  rows_retested other same are = record {
+    one_each = are.one_each;
+    wide = are.wide;
+    each = λ class n there j inside. are.each class n there j inside ∙ same class j inside;
+  }
 
-module _ (held : List (ℕ × ℕ)) (numbers : ℕ → Option ℕ) (of_holders : List ℕ) (groups : IsGroupsOf (classes_of held) numbers of_holders)
-    (rows : List (List Bool)) (are : AreMembers of_holders (length of_holders) rows) where
-  pub same_count : length of_holders ≡ length held
-  same_count = groups.one_each ∙ length-map held (λ (p : ℕ × ℕ). p.1)
+  -- a class that no holder has sets no item
+  pub rows_unmarked : (class : Option ℕ) (item : ℕ) → ((c n : ℕ) → number_in g.numbers c ≡ Some n → is_class class c ≡ false) → AreRowsIn g count test rows
+      → AreRowsIn g count (λ j c. test j c || (is_class class c && nat_eq item j)) rows
+  rows_unmarked class item none are = record {
+    one_each = are.one_each;
+    wide = are.wide;
+    each = λ c n there j inside.
+        are.each c n there j inside ∙ sym (or-false (test j c)) ∙ ap (λ b. test j c || (b && nat_eq item j)) (sym (none c n there));
+  }
 
-  pub group_within : (class group : ℕ) → numbers class ≡ Some group → group < length rows
-  group_within class group there =
-      let inside = slice_get_within (classes_of held) group class (groups.known class group there) in
-      omega (arith, inside, groups.one_each, are.one_each)
+  -- the item is set in the row of a class
+  pub rows_marked : (class number item : ℕ) (after : List (List Bool)) → AreGroups g → number_in g.numbers class ≡ Some number
+      → SetsBit number item rows after → AreRowsIn g count test rows
+      → AreRowsIn g count (λ j c. test j c || (is_class (Some class) c && nat_eq item j)) after
+  rows_marked class number item after groups there sets are = record {
+    one_each = sets.same_count ∙ are.one_each;
+    wide = λ n inside. sets.same_width n ∙ are.wide n (omega (arith, inside, sets.same_count));
+    each = λ c n is j inside.
+        sets.members n j (omega (arith, group_within groups c n is, are.one_each))
+        ∙ (λ k. are.each c n is j inside k || (same c n is k && nat_eq item j));
+  } where
+    same : (c n : ℕ) → number_in g.numbers c ≡ Some n → nat_eq number n ≡ nat_eq class c
+    same c n is = same_test (nat_eq number n) (nat_eq class c) forth back where
+      forth : nat_eq number n ≡ true → nat_eq class c ≡ true
+      forth one =
+          let is_one : number ≡ n = eqb-true number n one in
+          eq-eqb class c
+          (same_Some _ _ (sym (groups.numbered.known class number there) ∙ ap (slice_get (classes_of g.held.now)) is_one ∙ groups.numbered.known c n is))
 
-  pub group_row : (class group : ℕ) → numbers class ≡ Some group → IsRowOf held (λ pair. is_class (Some class) pair.1) (get_or rows group [])
-  group_row class group there = record { wide = are.wide group within ∙ same_count; each = each } where
-    within : group < length of_holders
-    within = let inside = group_within class group there in omega (arith, inside, are.one_each)
+      back : nat_eq class c ≡ true → nat_eq number n ≡ true
+      back one = eq-eqb number n (same_Some _ _ (sym there ∙ ap (number_in g.numbers) (eqb-true class c one) ∙ is))
 
-    each : (h : ℕ) (pair : ℕ × ℕ) → slice_get held h ≡ Some pair → has (get_or rows group []) h ≡ nat_eq class pair.1
-    each h pair at =
-        are.members group h within
-        ∙ ap (λ b. b && nat_eq (get_or of_holders h 0) group) (lt-ltb h (length of_holders) (omega (arith, inside, same_count)))
-        ∙ same_test (nat_eq (get_or of_holders h 0) group) (nat_eq class pair.1) forth back where
-          inside : h < length held
-          inside = slice_get_within held h pair at
+  -- the row of a holder's class
+  pub holder_row : AreGroups g → AreRowsIn g count test rows → (h : ℕ) (pair : ℕ × ℕ) → slice_get g.held.now h ≡ Some pair
+      → (get_or g.of_holders.items h 0 < length rows) × IsRowOf count (λ j. test j pair.1) (row_of rows (get_or g.of_holders.items h 0))
+  holder_row groups are h pair there = (inside, record { wide = are.wide n inside; each = λ j below. are.each pair.1 n number j below }) where
+    n : ℕ
+    n = get_or g.of_holders.items h 0
 
-          number : numbers pair.1 ≡ Some (get_or of_holders h 0)
-          number = groups.each h pair.1 (class-there held h pair at)
+    number : number_in g.numbers pair.1 ≡ Some n
+    number = groups.numbered.each h pair.1 (class-there g.held.now h pair there)
 
-          forth : nat_eq (get_or of_holders h 0) group ≡ true → nat_eq class pair.1 ≡ true
-          forth same =
-              let is : get_or of_holders h 0 ≡ group = eqb-true (get_or of_holders h 0) group same in
-              eq-eqb class pair.1
-              (same_Some _ _ (sym (groups.known class group there) ∙ groups.known pair.1 group (number ∙ ap (λ n. Some n) is)))
+    inside : n < length rows
+    inside = omega (arith, group_within groups pair.1 n number, are.one_each)
 
-          back : nat_eq class pair.1 ≡ true → nat_eq (get_or of_holders h 0) group ≡ true
-          back same =
-              eq-eqb (get_or of_holders h 0) group (same_Some _ _ (sym number ∙ ap numbers (sym (eqb-true class pair.1 same)) ∙ there))
-
-  pub class_known : (h : ℕ) (pair : ℕ × ℕ) → slice_get held h ≡ Some pair → numbers pair.1 ≢ None
-  class_known h pair at none = none-some (get_or of_holders h 0) (sym none ∙ groups.each h pair.1 (class-there held h pair at))
-
--- a group is the place of a holder
-pub groups_below : (classes of_holders : List ℕ) (numbers : ℕ → Option ℕ) → IsGroupsOf classes numbers of_holders → AreBelow (length of_holders) of_holders
-groups_below classes of_holders numbers groups k inside =
-    let within : k < length classes = omega (arith, groups.one_each, inside) in
-    let class = get_or classes k 0 in
-    let there = slice_get_within classes (get_or of_holders k 0) class
-    (groups.known class (get_or of_holders k 0) (groups.each k class (slice_get-get_or classes k 0 within))) in
-    omega (arith, there, groups.one_each)
+-- a class that has no number is none of those that have one
+pub unnumbered : (g : Groups) (class : ℕ) → number_in g.numbers class ≡ None → (c n : ℕ) → number_in g.numbers c ≡ Some n → is_class (Some class) c ≡ false
+unnumbered g class none c n is = apart-nat_eq class c (λ same. none-some n (sym none ∙ ap (number_in g.numbers) same ∙ is))

@@ -1,17 +1,18 @@
 -- The plan that is made of pairs is that of the definitions, by all facts that agree on the method
 -- with its classes and its live locals.
-use Rattle.std.proofs.Common.{◌≡◌, ℕ, zero, suc, ◌+◌, ◌<◌, ◌≤◌, ◌++◌, IfOk, Result, Bool, false, cond, List, [], ◌∷◌, length, map, get_or, Option, Some, None, Contains, refl, ap, sym, ◌∙◌, subst, ⊎_elim, append_assoc, arith, length-append}
+use Rattle.std.proofs.Common.{◌≡◌, ℕ, zero, suc, ◌+◌, ◌<◌, ◌≤◌, ◌++◌, ◌&&◌, not, IfOk, Result, Bool, true, false, cond, List, [], ◌∷◌, length, map, get_or, Option, Some, None, Contains, refl, ap, sym, ◌∙◌, subst, ⊎_elim, append_assoc, arith, length-append}
 use Rattle.std.specs.Prelude.{filter, nat_eq, slice_get}
 use Rattle.std.specs.List.{filter_map, flat_map, range_with_len, sum}
-use Rattle.std.proofs.lemmas.Bool.{cases_lt}
+use Rattle.std.proofs.lemmas.Bool.{cases_lt, not-true}
 use Rattle.std.proofs.lemmas.List.{get_or_past, length-map}
 use Rattle.std.proofs.lemmas.List.FromFn.{length-map-range_with_len}
 use Rattle.std.proofs.lemmas.List.Sums.{sum_by-cons}
-use Rattle.std.proofs.lemmas.Option.{slice_get_within}
+use Rattle.std.proofs.lemmas.Option.{slice_get-get_or, slice_get_within}
 use Rattle.std.proofs.lemmas.Result.{IfOk-weaker}
 use Rattle.std.proofs.Math.Seq.{get_or-append_seam}
 use Rattle.fm_base.proofs.ContainsFacts.{Contains-none}
-use Rattle.fm_base.proofs.TestFacts.{apart-nat_eq}
+use Rattle.fm_base.proofs.TestFacts.{and_left, and_right, apart-nat_eq}
+use Rattle.fm_base.specs.Rows.{has}
 use Rattle.fm_conn.specs.Classes.{class_of}
 use Rattle.fm_conn.specs.Facts.{Facts}
 use Rattle.fm_conn.specs.Nodes.{Node, TypedMethod}
@@ -19,9 +20,11 @@ use Rattle.fm_conn.specs.Summaries.{is_linked}
 use Rattle.fm_conn.specs.declared.class_numbers.Classes.{Classes}
 use Rattle.fm_conn.specs.declared.ends.End2.{End2}
 use Rattle.fm_conn.specs.declared.summaries.Summaries.{Summaries}
+use Rattle.fm_flow.proofs.RowFacts.{has_inside}
+use Rattle.fm_flow.specs.inner.LiveWalks.{row_of}
 use Rattle.fm_place.proofs.FullLemmas.{before-is, full-safe}
-use Rattle.fm_place.proofs.GroupLemmas.{slice_get-mapped}
-use Rattle.fm_place.proofs.RowLemmas.{freed_same}
+use Rattle.fm_place.proofs.GroupLemmas.{holder_row, slice_get-mapped}
+use Rattle.fm_place.proofs.RowLemmas.{filter_range_same}
 use Rattle.fm_place.proofs.HolderLemmas.{flat_range_same, holders_are, numbers_by_range, pair_held, pairs_are, pairs_held}
 use Rattle.fm_place.specs.FactsBy.{facts_by}
 use Rattle.fm_place.specs.Insertions.{after_at, all_holders, all_insertions, before_at, Holder, Insertions, numbers_of}
@@ -31,8 +34,10 @@ use Rattle.fm_place.specs.PlansBy.{holders_in, IsPlanOf, IsToldBy, paired}
 use Rattle.fm_place.specs.Sites.{held_sites, site_class, sites_of}
 use Rattle.fm_place.specs.declared.busy_rows.Seen.{Seen}
 use Rattle.fm_place.specs.declared.found_sites.Site.{Site}
+use Rattle.fm_place.specs.declared.groups.Groups.{Groups}
+use Rattle.fm_place.specs.declared.holding_rows.Holding.{Holding}
 use Rattle.fm_place.specs.declared.plans.Plan.{Plan}
-use Rattle.fm_place.specs.inner.PlanRows.{AreRowsOf, busy_at, facts_seen, freed_by_rows, freed_of, held_of, is_place_at, IsPlanBy, may_hold_at, pair_of, typed_seen}
+use Rattle.fm_place.specs.inner.PlanRows.{AreFreedRows, AreGroups, AreHolding, AreRowsIn, count_of, facts_seen, freed_by_rows, freed_of, held_of, is_busy_at, is_freed, is_place_at, IsPlanBy, pair_of, typed_seen}
 
 abbrev pub full_of : Facts → TypedMethod → List ℕ → Option Insertions
 full_of facts x [] = None
@@ -161,17 +166,63 @@ pub plans_told : {E : Type 0} (s : Seen) (facts : Facts) (sites : List Site) (an
 plans_told s facts sites answer is told are =
     IfOk-weaker answer (IsPlanBy s sites) (IsPlanOf (all_insertions facts (typed_seen s))) (λ plan by. plan_told s facts sites plan told are by) is
 
--- what is freed by rows is what is freed at places
-pub all_freed_same : (s : Seen) (held : List (ℕ × ℕ)) (count : ℕ) (busy holding : List (List Bool)) → count ≡ length s.method.code.now.items
-    → AreRowsOf held count (busy_at s) busy → AreRowsOf held count (may_hold_at s) holding
-    → flat_map (paired (freed_by_rows (length held) busy holding)) (range_with_len 0 count)
-    ≡ flat_map (paired (freed_of s held)) (range_with_len 0 (length s.method.code.now.items))
-all_freed_same s held count busy holding all busy_are holding_are =
-    flat_range_same (paired (freed_by_rows (length held) busy holding)) (paired (freed_of s held)) 0 count
-    (λ j low high.
-    let inside : j < count = omega arith in
-    ap (map (λ h. (j, h))) (freed_same s held j (get_or busy j []) (get_or holding j []) (busy_are.each j inside) (holding_are.each j inside)))
-    ∙ ap (λ n. flat_map (paired (freed_of s held)) (range_with_len 0 n)) all
+-- ---- what is freed by rows
+
+module _ (s : Seen) (g : Groups) (busy : List (List Bool)) (holding : Holding) (groups : AreGroups g) (busy_are : AreRowsIn g (count_of s) (is_busy_at s) busy)
+    (holding_are : AreHolding s g.held.now (length g.held.now) holding.freed holding.rows.items) where
+  holders : length g.of_holders.items ≡ length g.held.now
+  holders = groups.numbered.one_each ∙ length-map g.held.now (λ (p : ℕ × ℕ). p.1)
+
+  -- whether a holder is freed by the rows
+  freed_is : (h j : ℕ) (pair : ℕ × ℕ) → slice_get g.held.now h ≡ Some pair → j < count_of s
+      → is_freed g.of_holders.items busy holding.rows.items j h ≡ is_place_at s j (Some pair)
+  freed_is h j pair there inside =
+      let own = holder_row g (count_of s) (is_busy_at s) busy groups busy_are h pair there in
+      let follows = holding_are.each h pair (slice_get_within g.held.now h pair there) there in
+      λ k. not (own.1.each j inside k) && follows.row_is.each j inside k
+
+  there_is : (h : ℕ) → h < length g.held.now → slice_get g.held.now h ≡ Some (get_or g.held.now h (0, 0))
+  there_is h inside = slice_get-get_or g.held.now h (0, 0) inside
+
+  pub freed_rows : AreFreedRows g.of_holders.items busy holding
+  freed_rows = record {
+    few = omega (arith, groups.few, holders);
+    one_each = holding_are.one_each ∙ sym holders;
+    numbers = λ h inside.
+        (holder_row g (count_of s) (is_busy_at s) busy groups busy_are h (get_or g.held.now h (0, 0)) (there_is h (omega (arith, inside, holders)))).0;
+    busy_wide = λ n inside. busy_are.wide n inside ∙ sym holding_are.freed_bits;
+    wide = λ h inside.
+        let below : h < length g.held.now = omega (arith, inside, holding_are.one_each) in
+        (holding_are.each h (get_or g.held.now h (0, 0)) below (there_is h below)).row_is.wide ∙ sym holding_are.freed_bits;
+    marked = marked;
+  } where
+    marked : (item h : ℕ) → h < length g.of_holders.items → is_freed g.of_holders.items busy holding.rows.items item h ≡ true → has holding.freed item ≡ true
+    marked item h inside freed =
+        let below : h < length g.held.now = omega (arith, inside, holders) in
+        let pair = get_or g.held.now h (0, 0) in
+        let own = holder_row g (count_of s) (is_busy_at s) busy groups busy_are h pair (there_is h below) in
+        let follows = holding_are.each h pair below (there_is h below) in
+        let quiet = not (has (row_of busy (get_or g.of_holders.items h 0)) item) in
+        let holds = has (row_of holding.rows.items h) item in
+        let set_now : holds ≡ true = and_right quiet holds freed in
+        let within : item < count_of s = let bit = has_inside (row_of holding.rows.items h) item set_now in omega (arith, bit, follows.row_is.wide) in
+        follows.frees item set_now
+        (sym (own.1.each item within) ∙ not-true (has (row_of busy (get_or g.of_holders.items h 0)) item) (and_left quiet holds freed))
+
+  -- what is freed by rows is what is freed at places
+  pub all_freed_same : flat_map (paired (freed_by_rows g.of_holders.items busy holding.rows.items)) (range_with_len 0 (length holding.freed))
+      ≡ flat_map (paired (freed_of s g.held.now)) (range_with_len 0 (count_of s))
+  all_freed_same =
+      ap (λ n. flat_map (paired (freed_by_rows g.of_holders.items busy holding.rows.items)) (range_with_len 0 n)) holding_are.freed_bits
+      ∙ flat_range_same (paired (freed_by_rows g.of_holders.items busy holding.rows.items)) (paired (freed_of s g.held.now)) 0 (count_of s)
+      (λ j low high. ap (map (λ h. (j, h))) (freed_same j (omega arith))) where
+        freed_same : (j : ℕ) → j < count_of s → freed_by_rows g.of_holders.items busy holding.rows.items j ≡ freed_of s g.held.now j
+        freed_same j inside =
+            ap (λ n. filter (is_freed g.of_holders.items busy holding.rows.items j) (range_with_len 0 n)) holders
+            ∙ filter_range_same (is_freed g.of_holders.items busy holding.rows.items j) (λ h. is_place_at s j (slice_get g.held.now h)) 0 (length g.held.now)
+            (λ h low high.
+            let there = there_is h (omega arith) in
+            freed_is h j (get_or g.held.now h (0, 0)) there inside ∙ ap (is_place_at s j) (sym there))
 
 -- nothing is freed where nothing is held
 pub nothing_freed : (s : Seen) (held : List (ℕ × ℕ)) (count : ℕ) → length held ≡ 0 → flat_map (paired (freed_of s held)) (range_with_len 0 count) ≡ []

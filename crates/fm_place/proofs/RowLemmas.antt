@@ -1,19 +1,20 @@
--- Rows of all items: where classes are busy, and what is freed.
-use Rattle.std.proofs.Common.{◌≡◌, ◌≢◌, ℕ, zero, suc, ◌+◌, ◌<◌, ◌≤◌, ◌||◌, ◌&&◌, not, Bool, true, false, cond, List, [], ◌∷◌, ◌++◌, length, get_or, map, set, Option, Some, refl, ⊎_elim, ap, subst, sym, ◌∙◌, append-nil, append_assoc, arith, eq-eqb, length-set, lt-ltb}
-use Rattle.std.specs.Prelude.{filter, nat_eq, nat_lt, slice_get}
-use Rattle.std.specs.Bool.{OnFalse}
+-- Rows over the items: where classes are busy, and what is freed.
+use Rattle.std.proofs.Common.{◌≡◌, ℕ, zero, suc, ◌+◌, ◌<◌, ◌≤◌, ◌||◌, ◌&&◌, Bool, true, false, cond, List, [], ◌∷◌, ◌++◌, length, map, Option, Some, None, refl, ap, sym, ◌∙◌, append-nil, append_assoc, arith}
+use Rattle.std.specs.Prelude.{filter, is_some, nat_eq}
 use Rattle.std.specs.List.{list_any, range_with_len}
-use Rattle.std.proofs.lemmas.Bool.{cases_eq, cases_lt}
-use Rattle.std.proofs.lemmas.List.{get_or-set_other, get_or-set_same, get_or_append_left, get_or_past, get_or_push, length_push}
-use Rattle.std.proofs.lemmas.Option.{slice_get-get_or}
-use Rattle.std.proofs.Math.Bool.{or-false, or-true, or_assoc}
-use Rattle.fm_base.proofs.TestFacts.{apart-nat_eq}
-use Rattle.fm_base.specs.Rows.{has, IsUnion}
-use Rattle.fm_flow.specs.inner.LiveWalks.{HaveWidth}
-use Rattle.fm_place.proofs.GroupLemmas.{bits_more, row_retested}
+use Rattle.std.proofs.lemmas.Bool.{false≢true, false_from_ne_true}
+use Rattle.std.proofs.Math.Bool.{or-false, or_assoc}
+use Rattle.fm_base.specs.Rows.{has}
+use Rattle.fm_conn.specs.Nodes.{depth_at}
+use Rattle.fm_types.specs.States.{TypeState}
+use Rattle.fm_types.specs.Typed.{state_at}
+use Rattle.fm_place.proofs.BusyLemmas.{depth_of}
+use Rattle.fm_place.proofs.GroupLemmas.{bits_more, rows_retested}
 use Rattle.fm_place.specs.Places.{is_local_in, is_word_in}
-use Rattle.fm_place.specs.inner.PlanRows.{AreRowsOf, busy_at, facts_seen, freed_at, freed_of, is_class, is_freed, is_in_locals, is_in_words, is_place_at, IsBoth, IsRowOf, may_hold_at, typed_seen}
 use Rattle.fm_place.specs.declared.busy_rows.Seen.{Seen}
+use Rattle.fm_place.specs.declared.groups.Groups.{Groups}
+use Rattle.fm_place.specs.declared.holding_rows.Holding.{Holding}
+use Rattle.fm_place.specs.inner.PlanRows.{AreFreedRows, AreRowsIn, busy_before, busy_by_locals, busy_by_words, count_of, facts_seen, freed_by_rows, is_busy_at, is_class, is_freed, is_in_locals, is_in_words, typed_seen}
 
 -- ---- tests over ranges
 
@@ -32,51 +33,88 @@ any_next test n =
 
 -- ---- one item
 
--- a word more
-pub word_more : (s : Seen) (held : List (ℕ × ℕ)) (item depth : ℕ) (found : Option ℕ) (row : List Bool)
-    → ((class : ℕ) → is_class found class ≡ is_word_in (facts_seen s) (typed_seen s) class item depth)
-    → IsRowOf held (λ pair. is_in_words s item depth pair.1 || is_class found pair.1) row
-    → IsRowOf held (λ pair. is_in_words s item (depth + 1) pair.1) row
-word_more s held item depth found row is =
-    row_retested held (λ pair. is_in_words s item depth pair.1 || is_class found pair.1) (λ pair. is_in_words s item (depth + 1) pair.1) row
-    (λ h pair there. ap (λ b. is_in_words s item depth pair.1 || b) (is pair.1)
-    ∙ sym (any_next (is_word_in (facts_seen s) (typed_seen s) pair.1 item) depth))
+one_more : (b w f e : Bool) → ((b || (w && e)) || (f && e)) ≡ (b || ((w || f) && e))
+one_more true w f e = refl
+one_more false true true true = refl
+one_more false true true false = refl
+one_more false true false true = refl
+one_more false true false false = refl
+one_more false false true true = refl
+one_more false false true false = refl
+one_more false false false true = refl
+one_more false false false false = refl
 
--- a local more
-pub local_more : (s : Seen) (held : List (ℕ × ℕ)) (item depth local : ℕ) (found : Option ℕ) (row : List Bool)
-    → ((class : ℕ) → is_class found class ≡ is_local_in (facts_seen s) (typed_seen s) class item local)
-    → IsRowOf held (λ pair. is_in_locals s item depth local pair.1 || is_class found pair.1) row
-    → IsRowOf held (λ pair. is_in_locals s item depth (local + 1) pair.1) row
-local_more s held item depth local found row is =
-    row_retested held (λ pair. is_in_locals s item depth local pair.1 || is_class found pair.1) (λ pair. is_in_locals s item depth (local + 1) pair.1) row
-    (λ h pair there. ap (λ b. is_in_locals s item depth local pair.1 || b) (is pair.1)
-    ∙ or_assoc (is_in_words s item depth pair.1)
-    (list_any (is_local_in (facts_seen s) (typed_seen s) pair.1 item) (range_with_len 0 local))
-    (is_local_in (facts_seen s) (typed_seen s) pair.1 item local)
-    ∙ ap (λ b. is_in_words s item depth pair.1 || b) (sym (any_next (is_local_in (facts_seen s) (typed_seen s) pair.1 item) local)))
+module _ (s : Seen) (g : Groups) (item depth : ℕ) (rows : List (List Bool)) where
+  -- a word more
+  pub word_more : (found : Option ℕ) → ((class : ℕ) → is_class found class ≡ is_word_in (facts_seen s) (typed_seen s) class item depth)
+      → AreRowsIn g (count_of s) (λ j class. busy_by_words s item depth j class || (is_class found class && nat_eq item j)) rows
+      → AreRowsIn g (count_of s) (busy_by_words s item (depth + 1)) rows
+  word_more found is =
+      rows_retested g (count_of s) (λ j class. busy_by_words s item depth j class || (is_class found class && nat_eq item j)) rows
+      (busy_by_words s item (depth + 1))
+      (λ class j inside.
+      one_more (busy_before s item j class) (is_in_words s item depth class) (is_class found class) (nat_eq item j)
+      ∙ ap (λ b. busy_before s item j class || ((is_in_words s item depth class || b) && nat_eq item j)) (is class)
+      ∙ ap (λ b. busy_before s item j class || (b && nat_eq item j)) (sym (any_next (is_word_in (facts_seen s) (typed_seen s) class item) depth)))
 
--- ---- all items
+  -- a local more
+  pub local_more : (local : ℕ) (found : Option ℕ) → ((class : ℕ) → is_class found class ≡ is_local_in (facts_seen s) (typed_seen s) class item local)
+      → AreRowsIn g (count_of s) (λ j class. busy_by_locals s item depth local j class || (is_class found class && nat_eq item j)) rows
+      → AreRowsIn g (count_of s) (busy_by_locals s item depth (local + 1)) rows
+  local_more local found is =
+      rows_retested g (count_of s) (λ j class. busy_by_locals s item depth local j class || (is_class found class && nat_eq item j)) rows
+      (busy_by_locals s item depth (local + 1))
+      (λ class j inside.
+      one_more (busy_before s item j class) (is_in_locals s item depth local class) (is_class found class) (nat_eq item j)
+      ∙ ap (λ b. busy_before s item j class || ((is_in_locals s item depth local class || b) && nat_eq item j)) (is class)
+      ∙ ap (λ b. busy_before s item j class || (b && nat_eq item j))
+      (or_assoc (is_in_words s item depth class)
+      (list_any (is_local_in (facts_seen s) (typed_seen s) class item) (range_with_len 0 local))
+      (is_local_in (facts_seen s) (typed_seen s) class item local)
+      ∙ ap (λ b. is_in_words s item depth class || b) (sym (any_next (is_local_in (facts_seen s) (typed_seen s) class item) local))))
 
--- the row of an item more
-pub rows_more : (held : List (ℕ × ℕ)) (count : ℕ) (test : ℕ → ℕ × ℕ → Bool) (rows : List (List Bool)) (row : List Bool) → AreRowsOf held count test rows
-    → IsRowOf held (test count) row → AreRowsOf held (count + 1) test (rows ++ row ∷ [])
-rows_more held count test rows row were is = record {
-  one_each = let longer = length_push rows row in omega (arith, longer, were.one_each);
-  each = λ j inside.
-      ⊎_elim
-      (λ (before : j < count).
-      subst (IsRowOf held (test j)) (sym (get_or_append_left rows (row ∷ []) [] j (omega (arith, before, were.one_each)))) (were.each j before))
-      (λ (past : count ≤ j).
-      let same : count ≡ j = omega (arith, past, inside) in
-      subst (λ n. IsRowOf held (test n) (get_or (rows ++ row ∷ []) n [])) same
-      (subst (IsRowOf held (test count)) (sym (get_or_push rows row [] count (were.one_each))) is))
-      (cases_lt j count);
-}
+  -- the words of none
+  pub words_none : AreRowsIn g (count_of s) (busy_before s item) rows → AreRowsIn g (count_of s) (busy_by_words s item 0) rows
+  words_none = rows_retested g (count_of s) (busy_before s item) rows (busy_by_words s item 0) (λ class j inside. sym (or-false (busy_before s item j class)))
+
+  -- the locals of none
+  pub locals_none : AreRowsIn g (count_of s) (busy_by_words s item depth) rows → AreRowsIn g (count_of s) (busy_by_locals s item depth 0) rows
+  locals_none =
+      rows_retested g (count_of s) (busy_by_words s item depth) rows (busy_by_locals s item depth 0)
+      (λ class j inside. ap (λ b. busy_before s item j class || (b && nat_eq item j)) (sym (or-false (is_in_words s item depth class))))
+
+  -- all words and locals of an item that can be reached
+  pub item_done : (state : TypeState) → Some state ≡ state_at (typed_seen s).states item → depth ≡ length state.stack
+      → AreRowsIn g (count_of s) (busy_by_locals s item depth s.method.code.now.max_locals) rows → AreRowsIn g (count_of s) (busy_before s (item + 1)) rows
+  item_done state is depth_is =
+      rows_retested g (count_of s) (busy_by_locals s item depth s.method.code.now.max_locals) rows (busy_before s (item + 1))
+      (λ class j inside.
+      bits_more j item (is_busy_at s j class) (is_in_locals s item depth s.method.code.now.max_locals class)
+      (λ same. busy_here class ∙ ap (λ n. is_busy_at s n class) (sym same))) where
+        depth_at_is : depth ≡ depth_at (typed_seen s) item
+        depth_at_is = depth_is ∙ ap depth_of is
+
+        busy_here : (class : ℕ) → is_in_locals s item depth s.method.code.now.max_locals class ≡ is_busy_at s item class
+        busy_here class =
+            ap (λ n. is_in_locals s item n s.method.code.now.max_locals class) depth_at_is
+            ∙ ap (λ b. b && is_in_locals s item (depth_at (typed_seen s) item) s.method.code.now.max_locals class) (ap (λ (o : Option TypeState). is_some o) is)
+
+  -- an item that can't be reached
+  pub item_unreached : None ≡ state_at (typed_seen s).states item → AreRowsIn g (count_of s) (busy_before s item) rows
+      → AreRowsIn g (count_of s) (busy_before s (item + 1)) rows
+  item_unreached none =
+      rows_retested g (count_of s) (busy_before s item) rows (busy_before s (item + 1))
+      (λ class j inside.
+      sym (or-false (busy_before s item j class))
+      ∙ bits_more j item (is_busy_at s j class) false (λ same. quiet class ∙ ap (λ n. is_busy_at s n class) (sym same))) where
+        quiet : (class : ℕ) → false ≡ is_busy_at s item class
+        quiet class =
+            ap (λ b. b && is_in_locals s item (depth_at (typed_seen s) item) s.method.code.now.max_locals class) (ap (λ (o : Option TypeState). is_some o) none)
 
 -- ---- what is freed
 
 -- two tests that agree on the numbers of a range choose the same ones
-filter_range_same : (t u : ℕ → Bool) (a n : ℕ) → ((k : ℕ) → a ≤ k → k < a + n → t k ≡ u k) → filter t (range_with_len a n) ≡ filter u (range_with_len a n)
+pub filter_range_same : (t u : ℕ → Bool) (a n : ℕ) → ((k : ℕ) → a ≤ k → k < a + n → t k ≡ u k) → filter t (range_with_len a n) ≡ filter u (range_with_len a n)
 filter_range_same t u a zero same = refl
 filter_range_same t u a (suc n) same =
     ap (λ b. cond b (a ∷ filter t (range_with_len (a + 1) n)) (filter t (range_with_len (a + 1) n))) (same a (omega arith) (omega arith))
@@ -113,93 +151,17 @@ push_next t item n initial found after test so_far is more =
     ∙ append_assoc initial (map f (filter t (range_with_len 0 n))) (cond (t n) ((item, n) ∷ []) [])
     ∙ ap (λ list. initial ++ list) (sym (ap (map f) wider ∙ map_push f (filter t (range_with_len 0 n)) (t n) n))
 
--- the rows of an item have its places
-pub freed_same : (s : Seen) (held : List (ℕ × ℕ)) (j : ℕ) (busy holding : List Bool) → IsRowOf held (busy_at s j) busy
-    → IsRowOf held (may_hold_at s j) holding → freed_at (length held) busy holding ≡ freed_of s held j
-freed_same s held j busy holding busy_is holding_is =
-    filter_range_same (is_freed busy holding) (λ h. is_place_at s j (slice_get held h)) 0 (length held)
-    (λ h low high.
-    let pair = get_or held h (0, 0) in
-    let there : slice_get held h ≡ Some pair = slice_get-get_or held h (0, 0) (omega arith) in
-    (λ k. not (busy_is.each h pair there k) && holding_is.each h pair there k) ∙ ap (is_place_at s j) (sym there))
+-- where the item isn't set nothing is freed
+filter_none : (test : ℕ → Bool) (a n : ℕ) → ((k : ℕ) → k < a + n → test k ≡ false) → filter test (range_with_len a n) ≡ []
+filter_none test a zero none = refl
+filter_none test a (suc n) none =
+    ap (λ b. cond b (a ∷ filter test (range_with_len (a + 1) n)) (filter test (range_with_len (a + 1) n))) (none a (omega arith))
+    ∙ filter_none test (a + 1) n (λ k below. none k (omega arith))
 
-pub rows_wide : (held : List (ℕ × ℕ)) (count : ℕ) (test : ℕ → ℕ × ℕ → Bool) (rows : List (List Bool)) → AreRowsOf held count test rows
-    → HaveWidth (length held) rows
-rows_wide held count test rows are j inside = (are.each j (omega (arith, inside, are.one_each))).wide
-
--- ---- nothing is freed
-
-no_more : (b c : Bool) → b ≡ (b || c) → (not b && c) ≡ false
-no_more true c is = refl
-no_more false c is = sym is
-
--- what may hold something adds nothing to what is busy
-pub none_freed : (any : Bool) (busy holding both after : List Bool) → both ≡ busy → IsUnion both holding after
-    → OnFalse any (after ≡ both) → OnFalse any ((holder : ℕ) → is_freed busy holding holder ≡ false)
-none_freed true busy holding both after copied joined unchanged = tt
-none_freed false busy holding both after copied joined unchanged = λ holder.
-    no_more (has busy holder) (has holding holder)
-    (ap (λ row. has row holder) (sym copied ∙ sym unchanged) ∙ joined.members holder ∙ ap (λ row. has row holder || has holding holder) copied)
-
-filter_none : (test : ℕ → Bool) (numbers : List ℕ) → ((k : ℕ) → test k ≡ false) → filter test numbers ≡ []
-filter_none test [] none = refl
-filter_none test (k ∷ numbers) none = ap (λ b. cond b (k ∷ filter test numbers) (filter test numbers)) (none k) ∙ filter_none test numbers none
-
-pub none_pushed : (item holders : ℕ) (found : List (ℕ × ℕ)) (busy holding : List Bool) → ((holder : ℕ) → is_freed busy holding holder ≡ false)
-    → found ≡ found ++ map (λ (h : ℕ). (item, h)) (freed_at holders busy holding)
-none_pushed item holders found busy holding none =
+pub none_pushed : (classes : List ℕ) (busy : List (List Bool)) (holding : Holding) (item : ℕ) (found : List (ℕ × ℕ)) → AreFreedRows classes busy holding
+    → has holding.freed item ≡ false → found ≡ found ++ map (λ (h : ℕ). (item, h)) (freed_by_rows classes busy holding.rows.items item)
+none_pushed classes busy holding item found rows unset =
     sym (append-nil found)
-    ∙ ap (λ numbers. found ++ map (λ (h : ℕ). (item, h)) numbers) (sym (filter_none (is_freed busy holding) (range_with_len 0 holders) none))
-
--- what is kept where nothing is freed
-kept_bit : (busy holding : Bool) → (not busy && holding) ≡ false → holding ≡ (holding && busy)
-kept_bit true true none = refl
-kept_bit true false none = refl
-kept_bit false holding none = none ∙ sym (ap (λ b. b && false) none)
-
-pub all_kept : (busy holding : List Bool) → ((holder : ℕ) → is_freed busy holding holder ≡ false) → IsBoth holding busy holding
-all_kept busy holding none = record { same_length = refl; members = λ k. kept_bit (has busy k) (has holding k) (none k) }
-
--- ---- bits of both rows
-
--- so far: the bits below a bound
-abbrev pub AreBothBelow : ℕ → (row other both : List Bool) → Type 0
-AreBothBelow bound row other both = (length both ≡ length row) × ((k : ℕ) → has both k ≡ (nat_lt k bound && (has row k && has other k)))
-
-one_set : (both : List Bool) (bit : ℕ) (t : Bool) → bit < length both → (k : ℕ) → has (cond t (set both bit true) both) k ≡ (has both k || (t && nat_eq bit k))
-one_set both bit false inside k = sym (or-false (has both k))
-one_set both bit true inside k =
-    ⊎_elim
-    (λ (same : k ≡ bit).
-    ap (has (set both bit true)) same ∙ get_or-set_same both bit true false inside ∙ sym (or-true (has both k))
-    ∙ ap (λ b. has both k || b) (sym (eq-eqb bit k (sym same))))
-    (λ (other : k ≢ bit).
-    get_or-set_other both bit k true false other ∙ sym (or-false (has both k))
-    ∙ ap (λ b. has both k || b) (sym (apart-nat_eq bit k (λ same. other (sym same)))))
-    (cases_eq k bit)
-
-pub both_more : (row other both after : List Bool) (bit : ℕ) (t : Bool) → bit < length row → AreBothBelow bit row other both
-    → t ≡ (has row bit && has other bit) → after ≡ cond t (set both bit true) both → AreBothBelow (bit + 1) row other after
-both_more row other both after bit t inside so_far is new = (ap length new ∙ same_length t ∙ so_far.0, members) where
-  same_length : (b : Bool) → length (cond b (set both bit true) both) ≡ length both
-  same_length true = length-set both bit true
-  same_length false = refl
-
-  members : (k : ℕ) → has after k ≡ (nat_lt k (bit + 1) && (has row k && has other k))
-  members k =
-      ap (λ r. has r k) new ∙ one_set both bit t (omega (arith, inside, so_far.0)) k
-      ∙ ap (λ b. b || (t && nat_eq bit k)) (so_far.1 k)
-      ∙ bits_more k bit (has row k && has other k) t (λ same. is ∙ ap (λ n. has row n && has other n) (sym same))
-
-pub both_all : (row other both : List Bool) (bound : ℕ) → length row ≤ bound → AreBothBelow bound row other both → IsBoth row other both
-both_all row other both bound whole done = record { same_length = done.0; members = λ k. done.1 k ∙ members k } where
-  members : (k : ℕ) → (nat_lt k bound && (has row k && has other k)) ≡ (has row k && has other k)
-  members k =
-      ⊎_elim (λ (inside : k < length row). ap (λ b. b && (has row k && has other k)) (lt-ltb k bound (omega (arith, inside, whole))))
-      (λ (past : length row ≤ k).
-      let none : has row k ≡ false = get_or_past row k false past in
-      (λ i. nat_lt k bound && (none i && has other k)) ∙ none_of (nat_lt k bound) ∙ sym (ap (λ b. b && has other k) none))
-      (cases_lt k (length row)) where
-        none_of : (b : Bool) → (b && false) ≡ false
-        none_of true = refl
-        none_of false = refl
+    ∙ ap (λ numbers. found ++ map (λ (h : ℕ). (item, h)) numbers)
+    (sym (filter_none (is_freed classes busy holding.rows.items item) 0 (length classes)
+    (λ h below. false_from_ne_true (is_freed classes busy holding.rows.items item h) (λ freed. false≢true (sym unset ∙ rows.marked item h (omega arith) freed)))))

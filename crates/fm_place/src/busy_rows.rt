@@ -1,16 +1,16 @@
 // Where the classes of holders are busy.
 
-ghost use Rattle.std.specs.Prelude.{◌≡◌, ◌<◌, ◌≤◌, ℕ, IfOk, Some, length};
+ghost use Rattle.std.specs.Prelude.{◌≡◌, ◌+◌, ◌<◌, ◌≤◌, ℕ, IfOk, Some, length};
 ghost use Rattle.std.specs.Option.{option_copied, option_map};
 ghost use Rattle.fm_place.specs.Places.{is_local_in, is_word_in};
-ghost use Rattle.fm_place.specs.inner.PlanRows.{AreGroups, AreRowsIn, IsRowIn, IsSeen, facts_seen, is_busy_at, is_class, is_in_locals, is_in_words, no_class, typed_seen};
+ghost use Rattle.fm_place.specs.inner.PlanRows.{AreGroups, AreRowsIn, IsSeen, busy_before, busy_by_locals, busy_by_words, count_of, facts_seen, is_busy_at, is_class, typed_seen};
 ghost use Rattle.fm_types.specs.Typed.{state_at};
 ghost use Rattle.fm_types.specs.Typings.{states_of, type_state};
 
 use crate::groups::Groups;
 use fm_base::{NoMemory, Row};
 use fm_conn::{AnalysedMethod, Classes};
-use fm_flow::{Flow, LiveRows};
+use fm_flow::{Flow, LiveRows, empty_rows};
 use fm_types::{State, Typing};
 use std::alloc::Global;
 
@@ -24,7 +24,8 @@ pub struct Seen<'a> {
 }
 
 impl Seen<'_> {
-    /// For each item a row with the holders of classes that are busy there.
+    /// For each holder a row over the items: that with the number of a class has the items at which the
+    /// class is busy.
     pub fn busy_rows(
         &self,
         alloc: Global,
@@ -33,60 +34,65 @@ impl Seen<'_> {
     ) -> Result<Vec<Row>, NoMemory>
         requires seen { IsSeen self.now }
         requires groups { AreGroups groups.now }
-        requires count { count ≡ length self.now.method.code.now.items }
+        requires count { count ≡ count_of self.now }
         ensures { IfOk result (λ rows. AreRowsIn groups.now count (is_busy_at self.now) rows.items) }
     {
-        let mut rows = Vec::new(alloc);
+        let mut rows = empty_rows(alloc, groups.held.len() as u32, count)?;
         for item in 0..count {
-            let row = self.busy_row(alloc, groups, item)?;
-            rows.push(row)?;
+            self.mark_item(groups, item, &mut rows);
         }
         Ok(rows)
     }
 
-    // The holders of classes that are busy at an item.
-    fn busy_row(&self, alloc: Global, groups: &Groups<'_>, item: u32) -> Result<Row, NoMemory>
+    // Sets the item in the rows of the classes that are busy there.
+    fn mark_item(&self, groups: &Groups<'_>, item: u32, rows: &mut Vec<Row>)
         requires seen { IsSeen self.now }
         requires groups { AreGroups groups.now }
-        requires inside { item < length self.now.method.code.now.items }
-        ensures { IfOk result (IsRowIn groups.now (is_busy_at self.now item)) }
+        requires inside { item < count_of self.now }
+        requires rows { AreRowsIn groups.now (count_of self.now)
+            (busy_before self.now item) rows.old.items }
+        ensures { AreRowsIn groups.now (count_of self.now)
+            (busy_before self.now (item + 1)) rows.new.items }
     {
-        let mut row = groups.row(alloc)?;
         let Some(state) = state_at(self.method.typing, item) else {
-            return Ok(row);
+            return;
         };
         let depth = depth_within(state.stack.len(), self.method.code.max_stack);
-        self.mark_words(groups, item, depth, &mut row);
-        self.mark_locals(groups, item, depth, &mut row);
-        Ok(row)
+        self.mark_words(groups, item, depth, rows);
+        self.mark_locals(groups, item, depth, rows);
     }
 
-    // Sets the holders of the classes of the lowest words of the stack.
-    fn mark_words(&self, groups: &Groups<'_>, item: u32, depth: u16, row: &mut Row)
+    // Sets the item in the rows of the classes of the lowest words of the stack.
+    fn mark_words(&self, groups: &Groups<'_>, item: u32, depth: u16, rows: &mut Vec<Row>)
         requires seen { IsSeen self.now }
         requires groups { AreGroups groups.now }
-        requires row { IsRowIn groups.now no_class row.old }
-        ensures { IsRowIn groups.now (is_in_words self.now item depth) row.new }
+        requires inside { item < count_of self.now }
+        requires rows { AreRowsIn groups.now (count_of self.now)
+            (busy_before self.now item) rows.old.items }
+        ensures { AreRowsIn groups.now (count_of self.now)
+            (busy_by_words self.now item depth) rows.new.items }
     {
         for below in 0..depth {
             let class = self.word_class(item, below);
-            groups.mark(class, row);
+            groups.mark(class, item, rows);
         }
     }
 
-    // Sets the holders of the classes of the live locals.
-    fn mark_locals(&self, groups: &Groups<'_>, item: u32, depth: u16, row: &mut Row)
+    // Sets the item in the rows of the classes of the live locals.
+    fn mark_locals(&self, groups: &Groups<'_>, item: u32, depth: u16, rows: &mut Vec<Row>)
         requires seen { IsSeen self.now }
         requires groups { AreGroups groups.now }
-        requires inside { item < length self.now.method.code.now.items }
-        requires row { IsRowIn groups.now (is_in_words self.now item depth) row.old }
-        ensures { IsRowIn groups.now
-            (is_in_locals self.now item depth self.now.method.code.now.max_locals) row.new }
+        requires inside { item < count_of self.now }
+        requires rows { AreRowsIn groups.now (count_of self.now)
+            (busy_by_words self.now item depth) rows.old.items }
+        ensures { AreRowsIn groups.now (count_of self.now)
+            (busy_by_locals self.now item depth self.now.method.code.now.max_locals)
+            rows.new.items }
     {
         let count = self.method.code.max_locals;
         for local in 0..count {
             let class = self.local_class(item, local);
-            groups.mark(class, row);
+            groups.mark(class, item, rows);
         }
     }
 

@@ -1,30 +1,30 @@
-// The holders of each class: they share where they are busy.
+// The classes of holders: holders of one class share where it is busy.
 
-ghost use Rattle.std.specs.Prelude.{◌≡◌, ◌<◌, ◌≤◌, ◌||◌, ℕ, Bool, IfOk, Some, length, map, unwrap_or, nat_eq, if◌then◌else◌};
+ghost use Rattle.std.specs.Prelude.{◌≡◌, ◌<◌, ◌≤◌, ◌||◌, ◌&&◌, ◌==◌, ℕ, Bool, IfOk, Some, length, map, unwrap_or, nat_eq, if◌then◌else◌};
 ghost use Rattle.fm_base.specs.declared.limits.TheConstants.{MAX_LOCAL_WORDS};
-ghost use Rattle.fm_place.specs.inner.PlanRows.{number_in, AreBelow, AreMembers, IsGroupsOf};
+ghost use Rattle.fm_flow.specs.inner.LiveWalks.{row_of};
+ghost use Rattle.fm_place.specs.inner.PlanRows.{number_in};
 
 use crate::set_bits::set_at;
 use fm_base::{NoMemory, Row};
-use fm_flow::empty_rows;
 use std::alloc::Global;
 use std::collections::BTreeMap;
 
-/// The classes that are held, and the holders of each. The first holder of a class represents it.
+/// The classes that are held. The number of a class is that of its first holder.
 #[derive(Drop)]
 pub struct Groups<'a> {
     /// Of each holder the item of its site, and its class.
     pub held: &'a [(u32, u32)],
-    /// Of each class the first of its holders.
+    /// Of each class its number.
     pub numbers: BTreeMap<u32, u32>,
-    /// For each holder that is the first of its class a row with all holders of the class.
-    pub members: Vec<Row>,
+    /// Of each holder the number of its class.
+    pub of_holders: Vec<u32>,
 }
 
 impl<'a> Groups<'a> {
-    ghost use Rattle.fm_place.specs.inner.PlanRows.{is_class, no_class, AreGroups, IsRowIn};
+    ghost use Rattle.fm_place.specs.inner.PlanRows.{is_class, AreGroups, AreRowsIn};
 
-    /// The groups of these holders. Takes memory for a row of bits by holder for each of them.
+    /// The groups of these holders.
     pub fn of(alloc: Global, held: &'a [(u32, u32)]) -> Result<Groups<'a>, NoMemory>
         requires { length held.now ≤ MAX_LOCAL_WORDS }
         ensures { IfOk result (λ groups. AreGroups groups × (groups.held.now ≡ held.now)) }
@@ -35,37 +35,28 @@ impl<'a> Groups<'a> {
             let group = add_class(&mut numbers, pair.1, holder as u32)?;
             of_holders.push(group)?;
         }
-        let members = members_of(alloc, of_holders.as_slice())?;
         Ok(Groups {
             held,
             numbers,
-            members,
+            of_holders,
         })
     }
 
-    /// A row in which no holder is set.
-    pub fn row(&self, alloc: Global) -> Result<Row, NoMemory>
-        requires { AreGroups self.now }
-        ensures { IfOk result (IsRowIn self.now no_class) }
-    {
-        Row::new(alloc, self.held.len() as u32)
-    }
-
-    /// Sets the holders of the class in a row.
-    pub fn mark(&self, class: Option<u32>, row: &mut Row)
+    /// Sets the item in the row of the class, if there is one.
+    pub fn mark(&self, class: Option<u32>, item: u32, rows: &mut Vec<Row>)
         requires groups { AreGroups self.now }
-        requires wide { length row.old ≡ length self.now.held.now }
-        ensures { (test : ℕ → Bool) → IsRowIn self.now test row.old
-            → IsRowIn self.now (λ c. test c || is_class class c) row.new }
+        requires wide { (n : ℕ) → n < length rows.old.items → item < length (row_of rows.old.items n) }
+        ensures { (count : ℕ) (test : ℕ → ℕ → Bool) → AreRowsIn self.now count test rows.old.items
+            → AreRowsIn self.now count (λ j c. test j c || (is_class class c && (item == j)))
+            rows.new.items }
     {
         let Some(class) = class else {
             return;
         };
-        let Some(group) = self.numbers.get(&class) else {
+        let Some(number) = self.numbers.get(&class) else {
             return;
         };
-        // Whether a holder came in is not needed.
-        let _grown = row.union(&self.members[*group as usize]);
+        set_at(rows, *number as usize, item);
     }
 }
 
@@ -82,18 +73,4 @@ fn add_class(numbers: &mut BTreeMap<u32, u32>, class: u32, fresh: u32) -> Result
             Ok(fresh)
         }
     }
-}
-
-// For each group a row with its holders.
-fn members_of(alloc: Global, groups: &[u32]) -> Result<Vec<Row>, NoMemory>
-    requires few { length groups.now ≤ MAX_LOCAL_WORDS }
-    requires below { AreBelow (length groups.now) groups.now }
-    ensures { IfOk result (λ rows. AreMembers groups.now (length groups.now) rows.items) }
-{
-    let count = groups.len() as u32;
-    let mut rows = empty_rows(alloc, count, count)?;
-    for (holder, group) in groups.iter().enumerate() {
-        set_at(&mut rows, *group as usize, holder as u32);
-    }
-    Ok(rows)
 }

@@ -1,100 +1,86 @@
-// What the holders may hold: a walk along the edges, which an object goes as long as its class is
-// busy.
+// What the holders may hold: for each a walk along the edges, which its object goes as long as its
+// class is busy.
 
-ghost use Rattle.std.specs.Prelude.{◌≡◌, ◌≤◌, ℕ, false, IfOk, length};
-ghost use Rattle.std.specs.Bool.{OnFalse};
-ghost use Rattle.fm_base.specs.declared.limits.TheConstants.{MAX_LOCAL_WORDS};
-ghost use Rattle.fm_place.specs.inner.PlanRows.{busy_at, is_freed, may_hold_at, AreRowsOf, AreStarted, IsBoth, IsSeen};
+ghost use Rattle.std.specs.Prelude.{◌≡◌, ◌<◌, IfOk, length};
+ghost use Rattle.fm_place.specs.inner.PlanRows.{count_of, is_busy_at, AreGroups, AreHolding, AreRowsIn, Follows, IsAfter, IsRowOf, IsSeen};
 
 use crate::busy_rows::Seen;
-use crate::set_bits::set_at;
+use crate::groups::Groups;
 use fm_base::{NoMemory, Row};
-use fm_flow::{copy_of, empty_rows, hand_over};
+use fm_flow::mark;
 use std::alloc::Global;
 
+/// Where holders may hold something, as bits of items.
+#[derive(Drop)]
+pub struct Holding {
+    /// For each holder the items where it may hold something.
+    pub rows: Vec<Row>,
+    /// The items where some holder is freed: it may hold something, and its class isn't busy.
+    pub freed: Row,
+}
+
 impl Seen<'_> {
-    /// For each item a row with the holders that may hold something there. An item waits while its
-    /// row isn't handed on along its edges. Rounds go over the items in their order: one that is
-    /// woken behind the present one is walked in the same round, one before it in the next.
+    /// Where each holder may hold something, by where the classes are busy. Takes as many steps as there
+    /// are holders times edges at most, and memory for a bit for each holder and item.
     pub fn holding_rows(
         &self,
         alloc: Global,
-        held: &[(u32, u32)],
+        groups: &Groups<'_>,
         busy: &[Row],
         count: u32,
-    ) -> Result<Vec<Row>, NoMemory>
+    ) -> Result<Holding, NoMemory>
         requires seen { IsSeen self.now }
-        requires few { length held.now ≤ MAX_LOCAL_WORDS }
-        requires count { count ≡ length self.now.method.code.now.items }
-        requires busy { AreRowsOf held.now count (busy_at self.now) busy.now }
-        ensures { IfOk result
-            (λ rows. AreRowsOf held.now count (may_hold_at self.now) rows.items) }
+        requires groups { AreGroups groups.now }
+        requires count { count ≡ count_of self.now }
+        requires busy { AreRowsIn groups.now count (is_busy_at self.now) busy.now }
+        ensures { IfOk result (λ holding. AreHolding self.now groups.now.held.now
+            (length groups.now.held.now) holding.freed holding.rows.items) }
     {
-        let mut rows = started(alloc, held, count)?;
-        let mut waits = vec![in alloc; true; count as usize]?;
-        let mut left = count as usize;
-        while left > 0 {
-            let mut woken = Vec::new(alloc);
-            for j in 0..count {
-                if waits[j as usize] {
-                    waits[j as usize] = false;
-                    let row = kept(alloc, &rows[j as usize], &busy[j as usize])?;
-                    let ends = self.flow.edges(j);
-                    hand_over(ends, &row, &mut rows, &mut waits, &mut woken)?;
-                }
+        let mut freed = Row::new(alloc, count)?;
+        let mut rows = Vec::new(alloc);
+        for (holder, pair) in groups.held.iter().enumerate() {
+            let class = groups.of_holders[holder];
+            let row = self.holding_row(alloc, pair, &busy[class as usize], &mut freed)?;
+            rows.push(row)?;
+        }
+        Ok(Holding { rows, freed })
+    }
+
+    // Where one holder may hold something; the items where it is freed are set in the other row.
+    fn holding_row(
+        &self,
+        alloc: Global,
+        pair: &(u32, u32),
+        busy: &Row,
+        freed: &mut Row,
+    ) -> Result<Row, NoMemory>
+        requires seen { IsSeen self.now }
+        requires busy { IsRowOf (count_of self.now) (λ j. is_busy_at self.now j pair.now.1) busy.now }
+        requires wide { length freed.old ≡ count_of self.now }
+        ensures { IfOk result (Follows self.now pair.now freed.old freed.new) }
+    {
+        let mut row = Row::new(alloc, busy.bits())?;
+        let mut waiting = Vec::new(alloc);
+        let first = item_after(alloc, pair.0, busy.bits())?;
+        mark(first.as_slice(), &mut row, &mut waiting)?;
+        while let Some(j) = waiting.pop() {
+            if busy.get(j) {
+                mark(self.flow.edges(j), &mut row, &mut waiting)?;
+            } else {
+                freed.set(j);
             }
-            left = woken.len();
         }
-        Ok(rows)
+        Ok(row)
     }
 }
 
-// For each item a row with the holders whose site is the item before it.
-fn started(alloc: Global, held: &[(u32, u32)], count: u32) -> Result<Vec<Row>, NoMemory>
-    requires { length held.now ≤ MAX_LOCAL_WORDS }
-    ensures { IfOk result (λ rows. AreStarted held.now (length held.now) count rows.items) }
+// The item after the site, if there is one.
+fn item_after(alloc: Global, site: u32, count: u32) -> Result<Vec<u32>, NoMemory>
+    ensures { IfOk result (λ list. IsAfter site count list.items) }
 {
-    let mut rows = empty_rows(alloc, count, held.len() as u32)?;
-    for (holder, pair) in held.iter().enumerate() {
-        set_at(&mut rows, pair.0 as usize + 1, holder as u32);
+    let mut list = Vec::new(alloc);
+    if count > 0 && site < count - 1 {
+        list.push(site + 1)?;
     }
-    Ok(rows)
-}
-
-// The holders that go on holding what they may hold: those whose class is busy. Where all are, whole
-// words of the rows show it.
-fn kept(alloc: Global, row: &Row, busy: &Row) -> Result<Row, NoMemory>
-    requires { length row.now ≡ length busy.now }
-    ensures { IfOk result (IsBoth row.now busy.now) }
-{
-    if is_any_freed(alloc, busy, row)? {
-        both(alloc, row, busy)
-    } else {
-        copy_of(alloc, row)
-    }
-}
-
-// The bits that are set in both rows.
-fn both(alloc: Global, row: &Row, other: &Row) -> Result<Row, NoMemory>
-    requires { length row.now ≡ length other.now }
-    ensures { IfOk result (IsBoth row.now other.now) }
-{
-    let mut both = Row::new(alloc, row.bits())?;
-    for bit in 0..row.bits() {
-        if row.get(bit) && other.get(bit) {
-            both.set(bit);
-        }
-    }
-    Ok(both)
-}
-
-/// Whether some holder may hold something, and its class isn't busy: false only if there is none.
-/// Takes memory for a row.
-pub fn is_any_freed(alloc: Global, busy: &Row, holding: &Row) -> Result<bool, NoMemory>
-    requires { length holding.now ≡ length busy.now }
-    ensures { IfOk result (λ any. OnFalse any
-        ((holder : ℕ) → is_freed busy.now holding.now holder ≡ false)) }
-{
-    let mut both = copy_of(alloc, busy)?;
-    Ok(both.union(holding))
+    Ok(list)
 }

@@ -8,7 +8,6 @@ ghost use Rattle.fm_code.specs.declared.code_array.Code.{Code};
 ghost use Rattle.fm_conn.specs.Facts.{Facts};
 ghost use Rattle.fm_conn.specs.Shapes.{method_with, IsCoded, IsFlowAt};
 ghost use Rattle.fm_flow.specs.LiveRows.{IsLiveRowsOf};
-ghost use Rattle.fm_flow.specs.inner.LiveWalks.{HaveWidth};
 ghost use Rattle.fm_types.specs.Typed.{IsTyping};
 ghost use Rattle.fm_types.specs.Typings.{states_of};
 ghost use Rattle.fm_world.specs.Members.{methods_of};
@@ -16,12 +15,12 @@ ghost use Rattle.fm_world.specs.Programs.{code_at, method_info};
 ghost use Rattle.fm_place.specs.Insertions.{all_insertions};
 ghost use Rattle.fm_place.specs.PlansBy.{holders_in, paired, HasNodesOf, IsPlanOf, IsToldBy};
 ghost use Rattle.fm_place.specs.Sites.{sites_of};
-ghost use Rattle.fm_place.specs.inner.PlanRows.{freed_at, freed_by_rows, freed_of, held_of, is_freed, listed, pair_of, IsPlanBy, IsSeen};
+ghost use Rattle.fm_place.specs.inner.PlanRows.{freed_by_rows, freed_of, held_of, is_freed, listed, pair_of, AreFreedRows, IsPlanBy, IsSeen};
 
 use crate::busy_rows::Seen;
 use crate::found_sites::{Site, item_count};
 use crate::groups::Groups;
-use crate::holding_rows::is_any_freed;
+use crate::holding_rows::Holding;
 use fm_base::{MethodId, NoMemory, Row};
 use fm_conn::{AnalysedMethod, Classes};
 use fm_flow::{Flow, LiveRows};
@@ -44,7 +43,7 @@ pub struct Plan {
 /// What is inserted into a method with these sites: all holders, and each is freed at all its places:
 /// where it may hold something, and its class isn't busy.
 /// Typing, flow, live locals and classes are those of this method.
-/// Takes memory for the plan, for rows of bits by holder, two for each item and one for each holder.
+/// Takes memory for the plan, and two bits for each holder and item.
 pub fn places(
     alloc: Global,
     program: &Program,
@@ -171,87 +170,85 @@ fn before_places(
     let count = item_count(seen.method.code)?;
     let groups = Groups::of(alloc, held)?;
     let busy = seen.busy_rows(alloc, &groups, count)?;
-    let busy_rows = busy.as_slice();
-    let holding = seen.holding_rows(alloc, held, busy_rows, count)?;
-    let holding_rows = holding.as_slice();
-    all_freed(alloc, held.len() as u32, busy_rows, holding_rows, count)
+    let holding = seen.holding_rows(alloc, &groups, busy.as_slice(), count)?;
+    all_freed(
+        alloc,
+        groups.of_holders.as_slice(),
+        busy.as_slice(),
+        &holding,
+    )
 }
 
-// For each item the holders that are freed before it.
+// For each item the holders that are freed before it, where these are the numbers of their classes.
 fn all_freed(
     alloc: Global,
-    holders: u32,
+    classes: &[u32],
     busy: &[Row],
-    holding: &[Row],
-    count: u32,
+    holding: &Holding,
 ) -> Result<Vec<(u32, u16)>, NoMemory>
-    requires few { holders ≤ MAX_LOCAL_WORDS }
-    requires busy_rows { length busy.now ≡ count }
-    requires holding_rows { length holding.now ≡ count }
-    requires busy { HaveWidth holders busy.now }
-    requires holding { HaveWidth holders holding.now }
+    requires { AreFreedRows classes.now busy.now holding.now }
     ensures { IfOk result (λ found. found.items
-        ≡ flat_map (paired (freed_by_rows holders busy.now holding.now)) (range_with_len 0 count)) }
+        ≡ flat_map (paired (freed_by_rows classes.now busy.now holding.now.rows.items))
+        (range_with_len 0 (length holding.now.freed))) }
 {
     let mut found = Vec::new(alloc);
-    for item in 0..count {
-        let busy_row = &busy[item as usize];
-        let holding_row = &holding[item as usize];
-        push_freed(alloc, &mut found, item, busy_row, holding_row)?;
+    for item in 0..holding.freed.bits() {
+        push_freed(&mut found, classes, busy, holding, item)?;
     }
     Ok(found)
 }
 
-// Puts the holders that are freed before an item after the last pair. Where none is, whole words of
-// the rows show it, and no holder is looked at.
+// Puts the holders that are freed before an item after the last pair. Where none is, no holder is looked
+// at.
 fn push_freed(
-    alloc: Global,
     found: &mut Vec<(u32, u16)>,
+    classes: &[u32],
+    busy: &[Row],
+    holding: &Holding,
     item: u32,
-    busy: &Row,
-    holding: &Row,
 ) -> Result<(), NoMemory>
-    requires few { length busy.now ≤ MAX_LOCAL_WORDS }
-    requires as_wide { length holding.now ≡ length busy.now }
-    ensures { OnOk result (found.new.items ≡ found.old.items
-        ++ map (λ (h : ℕ). (item, h)) (freed_at (length busy.now) busy.now holding.now)) }
+    requires rows { AreFreedRows classes.now busy.now holding.now }
+    requires item { item < length holding.now.freed }
+    ensures { OnOk result (found.new.items ≡ found.old.items ++ map (λ (h : ℕ). (item, h))
+        (freed_by_rows classes.now busy.now holding.now.rows.items item)) }
 {
-    let any = is_any_freed(alloc, busy, holding)?;
-    if !any {
+    if !holding.freed.get(item) {
         return Ok(());
     }
-    push_each_freed(found, item, busy, holding)
+    push_each_freed(found, classes, busy, holding, item)
 }
 
 // The same holders, by a look at each of them.
 fn push_each_freed(
     found: &mut Vec<(u32, u16)>,
+    classes: &[u32],
+    busy: &[Row],
+    holding: &Holding,
     item: u32,
-    busy: &Row,
-    holding: &Row,
 ) -> Result<(), NoMemory>
-    requires few { length busy.now ≤ MAX_LOCAL_WORDS }
-    requires as_wide { length holding.now ≡ length busy.now }
-    ensures { OnOk result (found.new.items ≡ found.old.items
-        ++ map (λ (h : ℕ). (item, h)) (freed_at (length busy.now) busy.now holding.now)) }
+    requires rows { AreFreedRows classes.now busy.now holding.now }
+    requires item { item < length holding.now.freed }
+    ensures { OnOk result (found.new.items ≡ found.old.items ++ map (λ (h : ℕ). (item, h))
+        (freed_by_rows classes.now busy.now holding.now.rows.items item)) }
 {
-    for holder in 0..busy.bits() {
-        let freed = is_freed(busy, holding, holder);
+    for holder in 0..classes.len() {
+        let freed = is_freed(classes, busy, holding, item, holder);
         push_if(found, freed, item, holder as u16)?;
     }
     Ok(())
 }
 
 // Whether the holder may hold something, and its class isn't busy.
-fn is_freed(busy: &Row, holding: &Row, holder: u32) -> bool
-    requires busy { holder < length busy.now }
-    requires holding { holder < length holding.now }
-    ensures { result ≡ is_freed busy.now holding.now holder }
+fn is_freed(classes: &[u32], busy: &[Row], holding: &Holding, item: u32, holder: usize) -> bool
+    requires rows { AreFreedRows classes.now busy.now holding.now }
+    requires item { item < length holding.now.freed }
+    requires holder { holder < length classes.now }
+    ensures { result ≡ is_freed classes.now busy.now holding.now.rows.items item holder }
 {
-    if busy.get(holder) {
+    if busy[classes[holder] as usize].get(item) {
         return false;
     }
-    holding.get(holder)
+    holding.rows[holder].get(item)
 }
 
 // Puts the pair after the last one, if the test holds.

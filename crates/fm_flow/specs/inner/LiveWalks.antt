@@ -1,5 +1,5 @@
--- Lists by item and by local, and the states of the walks that find live locals, or hand on rows of bits.
-use Rattle.std.specs.Prelude.{◌≡◌, ℕ, ◌+◌, ◌<◌, ◌≤◌, ◌⊎◌, ◌↔◌, Bool, true, List, [], ◌∷◌, length, Contains, IsSomeAnd, sum_by}
+-- Lists by item and by local, and the states of the walk that finds live locals.
+use Rattle.std.specs.Prelude.{◌≡◌, ℕ, ◌+◌, ◌<◌, ◌⊎◌, ◌↔◌, Bool, true, List, [], ◌∷◌, length, Contains, IsSomeAnd}
 use Rattle.std.specs.List.{slice_index_or}
 use Rattle.fm_base.specs.Rows.{has}
 use Rattle.fm_code.specs.Edges.{insn_of, IsEdge}
@@ -8,7 +8,6 @@ use Rattle.fm_code.specs.declared.code_array.Code.{Code}
 use Rattle.fm_code.specs.declared.operations.Reg.TheVariants as reg
 use Rattle.fm_code.specs.declared.instructions.Insn.{Insn}
 use Rattle.fm_code.specs.declared.instructions.Insn.TheVariants as insn
-use Rattle.fm_flow.specs.inner.Walks.{unset}
 
 -- ---- lists of numbers
 
@@ -71,31 +70,12 @@ pub record Tracing (code : Code) (k : ℕ) (row seen : List Bool) (waiting : Lis
   pub each_seen : (j : ℕ) → has seen j ≡ true → StoresOver code k j ⊎ ((has row j ≡ true) ⊎ Contains waiting j)
   pub closed : (j source : ℕ) → has row j ≡ true → IsEdge code source j → has seen source ≡ true
 
--- ---- a walk that hands rows on
+-- ---- rows of bits
 
--- the row of an item
+-- the row of an index
 abbrev pub row_of : List (List Bool) → ℕ → List Bool
 row_of rows j = slice_index_or rows j []
 
 -- each row has this many bits
 abbrev pub HaveWidth : ℕ → List (List Bool) → Type 0
 HaveWidth bits rows = (j : ℕ) → j < length rows → length (row_of rows j) ≡ bits
-
--- how many bits of all rows aren't set
-abbrev pub all_unset : List (List Bool) → ℕ
-all_unset rows = sum_by unset rows
-
--- the row is added to those of the items of a list, and items whose row grew wait
-pub record HandsOver (list : List ℕ) (row : List Bool) (old_after after : List (List Bool)) (old_waits waits : List Bool) (old_waiting waiting : List ℕ) : Type 0 where
-  pub same_count : length after ≡ length old_after
-  pub same_waits : length waits ≡ length old_waits
-  pub same_width : (j : ℕ) → length (row_of after j) ≡ length (row_of old_after j)
-  pub grown : (j k : ℕ) → has (row_of old_after j) k ≡ true → has (row_of after j) k ≡ true
-  pub handed : (j k : ℕ) → Contains list j → has row k ≡ true → has (row_of after j) k ≡ true
-  pub only_handed : (j k : ℕ) → has (row_of after j) k ≡ true → (has (row_of old_after j) k ≡ true) ⊎ (Contains list j × (has row k ≡ true))
-  pub unchanged : (j : ℕ) → (has waits j ≡ true) ⊎ (row_of after j ≡ row_of old_after j)
-  pub still_waits : (j : ℕ) → has old_waits j ≡ true → has waits j ≡ true
-  pub waits_waiting : (j : ℕ) → has waits j ≡ true → (has old_waits j ≡ true) ⊎ Contains waiting j
-  pub still_waiting : (j : ℕ) → Contains old_waiting j → Contains waiting j
-  pub waiting_listed : (j : ℕ) → Contains waiting j → Contains old_waiting j ⊎ Contains list j
-  pub work : all_unset after + length waiting ≤ all_unset old_after + length old_waiting

@@ -1,7 +1,7 @@
--- What is known of a method while its plan is made: rows of bits with a bit for each holder.
-use Rattle.std.specs.Prelude.{◌≡◌, ◌≢◌, ◌⊎◌, ◌+◌, ◌<◌, ◌≤◌, ◌||◌, ◌&&◌, ◌==◌, not, ℕ, Bool, true, false, List, [], ◌∷◌, length, map, filter, Option, Some, None, Contains, nat_lt, slice_get}
+-- What is known of a method while its plan is made: rows of bits with a bit for each item.
+use Rattle.std.specs.Prelude.{◌≡◌, ◌⊎◌, ◌↔◌, ◌+◌, ◌<◌, ◌≤◌, ◌||◌, ◌&&◌, ◌==◌, not, ℕ, Bool, true, false, List, [], ◌∷◌, length, map, filter, Option, Some, None, Contains, nat_lt, slice_get}
 use Rattle.std.specs.BTreeMap as tree
-use Rattle.std.specs.List.{filter_map, flat_map, list_any, range_with_len, slice_index, slice_index_or}
+use Rattle.std.specs.List.{filter_map, flat_map, list_any, range_with_len, slice_index}
 use Rattle.std.specs.Option.{option_map}
 use Rattle.std.specs.Ordering.{nat_cmp}
 use Rattle.fm_base.specs.Rows.{has}
@@ -19,6 +19,7 @@ use Rattle.fm_place.specs.PlansBy.{HasNodesOf, paired}
 use Rattle.fm_place.specs.declared.busy_rows.Seen.{Seen}
 use Rattle.fm_place.specs.declared.found_sites.Site.{Site}
 use Rattle.fm_place.specs.declared.groups.Groups.{Groups}
+use Rattle.fm_place.specs.declared.holding_rows.Holding.{Holding}
 use Rattle.fm_place.specs.declared.plans.Plan.{Plan}
 
 -- ---- what is known
@@ -45,15 +46,14 @@ pub record IsSeen (s : Seen) : Type 0 where
 
 -- ---- rows
 
--- the row has a bit for each holder, by the item of its site and its class, set exactly where it passes the test
-pub record IsRowOf (held : List (ℕ × ℕ)) (test : ℕ × ℕ → Bool) (row : List Bool) : Type 0 where
-  pub wide : length row ≡ length held
-  pub each : (h : ℕ) (pair : ℕ × ℕ) → slice_get held h ≡ Some pair → has row h ≡ test pair
+-- how many items the method has
+abbrev pub count_of : Seen → ℕ
+count_of s = length s.method.code.now.items
 
--- `count` rows, each with a test
-pub record AreRowsOf (held : List (ℕ × ℕ)) (count : ℕ) (test : ℕ → ℕ × ℕ → Bool) (rows : List (List Bool)) : Type 0 where
-  pub one_each : length rows ≡ count
-  pub each : (j : ℕ) → j < count → IsRowOf held (test j) (slice_index_or rows j [])
+-- the row has a bit for each of so many items, set exactly where the item passes the test
+pub record IsRowOf (count : ℕ) (test : ℕ → Bool) (row : List Bool) : Type 0 where
+  pub wide : length row ≡ count
+  pub each : (j : ℕ) → j < count → has row j ≡ test j
 
 -- the bit of the row of this item is set too, if there is such a row
 pub record SetsBit (item bit : ℕ) (old new : List (List Bool)) : Type 0 where
@@ -77,40 +77,21 @@ pub record IsGroupsOf (held : List ℕ) (numbers : ℕ → Option ℕ) (of_holde
 abbrev pub classes_of : List (ℕ × ℕ) → List ℕ
 classes_of held = map (λ (pair : ℕ × ℕ). pair.1) held
 
--- each of these is below
-abbrev pub AreBelow : ℕ → List ℕ → Type 0
-AreBelow bound numbers = (k : ℕ) → k < length numbers → slice_index numbers k < bound
-
--- a row for each holder, whose bits are those of the first `upto` holders that have it as their group
-pub record AreMembers (groups : List ℕ) (upto : ℕ) (rows : List (List Bool)) : Type 0 where
-  pub one_each : length rows ≡ length groups
-  pub wide : (g : ℕ) → g < length groups → length (slice_index_or rows g []) ≡ length groups
-  pub members : (g h : ℕ) → g < length groups → has (slice_index_or rows g []) h ≡ (nat_lt h upto && (slice_index groups h == g))
-
 -- the class is this one
 abbrev pub is_class : Option ℕ → ℕ → Bool
 is_class None class = false
 is_class (Some c) class = c == class
 
--- the classes that have a number are those of the holders, and the row with this number has the holders of the class
+-- the classes that have a number are those of the holders
 pub record AreGroups (g : Groups) : Type 0 where
   pub few : length g.held.now ≤ MAX_LOCAL_WORDS
-  pub within : (class group : ℕ) → number_in g.numbers class ≡ Some group → group < length g.members.items
-  pub known : (class group : ℕ) → number_in g.numbers class ≡ Some group
-      → IsRowOf g.held.now (λ pair. is_class (Some class) pair.1) (slice_index_or g.members.items group [])
-  pub each : (h : ℕ) (pair : ℕ × ℕ) → slice_get g.held.now h ≡ Some pair → number_in g.numbers pair.1 ≢ None
+  pub numbered : IsGroupsOf (classes_of g.held.now) (number_in g.numbers) g.of_holders.items
 
--- the row has the holders whose class passes the test
-abbrev pub IsRowIn : Groups → (ℕ → Bool) → List Bool → Type 0
-IsRowIn g test row = IsRowOf g.held.now (λ pair. test pair.1) row
-
--- the same of `count` rows
-abbrev pub AreRowsIn : Groups → ℕ → (ℕ → ℕ → Bool) → List (List Bool) → Type 0
-AreRowsIn g count test rows = AreRowsOf g.held.now count (λ j pair. test j pair.1) rows
-
--- no class
-abbrev pub no_class : ℕ → Bool
-no_class class = false
+-- a row for each holder; that with the number of a class has the items at which the class passes the test
+pub record AreRowsIn (g : Groups) (count : ℕ) (test : ℕ → ℕ → Bool) (rows : List (List Bool)) : Type 0 where
+  pub one_each : length rows ≡ length g.held.now
+  pub wide : (n : ℕ) → n < length rows → length (row_of rows n) ≡ count
+  pub each : (class n : ℕ) → number_in g.numbers class ≡ Some n → (j : ℕ) → j < count → has (row_of rows n) j ≡ test j class
 
 -- whether some word below this depth is in the class
 abbrev pub is_in_words : Seen → (item depth : ℕ) → ℕ → Bool
@@ -125,9 +106,17 @@ is_in_locals s item depth local class =
 abbrev pub is_busy_at : Seen → ℕ → ℕ → Bool
 is_busy_at s item class = is_busy (facts_seen s) (typed_seen s) class item
 
--- whether the class of a holder is busy at an item
-abbrev pub busy_at : Seen → ℕ → ℕ × ℕ → Bool
-busy_at s item pair = is_busy_at s item pair.1
+-- whether a class is busy at an item before this one
+abbrev pub busy_before : Seen → (item : ℕ) → ℕ → ℕ → Bool
+busy_before s item j class = nat_lt j item && is_busy_at s j class
+
+-- the same, or at this item some word below this depth is in the class
+abbrev pub busy_by_words : Seen → (item depth : ℕ) → ℕ → ℕ → Bool
+busy_by_words s item depth j class = busy_before s item j class || (is_in_words s item depth class && (item == j))
+
+-- the same, or at this item some word is in the class, or some live local below this one
+abbrev pub busy_by_locals : Seen → (item depth local : ℕ) → ℕ → ℕ → Bool
+busy_by_locals s item depth local j class = busy_before s item j class || (is_in_locals s item depth local class && (item == j))
 
 -- whether a holder may hold something at an item
 abbrev pub may_hold_at : Seen → ℕ → ℕ × ℕ → Bool
@@ -135,54 +124,53 @@ may_hold_at s item pair = may_hold (facts_seen s) (typed_seen s) pair.0 pair.1 i
 
 -- ---- the walk along the edges
 
--- of each of the first `upto` holders the bit is set at the item after its site
-pub record AreStarted (held : List (ℕ × ℕ)) (upto count : ℕ) (rows : List (List Bool)) : Type 0 where
-  pub one_each : length rows ≡ count
-  pub widths : HaveWidth (length held) rows
-  pub members : (j h : ℕ) (pair : ℕ × ℕ) → j < count → slice_get held h ≡ Some pair → has (row_of rows j) h ≡ (nat_lt h upto && (pair.0 + 1 == j))
+-- the item after the site, if there is one
+abbrev pub IsAfter : (site count : ℕ) → List ℕ → Type 0
+IsAfter site count list = (j : ℕ) → Contains list j ↔ ((j ≡ site + 1) × (j < count))
 
--- the bits that both rows have
-pub record IsBoth (row other new : List Bool) : Type 0 where
-  pub same_length : length new ≡ length row
-  pub members : (k : ℕ) → has new k ≡ (has row k && has other k)
+-- so far: an item of the row waits, or the ends of its edges are in the row if the class is busy there, and else it is one where something is freed
+pub record Following (s : Seen) (pair : ℕ × ℕ) (busy old row freed : List Bool) (waiting : List ℕ) : Type 0 where
+  pub bits : length row ≡ count_of s
+  pub freed_bits : length freed ≡ count_of s
+  pub first : pair.0 + 1 < count_of s → has row (pair.0 + 1) ≡ true
+  pub sound : (j : ℕ) → has row j ≡ true → MayHold (facts_seen s) (typed_seen s) pair.0 pair.1 j
+  pub waiting_marked : (j : ℕ) → Contains waiting j → has row j ≡ true
+  pub closed : (j : ℕ) → has row j ≡ true
+      → Contains waiting j ⊎ ((next : ℕ) → has busy j ≡ true → IsEdge s.method.code.now j next → has row next ≡ true)
+  pub frees : (j : ℕ) → has row j ≡ true → has busy j ≡ false → Contains waiting j ⊎ (has freed j ≡ true)
+  pub kept : (j : ℕ) → has old j ≡ true → has freed j ≡ true
 
--- what a set bit means: there is such a holder, and it may hold something
-pub record IsHolding (s : Seen) (held : List (ℕ × ℕ)) (j h : ℕ) : Type 0 where
-  pub pair : ℕ × ℕ
-  pub is : slice_get held h ≡ Some pair
-  pub may : MayHold (facts_seen s) (typed_seen s) pair.0 pair.1 j
+-- the row has the items where the holder may hold something, and the places of the holder are set beside those that were
+pub record Follows (s : Seen) (pair : ℕ × ℕ) (old freed row : List Bool) : Type 0 where
+  pub row_is : IsRowOf (count_of s) (λ j. may_hold_at s j pair) row
+  pub freed_bits : length freed ≡ count_of s
+  pub frees : (j : ℕ) → has row j ≡ true → is_busy_at s j pair.1 ≡ false → has freed j ≡ true
+  pub kept : (j : ℕ) → has old j ≡ true → has freed j ≡ true
 
--- what holders of busy classes may hold at an item they may hold at the ends of its edges
-abbrev pub IsHandedOn : Seen → (busy rows : List (List Bool)) → ℕ → Type 0
-IsHandedOn s busy rows j =
-    (next h : ℕ) → IsEdge s.method.code.now j next → has (row_of rows j) h ≡ true → has (row_of busy j) h ≡ true → has (row_of rows next) h ≡ true
-
--- so far: what an item has is handed on, or the item waits
-pub record Holding (s : Seen) (held : List (ℕ × ℕ)) (count : ℕ) (busy rows : List (List Bool)) (waits : List Bool) : Type 0 where
-  pub one_each : length rows ≡ count
-  pub one_wait_each : length waits ≡ count
-  pub widths : HaveWidth (length held) rows
-  pub first : (h : ℕ) (pair : ℕ × ℕ) → slice_get held h ≡ Some pair → pair.0 + 1 < count → has (row_of rows (pair.0 + 1)) h ≡ true
-  pub sound : (j h : ℕ) → has (row_of rows j) h ≡ true → IsHolding s held j h
-  pub closed : (j : ℕ) → j < count → (has waits j ≡ true) ⊎ IsHandedOn s busy rows j
-
--- in a round: the items below this one that wait were woken
-abbrev pub AreWoken : (below : ℕ) → (waits : List Bool) → (woken : List ℕ) → Type 0
-AreWoken below waits woken = (x : ℕ) → x < below → has waits x ≡ true → Contains woken x
+-- such a row for each of the first holders
+pub record AreHolding (s : Seen) (held : List (ℕ × ℕ)) (upto : ℕ) (freed : List Bool) (rows : List (List Bool)) : Type 0 where
+  pub one_each : length rows ≡ upto
+  pub freed_bits : length freed ≡ count_of s
+  pub each : (h : ℕ) (pair : ℕ × ℕ) → h < upto → slice_get held h ≡ Some pair → Follows s pair freed freed (row_of rows h)
 
 -- ---- what is freed
 
--- whether a bit isn't set in the row of what is busy, and is in that of what may hold something
-abbrev pub is_freed : (busy holding : List Bool) → ℕ → Bool
-is_freed busy holding holder = not (has busy holder) && has holding holder
+-- whether the item isn't set in the row of the holder's class, and is in that of the holder
+abbrev pub is_freed : (classes : List ℕ) → (busy rows : List (List Bool)) → (item holder : ℕ) → Bool
+is_freed classes busy rows item holder = not (has (row_of busy (slice_index classes holder)) item) && has (row_of rows holder) item
 
--- the holders, of this many, that are freed by these rows, rising
-abbrev pub freed_at : ℕ → (busy holding : List Bool) → List ℕ
-freed_at holders busy holding = filter (is_freed busy holding) (range_with_len 0 holders)
+-- the holders that are freed before an item by these rows, rising
+abbrev pub freed_by_rows : (classes : List ℕ) → (busy rows : List (List Bool)) → ℕ → List ℕ
+freed_by_rows classes busy rows item = filter (is_freed classes busy rows item) (range_with_len 0 (length classes))
 
--- the same by the rows of all items
-abbrev pub freed_by_rows : ℕ → (busy holding : List (List Bool)) → ℕ → List ℕ
-freed_by_rows holders busy holding j = freed_at holders (row_of busy j) (row_of holding j)
+-- the rows have a bit for each item, and where a holder is freed the item is set
+pub record AreFreedRows (classes : List ℕ) (busy : List (List Bool)) (holding : Holding) : Type 0 where
+  pub few : length classes ≤ MAX_LOCAL_WORDS
+  pub one_each : length holding.rows.items ≡ length classes
+  pub numbers : (h : ℕ) → h < length classes → slice_index classes h < length busy
+  pub busy_wide : HaveWidth (length holding.freed) busy
+  pub wide : HaveWidth (length holding.freed) holding.rows.items
+  pub marked : (item h : ℕ) → h < length classes → is_freed classes busy holding.rows.items item h ≡ true → has holding.freed item ≡ true
 
 -- whether an item is a place of a holder, if there is one
 abbrev pub is_place_at : Seen → ℕ → Option (ℕ × ℕ) → Bool

@@ -1,10 +1,8 @@
-use Rattle.std.proofs.Common.{rules, ◌≡◌, ◌∙◌, ℕ, Bool, List, IfOk, length, sym, subst}
+use Rattle.std.proofs.Common.{rules, ◌≡◌, ◌∙◌, ℕ, List, IfOk, length, sym, subst}
 use Rattle.std.specs.List.{flat_map, range_with_len}
-use Rattle.fm_flow.specs.inner.LiveWalks.{HaveWidth}
-use Rattle.fm_place.proofs.PlanLemmas.{all_freed_same, nothing_freed}
-use Rattle.fm_place.proofs.RowLemmas.{rows_wide}
+use Rattle.fm_place.proofs.PlanLemmas.{all_freed_same, freed_rows, nothing_freed}
 use Rattle.fm_place.specs.PlansBy.{paired}
-use Rattle.fm_place.specs.inner.PlanRows.{AreRowsOf, busy_at, freed_by_rows, may_hold_at}
+use Rattle.fm_place.specs.inner.PlanRows.{AreRowsIn, count_of, freed_by_rows, freed_of, is_busy_at}
 use Rattle.fm_place.proofs.plans.before_places.Goals as goal
 
 pub returns-then-is_empty : goal.returns-then-is_empty
@@ -12,37 +10,25 @@ returns-then-is_empty c =
     let none : length c.args.held.now ≡ 0 = search rules in
     c.new.ensures.items ∙ sym (nothing_freed c.args.seen.now c.args.held.now (length c.args.seen.now.method.code.now.items) none)
 
-pub holding_rows-requires-clause-busy : goal.holding_rows-requires-clause-busy
-holding_rows-requires-clause-busy c =
+pub all_freed-requires : goal.all_freed-requires
+all_freed-requires c =
     let s = c.args.seen.now in
-    let count = c.in_ok-count.count in
-    subst (λ (held : List (ℕ × ℕ)). AreRowsOf held count (busy_at s) c.as_slice-busy_rows.result.now) c.in_ok-groups.ensures.1
-    (subst (λ (rows : List (List Bool)). AreRowsOf c.in_ok-groups.groups.held.now count (busy_at s) rows) (sym c.as_slice-busy_rows.ensures.value)
-    c.in_ok-busy.ensures)
-
-pub all_freed-requires-clause-busy : goal.all_freed-requires-clause-busy
-all_freed-requires-clause-busy c =
-    let s = c.args.seen.now in
-    let count = c.in_ok-count.count in
-    let held = c.in_ok-groups.groups.held.now in
-    let wide = rows_wide held count (busy_at s) c.in_ok-busy.busy.items c.in_ok-busy.ensures in
-    subst (λ (rows : List (List Bool)). HaveWidth (length c.args.held.now) rows) (sym c.as_slice-busy_rows.ensures.value)
-    (subst (λ (list : List (ℕ × ℕ)). HaveWidth (length list) c.in_ok-busy.busy.items) c.in_ok-groups.ensures.1 wide)
-
-pub all_freed-requires-clause-holding : goal.all_freed-requires-clause-holding
-all_freed-requires-clause-holding c =
-    let wide = rows_wide c.args.held.now c.in_ok-count.count (may_hold_at c.args.seen.now) c.in_ok-holding.holding.items c.in_ok-holding.ensures in
-    subst (λ (rows : List (List Bool)). HaveWidth (length c.args.held.now) rows) (sym c.as_slice-holding_rows.ensures.value) wide
+    let g = c.in_ok-groups.groups in
+    let busy : AreRowsIn g (count_of s) (is_busy_at s) c.in_ok-busy.busy.items =
+    subst (λ n. AreRowsIn g n (is_busy_at s) c.in_ok-busy.busy.items) c.in_ok-count.ensures c.in_ok-busy.ensures in
+    rw (c.as_slice-2.ensures.value, c.as_slice-3.ensures.value)
+    (freed_rows s g c.in_ok-busy.busy.items c.in_ok-holding.holding c.in_ok-groups.ensures.0 busy c.in_ok-holding.ensures)
 
 pub returns : goal.returns
 returns c =
     let s = c.args.seen.now in
-    let held = c.args.held.now in
-    let count = c.in_ok-count.count in
-    let busy = c.as_slice-busy_rows.ensures.value in
-    let holding = c.as_slice-holding_rows.ensures.value in
+    let g = c.in_ok-groups.groups in
+    let holding = c.in_ok-holding.holding in
+    let classes = c.as_slice-2.ensures.value in
+    let rows = c.as_slice-3.ensures.value in
+    let busy : AreRowsIn g (count_of s) (is_busy_at s) c.in_ok-busy.busy.items =
+    subst (λ n. AreRowsIn g n (is_busy_at s) c.in_ok-busy.busy.items) c.in_ok-count.ensures c.in_ok-busy.ensures in
     let P : List (ℕ × ℕ) → Type 0 = λ list. IfOk c.all_freed.result (λ found. found.items ≡ list) in
-    let busy_are : AreRowsOf held count (busy_at s) c.in_ok-busy.busy.items =
-    subst (λ (list : List (ℕ × ℕ)). AreRowsOf list count (busy_at s) c.in_ok-busy.busy.items) c.in_ok-groups.ensures.1 c.in_ok-busy.ensures in
-    subst P (all_freed_same s held count c.in_ok-busy.busy.items c.in_ok-holding.holding.items c.in_ok-count.ensures busy_are c.in_ok-holding.ensures)
-    (subst P (λ k. flat_map (paired (freed_by_rows (length held) (busy k) (holding k))) (range_with_len 0 count)) c.all_freed.ensures)
+    subst (λ (held : List (ℕ × ℕ)). P (flat_map (paired (freed_of s held)) (range_with_len 0 (count_of s)))) c.in_ok-groups.ensures.1
+    (subst P (all_freed_same s g c.in_ok-busy.busy.items holding c.in_ok-groups.ensures.0 busy c.in_ok-holding.ensures)
+    (subst P (λ k. flat_map (paired (freed_by_rows (classes k) (rows k) holding.rows.items)) (range_with_len 0 (length holding.freed))) c.all_freed.ensures))

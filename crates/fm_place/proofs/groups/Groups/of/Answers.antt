@@ -1,7 +1,7 @@
 use Rattle.std.proofs.Common.{◌≡◌, ◌∙◌, ◌+◌, ◌++◌, ◌∷◌, [], List, ℕ, length, get_or, refl, take, unwrap_or, ap, sym, subst, arith, length-take-le}
 use Rattle.std.proofs.lemmas.List.{length-map, take_all, take_more}
-use Rattle.fm_place.proofs.GroupLemmas.{class_known, classes_push, group_row, group_within, groups_below, groups_more}
-use Rattle.fm_place.specs.inner.PlanRows.{AreBelow, AreMembers, classes_of, number_in, IsGroupsOf}
+use Rattle.fm_place.proofs.GroupLemmas.{classes_push, groups_more}
+use Rattle.fm_place.specs.inner.PlanRows.{classes_of, number_in, IsGroupsOf}
 use Rattle.fm_place.proofs.groups.Groups.of.Goals as goal
 
 pub loop-holder-preserved : goal.loop-holder-preserved
@@ -21,28 +21,9 @@ loop-holder-preserved c =
     (subst (λ (list : List ℕ). IsGroupsOf (old ++ pair.1 ∷ []) after list) (sym c.in_ok-push.ensures.items)
     (groups_more old c.loop-holder.of_holders.items before after pair.1 c.in_ok-group.group c.loop-holder.invariant is c.in_ok-group.ensures.updates))
 
-pub members_of-requires-clause-below : goal.members_of-requires-clause-below
-members_of-requires-clause-below c =
-    subst (λ (list : List ℕ). AreBelow (length list) list) (sym c.as_slice.ensures.value)
-    (groups_below (classes_of (take c.loop-holder.holder c.args.held.now)) c.loop-holder.of_holders.items (number_in c.loop-holder.numbers)
-    c.loop-holder.invariant)
-
 pub returns : goal.returns
 returns c =
-    let held = c.args.held.now in
-    let numbers = number_in c.loop-holder.numbers in
-    let of_holders = c.loop-holder.of_holders.items in
-    let rows = c.in_ok-members.members.items in
-    let groups : IsGroupsOf (classes_of held) numbers of_holders =
-    subst (λ (list : List (ℕ × ℕ)). IsGroupsOf (classes_of list) numbers of_holders) (take_all c.loop-holder.holder held c.loop-holder-test.false)
-    c.loop-holder.invariant in
-    let are : AreMembers of_holders (length of_holders) rows =
-    subst (λ (list : List ℕ). AreMembers list (length list) rows) c.as_slice.ensures.value c.in_ok-members.ensures in (
-      record {
-        few = c.requires;
-        within = group_within held numbers of_holders groups rows are;
-        known = group_row held numbers of_holders groups rows are;
-        each = class_known held numbers of_holders groups rows are;
-      },
-      refl,
-    )
+    let groups : IsGroupsOf (classes_of c.args.held.now) (number_in c.loop-holder.numbers) c.loop-holder.of_holders.items =
+    subst (λ (list : List (ℕ × ℕ)). IsGroupsOf (classes_of list) (number_in c.loop-holder.numbers) c.loop-holder.of_holders.items)
+    (take_all c.loop-holder.holder c.args.held.now c.loop-holder-test.false) c.loop-holder.invariant in
+    (record { few = c.requires; numbered = groups }, refl)
