@@ -19,7 +19,8 @@ use Rattle.fm_world.specs.declared.declarations.DeclaredClass.{DeclaredClass}
 use Rattle.fm_world.specs.declared.declarations.DeclaredMethod.{DeclaredMethod}
 use Rattle.fm_world.specs.inner.Tables.{code_in}
 use Rattle.fm_frames.specs.Elements.{is_text_type, pack_of, pack_of_base}
-use Rattle.fm_frames.specs.Runnable.{IsRunnable}
+use Rattle.fm_frames.specs.Runnable.{IsRunnable, KeepsTable}
+use Rattle.fm_world.specs.inner.Completions.{AreCompleted}
 
 -- ---- code
 
@@ -53,6 +54,11 @@ pub pack-is : (p : Program) (t : TypeRef) → IsRunnable p
 pack-is p t runnable = ap (λ text. if t.dims == 1 then pack_of_base t.base else (if text then 4 else 1)) (is_text-by p t runnable)
 
 -- ---- classes of methods, and types
+
+-- what completes built-in classes
+pub completed-are : (given : List DeclaredClass) → KeepsTable given → AreCompleted (built_in ++ given)
+unfolding KeepsTable
+completed-are given keeps = keeps
 
 pub method-class : (p : Program) (method : ℕ) → (method_info p method).class.0 ≡ class_of_method p.outline method
 unfolding method_info

@@ -20,13 +20,16 @@ IsUseIn o (resolved.OfLong n) = Unit {0}
 IsUseIn o (resolved.OfText text) = text < length o.texts
 IsUseIn o resolved.Unused = Unit {0}
 
+-- what completes a built-in class leaves the superclasses of the table, and the fields of its objects (JVMS 5.3.5); steps of the machine need none of it
+unfoldable pub KeepsTable : List DeclaredClass → Type 0
+KeepsTable given = AreCompleted (built_in ++ given)
+
 -- a program whose numbers the machine can use
 pub record IsRunnable (p : Program) : Type 0 where
   -- the classes that are given, after the built-in ones, which have the same numbers in each program
   pub given : List DeclaredClass
   pub classes : p.outline.classes ≡ built_in ++ given
-  -- what completes a built-in class leaves the superclasses of the table, and the fields of its objects (JVMS 5.3.5)
-  pub completed : AreCompleted (built_in ++ given)
+  pub completed : KeepsTable given
   -- the number of a type fits the header of an object
   pub few_types : length p.outline.types ≤ 2 ^ 28
   -- and so does the size of an object (JVMS 4.11)

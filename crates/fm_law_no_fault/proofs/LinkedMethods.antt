@@ -29,7 +29,7 @@ use Rattle.fm_world.specs.Numbers.{type_of_class}
 use Rattle.fm_world.specs.Programs.{Outline, Program}
 use Rattle.fm_world.specs.declared.declarations.DeclaredClass.{DeclaredClass}
 use Rattle.fm_frames.proofs.BuiltInTypes.{buffer_there, builder_there, named_class, object_there, throwable_there}
-use Rattle.fm_frames.proofs.Programs.{string_number}
+use Rattle.fm_frames.proofs.Programs.{completed-are, string_number}
 use Rattle.fm_frames.specs.CallRows.{native_of}
 use Rattle.fm_frames.specs.NativeRows.{text_type}
 use Rattle.fm_frames.specs.Natives.{AGiven, AnObject, AShown, BuilderReceiver, from_top, Given, has_receiver, native_of_row, native_type, Nothing, OwnObject, Receiver, Returned, TextReceiver, ThrowableReceiver}
@@ -301,7 +301,7 @@ module _ (p : Program) (runnable : IsRunnable p) (tree : AreTree p.outline.class
   thrown_below (class ∷ classes) e =
       let both = and_parts (is_thrown class) (list_all is_thrown classes) e in
       let here = and_parts (nat_lt class 28) (is_among 7 (chain_of built_in class)) both.0 in
-      (below_throwable given runnable.completed class (ltb-true class 28 here.0) here.1, thrown_below classes both.1)
+      (below_throwable given (completed-are given runnable.completed) class (ltb-true class 28 here.0) here.1, thrown_below classes both.1)
 
   all_below : AllByRecursion (λ class. is_among 7 (chain_of (built_in ++ given) class) ≡ true) throwables
   unfolding built_in chain_of

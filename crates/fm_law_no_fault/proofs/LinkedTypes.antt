@@ -25,7 +25,7 @@ use Rattle.fm_world.specs.Programs.{kind_at, Outline, Program}
 use Rattle.fm_world.specs.declared.declarations.DeclaredClass.{DeclaredClass}
 use Rattle.fm_world.specs.inner.Completions.{AreCompleted}
 use Rattle.fm_frames.proofs.BuiltInTypes.{below_named, buffer_there, builder_there, named_class, no_interfaces, throwable_there}
-use Rattle.fm_frames.proofs.Programs.{string-is}
+use Rattle.fm_frames.proofs.Programs.{completed-are, string-is}
 use Rattle.fm_frames.specs.NativeRows.{text_type}
 use Rattle.fm_frames.specs.ObjectRows.{kind_of_field}
 use Rattle.fm_frames.specs.Runnable.{IsRunnable}
@@ -151,7 +151,7 @@ module _ (p : Program) (runnable : IsRunnable p) where
       ap (λ t. fits_type o.classes t (throwable_type o)) (named_class p name class runnable found)
       ∙ ap (λ t. fits_type o.classes (type_of_class class) t) (named_class p (codes "java/lang/Throwable") 7 runnable throwable_there)
       ∙ ap (λ classes. fits_type classes (type_of_class class) (type_of_class 7)) runnable.classes
-      ∙ fits_throwable given class (below_throwable given runnable.completed class early among)
+      ∙ fits_throwable given class (below_throwable given (completed-are given runnable.completed) class early among)
 
   pub all_thrown : AllByRecursion (λ name. fits_type o.classes (built_in_type o name) (throwable_type o) ≡ true) thrown_names
   unfolding built_in chain_of
@@ -193,13 +193,13 @@ module _ (p : Program) (runnable : IsRunnable p) where
   }
 
   pub text_is_plain : HoldsNoCell o (text_type o)
-  text_is_plain = plain_type (text_type o) 1 (string-is o given runnable.classes) (string_kinds given runnable.completed) (none_hidden given runnable.completed).0
+  text_is_plain = plain_type (text_type o) 1 (string-is o given runnable.classes) (string_kinds given (completed-are given runnable.completed)) (none_hidden given (completed-are given runnable.completed)).0
 
   pub output_is_plain : HoldsNoCell o (output_type o)
-  output_is_plain = plain_type (output_type o) 5 (named_class p (codes "java/io/PrintStream") 5 runnable output_there) (output_kinds given runnable.completed) (none_hidden given runnable.completed).1
+  output_is_plain = plain_type (output_type o) 5 (named_class p (codes "java/io/PrintStream") 5 runnable output_there) (output_kinds given (completed-are given runnable.completed)) (none_hidden given (completed-are given runnable.completed)).1
 
   pub input_is_plain : HoldsNoCell o (input_type o)
-  input_is_plain = plain_type (input_type o) 6 (named_class p (codes "java/io/InputStream") 6 runnable input_there) (input_kinds given runnable.completed) (none_hidden given runnable.completed).2
+  input_is_plain = plain_type (input_type o) 6 (named_class p (codes "java/io/InputStream") 6 runnable input_there) (input_kinds given (completed-are given runnable.completed)) (none_hidden given (completed-are given runnable.completed)).2
 
   -- ---- hidden fields
 

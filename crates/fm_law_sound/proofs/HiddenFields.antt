@@ -20,7 +20,7 @@ use Rattle.fm_world.specs.Programs.{kind_at, Outline, Program}
 use Rattle.fm_world.specs.declared.declarations.DeclaredClass.{DeclaredClass}
 use Rattle.fm_world.specs.inner.Completions.{AreCompleted}
 use Rattle.fm_frames.proofs.BuiltInTypes.{below_named, buffer_there, builder_there, no_interfaces, throwable_there}
-use Rattle.fm_frames.proofs.Programs.{built_in-inside, string-is, string_number}
+use Rattle.fm_frames.proofs.Programs.{completed-are, built_in-inside, string-is, string_number}
 use Rattle.fm_frames.specs.NativeRows.{text_kind}
 use Rattle.fm_frames.specs.ObjectRows.{kind_of_field}
 use Rattle.fm_frames.specs.Runnable.{IsRunnable}
@@ -90,7 +90,7 @@ module _ (p : Program) (runnable : IsRunnable p) (tree : AreTree p.outline.class
   first_is name above early other found no_interface kinds t fits =
       let below = below_named p name above runnable other found no_interface t fits in
       let one : kinds_of o.classes above ≡ kind.Ref (type_of_class 1) ∷ [] =
-      ap (λ all. kinds_of all above) runnable.classes ∙ kinds runnable.given runnable.completed ∙ ap (λ k. k ∷ []) (hidden_kind runnable.given) in
+      ap (λ all. kinds_of all above) runnable.classes ∙ kinds runnable.given (completed-are runnable.given runnable.completed) ∙ ap (λ k. k ∷ []) (hidden_kind runnable.given) in
       ap (λ u. kind_at o.classes u 0) below.1
       ∙ first_kept o.classes tree above below.0 (kind.Ref (type_of_class 1)) (built_in-inside p above runnable early) below.2 one
       ∙ ap Some text_is

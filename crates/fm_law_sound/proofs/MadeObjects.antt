@@ -26,7 +26,7 @@ use Rattle.fm_world.specs.Programs.{class_of_type, kind_at, Outline, Program}
 use Rattle.fm_world.specs.declared.declarations.DeclaredClass.{DeclaredClass}
 use Rattle.fm_world.specs.inner.Completions.{AreCompleted}
 use Rattle.fm_frames.proofs.BuiltInTypes.{named_class}
-use Rattle.fm_frames.proofs.Programs.{built_in-inside, string-is}
+use Rattle.fm_frames.proofs.Programs.{completed-are, built_in-inside, string-is}
 use Rattle.fm_frames.specs.Effects.{Make}
 use Rattle.fm_frames.specs.Elements.{is_text_type, pack_of}
 use Rattle.fm_frames.specs.NativeRows.{text_type}
@@ -256,7 +256,7 @@ module _ (p : Program) (ready : IsMakeable p) where
   pub text_places : (place : ℕ) → kind_at o.classes (text_type o) place ≡ None
   text_places place =
       ap (λ t. kind_at o.classes t place) text_is
-      ∙ ap (λ kinds. slice_get kinds place) (ap (λ classes. kinds_of classes 1) ready.runnable.classes ∙ string_kinds ready.runnable.given ready.runnable.completed)
+      ∙ ap (λ kinds. slice_get kinds place) (ap (λ classes. kinds_of classes 1) ready.runnable.classes ∙ string_kinds ready.runnable.given (completed-are ready.runnable.given ready.runnable.completed))
 
   text_content : (units : List ℕ) → AreUnits units → ContentFits o (type_of_class 1) (length units) units
   text_content [] fit = tt

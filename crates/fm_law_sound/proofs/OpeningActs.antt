@@ -14,6 +14,7 @@ use Rattle.fm_world.specs.Members.{kinds_of, size_of}
 use Rattle.fm_world.specs.Programs.{Outline, Program}
 use Rattle.fm_world.specs.declared.declarations.DeclaredClass.{DeclaredClass}
 use Rattle.fm_world.specs.inner.Completions.{AreCompleted}
+use Rattle.fm_frames.proofs.Programs.{completed-are}
 use Rattle.fm_frames.proofs.BuiltInTypes.{named_class}
 use Rattle.fm_frames.specs.NativeRows.{text_kind, text_type}
 use Rattle.fm_frames.specs.Runs.{argument_actions, arguments_type, Job, opening_actions}
@@ -42,7 +43,7 @@ module _ (p : Program) (ready : IsMakeable p) (store : Store) (f : Frame) where
 
   no_length : (class : ℕ) → ((given : List DeclaredClass) → AreCompleted (built_in ++ given) → size_of (built_in ++ given) class ≡ 0) → (is_text : Bool) → HasLengthBy o is_text (Some class) 0
   no_length class size true = omega arith
-  no_length class size false = sym (ap (λ all. size_of all class) ready.runnable.classes ∙ size ready.runnable.given ready.runnable.completed)
+  no_length class size false = sym (ap (λ all. size_of all class) ready.runnable.classes ∙ size ready.runnable.given (completed-are ready.runnable.given ready.runnable.completed))
 
   -- an object without elements of a built-in class
   fixed_fits : (name : List ℕ) (class : ℕ) → class < 28 → ((given : List DeclaredClass) → class_number (built_in ++ given) name ≡ Some class)

@@ -18,7 +18,7 @@ use Rattle.fm_world.specs.Programs.{kind_at, Program}
 use Rattle.fm_world.specs.declared.declarations.DeclaredClass.{DeclaredClass}
 use Rattle.fm_world.specs.inner.Completions.{AreCompleted}
 use Rattle.fm_frames.proofs.BuiltInTypes.{named_class}
-use Rattle.fm_frames.proofs.Programs.{built_in-inside, string-is}
+use Rattle.fm_frames.proofs.Programs.{completed-are, built_in-inside, string-is}
 use Rattle.fm_same.specs.Evenness.{HasNoEdge, HoldsNumbers}
 use Rattle.fm_same.specs.Resolved.{IsResolved}
 use Rattle.fm_law_sound.proofs.MadeObjects.{input_kinds, output_kinds, string_kinds}
@@ -57,4 +57,4 @@ holds_numbers p ready = record {
   constants = ready.constants;
 } where
   kinds : (class : ℕ) → ((given : List DeclaredClass) → AreCompleted (built_in ++ given) → kinds_of (built_in ++ given) class ≡ []) → kinds_of p.outline.classes class ≡ []
-  kinds class each = ap (λ cs. kinds_of cs class) ready.runnable.classes ∙ each ready.runnable.given ready.runnable.completed
+  kinds class each = ap (λ cs. kinds_of cs class) ready.runnable.classes ∙ each ready.runnable.given (completed-are ready.runnable.given ready.runnable.completed)

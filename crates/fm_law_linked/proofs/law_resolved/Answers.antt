@@ -1,4 +1,5 @@
 use Rattle.std.proofs.Common.{ℕ, ◌^◌, ◌<◌, ◌≤◌, length}
+use Rattle.fm_frames.specs.Runnable.{KeepsTable}
 use Rattle.fm_law_linked.proofs.ObjectSizes.{few_types, small_objects}
 use Rattle.fm_law_linked.proofs.law_resolved.Goals as goal
 use Rattle.fm_law_linked.specs.Laws.{IsLinkedWell}
@@ -8,6 +9,7 @@ use Rattle.fm_world.specs.Programs.{Program, program_of}
 
 -- what linking makes sure of and the two bounds are all that is asked
 resolved : (p : Program) → IsLinkedWell p → length p.outline.types ≤ 2 ^ 28 → ((class : ℕ) → size_of p.outline.classes class < 2 ^ 31) → IsResolved p
+unfolding KeepsTable
 resolved p well few small = record {
   runnable = record {
     given = well.given;
