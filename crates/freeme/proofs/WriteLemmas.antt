@@ -1,7 +1,8 @@
 -- Classes that are written one after the other.
-use Rattle.std.proofs.Common.{◌≡◌, ◌≤◌, ℕ, ◌+◌, List, [], ◌∷◌, ◌++◌, codes, length, map, take, Contains, Err, Some, IfSome, string_bytes, refl, sym, ap, ◌∙◌, subst, arith, length-append}
+use Rattle.std.proofs.Common.{◌≡◌, ◌<◌, ◌≤◌, ℕ, ◌+◌, List, [], ◌∷◌, ◌++◌, codes, length, map, take, Contains, Err, Some, IfSome, string_bytes, refl, sym, ap, ◌∙◌, subst, arith, length-append}
 use Rattle.std.specs.List.{AllByRecursion, slice_get}
 use Rattle.std.proofs.lemmas.List.{map_push, take_all}
+use Rattle.std.proofs.lemmas.Option.{slice_get_within}
 use Rattle.std.proofs.lemmas.List.Elements.{Contains-append_left, Contains-append_right}
 use Rattle.fm_base.proofs.ListFacts.{same_parts, same_tail}
 use Rattle.fm_files.specs.Files.{Bytes, Contents, Disk, OthersAreKept, Holds}
@@ -91,9 +92,10 @@ module _ (folder : Bytes) (classes : List ClassDef) (i : ℕ) (class : ClassDef)
     }
 
 -- memory couldn't be had for the next one
-pub write_stops : (folder : Bytes) (classes : List ClassDef) (i : ℕ) (old between new : Disk) → AllWritten folder (take i classes) old between → IsUntouched between new → SomeWritten folder classes old new
-write_stops folder classes i old between new before now = record {
+pub write_stops : (folder : Bytes) (classes : List ClassDef) (i : ℕ) (old between new : Disk) → i < length classes → AllWritten folder (take i classes) old between → IsUntouched between new → SomeWritten folder classes old new
+write_stops folder classes i old between new left before now = record {
   count = i;
+  some_left = left;
   written = record {
     hold = let P : Contents → Type 0 = λ contents. AllByRecursion (λ c. Holds contents (written_name folder c) (class_bytes c)) (take i classes) in subst P (sym now.kept) before.written.hold;
     others = let P : Contents → Type 0 = λ contents. ChangesOnlyAt (IsFileOf folder (take i classes)) old.contents contents in subst P (sym now.kept) before.written.others;
@@ -115,5 +117,5 @@ all_written folder classes i old new all written = let P : List ClassDef → Typ
 pub write_ends : {old between : Disk} (new : Disk) (folder : Bytes) (classes : List ClassDef) (i : ℕ) (class : ClassDef) → slice_get classes i ≡ Some class → AreApart classes → (r : JobRefusal) →
     AllWritten folder (take i classes) old between → ComesOfClass folder class between new (Err r) → ComesOfClasses folder classes old new (Err r)
 write_ends {old} {between} new folder classes i class there apart (job_refusal.Write name) before now = write_fails folder classes i class there apart (string_bytes name) old between new now.0 before now.1
-write_ends {old} {between} new folder classes i class there apart (job_refusal.Shared refusal.OutOfMemory) before now = write_stops folder classes i old between new before now
+write_ends {old} {between} new folder classes i class there apart (job_refusal.Shared refusal.OutOfMemory) before now = write_stops folder classes i old between new (slice_get_within classes i class there) before now
 write_ends {old} {between} new folder classes i class there apart r before now = absurd now

@@ -93,7 +93,7 @@ pub record IsUnwritten (job : FreemeJob) (name : Bytes) (old new : Disk) : Type 
   pub freed : AreFreed job old.contents made
   pub fails : FailsToWrite job.folder made.classes.items name old new
 
--- some of them are written
+-- some of them are written, but not the last one
 pub record IsBroken (job : FreemeJob) (old new : Disk) : Type 0 where
   pub made : Rewritten
   pub freed : AreFreed job old.contents made

@@ -1,5 +1,5 @@
 -- The names and the lines of classes, and what is written of them.
-use Rattle.std.specs.Prelude.{◌≡◌, ℕ, ◌+◌, List, [], ◌∷◌, ◌++◌, codes, map, take, unwrap_or, Contains, Some, IsSome, slice_get}
+use Rattle.std.specs.Prelude.{◌≡◌, ℕ, ◌+◌, ◌<◌, List, [], ◌∷◌, ◌++◌, length, codes, map, take, unwrap_or, Contains, Some, IsSome, slice_get}
 use Rattle.std.specs.Fmt.{decimal}
 use Rattle.std.specs.List.{AllByRecursion}
 use Rattle.fm_files.specs.Files.{Bytes, Contents, Disk, Holds}
@@ -61,9 +61,10 @@ pub record AllWritten (folder : Bytes) (classes : List ClassDef) (old new : Disk
   pub written : AreWritten folder classes classes old.contents new.contents
   pub faultless : HasNoFileFault old new
 
--- the first of them are written, and nothing failed
+-- the first of them are written, the last one isn't, and nothing failed
 pub record SomeWritten (folder : Bytes) (classes : List ClassDef) (old new : Disk) : Type 0 where
   pub count : ℕ
+  pub some_left : count < length classes
   pub written : AreWritten folder (take count classes) (take count classes) old.contents new.contents
   pub faultless : HasNoFileFault old new
 
