@@ -1,8 +1,9 @@
 -- What becomes of the class files that words name.
-use Rattle.std.specs.Prelude.{◌≡◌, ℕ, ◌<◌, List, [], length, Option, Some, IsSomeAnd, slice_get}
+use Rattle.std.specs.Prelude.{◌≡◌, ℕ, ◌<◌, ◌≤◌, List, [], ◌∷◌, ◌++◌, length, Option, Some, None, IfSome, IsSomeAnd, slice_get}
 use Rattle.fm_base.specs.declared.limits.TheConstants.{MAX_CLASS_FILES}
 use Rattle.fm_files.specs.Files.{Bytes, Contents, Disk}
 use Rattle.fm_code.specs.declared.class_file.ClassDef.{ClassDef}
+use Rattle.fm_gen.specs.Made.{made}
 use Rattle.fm_check_program.specs.Untyped.{AreTyped, IsFirstUntyped}
 use Rattle.fm_cli.specs.Outside.{HasNoFileFault, HasReadFault, HoldsSuch}
 use Rattle.fm_world.specs.Causes.{declared_name, method_text, Refusal}
@@ -11,9 +12,10 @@ use Rattle.fm_world.specs.Programs.{Program, program_of}
 use Rattle.fm_load.specs.declared.class_refusal.ClassRefusal.{ClassRefusal}
 use Rattle.fm_load.specs.Taking.{total_bytes, AllTaken, Reaches, IsTooLong, IsRefused, IsSeenTooLong}
 
--- the class files, in order, and the main class as class files spell it
+-- the class files, in order, the number of the class that is made, if one is, and the main class as class files spell it
 pub record Given : Type 0 where
   pub files : List Bytes
+  pub made : Option ℕ
   pub main : List ℕ
 
 -- nothing failed, and no contents changed
@@ -53,19 +55,35 @@ pub record IsRefusedFile (files : List Bytes) (file : Bytes) (refusal : ClassRef
 
 -- ---- their classes
 
+-- the class that is made, if one is
+abbrev pub made_classes : Option ℕ → List ClassDef
+made_classes None = []
+made_classes (Some n) = made n ∷ []
+
+-- a class is made only where no file is named, and its number is from 1 to 100
+abbrev pub IsMadeAlone : Given → Type 0
+IsMadeAlone given = IfSome given.made (λ n. (1 ≤ n) × (n ≤ 100) × (given.files ≡ []))
+
+-- these classes are given: those of the files, each of which is taken, or the one that is made
+pub record AreGiven (given : Given) (contents : Contents) (classes : List ClassDef) : Type 0 where
+  pub read : List ClassDef
+  pub taken : AllTaken contents given.files read
+  pub alone : IsMadeAlone given
+  pub classes_are : classes ≡ read ++ made_classes given.made
+
 -- the program that classes make with the main class
 abbrev pub given_program : Given → List ClassDef → Program
 given_program given classes = program_of classes given.main
 
--- all files are taken, and their classes make a program
+-- these classes are given, and make a program
 pub record AreLinked (given : Given) (contents : Contents) (classes : List ClassDef) : Type 0 where
-  pub taken : AllTaken contents given.files classes
+  pub source : AreGiven given contents classes
   pub linked : refusals classes given.main ≡ []
 
--- all files are taken, and their classes make no program, of which this is the first cause
+-- the classes that are given make no program, of which this is the first cause
 pub record AreNotLinked (given : Given) (contents : Contents) (cause : Refusal) : Type 0 where
   pub classes : List ClassDef
-  pub taken : AllTaken contents given.files classes
+  pub source : AreGiven given contents classes
   pub first : slice_get (refusals classes given.main) 0 ≡ Some cause
 
 -- this is the first cause for which they make no program

@@ -9,12 +9,13 @@ use Rattle.fm_code.specs.declared.class_file.ClassDef.{ClassDef}
 use Rattle.fm_files.specs.Files.{Bytes, Contents, Disk}
 use Rattle.fm_files.specs.Sink.{Output}
 use Rattle.fm_load.proofs.ChangesLemmas.{rises_of_kept, rises_then, faultless_then, read_fault_then}
-use Rattle.fm_load.proofs.ReadLemmas.{reads_next, reads_none, same_number}
-use Rattle.fm_load.proofs.TakenLemmas.{are_spelled}
-use Rattle.fm_load.specs.Given.{IsUntouched, IsNotLinked, AreChecked}
+use Rattle.fm_load.proofs.GivenLemmas.{given_accepted, given_few, given_spelled}
+use Rattle.fm_load.proofs.ReadLemmas.{reads_next, reads_none}
+use Rattle.fm_load.specs.Given.{AreGiven, IsMadeAlone, IsUntouched, IsNotLinked, AreChecked}
 use Rattle.fm_load.specs.Judging.{ComesOfProgram}
-use Rattle.fm_load.specs.Reading.{AreRead, ComesOfFiles, ReadsAll}
-use Rattle.fm_load.specs.Taking.{AllTaken, AreTaken, ClassIsSpelled}
+use Rattle.fm_load.specs.Reading.{ComesOfFiles, ReadsAll}
+use Rattle.fm_load.specs.inner.Giving.{AreMadeOf}
+use Rattle.fm_load.specs.Taking.{AllTaken, ClassIsSpelled}
 use Rattle.fm_load.specs.declared.refusal.JobRefusal.{JobRefusal}
 use Rattle.fm_load.specs.declared.refusal.JobRefusal.TheVariants as job_refusal
 use Rattle.fm_run_job.specs.Reading.{ComesOfInput, IsInputOf, IsInputRead, ReadsInput}
@@ -22,7 +23,7 @@ use Rattle.fm_link_refusals.specs.Refused.{refusal_of}
 use Rattle.fm_cli_requests.specs.FmrunRequest.{FmrunJob, job_of}
 use Rattle.fm_cli_requests.specs.declared.fmrun_request.FmrunRequest.{FmrunRequest}
 use Rattle.fm_cli.specs.Encoding.{modified}
-use Rattle.fm_cli.specs.Outside.{HoldsSuch}
+use Rattle.fm_cli.specs.Outside.{HasNoFileFault, HoldsSuch}
 use Rattle.fm_cli.specs.declared.command_refusal.CommandRefusal.TheVariants as refusal
 use Rattle.fm_world.specs.Causes.{Refusal}
 use Rattle.fm_world.specs.Linking.{refusals}
@@ -57,39 +58,26 @@ input_keeps : (input : Option Bytes) (old new : Disk) → ReadsInput input old n
 input_keeps None old new now = ap (λ (d : Disk). d.contents) now
 input_keeps (Some file) old new (now, keeps) = keeps.contents
 
--- classes that are taken are of the profile
-are_accepted : (contents : Contents) (files : List Bytes) (classes : List ClassDef) → AreTaken contents files classes → AllByRecursion Profile classes
-are_accepted contents [] [] taken = tt
-are_accepted contents (f ∷ files) (c ∷ classes) taken = (taken.0.profile, are_accepted contents files classes taken.1)
-are_accepted contents [] (c ∷ classes) taken = absurd taken
-are_accepted contents (f ∷ files) [] taken = absurd taken
-
--- and spelled,
-pub taken_spelled : {contents : Contents} {files : List Bytes} {classes : List ClassDef} → AllTaken contents files classes → AllByRecursion ClassIsSpelled classes
-taken_spelled {contents} {files} {classes} all = are_spelled contents files classes all.taken
-
-pub taken_accepted : {contents : Contents} {files : List Bytes} {classes : List ClassDef} → AllTaken contents files classes → AllByRecursion Profile classes
-taken_accepted {contents} {files} {classes} all = are_accepted contents files classes all.taken
-
--- and not too many
-pub taken_few : {contents : Contents} {files : List Bytes} {classes : List ClassDef} → AllTaken contents files classes → length classes ≤ MAX_CLASS_FILES
-taken_few {contents} {files} {classes} all = let few = all.few in omega (arith, same_number contents files classes all.taken)
-
--- ---- a job whose class files are read
+-- ---- a job whose classes are given
 
 pub record HasClasses (job : FmrunJob) (classes : List ClassDef) (old between : Disk) : Type 0 where
-  pub read : AreRead job.files classes old between
+  pub source : AreGiven (given_of job) old.contents classes
+  pub faultless : HasNoFileFault old between
   pub all : ReadsAll job.files old between
 
 -- by the names and the classes as slices
-pub classes_of : {names : List (Bor Bytes)} {classes items : List ClassDef} {old between : Disk} (request : FmrunRequest) → names ≡ request.files.items → classes ≡ items
-    → ReadsAll (map (λ n. n.now) names) old between → AreRead (map (λ n. n.now) names) items old between → HasClasses (job_of request) classes old between
-classes_of {names} {classes} {items} {old} {between} request same lent all read =
+pub classes_of : {names : List (Bor Bytes)} {classes items : List ClassDef} {old between : Disk} (request : FmrunRequest) → IsMadeAlone (given_of (job_of request))
+    → names ≡ request.files.items → classes ≡ items → ReadsAll (map (λ n. n.now) names) old between → AreMadeOf (map (λ n. n.now) names) request.made items old between
+    → HasClasses (job_of request) classes old between
+classes_of {names} {classes} {items} {old} {between} request alone same lent all made =
     let files : map (λ n. n.now) names ≡ (job_of request).files = ap (map (λ n. n.now)) same in
-    let P : List Bytes → Type 0 = λ fs. AreRead fs classes old between in
-    let Q : List ClassDef → Type 0 = λ cs. AreRead (map (λ n. n.now) names) cs old between in
+    let P : List Bytes → Type 0 = λ fs. AllTaken old.contents fs made.read in
     let R : List Bytes → Type 0 = λ fs. ReadsAll fs old between in
-    record { read = subst P files (subst Q (sym lent) read); all = subst R files all }
+    record {
+      source = record { read = made.read; taken = subst P files made.are_read.taken; alone = alone; classes_are = lent ∙ made.classes_are };
+      faultless = made.are_read.faultless;
+      all = subst R files all;
+    }
 
 -- a refusal of the class files by the names
 pub unread_of : {names : List (Bor Bytes)} (old between : Disk) (request : FmrunRequest) → names ≡ request.files.items → (r : JobRefusal) → ComesOfFiles {Y = Global} (map (λ n. n.now) names) old between (Err r)
@@ -136,13 +124,13 @@ ends_unread job old between out few r now = absurd now
 module _ {job : FmrunJob} {classes : List ClassDef} {old between : Disk} (has : HasClasses job classes old between) where
   -- the classes are spelled and of the profile, and not too many
   pub spelled : AllByRecursion ClassIsSpelled classes
-  spelled = taken_spelled has.read.taken
+  spelled = given_spelled has.source
 
   pub accepted : AllByRecursion Profile classes
-  accepted = taken_accepted has.read.taken
+  accepted = given_accepted has.source
 
   pub few_classes : length classes ≤ MAX_CLASS_FILES
-  few_classes = taken_few has.read.taken
+  few_classes = given_few has.source
 
   same_contents : between.contents ≡ old.contents
   same_contents = has.all.writes.contents
@@ -162,11 +150,11 @@ module _ {job : FmrunJob} {classes : List ClassDef} {old between : Disk} (has : 
         few,
         inr (record {
           named = now.named_is;
-          classes = classes;
-          taken = has.read.taken;
+          classes = has.source.read;
+          taken = has.source.taken;
           long = let P : Contents → Type 0 = λ c. HoldsSuch c file.now (λ bytes. MAX_FILE_BYTES < length bytes) in subst P same_contents now.long;
           seen = now.seen;
-          untouched = record { faultless = faultless_then old between new has.read.faultless now.faultless; kept = kept };
+          untouched = record { faultless = faultless_then old between new has.faultless now.faultless; kept = kept };
         }),
       ),
       refl,
@@ -176,21 +164,21 @@ module _ {job : FmrunJob} {classes : List ClassDef} {old between : Disk} (has : 
         few,
         inr (record {
           named = now.0;
-          classes = classes;
-          taken = has.read.taken;
-          fault = read_fault_then file.now old between new has.read.faultless now.1;
+          classes = has.source.read;
+          taken = has.source.taken;
+          fault = read_fault_then file.now old between new has.faultless now.1;
           kept = kept;
         }),
       ),
       refl,
     )
     ends_without_input out (job_refusal.Shared refusal.OutOfMemory) now =
-        inl (record { faultless = faultless_then old between new has.read.faultless now; kept = kept }, refl)
+        inl (record { faultless = faultless_then old between new has.faultless now; kept = kept }, refl)
     ends_without_input out r now = absurd now
 
     module _ {input : Bytes} (read : IsInputRead job.input input between new) where
       untouched : IsUntouched old new
-      untouched = record { faultless = faultless_then old between new has.read.faultless read.faultless; kept = kept }
+      untouched = record { faultless = faultless_then old between new has.faultless read.faultless; kept = kept }
 
       input_is : IsInputOf job.input old.contents input
       input_is = let P : Contents → Type 0 = λ c. IsInputOf job.input c input in subst P same_contents read.input_is
@@ -199,12 +187,12 @@ module _ {job : FmrunJob} {classes : List ClassDef} {old between : Disk} (has : 
       has_input = record { input = input; input_is = input_is }
 
       checked : AreProgram classes (modified job.main) → AreChecked (given_of job) old.contents classes
-      checked are = record { linked = record { taken = has.read.taken; linked = are.linked }; typed = are.typed }
+      checked are = record { linked = record { source = has.source; linked = are.linked }; typed = are.typed }
 
       -- the classes make no program of typed methods
       not_linked : (cause : Option Refusal) → IsSomeAnd cause (λ r. slice_get (refusals classes (modified job.main)) 0 ≡ Some r) → IsNotLinked (given_of job) cause old new
       not_linked None first = absurd first
-      not_linked (Some r) first = record { refused = record { classes = classes; taken = has.read.taken; first = first }; untouched = untouched }
+      not_linked (Some r) first = record { refused = record { classes = classes; source = has.source; first = first }; untouched = untouched }
 
       refused : (out : Output) (r : JobRefusal) → ComesOfProgram classes (modified job.main) (Err r) → ComesTo job old new out out (Err (fail.Refused r))
       refused out (job_refusal.Link link) now = ((few, (has_input, not_linked (refusal_of link) now)), refl)
@@ -215,7 +203,7 @@ module _ {job : FmrunJob} {classes : List ClassDef} {old between : Disk} (has : 
             has_input,
             record {
               classes = classes;
-              linked = record { taken = has.read.taken; linked = now.0 };
+              linked = record { source = has.source; linked = now.0 };
               untyped = now.1;
               untouched = untouched;
             },

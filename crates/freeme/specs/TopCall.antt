@@ -72,9 +72,9 @@ abbrev pub HoldsStill : (file name : Bytes) → (old new : Contents) → Type 0
 HoldsStill file name old new = IfSome old (λ before. IfSome new (λ after. after name ≡ before file))
 
 -- of files with the classes that are written of them, and with what is reported of these: each
--- class of which no site is held is written byte for byte as read
+-- class of which no site is held is written byte for byte as read; a class that was made was not read
 abbrev pub AreStill : (folder : Bytes) → List Bytes → List ClassDef → List Count → (old new : Contents) → Type 0
-AreStill folder [] [] [] old new = Unit {0}
+AreStill folder [] classes counts old new = Unit {0}
 AreStill folder (file ∷ files) (c ∷ classes) (count ∷ counts) old new =
     (count.sites ≡ 0 → HoldsStill file (written_name folder c) old new) × AreStill folder files classes counts old new
 AreStill folder files classes counts old new = ⊥
