@@ -1,5 +1,5 @@
 -- The classes that are given: those of files, or the one that is made.
-use Rattle.std.proofs.Common.{◌≡◌, ◌≤◌, ℕ, ◌+◌, List, [], ◌∷◌, ◌++◌, length, length-append, Option, Some, None, IfSome, ap, sym, subst, arith}
+use Rattle.std.proofs.Common.{◌≡◌, ◌≤◌, ℕ, ◌+◌, List, [], ◌∷◌, ◌++◌, length, length-append, Option, Some, None, IfSome, ap, sym, ◌∙◌, subst, arith}
 use Rattle.std.specs.List.{AllByRecursion}
 use Rattle.fm_base.proofs.ListFacts.{AllByRecursion-append}
 use Rattle.fm_base.specs.declared.limits.TheConstants.{MAX_CLASS_FILES, MAX_FILE_BYTES}
@@ -10,9 +10,10 @@ use Rattle.fm_code.specs.declared.class_file.ClassDef.{ClassDef}
 use Rattle.fm_gen.proofs.SpelledLemmas.{made_accepted, made_short, made_spelled}
 use Rattle.fm_gen.specs.Made.{made}
 use Rattle.fm_load.proofs.KnownLemmas.{all_taken}
-use Rattle.fm_load.proofs.ReadLemmas.{same_number}
+use Rattle.fm_load.proofs.ReadLemmas.{returned_of_first, same_number}
 use Rattle.fm_load.proofs.VerdictLemmas.{Ends, EndsOnce, Passes}
 use Rattle.fm_load.specs.Given.{AreGiven, Given, made_classes}
+use Rattle.fm_load.specs.Returned.{returned}
 use Rattle.fm_load.specs.Taking.{AreTaken, ClassIsSpelled, IsTaken}
 
 -- ---- what holds of each
@@ -57,6 +58,13 @@ given_few {given} {contents} {classes} are =
         → length read ≡ length files → length (read ++ made_classes number) ≤ MAX_CLASS_FILES
     by files read None alone few same = omega (arith, length-append read [])
     by files read (Some n) alone few same = let none = ap length alone.2 in omega (arith, length-append read (made n ∷ []))
+
+-- what the reads of the files returned is what the classes begin with
+pub given_returned : (contents : Contents) (files : List Bytes) (read classes : List ClassDef) (number : Option ℕ) → AreTaken contents files read → classes ≡ read ++ made_classes number
+    → returned files read ≡ returned files classes
+given_returned contents files read classes number taken are =
+    let same = same_number contents files read taken in
+    sym (returned_of_first files read (made_classes number) (omega arith)) ∙ ap (returned files) (sym are)
 
 -- ---- verdicts
 

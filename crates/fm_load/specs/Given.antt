@@ -10,6 +10,7 @@ use Rattle.fm_world.specs.Causes.{declared_name, method_text, Refusal}
 use Rattle.fm_world.specs.Linking.{refusals}
 use Rattle.fm_world.specs.Programs.{Program, program_of}
 use Rattle.fm_load.specs.declared.class_refusal.ClassRefusal.{ClassRefusal}
+use Rattle.fm_load.specs.Returned.{ReadsFirst, ReadsUpTo}
 use Rattle.fm_load.specs.Taking.{total_bytes, AllTaken, Reaches, IsTooLong, IsRefused, IsSeenTooLong}
 
 -- the class files, in order, the number of the class that is made, if one is, and the main class as class files spell it
@@ -18,10 +19,11 @@ pub record Given : Type 0 where
   pub made : Option ℕ
   pub main : List ℕ
 
--- nothing failed, and no contents changed
+-- nothing failed, no contents changed, and nothing was written
 pub record IsUntouched (old new : Disk) : Type 0 where
   pub faultless : HasNoFileFault old new
   pub kept : new.contents ≡ old.contents
+  pub unwritten : new.writes ≡ old.writes
 
 -- ---- the files
 
@@ -31,26 +33,32 @@ pub record AreMany (files : List Bytes) (count : ℕ) (old new : Disk) : Type 0 
   pub many : MAX_CLASS_FILES < count
   pub kept : new ≡ old
 
--- those before this file are taken, and the read of this one failed, and nothing else, and no contents changed
+-- those before this file are taken, as their reads returned them, and the read of this one failed, which was the last, and nothing else,
+-- no contents changed, and nothing was written
 pub record IsUnread (files : List Bytes) (file : Bytes) (old new : Disk) : Type 0 where
   pub before : List ClassDef
   pub reaches : Reaches old.contents files file before
   pub fault : HasReadFault file old new
   pub kept : new.contents ≡ old.contents
+  pub unwritten : new.writes ≡ old.writes
+  pub last : ReadsUpTo files before (record { name = file; bytes = None }) old new
 
--- those before this file are taken, and this one is too long, or those up to it together, which was seen
+-- those before this file are taken, and this one is too long, or those up to it together, which was seen; its read, the last one, returned
+-- no bytes, or such bytes
 pub record IsLong (files : List Bytes) (file : Bytes) (old new : Disk) : Type 0 where
   pub before : List ClassDef
   pub reaches : Reaches old.contents files file before
   pub long : HoldsSuch old.contents file (IsTooLong (total_bytes before))
   pub seen : IsSeenTooLong new.widest_read files (length before) file
+  pub last : (bytes : Option Bytes) × IfSome bytes (IsTooLong (total_bytes before)) × ReadsUpTo files before (record { name = file; bytes = bytes }) old new
   pub untouched : IsUntouched old new
 
--- those before this file are taken, and this one is refused by its bytes
+-- those before this file are taken, and this one is refused by its bytes, which its read, the last one, returned
 pub record IsRefusedFile (files : List Bytes) (file : Bytes) (refusal : ClassRefusal) (old new : Disk) : Type 0 where
   pub before : List ClassDef
   pub reaches : Reaches old.contents files file before
   pub refused : HoldsSuch old.contents file (IsRefused refusal (total_bytes before))
+  pub last : (bytes : Bytes) × IsRefused refusal (total_bytes before) bytes × ReadsUpTo files before (record { name = file; bytes = Some bytes }) old new
   pub untouched : IsUntouched old new
 
 -- ---- their classes
@@ -80,15 +88,16 @@ pub record AreLinked (given : Given) (contents : Contents) (classes : List Class
   pub source : AreGiven given contents classes
   pub linked : refusals classes given.main ≡ []
 
--- the classes that are given make no program, of which this is the first cause
-pub record AreNotLinked (given : Given) (contents : Contents) (cause : Refusal) : Type 0 where
+-- the classes that are given, as the reads of their files returned them, make no program, of which this is the first cause
+pub record AreNotLinked (given : Given) (old new : Disk) (cause : Refusal) : Type 0 where
   pub classes : List ClassDef
-  pub source : AreGiven given contents classes
+  pub source : AreGiven given old.contents classes
+  pub reads : ReadsFirst given.files classes old new
   pub first : slice_get (refusals classes given.main) 0 ≡ Some cause
 
 -- this is the first cause for which they make no program
 pub record IsNotLinked (given : Given) (cause : Option Refusal) (old new : Disk) : Type 0 where
-  pub refused : IsSomeAnd cause (AreNotLinked given old.contents)
+  pub refused : IsSomeAnd cause (AreNotLinked given old new)
   pub untouched : IsUntouched old new
 
 -- the name, with class and descriptor, of the first method of the program, class by class, that has code and isn't typed
@@ -97,10 +106,11 @@ pub record IsFirstUntypedName (p : Program) (name : List ℕ) : Type 0 where
   pub first : IsFirstUntyped p method
   pub name_is : name ≡ method_text (declared_name p.outline.classes method)
 
--- they make a program, and this is the name of its first method that isn't typed
+-- they make a program, as the reads of their files returned them, and this is the name of its first method that isn't typed
 pub record IsNotTyped (given : Given) (name : Bytes) (old new : Disk) : Type 0 where
   pub classes : List ClassDef
   pub linked : AreLinked given old.contents classes
+  pub reads : ReadsFirst given.files classes old new
   pub untyped : IsFirstUntypedName (given_program given classes) name
   pub untouched : IsUntouched old new
 

@@ -158,7 +158,7 @@ many_status job old new before after many o comes = go many o comes where
   go m (Err (fail.Refused (job_refusal.TooLong file))) c = (0, omega arith, refl)
   go m (Err (fail.Refused (job_refusal.Class file r))) c = both m c.0.0 c.0.1.reaches.few
   go m (Err (fail.Refused (job_refusal.Link link))) c =
-      let found = Some-from_some_and (refusal_of link) (AreNotLinked (given_of job) old.contents) c.0.1.1.refused in both m c.0.0 found.2.source.taken.few
+      let found = Some-from_some_and (refusal_of link) (AreNotLinked (given_of job) old new) c.0.1.1.refused in both m c.0.0 found.2.source.taken.few
   go m (Err (fail.Refused (job_refusal.Check name))) c = both m c.0.0 c.0.1.1.linked.source.taken.few
   go m (Err (fail.Refused (job_refusal.Write name))) c = absurd c.0.1
 

@@ -145,7 +145,7 @@ module _ (job : FmrunJob) (old : Disk) (held : Bytes → Option Bytes) (known : 
         let bad = comes.0.1 in
         inl (inr (inl (bytes_stop job.files old.contents held known (class_refusal_status r) file.now bad.before r refl bad.reaches (known_such old.contents held file.now (IsRefused r (total_bytes bad.before)) known bad.refused))))
     verdict_of (Err (fail.Refused (job_refusal.Link link))) comes =
-        let found = Some-from_some_and (refusal_of link) (AreNotLinked (given_of job) old.contents) comes.0.1.1.refused in
+        let found = Some-from_some_and (refusal_of link) (AreNotLinked (given_of job) old new) comes.0.1.1.refused in
         let bad = found.2 in
         inl (passes_input bad.classes LINK bad.source comes.0.1.0 (inl (not_empty (refusals bad.classes (modified job.main)) found.0 bad.first, refl)))
     verdict_of (Err (fail.Refused (job_refusal.Check name))) comes =

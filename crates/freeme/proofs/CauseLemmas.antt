@@ -183,25 +183,32 @@ fails_so words old new o (inl j) = job_fails j.job old new o j.comes
 fails_so words old new o (inr (inl nothing)) = inl (no_fault_where_same old new nothing.kept)
 fails_so words old new o (inr (inr lacking)) = inl (no_fault_where_same old new lacking.kept)
 
--- contents are kept but where classes are written
-job_keeps : (job : FreemeJob) (old new : Disk) (o : Outcome) → ComesTo job old new o → outcome_status o ≢ DONE → outcome_status o ≢ WRITE → outcome_status o ≢ OUT_OF_MEMORY → new.contents ≡ old.contents
+-- contents are kept, and nothing is written,
+abbrev IsUnchanged : Disk → Disk → Type 0
+IsUnchanged old new = (new.contents ≡ old.contents) × (new.writes ≡ old.writes)
+
+unchanged_where_same : (old new : Disk) → new ≡ old → IsUnchanged old new
+unchanged_where_same old new same = (ap (λ (d : Disk). d.contents) same, ap (λ (d : Disk). d.writes) same)
+
+-- but where classes are written
+job_keeps : (job : FreemeJob) (old new : Disk) (o : Outcome) → ComesTo job old new o → outcome_status o ≢ DONE → outcome_status o ≢ WRITE → outcome_status o ≢ OUT_OF_MEMORY → IsUnchanged old new
 job_keeps job old new (Ok lines) comes done write memory = absurd (done refl)
 job_keeps job old new (Err (free_refusal.Job (job_refusal.Shared refusal.Words))) comes done write memory = absurd comes
 job_keeps job old new (Err (free_refusal.Job (job_refusal.TooManyArguments count))) comes done write memory = absurd comes
-job_keeps job old new (Err (free_refusal.Job (job_refusal.Shared (refusal.Read file)))) comes done write memory = comes.kept
-job_keeps job old new (Err (free_refusal.Rewrite cause name)) comes done write memory = comes.untouched.kept
+job_keeps job old new (Err (free_refusal.Job (job_refusal.Shared (refusal.Read file)))) comes done write memory = (comes.kept, comes.unwritten)
+job_keeps job old new (Err (free_refusal.Rewrite cause name)) comes done write memory = (comes.untouched.kept, comes.untouched.unwritten)
 job_keeps job old new (Err (free_refusal.Job (job_refusal.Shared refusal.OutOfMemory))) comes done write memory = absurd (memory refl)
-job_keeps job old new (Err (free_refusal.Job (job_refusal.TooManyFiles count))) comes done write memory = ap (λ d. d.contents) comes.kept
-job_keeps job old new (Err (free_refusal.Job (job_refusal.TooLong file))) comes done write memory = comes.untouched.kept
-job_keeps job old new (Err (free_refusal.Job (job_refusal.Class file r))) comes done write memory = comes.untouched.kept
-job_keeps job old new (Err (free_refusal.Job (job_refusal.Link fail))) comes done write memory = comes.untouched.kept
-job_keeps job old new (Err (free_refusal.Job (job_refusal.Check name))) comes done write memory = comes.untouched.kept
+job_keeps job old new (Err (free_refusal.Job (job_refusal.TooManyFiles count))) comes done write memory = unchanged_where_same old new comes.kept
+job_keeps job old new (Err (free_refusal.Job (job_refusal.TooLong file))) comes done write memory = (comes.untouched.kept, comes.untouched.unwritten)
+job_keeps job old new (Err (free_refusal.Job (job_refusal.Class file r))) comes done write memory = (comes.untouched.kept, comes.untouched.unwritten)
+job_keeps job old new (Err (free_refusal.Job (job_refusal.Link fail))) comes done write memory = (comes.untouched.kept, comes.untouched.unwritten)
+job_keeps job old new (Err (free_refusal.Job (job_refusal.Check name))) comes done write memory = (comes.untouched.kept, comes.untouched.unwritten)
 job_keeps job old new (Err (free_refusal.Job (job_refusal.Write name))) comes done write memory = absurd (write refl)
 
-keeps : (words : List Bytes) (old new : Disk) (o : Outcome) → ComesOf words old new o → outcome_status o ≢ DONE → outcome_status o ≢ WRITE → outcome_status o ≢ OUT_OF_MEMORY → new.contents ≡ old.contents
+keeps : (words : List Bytes) (old new : Disk) (o : Outcome) → ComesOf words old new o → outcome_status o ≢ DONE → outcome_status o ≢ WRITE → outcome_status o ≢ OUT_OF_MEMORY → IsUnchanged old new
 keeps words old new o (inl j) done write memory = job_keeps j.job old new o j.comes done write memory
-keeps words old new o (inr (inl nothing)) done write memory = ap (λ d. d.contents) nothing.kept
-keeps words old new o (inr (inr lacking)) done write memory = ap (λ d. d.contents) lacking.kept
+keeps words old new o (inr (inl nothing)) done write memory = unchanged_where_same old new nothing.kept
+keeps words old new o (inr (inr lacking)) done write memory = unchanged_where_same old new lacking.kept
 
 -- ---- verdicts, where contents are known
 
@@ -302,7 +309,7 @@ module _ (job : FreemeJob) (old new : Disk) (held : Bytes → Option Bytes) (kno
   verdict_of (Err (free_refusal.Job (job_refusal.TooLong file))) comes = inl (inr (inl (long_stops job.files old.contents held known file.now comes.before comes.reaches (known_such old.contents held file.now (IsTooLong (total_bytes comes.before)) known comes.long))))
   verdict_of (Err (free_refusal.Job (job_refusal.Class file r))) comes = inl (inr (inl (bytes_stop job.files old.contents held known (class_refusal_status r) file.now comes.before r refl comes.reaches (known_such old.contents held file.now (IsRefused r (total_bytes comes.before)) known comes.refused))))
   verdict_of (Err (free_refusal.Job (job_refusal.Link fail))) comes =
-      let found = Some-from_some_and (refusal_of fail) (AreNotLinked (given_of job) old.contents) comes.refused in
+      let found = Some-from_some_and (refusal_of fail) (AreNotLinked (given_of job) old new) comes.refused in
       let refused = found.2 in
       inl (given_known refused.source LINK (inl (not_empty (refusals refused.classes (main_name job)) found.0 refused.first, refl)))
   verdict_of (Err (free_refusal.Job (job_refusal.Check name))) comes =
@@ -338,7 +345,7 @@ many_status job old new many (Err (free_refusal.Job (job_refusal.TooManyFiles co
 many_status job old new many (Err (free_refusal.Job (job_refusal.TooLong file))) comes = (0, omega arith, refl)
 many_status job old new many (Err (free_refusal.Job (job_refusal.Class file r))) comes = absurd (let few = comes.reaches.few in omega arith)
 many_status job old new many (Err (free_refusal.Job (job_refusal.Link fail))) comes =
-    absurd (let found = Some-from_some_and (refusal_of fail) (AreNotLinked (given_of job) old.contents) comes.refused in let few = found.2.source.taken.few in omega arith)
+    absurd (let found = Some-from_some_and (refusal_of fail) (AreNotLinked (given_of job) old new) comes.refused in let few = found.2.source.taken.few in omega arith)
 many_status job old new many (Err (free_refusal.Job (job_refusal.Check name))) comes = absurd (let few = comes.linked.source.taken.few in omega arith)
 many_status job old new many (Err (free_refusal.Job (job_refusal.Write name))) comes = (1, omega arith, refl)
 
@@ -506,7 +513,7 @@ module _ {words : List Bytes} {old new : Disk} {before after : Output} {result :
     own_line : ComesOf words old new o → outcome_status o ≡ OUT_OF_MEMORY → IsUntouched old new ⊎ AskFor words (λ job. IsBroken job old new)
     own_line (inl j) same = stopped words old new before after o j same
     own_line (inr (inl nothing)) same = absurd (let other = sym same ∙ ap outcome_status nothing.refused in omega arith)
-    own_line (inr (inr lacking)) same = inl (record { faultless = no_fault_where_same old new lacking.kept; kept = ap (λ (d : Disk). d.contents) lacking.kept })
+    own_line (inr (inr lacking)) same = inl (record { faultless = no_fault_where_same old new lacking.kept; kept = ap (λ (d : Disk). d.contents) lacking.kept; unwritten = ap (λ (d : Disk). d.writes) lacking.kept })
 
     go : Tells (outcome_line o) (outcome_status o) before after result → SaysMemory words old new before after ⊎ (LacksLine words old new before after ⊎ AskOnlyForText words)
     go (inl own) =

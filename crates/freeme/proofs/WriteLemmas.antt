@@ -1,11 +1,11 @@
 -- Classes that are written one after the other.
-use Rattle.std.proofs.Common.{◌≡◌, ◌<◌, ◌≤◌, ℕ, ◌+◌, List, [], ◌∷◌, ◌++◌, codes, length, map, take, Contains, Err, Some, IfSome, string_bytes, refl, sym, ap, ◌∙◌, subst, arith, length-append}
+use Rattle.std.proofs.Common.{◌≡◌, ◌<◌, ◌≤◌, ℕ, ◌+◌, List, [], ◌∷◌, ◌++◌, codes, length, map, take, Contains, Err, Some, IfSome, string_bytes, refl, sym, ap, ◌∙◌, subst, arith, length-append, append-nil, None}
 use Rattle.std.specs.List.{AllByRecursion, slice_get}
 use Rattle.std.proofs.lemmas.List.{map_push, take_all}
 use Rattle.std.proofs.lemmas.Option.{slice_get_within}
 use Rattle.std.proofs.lemmas.List.Elements.{Contains-append_left, Contains-append_right}
 use Rattle.fm_base.proofs.ListFacts.{same_parts, same_tail}
-use Rattle.fm_files.specs.Files.{Bytes, Contents, Disk, OthersAreKept, Holds}
+use Rattle.fm_files.specs.Files.{Bytes, Call, Contents, Disk, OthersAreKept, Holds}
 use Rattle.fm_code.specs.ClassBytes.{class_bytes}
 use Rattle.fm_code.specs.declared.class_file.ClassDef.{ClassDef}
 use Rattle.fm_cli.specs.Outside.{HasWriteFault}
@@ -14,10 +14,11 @@ use Rattle.fm_load.specs.declared.refusal.JobRefusal.{JobRefusal}
 use Rattle.fm_load.specs.declared.refusal.JobRefusal.TheVariants as job_refusal
 use Rattle.fm_load.specs.Changes.{ChangesOnlyAt}
 use Rattle.fm_load.specs.Given.{IsUntouched}
-use Rattle.freeme.specs.Writing.{class_text, file_name, written_name, IsFileOf, AllWritten, SomeWritten, FailsToWrite}
+use Rattle.freeme.specs.Writing.{class_text, file_name, written_name, IsFileOf, AllWritten, SomeWritten, FailsToWrite, class_write, class_writes}
 use Rattle.freeme.specs.inner.Writing.{AreApart, IsWritten, IsWriteFailed, ComesOfClass, ComesOfClasses}
 use Rattle.fm_load.proofs.ChangesLemmas.{changes_of_kept, changes_then, holds_still, faultless_then, write_fault_then}
 use Rattle.fm_load.proofs.ListLemmas.{take_next, AllByRecursion-next}
+use Rattle.fm_load.proofs.ReadLemmas.{call_behind}
 
 -- ---- names
 
@@ -47,6 +48,10 @@ module _ (folder : Bytes) (classes : List ClassDef) (i : ℕ) (class : ClassDef)
   names_next : map (written_name folder) (take (i + 1) classes) ≡ map (written_name folder) (take i classes) ++ written_name folder class ∷ []
   names_next = ap (map (written_name folder)) (take_next classes i class there) ∙ map_push (written_name folder) (take i classes) class
 
+  -- their writes, and one more
+  writes_next : class_writes folder (take (i + 1) classes) ≡ class_writes folder (take i classes) ++ class_write folder class ∷ []
+  writes_next = ap (class_writes folder) (take_next classes i class there) ∙ map_push (class_write folder) (take i classes) class
+
   among_next : (name : Bytes) → IsFileOf folder (take i classes) name → IsFileOf folder (take (i + 1) classes) name
   among_next name among =
       let Has : List Bytes → Type 0 = λ names. Contains names name in
@@ -75,6 +80,9 @@ module _ (folder : Bytes) (classes : List ClassDef) (i : ℕ) (class : ClassDef)
         others = changes_next old.contents between.contents new.contents before.written.others now.others;
       };
       faultless = faultless_then old between new before.faultless now.faultless;
+      writes =
+          call_behind old.writes between.writes new.writes (class_writes folder (take i classes)) (class_write folder class) before.writes now.writes
+          ∙ ap (λ (calls : List Call). old.writes ++ calls) (sym writes_next);
     }
 
     -- its write failed
@@ -89,6 +97,9 @@ module _ (folder : Bytes) (classes : List ClassDef) (i : ℕ) (class : ClassDef)
         others = changes_next old.contents between.contents new.contents before.written.others now.others;
       };
       fault = let Fault : Bytes → Type 0 = λ n. HasWriteFault n old new in subst Fault (sym same) (write_fault_then (written_name folder class) old between new before.faultless now.fault);
+      writes =
+          let Fails : Bytes → Type 0 = λ n. new.writes ≡ old.writes ++ (class_writes folder (take i classes) ++ record { name = n; bytes = None } ∷ []) in
+          subst Fails (sym same) (call_behind old.writes between.writes new.writes (class_writes folder (take i classes)) (record { name = written_name folder class; bytes = None }) before.writes now.writes);
     }
 
 -- memory couldn't be had for the next one
@@ -101,6 +112,7 @@ write_stops folder classes i old between new left before now = record {
     others = let P : Contents → Type 0 = λ contents. ChangesOnlyAt (IsFileOf folder (take i classes)) old.contents contents in subst P (sym now.kept) before.written.others;
   };
   faultless = faultless_then old between new before.faultless now.faultless;
+  writes = now.unwritten ∙ before.writes;
 }
 
 -- none is written yet, and all are
@@ -108,6 +120,7 @@ pub none_written : (folder : Bytes) (classes : List ClassDef) (disk : Disk) → 
 none_written folder classes disk = record {
   written = record { hold = tt; others = changes_of_kept (IsFileOf folder (take 0 classes)) disk.contents disk.contents refl };
   faultless = record { reads = λ name. refl; writes = λ name. refl };
+  writes = sym (append-nil disk.writes);
 }
 
 pub all_written : (folder : Bytes) (classes : List ClassDef) (i : ℕ) (old new : Disk) → length classes ≤ i → AllWritten folder (take i classes) old new → AllWritten folder classes old new
