@@ -7,21 +7,22 @@ use Rattle.clap.specs.Kinds.{FailsBy, IsAmong}
 use Rattle.clap.specs.declared.error.Error.{Error}
 use Rattle.clap.specs.declared.error.kind.ErrorKind.{ErrorKind}
 use Rattle.clap.specs.declared.error.kind.ErrorKind.TheVariants.{OutOfMemory}
-use Rattle.clap.specs.Words.{App, HasMatchesOf, all_of, fault_of, first_of, first_value, found_of, is_simple, is_simple_and_free, rows_of}
+use Rattle.clap.specs.Words.{App, HasMatchesOf, fault_of, first_of, first_value, found_of, is_simple, is_simple_and_free, rows_of}
 use Rattle.clap.specs.declared.parser.matches.ArgMatches.{ArgMatches}
 use Rattle.clap.specs.declared.parser.matches.Found.{Found}
-use Rattle.fm_base.proofs.OptionFacts.{same_value}
 use Rattle.fm_base.specs.declared.limits.TheConstants.{MAX_STEPS, DEFAULT_STEPS, MAX_LIVE_WORDS, DEFAULT_LIVE_WORDS, MAX_FRAMES, DEFAULT_FRAMES}
 use Rattle.clap.proofs.OnLiterals.{clap_on_literals}
+use Rattle.fm_cli_requests.proofs.ClassFilesLemmas.{named_once}
 use Rattle.fm_cli_requests.proofs.CommandLemmas.{faults_by, found_fault, is_fault, matched_by}
 use Rattle.fm_cli_requests.proofs.ProgramTextLemmas.{one_of_two}
 use Rattle.fm_cli_requests.proofs.MatchLemmas.{first_found, first_is}
 use Rattle.fm_cli_requests.specs.ProgramText.{AskForText, text_words}
 use Rattle.fm_cli_requests.specs.declared.program_text.ProgramText.{ProgramText}
 use Rattle.fm_cli_requests.specs.declared.program_text.ProgramText.TheVariants as text
-use Rattle.fm_cli_requests.specs.FmrunRequest.{AskNoJob, Asks, HasNoValues, HasValuesOf, IsBudget, IsNumber, FmrunJob, faults_in, fmrun_command, fmrun_rules, job_of, matched_in}
-use Rattle.fm_cli_requests.specs.Values.{IsValue, command_with}
-use Rattle.fm_cli_requests.specs.inner.FmrunRequest.{IsNoBudget, IsNoNumber}
+use Rattle.fm_cli_requests.specs.FmrunRequest.{AskNoJob, Asks, HasNoValues, HasValuesOf, IsBudget, FmrunJob, faults_in, fmrun_command, fmrun_rules, job_of, matched_in}
+use Rattle.fm_cli_requests.specs.Values.{IsNumber, IsValue, command_with}
+use Rattle.fm_cli_requests.specs.inner.FmrunRequest.{IsNoBudget}
+use Rattle.fm_cli_requests.specs.inner.Values.{IsNoNumber}
 use Rattle.fm_cli_requests.specs.declared.fmrun_request.FmrunRequest.{FmrunRequest}
 
 -- the command by its arguments
@@ -106,9 +107,8 @@ asks_one words a b p q =
     let frames = one_budget (first_of (codes "frames") found) _ _ _ a.frames b.frames p.values.frames q.values.frames in
     let input = sym p.values.input ∙ q.values.input in
     let arguments = sym p.values.arguments ∙ q.values.arguments in
-    let main = same_value (first_of (codes "class") found) a.main b.main p.values.main q.values.main in
-    let files = same_value (all_of (codes "file") found) a.files b.files p.values.files q.values.files in
-    λ i. record { steps = steps i; words = budget i; frames = frames i; input = input i; arguments = arguments i; main = main i; files = files i }
+    let classes = named_once (codes "class") found a.main b.main a.files b.files a.made b.made p.values.classes q.values.classes in
+    λ i. record { steps = steps i; words = budget i; frames = frames i; input = input i; arguments = arguments i; main = classes.main_is i; files = classes.files_are i; made = classes.made_is i }
 
 -- a value that may be lacking and passes no test isn't that of a job
 pub untested_if_any : (answer : Option (Bor (List ℕ))) (value : Option (List ℕ)) → option_map (λ s. s.now) answer ≡ value → (IfSome answer (λ text. IsValue text.now) → IsTrue false) → ¬ IfSome value IsValue
@@ -122,7 +122,7 @@ value_if_any (Some text) passes = passes
 
 -- the number that is named, and the default where none is
 pub budget_named : (f : Found) (id : List ℕ) (answer : Option (Bor (List ℕ))) (digits : Bor (List ℕ)) (least most default : ℕ) (result : Option ℕ) → option_map (λ s. s.now) answer ≡ first_value f id
-    → answer ≡ Some digits → MatchOption result (IsNoNumber digits.now least most) (IsNumber digits.now least most)
+    → answer ≡ Some digits → MatchOption result (IsNoNumber 10 digits.now least most) (IsNumber 10 digits.now least most)
     → MatchOption result (IsNoBudget (first_of id (rows_of f)) least most default) (IsBudget (first_of id (rows_of f)) least most default)
 budget_named f id answer digits least most default result got is number =
     let P : Option (List ℕ) → Type 0 = λ text. MatchOption result (IsNoBudget text least most default) (IsBudget text least most default) in

@@ -1,15 +1,16 @@
 -- What words ask freeme for, by what clap matches in them.
-use Rattle.std.proofs.Common.{◌≡◌, ◌∙◌, ◌<◌, ⊎_elim, ℕ, true, Contains, Option, Some, None, List, [], ◌∷◌, length, ap, refl, subst, codes}
+use Rattle.std.proofs.Common.{◌≡◌, ⊎_elim, ℕ, true, Contains, Option, Some, None, List, [], ◌∷◌, refl, subst, codes}
 use Rattle.std.specs.Prelude.{◌⊎◌, MatchOption, Result}
 use Rattle.clap.specs.Kinds.{FailsBy, IsAmong}
 use Rattle.clap.specs.declared.error.Error.{Error}
 use Rattle.clap.specs.declared.error.kind.ErrorKind.{ErrorKind}
 use Rattle.clap.specs.declared.error.kind.ErrorKind.TheVariants.{OutOfMemory}
-use Rattle.clap.specs.Words.{App, HasMatchesOf, all_of, fault_of, first_of, found_of, is_simple, is_simple_and_free, rows_of}
+use Rattle.clap.specs.Words.{App, HasMatchesOf, fault_of, first_of, found_of, is_simple, is_simple_and_free, rows_of}
 use Rattle.clap.specs.declared.parser.matches.ArgMatches.{ArgMatches}
 use Rattle.fm_cli_requests.specs.Values.{command_with}
 use Rattle.clap.proofs.OnLiterals.{clap_on_literals}
 use Rattle.fm_base.proofs.OptionFacts.{same_value}
+use Rattle.fm_cli_requests.proofs.ClassFilesLemmas.{named_once}
 use Rattle.fm_cli_requests.proofs.CommandLemmas.{faults_by, found_fault, is_fault, matched_by}
 use Rattle.fm_cli_requests.proofs.ProgramTextLemmas.{one_of_two}
 use Rattle.fm_cli_requests.specs.ProgramText.{AskForText, text_words}
@@ -86,19 +87,9 @@ text_no_job [] asked asks = absurd asks
 text_no_job (word ∷ []) asked asks = λ job has. text_faulty asked word asks has.faultless
 text_no_job (word ∷ next ∷ words) asked asks = absurd asks
 
-same_job : (a b : FreemeJob) → a.folder ≡ b.folder → a.main ≡ b.main → a.files ≡ b.files → a ≡ b
-same_job a b folder main files =
-    ap (λ f. record a { folder = f }) folder ∙ (ap (λ m. record a { folder = b.folder; main = m }) main
-    ∙ ap (λ l. record b { files = l }) files)
-
--- words ask for one job at most, and for a file at least
+-- words ask for one job at most
 pub asks_one : (words : List (List ℕ)) (a b : FreemeJob) → Asks words a → Asks words b → a ≡ b
 asks_one words a b p q =
-    let found = matched_in words in
-    same_job a b
-    (same_value (first_of (codes "out") found) a.folder b.folder p.values.folder q.values.folder)
-    (same_value (first_of (codes "main") found) a.main b.main p.values.main q.values.main)
-    (same_value (all_of (codes "file") found) a.files b.files p.values.files q.values.files)
-
-pub asks_some_file : (words : List (List ℕ)) (job : FreemeJob) → Asks words job → 0 < length job.files
-asks_some_file words job asks = asks.values.some_file
+    let folder = same_value (first_of (codes "out") (matched_in words)) a.folder b.folder p.values.folder q.values.folder in
+    let classes = named_once (codes "main") (matched_in words) a.main b.main a.files b.files a.made b.made p.values.classes q.values.classes in
+    λ i. record { folder = folder i; main = classes.main_is i; files = classes.files_are i; made = classes.made_is i }

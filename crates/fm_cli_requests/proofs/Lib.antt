@@ -1,5 +1,6 @@
 pub mod ArgumentLemmas
 pub mod MatchLemmas
+pub mod ClassFilesLemmas
 pub mod CommandLemmas
 pub mod ProgramTextLemmas
 pub mod FreemeRequestLemmas

@@ -1,5 +1,6 @@
 -- What the matches of a command hold, by their rows.
-use Rattle.std.proofs.Common.{◌≡◌, ◌∙◌, ◌<◌, ℕ, true, false, IsTrue, Option, Some, None, List, [], ◌∷◌, length, map, option_map, sym, ap, subst, arith, eqb}
+use Rattle.std.proofs.Common.{◌≡◌, ◌↔◌, ◌∙◌, ◌<◌, ℕ, Bool, true, false, IsTrue, Option, Some, None, List, [], ◌∷◌, is_some, length, map, option_map, refl, sym, ap, subst, arith, eqb}
+use Rattle.std.specs.Prelude.{not}
 use Rattle.std.proofs.lemmas.Bool.{eqb-true, false≢true}
 use Rattle.std.specs.List.{AllByRecursion}
 use Rattle.std.specs.Borrow.{Bor}
@@ -63,3 +64,18 @@ some_text (x ∷ xs) empty = omega arith
 -- the first value of an id, if any, is what a getter returns
 pub first_is : (f : Found) (id : List ℕ) (answer : Option (Bor (List ℕ))) → option_map (λ s. s.now) answer ≡ first_value f id → first_of id (rows_of f) ≡ option_map (λ s. s.now) answer
 first_is f id answer got = sym (first_value-rows f id) ∙ sym got
+
+-- whether there is none, as a getter finds it
+pub lacks_first : (f : Found) (id : List ℕ) (answer : Option (Bor (List ℕ))) (r : Bool) → option_map (λ s. s.now) answer ≡ first_value f id → is_some answer ≡ not r
+    → IsTrue r ↔ (first_of id (rows_of f) ≡ None)
+lacks_first f id None true got is = (λ t. first_is f id None got, λ none. refl)
+lacks_first f id None false got is = absurd (false≢true is)
+lacks_first f id (Some text) true got is = absurd (false≢true (sym is))
+lacks_first f id (Some text) false got is = (λ t. absurd (false≢true t), λ none. absurd (let some = first_is f id (Some text) got in cc))
+
+pub lacks_all : (f : Found) (id : List ℕ) (answer : Option (Bor (List (Bor (List ℕ))))) (r : Bool) → option_map (λ s. texts_of s.now) answer ≡ option_map raw_values (matched_of f id)
+    → is_some answer ≡ not r → IsTrue r ↔ (all_of id (rows_of f) ≡ None)
+lacks_all f id None true got is = (λ t. sym (raw_values-rows f id) ∙ sym got, λ none. refl)
+lacks_all f id None false got is = absurd (false≢true is)
+lacks_all f id (Some texts) true got is = absurd (false≢true (sym is))
+lacks_all f id (Some texts) false got is = (λ t. absurd (false≢true t), λ none. absurd (let some = sym (raw_values-rows f id) ∙ sym got in cc))

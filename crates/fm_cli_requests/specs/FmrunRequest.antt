@@ -1,16 +1,15 @@
 -- What the words of the command line ask fmrun for.
-use Rattle.std.specs.Prelude.{◌≡◌, ℕ, ◌<◌, ◌≤◌, List, [], ◌∷◌, Option, Some, true, length, map, option_map, codes, IfSome, MatchOption}
-use Rattle.std.specs.List.{AllByRecursion}
-use Rattle.std.specs.Str.Parse.{AllDigits, digits_value}
-use Rattle.clap.specs.Words.{App, Kinds, Row, Rule, all_of, fault_of, first_of, matches_of, new_rule}
+use Rattle.std.specs.Prelude.{◌≡◌, ℕ, List, [], ◌∷◌, Option, map, option_map, codes, IfSome, MatchOption}
+use Rattle.clap.specs.Words.{App, Kinds, Row, Rule, fault_of, first_of, matches_of, new_rule}
 use Rattle.fm_base.specs.declared.limits.TheConstants.{MAX_STEPS, DEFAULT_STEPS, MAX_LIVE_WORDS, DEFAULT_LIVE_WORDS, MAX_FRAMES, DEFAULT_FRAMES}
+use Rattle.fm_cli_requests.specs.ClassFiles.{NameClasses}
 use Rattle.fm_cli_requests.specs.ProgramText.{AskForNoText, AskForText}
-use Rattle.fm_cli_requests.specs.Values.{IsValue, command_with, option_rule, files_rule}
+use Rattle.fm_cli_requests.specs.Values.{IsNumber, IsValue, command_with, option_rule, files_rule}
 use Rattle.fm_cli_requests.specs.declared.program_text.ProgramText.{ProgramText}
 use Rattle.fm_cli_requests.specs.declared.fmrun_request.FmrunRequest.{FmrunRequest}
 
 -- the budgets of steps, of live words and of frames, the file of the input and the text of the arguments where they are named, the main class,
--- and the class files in order
+-- the class files in order, and the number of the class that is made, if one is
 pub record FmrunJob : Type 0 where
   pub steps : ℕ
   pub words : ℕ
@@ -19,17 +18,19 @@ pub record FmrunJob : Type 0 where
   pub arguments : Option (List ℕ)
   pub main : List ℕ
   pub files : List (List ℕ)
+  pub made : Option ℕ
 
 -- the main class: the first of the words without an option before it
 abbrev pub class_rule : Rule
-class_rule = record (new_rule (codes "class")) { required = true }
+class_rule = new_rule (codes "class")
 
--- what may be among the words: the five options, the main class and the files
+-- what may be among the words: the six options, the main class and the files
 abbrev pub fmrun_rules : List Rule
 fmrun_rules = option_rule (codes "steps") ∷ option_rule (codes "words") ∷ option_rule (codes "frames") ∷ option_rule (codes "input")
-    ∷ option_rule (codes "args") ∷ class_rule ∷ files_rule ∷ []
+    ∷ option_rule (codes "args") ∷ option_rule (codes "make") ∷ class_rule ∷ files_rule ∷ []
 
--- the command `fmrun [--steps N] [--words N] [--frames N] [--input FILE] [--args TEXT] CLASS FILE...`, as clap reads it
+-- the command `fmrun [--steps N] [--words N] [--frames N] [--input FILE] [--args TEXT] [--make N] [CLASS] [FILE...]`, as clap reads it: which of them go
+-- together is not its matter
 unfoldable pub fmrun_command : App
 fmrun_command = command_with (codes "fmrun") fmrun_rules
 
@@ -41,18 +42,9 @@ faults_in words = fault_of fmrun_command words
 unfoldable pub matched_in : List (List ℕ) → List Row
 matched_in words = matches_of fmrun_command words
 
--- one to ten decimal digits that write a number within these limits
-pub record IsNumber (digits : List ℕ) (least most n : ℕ) : Type 0 where
-  pub not_empty : 0 < length digits
-  pub short : length digits ≤ 10
-  pub decimal : AllDigits 10 digits
-  pub value : digits_value 10 digits ≡ n
-  pub above : least ≤ n
-  pub within : n ≤ most
-
 -- the number that is written, and where none is, the one that is given
 abbrev pub IsBudget : Option (List ℕ) → ℕ → ℕ → ℕ → ℕ → Type 0
-IsBudget text least most default n = MatchOption text (n ≡ default) (λ digits. IsNumber digits least most n)
+IsBudget text least most default n = MatchOption text (n ≡ default) (λ digits. IsNumber 10 digits least most n)
 
 -- what clap matched is the job, each of whose values is one
 pub record HasValuesOf (matches : List Row) (job : FmrunJob) : Type 0 where
@@ -61,13 +53,9 @@ pub record HasValuesOf (matches : List Row) (job : FmrunJob) : Type 0 where
   pub frames : IsBudget (first_of (codes "frames") matches) 1 MAX_FRAMES DEFAULT_FRAMES job.frames
   pub input : first_of (codes "input") matches ≡ job.input
   pub arguments : first_of (codes "args") matches ≡ job.arguments
-  pub main : first_of (codes "class") matches ≡ Some job.main
-  pub files : all_of (codes "file") matches ≡ Some job.files
-  pub some_file : 0 < length job.files
   pub input_is_value : IfSome job.input IsValue
   pub text_is_value : IfSome job.arguments IsValue
-  pub main_is_value : IsValue job.main
-  pub files_are_values : AllByRecursion IsValue job.files
+  pub classes : NameClasses (codes "class") matches job.main job.files job.made
 
 -- what clap matched is no job
 abbrev pub HasNoValues : List Row → Type 0
@@ -103,4 +91,5 @@ job_of r = record {
   arguments = option_map (λ text. text.now) r.arguments;
   main = r.main.now;
   files = map (λ file. file.now) r.files.items;
+  made = r.made;
 }

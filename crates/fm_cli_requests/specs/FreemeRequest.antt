@@ -1,23 +1,24 @@
 -- What the words of the command line ask freeme for.
-use Rattle.std.specs.Prelude.{◌≡◌, ℕ, ◌<◌, List, [], ◌∷◌, Some, length, map, codes}
-use Rattle.std.specs.List.{AllByRecursion}
-use Rattle.clap.specs.Words.{App, Kinds, Row, Rule, all_of, fault_of, first_of, matches_of}
+use Rattle.std.specs.Prelude.{◌≡◌, ℕ, List, [], ◌∷◌, Option, Some, map, codes}
+use Rattle.clap.specs.Words.{App, Kinds, Row, Rule, fault_of, first_of, matches_of}
+use Rattle.fm_cli_requests.specs.ClassFiles.{NameClasses}
 use Rattle.fm_cli_requests.specs.ProgramText.{AskForNoText, AskForText}
-use Rattle.fm_cli_requests.specs.Values.{IsValue, command_with, files_rule, wanted_option_rule}
+use Rattle.fm_cli_requests.specs.Values.{IsValue, command_with, files_rule, option_rule}
 use Rattle.fm_cli_requests.specs.declared.program_text.ProgramText.{ProgramText}
 use Rattle.fm_cli_requests.specs.declared.freeme_request.FreemeRequest.{FreemeRequest}
 
--- the folder to write into, the main class, and the files to read in order
+-- the folder to write into, the main class, the files to read in order, and the number of the class that is made, if one is
 pub record FreemeJob : Type 0 where
   pub folder : List ℕ
   pub main : List ℕ
   pub files : List (List ℕ)
+  pub made : Option ℕ
 
--- what may be among the words: two options and the files
+-- what may be among the words: three options and the files
 abbrev pub freeme_rules : List Rule
-freeme_rules = wanted_option_rule (codes "out") ∷ wanted_option_rule (codes "main") ∷ files_rule ∷ []
+freeme_rules = option_rule (codes "out") ∷ option_rule (codes "main") ∷ option_rule (codes "make") ∷ files_rule ∷ []
 
--- the command `freeme --out DIR --main CLASS FILE...`, as clap reads it
+-- the command `freeme [--out DIR] [--main CLASS] [--make N] [FILE...]`, as clap reads it: which of them go together is not its matter
 unfoldable pub freeme_command : App
 freeme_command = command_with (codes "freeme") freeme_rules
 
@@ -29,15 +30,11 @@ faults_in words = fault_of freeme_command words
 unfoldable pub matched_in : List (List ℕ) → List Row
 matched_in words = matches_of freeme_command words
 
--- what clap matched is the job: the values of the two options and all files, each of them a value
+-- what clap matched is the job: the folder, and the class files or the class that is made
 pub record HasValuesOf (matches : List Row) (job : FreemeJob) : Type 0 where
   pub folder : first_of (codes "out") matches ≡ Some job.folder
-  pub main : first_of (codes "main") matches ≡ Some job.main
-  pub files : all_of (codes "file") matches ≡ Some job.files
-  pub some_file : 0 < length job.files
   pub folder_is_value : IsValue job.folder
-  pub main_is_value : IsValue job.main
-  pub files_are_values : AllByRecursion IsValue job.files
+  pub classes : NameClasses (codes "main") matches job.main job.files job.made
 
 -- what clap matched is no job
 abbrev pub HasNoValues : List Row → Type 0
@@ -65,4 +62,4 @@ pub record AskNothing (words : List (List ℕ)) : Type 0 where
 
 -- the job of a request
 abbrev pub job_of : FreemeRequest → FreemeJob
-job_of r = record { folder = r.folder.now; main = r.main.now; files = map (λ file. file.now) r.files.items }
+job_of r = record { folder = r.folder.now; main = r.main.now; files = map (λ file. file.now) r.files.items; made = r.made }

@@ -1,6 +1,7 @@
 pub mod inner
 pub mod Values
 pub mod Arguments
+pub mod ClassFiles
 pub mod ProgramText
 pub mod FreemeRequest
 pub mod FmrunRequest

@@ -1,5 +1,6 @@
 -- What the commands of both programs share, as clap reads them.
-use Rattle.std.specs.Prelude.{ℕ, ◌<◌, ◌≤◌, List, [], Some, true, length, codes}
+use Rattle.std.specs.Prelude.{◌≡◌, ℕ, ◌<◌, ◌≤◌, List, [], Some, true, length, codes}
+use Rattle.std.specs.Str.Parse.{AllDigits, digits_value}
 use Rattle.clap.specs.Lexer.{usize_max}
 use Rattle.clap.specs.Words.{App, Rule, new_rule}
 use Rattle.clap.specs.Simple.{new_shape}
@@ -9,20 +10,22 @@ use Rattle.fm_base.specs.declared.limits.TheConstants.{MAX_COMMAND_LINE_VALUE_BY
 abbrev pub IsValue : List ℕ → Type 0
 IsValue value = (0 < length value) × (length value ≤ MAX_COMMAND_LINE_VALUE_BYTES)
 
+-- one to `width` decimal digits that write a number within these limits
+pub record IsNumber (width : ℕ) (digits : List ℕ) (least most n : ℕ) : Type 0 where
+  pub not_empty : 0 < length digits
+  pub short : length digits ≤ width
+  pub decimal : AllDigits 10 digits
+  pub value : digits_value 10 digits ≡ n
+  pub above : least ≤ n
+  pub within : n ≤ most
+
 -- an option with a value, which may be given once, as `--steps N`
 abbrev pub option_rule : List ℕ → Rule
 option_rule name = record (new_rule name) { long = Some name }
 
--- an option that has to be given, once, with a value, as `--out DIR`
-abbrev pub wanted_option_rule : List ℕ → Rule
-wanted_option_rule name = record (new_rule name) { long = Some name; required = true }
-
--- the files, of which there is one or more: what is among the words without an option before it
+-- the files, of which there may be many: what is among the words without an option before it
 abbrev pub files_rule : Rule
-files_rule = record (new_rule (codes "file")) {
-  range = Some (record { start_inclusive = 1; end_inclusive = usize_max });
-  required = true;
-}
+files_rule = record (new_rule (codes "file")) { range = Some (record { start_inclusive = 1; end_inclusive = usize_max }) }
 
 -- a command with these arguments, whose words begin after the program's name, and of which no word asks for help or for a version
 abbrev pub command_with : List ℕ → List Rule → App

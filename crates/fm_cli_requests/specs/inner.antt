@@ -1,2 +1,4 @@
+pub mod ClassFiles
 pub mod FmrunRequest
 pub mod ProgramText
+pub mod Values

@@ -1,13 +1,14 @@
 // What the words of the command line ask fmrun for.
 
-ghost use Rattle.std.specs.Prelude.{◌≡◌, ◌↔◌, false, IfOk, IfSome, IsTrue, MatchOption, map};
+ghost use Rattle.std.specs.Prelude.{◌≡◌, ◌↔◌, false, IfOk, IfSome, IsTrue, MatchOption};
 ghost use Rattle.clap.specs.Words.{app_of, first_of, found_of, rows_of, rule_of};
 ghost use Rattle.fm_cli.specs.Words.{texts};
-ghost use Rattle.fm_cli_requests.specs.Values.{IsValue, option_rule};
-ghost use Rattle.fm_cli_requests.specs.FmrunRequest.{Asks, AskNoJob, HasValuesOf, HasNoValues, IsBudget, IsNumber, class_rule, fmrun_command, job_of};
-ghost use Rattle.fm_cli_requests.specs.inner.FmrunRequest.{HasBudgets, HasFiles, HasNoBudgets, HasNoFiles, IsNoBudget, IsNoNumber};
+ghost use Rattle.fm_cli_requests.specs.Values.{IsValue};
+ghost use Rattle.fm_cli_requests.specs.FmrunRequest.{Asks, AskNoJob, HasValuesOf, HasNoValues, IsBudget, class_rule, fmrun_command, job_of};
+ghost use Rattle.fm_cli_requests.specs.inner.FmrunRequest.{HasBudgets, HasNoBudgets, IsNoBudget};
 
-use crate::values::{are_values, command, files, is_value};
+use crate::class_files::{NamedClasses, classes_in};
+use crate::values::{command, files, is_value, number_of, option};
 use clap::error::ErrorKind;
 use clap::{Arg, ArgMatches, Command};
 use fm_base::NoMemory;
@@ -16,7 +17,8 @@ use fm_base::limits::{
 };
 use std::alloc::Global;
 
-/// What the words `[--steps N] [--words N] [--frames N] [--input FILE] [--args TEXT] CLASS FILE...` name.
+/// What the words `[--steps N] [--words N] [--frames N] [--input FILE] [--args TEXT] CLASS FILE...` name,
+/// or with `--make N` in place of CLASS and the files.
 #[derive(Drop)]
 pub struct FmrunRequest<'a> {
     /// The budget of steps.
@@ -31,8 +33,10 @@ pub struct FmrunRequest<'a> {
     pub arguments: Option<&'a str>,
     /// The main class.
     pub main: &'a str,
-    /// The class files, in order.
+    /// The class files, in order; none where a class is made.
     pub files: Vec<&'a str>,
+    /// The number of the class that is made.
+    pub made: Option<u32>,
 }
 
 // The budgets of a run.
@@ -68,17 +72,10 @@ fn fmrun_command<'a>(alloc: Global) -> Result<Command<'a>, NoMemory>
         .arg(option(alloc, "frames"))?
         .arg(option(alloc, "input"))?
         .arg(option(alloc, "args"))?
+        .arg(option(alloc, "make"))?
         .arg(class(alloc))?
         .arg(files(alloc))?;
     Ok(command)
-}
-
-// An option that may be given, with its value.
-fn option<'a>(alloc: Global, name: &'a str) -> Arg<'a>
-    ensures rule { rule_of result ≡ option_rule name.entry.now }
-    ensures local { result.global ≡ false }
-{
-    Arg::new(alloc, name).long(name)
 }
 
 // The main class.
@@ -86,7 +83,7 @@ fn class<'a>(alloc: Global) -> Arg<'a>
     ensures rule { rule_of result ≡ class_rule }
     ensures local { result.global ≡ false }
 {
-    Arg::new(alloc, "class").required(true)
+    Arg::new(alloc, "class")
 }
 
 // The request that was matched, or None where a value is missing or isn't one.
@@ -109,16 +106,10 @@ fn request_in<'a>(
     if !is_value_if_any(arguments) {
         return Ok(None);
     }
-    let Some(main) = matches.get_str("class") else {
+    let Some(named) = classes_in(alloc, matches, "class")? else {
         return Ok(None);
     };
-    if !is_value(main) {
-        return Ok(None);
-    }
-    let Some(files) = files_in(matches) else {
-        return Ok(None);
-    };
-    let files = Vec::from_slice(alloc, files)?;
+    let NamedClasses { main, files, made } = named;
     Ok(Some(FmrunRequest {
         steps: budgets.steps,
         words: budgets.words,
@@ -127,6 +118,7 @@ fn request_in<'a>(
         arguments,
         main,
         files,
+        made,
     }))
 }
 
@@ -166,26 +158,9 @@ fn budget_in(
         (IsBudget text least most default) }
 {
     match matches.get_str(name) {
-        Some(digits) => number_of(digits, least, most),
+        Some(digits) => number_of(digits, 10, least, most),
         None => Some(default),
     }
-}
-
-// The files that were matched, where there is one and each may be a value.
-fn files_in<'m, 'a>(matches: &'m ArgMatches<'a>) -> Option<&'m [&'a str]>
-    ensures { let rows = rows_of (found_of matches.now) in MatchOption result (HasNoFiles rows)
-        (λ files. HasFiles rows (map (λ file. file.now) files.now)) }
-{
-    let Some(files) = matches.get_strs("file") else {
-        return None;
-    };
-    if files.is_empty() {
-        return None;
-    }
-    if !are_values(files) {
-        return None;
-    }
-    Some(files)
 }
 
 // Whether the text may be a value, where there is one.
@@ -195,23 +170,5 @@ fn is_value_if_any(text: Option<&str>) -> bool
     match text {
         Some(text) => is_value(text),
         None => true,
-    }
-}
-
-// The number that one to ten decimal digits write, if it is within these limits.
-fn number_of(digits: &str, least: u64, most: u64) -> Option<u64>
-    ensures { MatchOption result (IsNoNumber digits.now least most)
-        (IsNumber digits.now least most) }
-{
-    if digits.len() > 10 {
-        return None;
-    }
-    // A sign is no digit.
-    if digits.as_bytes().first() == Some(&b'+') {
-        return None;
-    }
-    match digits.parse::<u64>() {
-        Ok(number) if least <= number && number <= most => Some(number),
-        _ => None,
     }
 }

@@ -1,26 +1,28 @@
 // What the words of the command line ask freeme for.
 
-ghost use Rattle.std.specs.Prelude.{◌≡◌, false, IfOk, MatchOption};
-ghost use Rattle.clap.specs.Words.{app_of, found_of, rows_of, rule_of};
+ghost use Rattle.std.specs.Prelude.{◌≡◌, IfOk, MatchOption};
+ghost use Rattle.clap.specs.Words.{app_of, found_of, rows_of};
 ghost use Rattle.fm_cli.specs.Words.{texts};
-ghost use Rattle.fm_cli_requests.specs.Values.{wanted_option_rule};
 ghost use Rattle.fm_cli_requests.specs.FreemeRequest.{Asks, AskNoJob, HasValuesOf, HasNoValues, freeme_command, job_of};
 
-use crate::values::{are_values, command, files, is_value};
+use crate::class_files::{NamedClasses, classes_in};
+use crate::values::{command, files, is_value, option};
 use clap::error::ErrorKind;
-use clap::{Arg, ArgMatches, Command};
+use clap::{ArgMatches, Command};
 use fm_base::NoMemory;
 use std::alloc::Global;
 
-/// What the words `--out DIR --main CLASS FILE...` name.
+/// What the words `--out DIR --main CLASS FILE...` or `--out DIR --make N` name.
 #[derive(Drop)]
 pub struct FreemeRequest<'a> {
     /// The folder to write into.
     pub folder: &'a str,
     /// The main class.
     pub main: &'a str,
-    /// The class files, in order.
+    /// The class files, in order; none where a class is made.
     pub files: Vec<&'a str>,
+    /// The number of the class that is made.
+    pub made: Option<u32>,
 }
 
 /// What the words ask for, or None where they aren't of that form.
@@ -38,23 +40,16 @@ pub fn request_of(alloc: Global, words: &[String]) -> Result<Option<FreemeReques
     }
 }
 
-// The command `freeme --out DIR --main CLASS FILE...`.
+// The command.
 fn freeme_command<'a>(alloc: Global) -> Result<Command<'a>, NoMemory>
     ensures { IfOk result (λ command. app_of command ≡ freeme_command) }
 {
     let command = command(alloc, "freeme")
         .arg(option(alloc, "out"))?
         .arg(option(alloc, "main"))?
+        .arg(option(alloc, "make"))?
         .arg(files(alloc))?;
     Ok(command)
-}
-
-// An option that has to be given, with its value.
-fn option<'a>(alloc: Global, name: &'a str) -> Arg<'a>
-    ensures rule { rule_of result ≡ wanted_option_rule name.entry.now }
-    ensures local { result.global ≡ false }
-{
-    Arg::new(alloc, name).long(name).required(true)
 }
 
 // The request that was matched, or None where a value is missing, empty or too long.
@@ -69,19 +64,17 @@ fn request_in<'a>(
     let Some(folder) = matches.get_str("out") else {
         return Ok(None);
     };
-    let Some(main) = matches.get_str("main") else {
-        return Ok(None);
-    };
-    let Some(files) = matches.get_strs("file") else {
-        return Ok(None);
-    };
-    if files.is_empty() || !is_value(folder) || !is_value(main) || !are_values(files) {
+    if !is_value(folder) {
         return Ok(None);
     }
-    let files = Vec::from_slice(alloc, files)?;
+    let Some(named) = classes_in(alloc, matches, "main")? else {
+        return Ok(None);
+    };
+    let NamedClasses { main, files, made } = named;
     Ok(Some(FreemeRequest {
         folder,
         main,
         files,
+        made,
     }))
 }

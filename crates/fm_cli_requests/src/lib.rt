@@ -6,6 +6,7 @@
 #![tactic(auto)]
 
 mod arguments;
+mod class_files;
 pub mod fmrun_request;
 pub mod freeme_request;
 mod program_text;

@@ -1,9 +1,10 @@
 // Values of the command line, as both programs take them.
 
-ghost use Rattle.std.specs.Prelude.{◌≡◌, ◌↔◌, false, [], IsTrue};
+ghost use Rattle.std.specs.Prelude.{◌≡◌, ◌↔◌, false, [], IsTrue, MatchOption};
 ghost use Rattle.std.specs.List.{AllByRecursion};
 ghost use Rattle.clap.specs.Words.{app_of, rule_of};
-ghost use Rattle.fm_cli_requests.specs.Values.{IsValue, command_with, files_rule};
+ghost use Rattle.fm_cli_requests.specs.Values.{IsNumber, IsValue, command_with, files_rule, option_rule};
+ghost use Rattle.fm_cli_requests.specs.inner.Values.{IsNoNumber};
 
 use clap::{Arg, Command};
 use fm_base::limits::MAX_COMMAND_LINE_VALUE_BYTES;
@@ -20,12 +21,20 @@ pub fn command<'a>(alloc: Global, name: &'a str) -> Command<'a>
         .disable_version_flag(true)
 }
 
-/// The files, of which there is one or more.
+/// An option that may be given, with its value.
+pub fn option<'a>(alloc: Global, name: &'a str) -> Arg<'a>
+    ensures rule { rule_of result ≡ option_rule name.entry.now }
+    ensures local { result.global ≡ false }
+{
+    Arg::new(alloc, name).long(name)
+}
+
+/// The files, of which there may be many.
 pub fn files<'a>(alloc: Global) -> Arg<'a>
     ensures rule { rule_of result ≡ files_rule }
     ensures local { result.global ≡ false }
 {
-    Arg::new(alloc, "file").num_args(1..).required(true)
+    Arg::new(alloc, "file").num_args(1..)
 }
 
 /// Whether each of the texts may be a value. Takes no memory.
@@ -40,4 +49,22 @@ pub fn is_value(value: &str) -> bool
     ensures { IsTrue result ↔ IsValue value.now }
 {
     !value.is_empty() && value.len() <= MAX_COMMAND_LINE_VALUE_BYTES as usize
+}
+
+/// The number that one to `width` decimal digits write, if it is within these limits.
+pub fn number_of(digits: &str, width: usize, least: u64, most: u64) -> Option<u64>
+    ensures { MatchOption result (IsNoNumber width digits.now least most)
+        (IsNumber width digits.now least most) }
+{
+    if digits.len() > width {
+        return None;
+    }
+    // A sign is no digit.
+    if digits.as_bytes().first() == Some(&b'+') {
+        return None;
+    }
+    match digits.parse::<u64>() {
+        Ok(number) if least <= number && number <= most => Some(number),
+        _ => None,
+    }
 }

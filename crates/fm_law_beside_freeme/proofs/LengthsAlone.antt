@@ -1,5 +1,5 @@
 -- Of files that hold accepted classes only lengths are left to refuse.
-use Rattle.std.proofs.Common.{◌≡◌, ℕ, zero, suc, List, [], ◌∷◌, length, Option, Some, None, IsSomeAnd, refl, sym, subst, ◌∙◌}
+use Rattle.std.proofs.Common.{◌≡◌, ℕ, zero, suc, List, [], ◌∷◌, ◌++◌, length, Option, Some, None, IsSomeAnd, refl, ap, append-nil, sym, subst, ◌∙◌}
 use Rattle.std.specs.Prelude.{slice_get}
 use Rattle.std.proofs.lemmas.Option.{none-some}
 use Rattle.fm_base.proofs.OptionFacts.{same_value}
@@ -8,6 +8,7 @@ use Rattle.fm_code.specs.ClassBytes.{class_bytes}
 use Rattle.fm_code.specs.Spells.{Spells}
 use Rattle.fm_code.specs.declared.class_file.ClassDef.{ClassDef}
 use Rattle.fm_files.specs.Files.{Bytes, Contents}
+use Rattle.fm_load.specs.Given.{AreGiven, Given, made_classes}
 use Rattle.fm_load.proofs.RefusalLemmas.{refused_not_taken}
 use Rattle.fm_load.specs.Taking.{AreTaken, IsRefused, IsTaken, total_bytes}
 use Rattle.fm_load.specs.declared.class_refusal.ClassRefusal.{ClassRefusal}
@@ -69,16 +70,23 @@ known_classes : (held : Bytes → Option Bytes) (files : List Bytes) (others cla
 known_classes held files others classes contents known taken all =
     same_classes held files others classes (subst (λ (o : Contents). AreTaken o files others) known taken) all
 
+-- the classes that are given, where none is made, are these
+given_known : (held : Bytes → Option Bytes) (given : Given) (others classes : List ClassDef) (contents : Contents) → contents ≡ Some held → given.made ≡ None
+    → AreGiven given contents others → AreHeld held given.files classes → others ≡ classes
+given_known held given others classes contents known none are all =
+    are.classes_are ∙ ap (λ (number : Option ℕ). are.read ++ made_classes number) none ∙ append-nil are.read
+    ∙ known_classes held given.files are.read classes contents known are.taken.taken all
+
 pub lengths_alone : AcceptedHaveLengthsAlone
-lengths_alone held given classes all links typed old known = record {
+lengths_alone held given classes none all links typed old known = record {
   there = λ m. (let c = held_at held given.files classes (length m.before) m.file all m.reaches.there in not_missing held m.file c.0 old.contents known c.1 m.missing);
   taken = λ status m.
       (let c = held_at held given.files classes (length m.before) m.file all m.reaches.there in
       not_refused held m.file c.0 old.contents m.refusal (total_bytes m.before) known c.1 m.refused);
   linked = λ m.
-      (let same = known_classes held given.files m.classes classes old.contents known m.taken.taken all in
+      (let same = given_known held given m.classes classes old.contents known none m.source all in
       m.refused (subst (λ (cs : List ClassDef). refusals cs given.main ≡ []) (sym same) links));
   typed = λ m.
-      (let same = known_classes held given.files m.classes classes old.contents known m.linked.taken.taken all in
+      (let same = given_known held given m.classes classes old.contents known none m.linked.source all in
       m.untyped (subst (λ (cs : List ClassDef). AreTyped (program_of cs given.main)) (sym same) typed));
 }

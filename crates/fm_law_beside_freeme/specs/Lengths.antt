@@ -31,8 +31,8 @@ pub record HasLengthsAlone (old : Disk) (given : Given) : Type 0 where
   pub linked : ¬ IsKnownUnlinked old given
   pub typed : ¬ IsKnownUntyped old given
 
--- the same holds of class files that link and are typed
+-- the same holds of class files that link and are typed, where no class is made besides
 abbrev pub AcceptedHaveLengthsAlone : Type 0
 AcceptedHaveLengthsAlone =
-    (held : Bytes → Option Bytes) (given : Given) (classes : List ClassDef) → AreHeld held given.files classes → refusals classes given.main ≡ []
+    (held : Bytes → Option Bytes) (given : Given) (classes : List ClassDef) → given.made ≡ None → AreHeld held given.files classes → refusals classes given.main ≡ []
     → AreTyped (program_of classes given.main) → (old : Disk) → old.contents ≡ Some held → HasLengthsAlone old given

@@ -1,5 +1,5 @@
 -- The classes written are accepted again, where no local holds an object that isn't initialised while the constructor of an object that is held is called.
-use Rattle.std.specs.Prelude.{◌≡◌, ℕ, List, [], Option, Some}
+use Rattle.std.specs.Prelude.{◌≡◌, ℕ, List, [], Option, Some, None}
 use Rattle.std.specs.List.{AllByRecursion}
 use Rattle.fm_code.specs.Spells.{HasSpelling}
 use Rattle.fm_code.specs.declared.class_file.ClassDef.{ClassDef}
@@ -16,4 +16,4 @@ WrittenHaveLengthsAlone =
     (given : List ClassDef) (main : List ℕ) (written : List ClassDef) (marks : List (List (Option ℕ))) → AllByRecursion HasSpelling given
     → refusals given main ≡ [] → (safe : Safe given main written marks) → NoneUnready (program_of given main) safe.facts safe.plans
     → (held : Bytes → Option Bytes) (files : List Bytes) → AreHeld held files written → (old : Disk) → old.contents ≡ Some held
-    → HasLengthsAlone old (record { files = files; main = main })
+    → HasLengthsAlone old (record { files = files; made = None; main = main })

@@ -1,5 +1,6 @@
 pub mod ChangesLemmas
 pub mod CheckLemmas
+pub mod GivenLemmas
 pub mod KnownLemmas
 pub mod ListLemmas
 pub mod NameLemmas

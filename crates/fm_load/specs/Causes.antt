@@ -7,8 +7,8 @@ use Rattle.fm_cli.specs.Outside.{IsKnownSuch, IsKnownMissing}
 use Rattle.fm_check_program.specs.Untyped.{AreTyped}
 use Rattle.fm_world.specs.Linking.{refusals}
 use Rattle.fm_load.specs.ClassRefusal.{class_refusal_status}
-use Rattle.fm_load.specs.Given.{Given, given_program, AreLinked}
-use Rattle.fm_load.specs.Taking.{total_bytes, AllTaken, Reaches, IsTooLong, IsRefused}
+use Rattle.fm_load.specs.Given.{Given, given_program, AreGiven, AreLinked}
+use Rattle.fm_load.specs.Taking.{total_bytes, Reaches, IsTooLong, IsRefused}
 use Rattle.fm_load.specs.declared.class_refusal.ClassRefusal.{ClassRefusal}
 
 -- a read failed in this call
@@ -46,11 +46,11 @@ pub record IsKnownLong (old : Disk) (given : Given) : Type 0 where
   pub reaches : Reaches old.contents given.files file before
   pub long : IsKnownSuch old.contents file (IsTooLong (total_bytes before))
 
--- contents are known, all files are taken, and their classes make no program
+-- contents are known, these classes are given, and make no program
 pub record IsKnownUnlinked (old : Disk) (given : Given) : Type 0 where
   pub known : IsSome old.contents
   pub classes : List ClassDef
-  pub taken : AllTaken old.contents given.files classes
+  pub source : AreGiven given old.contents classes
   pub refused : ¬ (refusals classes given.main ≡ [])
 
 -- contents are known, all files are taken, their classes make a program, and not each method of it with code is typed

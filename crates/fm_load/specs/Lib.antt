@@ -3,6 +3,7 @@ pub mod Changes
 pub mod ClassRefusal
 pub mod LinkRefusal
 pub mod Refusal
+pub mod Returned
 pub mod Taking
 pub mod Given
 pub mod Reading

@@ -1,3 +1,4 @@
 pub mod Checking
+pub mod Giving
 pub mod Linking
 pub mod Reading

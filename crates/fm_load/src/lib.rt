@@ -7,6 +7,7 @@
 
 mod checking;
 mod class_refusal;
+mod given;
 mod judging;
 mod link_refusal;
 mod linking;
@@ -15,5 +16,6 @@ mod refusal;
 
 pub use checking::{judge_program, method_text, program_of};
 pub use class_refusal::ClassRefusal;
+pub use given::given_classes;
 pub use reading::read_classes;
 pub use refusal::JobRefusal;

@@ -5,6 +5,7 @@ ghost use Rattle.fm_base.specs.declared.limits.TheConstants.{MAX_CLASS_FILES, MA
 ghost use Rattle.fm_cli.specs.Outside.{ReadsAlone};
 ghost use Rattle.fm_load.specs.inner.Reading.{ComesOfFile};
 ghost use Rattle.fm_load.specs.Reading.{ComesOfFiles, KeepsWrites, ReadsAll};
+ghost use Rattle.fm_load.specs.Returned.{ReadsOnce};
 
 use crate::judging::{ClassFail, class_of};
 use crate::refusal::JobRefusal;
@@ -46,6 +47,7 @@ fn read_class_file<'a, F: Files>(
 ) -> Result<(ClassDef, u32), JobRefusal<'a>>
     requires { total ≤ MAX_ALL_CLASS_FILES_BYTES }
     ensures reads { ReadsAlone name.now (F.disk files.old) (F.disk files.new) }
+    ensures once { ReadsOnce name.now (F.disk files.old) (F.disk files.new) }
     ensures keeps { KeepsWrites (F.disk files.old) (F.disk files.new) }
     ensures comes { ComesOfFile name.now total (F.disk files.old) (F.disk files.new) result }
 {

@@ -8,8 +8,8 @@ use std::alloc::Global;
 use std::test::Fail;
 
 // Words that ask for a job, a `|` between each two, and its values: steps, words, frames, input, text of
-// the arguments, main class and files.
-const TAKEN: [(&str, &str); 15] = [
+// the arguments, main class, files, and the number of the class that is made.
+const TAKEN: [(&str, &str); 18] = [
     ("M|A", "100000000 4194304 1024 - - M A"),
     ("M|A|B|C", "100000000 4194304 1024 - - M A B C"),
     ("--steps|0|M|A", "0 4194304 1024 - - M A"),
@@ -25,11 +25,18 @@ const TAKEN: [(&str, &str); 15] = [
     ("--input=-x|--args= |M|A", "100000000 4194304 1024 -x   M A"),
     ("--|M|--steps|7", "100000000 4194304 1024 - - M --steps 7"),
     ("-|-", "100000000 4194304 1024 - - - -"),
+    ("--make|1", "100000000 4194304 1024 - - G #1"),
+    ("--make=100|--steps|7", "7 4194304 1024 - - G #100"),
+    (
+        "--args|x|--make|040|--input|f",
+        "100000000 4194304 1024 f x G #40",
+    ),
 ];
 
 // Words that ask for nothing: a number past its limit, of eleven digits, of none, with a sign, with
-// another character; a missing value, an empty one, an option twice, none of its name, no file, no class.
-const REFUSED: [&str; 28] = [
+// another character; a missing value, an empty one, an option twice, none of its name, no file, no class;
+// a class that is made beside one that is named.
+const REFUSED: [&str; 34] = [
     "--steps|2147483649|M|A",
     "--words|134217729|M|A",
     "--frames|0|M|A",
@@ -58,6 +65,12 @@ const REFUSED: [&str; 28] = [
     "M",
     "M|--",
     "",
+    "--make|0",
+    "--make|101",
+    "--make|0001",
+    "--make|1|M",
+    "--make|1|M|A",
+    "--make|1|--make|2",
 ];
 
 // A value that may be lacking.
@@ -75,6 +88,10 @@ fn values(alloc: Global, request: &FmrunRequest<'_>) -> Result<String, NoMemory>
     for file in request.files.iter() {
         text.push(' ')?;
         text.push_str(file)?;
+    }
+    if let Some(number) = request.made {
+        let made = format!(in alloc; " #{number}")?;
+        text.push_str(made.as_str())?;
     }
     Ok(text)
 }

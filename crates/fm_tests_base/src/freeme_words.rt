@@ -7,7 +7,7 @@ use std::alloc::Global;
 use std::test::Fail;
 
 // The words, a `|` between each two, and the values of the job that they ask for, or nothing.
-const CASES: [(&str, &str); 22] = [
+const CASES: [(&str, &str); 34] = [
     ("--out|d|--main|M|M.class", "d M M.class"),
     ("--main|M|--out|d|M.class", "d M M.class"),
     ("M.class|--main|M|--out|d", "d M M.class"),
@@ -33,14 +33,30 @@ const CASES: [(&str, &str); 22] = [
     ("--out|d|--main|M|", ""),
     ("--out|-x|--main|M|M.class", ""),
     ("--out|d|--main|M|--steps|M.class", ""),
+    ("--out|d|--make|1", "d G #1"),
+    ("--make|100|--out|d", "d G #100"),
+    ("--make=040|--out=d", "d G #40"),
+    ("--make|1", ""),
+    ("--out|d|--make|0", ""),
+    ("--out|d|--make|101", ""),
+    ("--out|d|--make|0001", ""),
+    ("--out|d|--make|+1", ""),
+    ("--out|d|--make=", ""),
+    ("--out|d|--make|1|--make|1", ""),
+    ("--out|d|--make|1|--main|G", ""),
+    ("--out|d|--make|1|G.class", ""),
 ];
 
-// The values of a request, a space between each two.
+// The values of a request, a space between each two, and the number of the class that is made.
 fn values(alloc: Global, request: &FreemeRequest<'_>) -> Result<String, NoMemory> {
     let mut text = format!(in alloc; "{} {}", request.folder, request.main)?;
     for file in request.files.iter() {
         text.push(' ')?;
         text.push_str(file)?;
+    }
+    if let Some(number) = request.made {
+        let made = format!(in alloc; " #{number}")?;
+        text.push_str(made.as_str())?;
     }
     Ok(text)
 }

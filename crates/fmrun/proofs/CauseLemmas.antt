@@ -6,6 +6,7 @@ use Rattle.fm_base.proofs.OptionFacts.{Some-from_is_some, Some-from_some_and}
 use Rattle.fm_base.specs.declared.limits.TheConstants.{MAX_ARGUMENTS, MAX_CLASS_FILES, MAX_FILE_BYTES}
 use Rattle.fm_files.specs.Files.{Bytes, Disk}
 use Rattle.fm_files.specs.Sink.{Output, with_piece}
+use Rattle.fm_load.proofs.GivenLemmas.{Behind}
 use Rattle.fm_load.proofs.KnownLemmas.{bytes_stop, long_stops, missing_stops}
 use Rattle.fm_load.proofs.RefusalLemmas.{class_status}
 use Rattle.fm_load.proofs.VerdictLemmas.{Links}
@@ -146,8 +147,8 @@ many_status job old new before after many o comes = go many o comes where
   both (inr arguments) few_arguments few = absurd (let many = arguments.1 in omega arith)
 
   go : HasTooMany (given_of job) ⊎ HasManyArguments job → (o : Outcome) → ComesTo job old new before after o → Contains (LIMIT ∷ instead_for_words) (outcome_status o)
-  go m (Ok told) c = both m c.ready.few c.ready.checked.linked.taken.few
-  go m (Err fail.Output) c = both m c.ready.few c.ready.checked.linked.taken.few
+  go m (Ok told) c = both m c.ready.few c.ready.checked.linked.source.taken.few
+  go m (Err fail.Output) c = both m c.ready.few c.ready.checked.linked.source.taken.few
   go m (Err (fail.Refused (job_refusal.Shared refusal.Words))) c = absurd c.0.1
   go m (Err (fail.Refused (job_refusal.Shared (refusal.Read file)))) ((few, inl unread), same) = both m few unread.reaches.few
   go m (Err (fail.Refused (job_refusal.Shared (refusal.Read file)))) ((few, inr unread), same) = both m few unread.taken.few
@@ -157,8 +158,8 @@ many_status job old new before after many o comes = go many o comes where
   go m (Err (fail.Refused (job_refusal.TooLong file))) c = (0, omega arith, refl)
   go m (Err (fail.Refused (job_refusal.Class file r))) c = both m c.0.0 c.0.1.reaches.few
   go m (Err (fail.Refused (job_refusal.Link link))) c =
-      let found = Some-from_some_and (refusal_of link) (AreNotLinked (given_of job) old.contents) c.0.1.1.refused in both m c.0.0 found.2.taken.few
-  go m (Err (fail.Refused (job_refusal.Check name))) c = both m c.0.0 c.0.1.1.linked.taken.few
+      let found = Some-from_some_and (refusal_of link) (AreNotLinked (given_of job) old new) c.0.1.1.refused in both m c.0.0 found.2.source.taken.few
+  go m (Err (fail.Refused (job_refusal.Check name))) c = both m c.0.0 c.0.1.1.linked.source.taken.few
   go m (Err (fail.Refused (job_refusal.Write name))) c = absurd c.0.1
 
 module _ {words : List Bytes} {old new : Disk} {before after : Output} (o : Outcome) (comes : ComesOf words old new before after o) where
@@ -195,7 +196,7 @@ module _ {words : List Bytes} {old new : Disk} {before after : Output} (o : Outc
     go (inr lacks) =
         let found = Some-from_some_and old.contents (λ held. held lacks.file ≡ None) lacks.missing in
         settled READ (λ e. omega arith) (decided READ job found.0 found.1 asked few (passes job old found.0 found.1 lacks.classes READ lacks.taken
-        (input_missing (Links Runs (modified job.main)) found.0 job.input lacks.classes lacks.file lacks.named found.2)))
+        (input_missing (Behind job.made (Links Runs (modified job.main))) found.0 job.input lacks.classes lacks.file lacks.named found.2)))
 
   long_decides : AskToRead words (λ job. IsKnownLong old (given_of job) ⊎ HasLongInput old job) → Contains (LIMIT ∷ instead_for_file) (outcome_status o)
   long_decides (job, (asked, (few, cause))) = go cause where
@@ -206,7 +207,7 @@ module _ {words : List Bytes} {old new : Disk} {before after : Output} (o : Outc
     go (inr is) =
         let found = Some-from_some_and old.contents (λ held. IsSomeAnd (held is.file) (λ bytes. MAX_FILE_BYTES < length bytes)) is.long in
         settled LIMIT (λ e. omega arith) (decided LIMIT job found.0 found.1 asked few (passes job old found.0 found.1 is.classes LIMIT is.taken
-        (input_long (Links Runs (modified job.main)) found.0 job.input is.classes is.file is.named found.2)))
+        (input_long (Behind job.made (Links Runs (modified job.main))) found.0 job.input is.classes is.file is.named found.2)))
 
   bytes_decide : (status : ℕ) → status ≢ DONE → AskToRead words (λ job. IsKnownRefused status old (given_of job)) → Contains (status ∷ instead_for_file) (outcome_status o)
   bytes_decide status other (job, (asked, (few, cause))) =
@@ -217,13 +218,13 @@ module _ {words : List Bytes} {old new : Disk} {before after : Output} (o : Outc
   unlinked_decides : AskToRead words (λ job. IsKnownUnlinked old (given_of job) × HasInput job old.contents) → Contains (LINK ∷ instead_for_file) (outcome_status o)
   unlinked_decides (job, (asked, (few, (cause, input)))) =
       let found = Some-from_is_some old.contents cause.known in
-      settled LINK (λ e. omega arith) (decided LINK job found.0 found.1 asked few (passes_input job old found.0 found.1 cause.classes LINK cause.taken input (inl (cause.refused, refl))))
+      settled LINK (λ e. omega arith) (decided LINK job found.0 found.1 asked few (passes_input job old found.0 found.1 cause.classes LINK cause.source input (inl (cause.refused, refl))))
 
   untyped_decides : AskToRead words (λ job. IsKnownUntyped old (given_of job) × HasInput job old.contents) → Contains (CHECK ∷ instead_for_file) (outcome_status o)
   untyped_decides (job, (asked, (few, (cause, input)))) =
       let found = Some-from_is_some old.contents cause.known in
       settled CHECK (λ e. omega arith) (decided CHECK job found.0 found.1 asked few
-      (passes_input job old found.0 found.1 cause.classes CHECK cause.linked.taken input (inr (cause.linked.linked, inl (cause.untyped, refl)))))
+      (passes_input job old found.0 found.1 cause.classes CHECK cause.linked.source input (inr (cause.linked.linked, inl (cause.untyped, refl)))))
 
   many_decide : AskFor words (λ job. HasTooMany (given_of job) ⊎ HasManyArguments job) → Contains (LIMIT ∷ instead_for_words) (outcome_status o)
   many_decide (job, (asked, many)) = ⊎_elim

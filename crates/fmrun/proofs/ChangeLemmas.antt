@@ -51,7 +51,7 @@ module _ (words : List Bytes) (old new : Disk) (before after report report' : Ou
       record { stopped = ⊎_elim (λ none. inl none) (λ broken. inr (j.job, (j.asked, broken))) j.comes; told = line }
   memory_said (job_refusal.Shared refusal.OutOfMemory) (inr (inl nothing)) is line = absurd (let other = nothing.refused in cc)
   memory_said (job_refusal.Shared refusal.OutOfMemory) (inr (inr lacking)) is line =
-      record { stopped = inl (record { faultless = no_fault_where_same old new lacking.kept; kept = ap (λ (d : Disk). d.contents) lacking.kept }, lacking.silent); told = line }
+      record { stopped = inl (record { faultless = no_fault_where_same old new lacking.kept; kept = ap (λ (d : Disk). d.contents) lacking.kept; unwritten = ap (λ (d : Disk). d.writes) lacking.kept }, lacking.silent); told = line }
   memory_said (job_refusal.Class file r) comes is line = absurd (let c = class_status r in let low = c.low in let high = c.high in omega arith)
   memory_said r comes is line = absurd (omega arith)
 

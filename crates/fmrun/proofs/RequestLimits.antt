@@ -1,11 +1,12 @@
 -- What the words of a job keep within limits.
-use Rattle.std.proofs.Common.{◌≡◌, ◌<◌, ◌≤◌, ℕ, ◌*◌, ◌^◌, List, [], ◌∷◌, Option, Some, None, IfSome, Bor, IfOk, Ok, Err, Result, Vec, option_map, length, sym, subst, arith}
+use Rattle.std.proofs.Common.{◌≡◌, ◌<◌, ◌≤◌, ℕ, ◌*◌, ◌^◌, List, [], ◌∷◌, Option, Some, None, IfSome, Bor, IfOk, Ok, Err, Result, Vec, option_map, length, codes, sym, subst, arith}
 use Rattle.std.specs.List.{AllByRecursion}
 use Rattle.fm_base.specs.declared.limits.TheConstants.{MAX_ARGUMENTS, MAX_COMMAND_LINE_VALUE_BYTES}
 use Rattle.fm_cli_requests.proofs.ArgumentLemmas.{argument_lengths}
 use Rattle.fm_cli_requests.specs.Arguments.{arguments_of}
+use Rattle.fm_cli_requests.proofs.ClassFilesLemmas.{made_alone}
 use Rattle.fm_cli_requests.proofs.FmrunRequestLemmas.{steps_within, words_within}
-use Rattle.fm_cli_requests.specs.FmrunRequest.{Asks, FmrunJob}
+use Rattle.fm_cli_requests.specs.FmrunRequest.{Asks, FmrunJob, matched_in}
 use Rattle.fm_cli_requests.specs.Values.{IsValue}
 use Rattle.fm_law_sound.specs.Making.{ArgumentsFit, AreUnits}
 use Rattle.fmrun.specs.Jobs.{IsWithinLimits}
@@ -20,6 +21,7 @@ pub within_limits : (words : List (List ℕ)) (job : FmrunJob) → Asks words jo
 within_limits words job asks = record {
   budgets = record { words = words_within words job asks; store = omega arith; steps = steps_within words job asks };
   text = value_within job.arguments asks.values.text_is_value;
+  alone = made_alone (codes "class") (matched_in words) job.main job.files job.made asks.values.classes;
 }
 
 -- the text of a request

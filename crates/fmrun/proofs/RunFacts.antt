@@ -13,11 +13,10 @@ use Rattle.fm_frames.specs.Reports.{report_of}
 use Rattle.fm_frames.specs.States.{Moved, State}
 use Rattle.fm_frames.specs.declared.ends.Ended.{Ended}
 use Rattle.fm_frames.specs.declared.ends.Ended.TheVariants as end
-use Rattle.fm_load.proofs.KnownLemmas.{all_taken}
+use Rattle.fm_load.proofs.GivenLemmas.{Behind, behind_once, given_accepted, given_few, given_passes, given_spelled}
 use Rattle.fm_load.proofs.TakenLemmas.{have_spellings}
 use Rattle.fm_load.proofs.VerdictLemmas.{Ends, EndsOnce, one_judgement}
-use Rattle.fm_load.specs.Given.{AreChecked}
-use Rattle.fm_load.specs.Taking.{AllTaken}
+use Rattle.fm_load.specs.Given.{AreChecked, AreGiven}
 use Rattle.fm_law_cells_made.specs.MostHeld.{all_most_held, MadeIsMostHeld}
 use Rattle.fm_law_can_step.specs.Ready.{CanRun}
 use Rattle.fm_run_job.specs.declared.status.TheConstants.{FAULT}
@@ -29,7 +28,6 @@ use Rattle.fm_same.specs.Resolved.{CallsNoFreeMe}
 use Rattle.fm_cli.specs.Encoding.{modified}
 use Rattle.fm_law_no_fault.specs.Whole.{HasNoFault}
 use Rattle.fmrun.proofs.EndStatuses.{among_refusals, fault_status, IsFault}
-use Rattle.fmrun.proofs.JobLemmas.{taken_accepted, taken_few, taken_spelled}
 use Rattle.fmrun.specs.Causes.{AskFor, IsForFault, IsKnownFreeless, refusal_statuses, ReportsMostHeld, SaysFault, SaysRun}
 use Rattle.fmrun.specs.Jobs.{budgets_of, given_of, job_arguments, job_program}
 
@@ -65,20 +63,12 @@ module _ (words : List Bytes) (old new : Disk) (before after report report' : Ou
   known_frees : AskFor words (IsKnownFreeless old) → SaysFault words old new before after report report' → ⊥
   known_frees (job, (asked, known)) fault =
       let found = Some-from_is_some old.contents known.known in
-      let P : FmrunJob → Type 0 = λ j. (classes : List ClassDef) × AllTaken old.contents j.files classes × (CallsNoFreeMe (job_program j classes) → ⊥) in
+      let P : FmrunJob → Type 0 = λ j. (classes : List ClassDef) × AreGiven (given_of j) old.contents classes × (CallsNoFreeMe (job_program j classes) → ⊥) in
       let own = subst P (asks_one words fault.run.job job fault.run.asked asked)
-      (fault.run.ran.classes, fault.run.ran.ready.checked.linked.taken, fault.frees) in
-      not_both 0 refl (one_judgement (Frees job) (frees_once job) found.0 job.files 0 1
-      (inr (record {
-        classes = known.classes;
-        taken = all_taken job.files old.contents found.0 found.1 known.classes known.checked.linked.taken;
-        last = inl (known.frees_none, refl);
-      }))
-      (inr (record {
-        classes = own.0;
-        taken = all_taken job.files old.contents found.0 found.1 own.0 own.1;
-        last = inr (own.2, refl);
-      })))
+      (fault.run.ran.classes, fault.run.ran.ready.checked.linked.source, fault.frees) in
+      not_both 0 refl (one_judgement (Behind job.made (Frees job)) (behind_once job.made (Frees job) (frees_once job)) found.0 job.files 0 1
+      (inr (given_passes (Frees job) found.0 found.1 known.checked.linked.source 0 (inl (known.frees_none, refl))))
+      (inr (given_passes (Frees job) found.0 found.1 own.1 1 (inr (own.2, refl)))))
 
   no_refusal : Contains refusal_statuses FAULT → ⊥
   no_refusal among = let bounds = among_refusals FAULT among in let high = bounds.high in omega arith
@@ -94,10 +84,10 @@ module _ (words : List Bytes) (old new : Disk) (before after report report' : Ou
 
   can_run : ProgramsCanRun → (job : FmrunJob) (classes : List ClassDef) → AreChecked (given_of job) old.contents classes → CanRun (job_program job classes)
   can_run law job classes checked =
-      let taken = checked.linked.taken in
-      let spelled = have_spellings classes (taken_spelled taken) in
-      let accepted = taken_accepted taken in
-      law classes (modified job.main) spelled (AllByRecursion-weaker Profile IsSupported (λ c profile. profile.supported) classes accepted) checked.linked.linked (taken_few taken)
+      let source = checked.linked.source in
+      let spelled = have_spellings classes (given_spelled source) in
+      let accepted = given_accepted source in
+      law classes (modified job.main) spelled (AllByRecursion-weaker Profile IsSupported (λ c profile. profile.supported) classes accepted) checked.linked.linked (given_few source)
 
   pub reports_most_held : ProgramsCanRun → MadeIsMostHeld → (result : ℕ) → ReportsMostHeld words old new before after report report' result
   reports_most_held can law result said =

@@ -11,10 +11,11 @@ use Rattle.fm_frames.specs.Reports.{report_of}
 use Rattle.fm_frames.specs.Runs.{after, IsRun}
 use Rattle.fm_frames.specs.States.{Moved, State}
 use Rattle.fm_frames.specs.inner.Doings.{silent}
+use Rattle.fm_load.proofs.GivenLemmas.{Behind, behind, behind_once, given_passes}
 use Rattle.fm_load.proofs.KnownLemmas.{all_taken, bytes_stop, long_stops, not_empty, not_typed}
 use Rattle.fm_load.proofs.VerdictLemmas.{Ends, EndsOnce, Links, Verdict, links_once, one_verdict}
 use Rattle.fm_load.specs.ClassRefusal.{class_refusal_status}
-use Rattle.fm_load.specs.Given.{AreNotLinked, given_program}
+use Rattle.fm_load.specs.Given.{AreGiven, AreNotLinked, given_program}
 use Rattle.fm_load.specs.Taking.{total_bytes, AllTaken, IsTooLong, IsRefused}
 use Rattle.fm_load.specs.declared.refusal.JobRefusal.TheVariants as job_refusal
 use Rattle.fm_run_job.specs.Reading.{IsInputOf}
@@ -91,11 +92,12 @@ Runs classes status = status ≡ DONE
 
 -- the verdict on the class files of a job
 abbrev pub Last : (Bytes → Option Bytes) → FmrunJob → Ends
-Last held job = Inputs (Links Runs (modified job.main)) held job.input
+Last held job = Inputs (Behind job.made (Links Runs (modified job.main))) held job.input
 
 last_once : (held : Bytes → Option Bytes) (job : FmrunJob) → EndsOnce (Last held job)
 last_once held job =
-    inputs_once (Links Runs (modified job.main)) held job.input (links_once Runs (modified job.main) (λ classes s t a b. a ∙ sym b))
+    inputs_once (Behind job.made (Links Runs (modified job.main))) held job.input
+    (behind_once job.made (Links Runs (modified job.main)) (links_once Runs (modified job.main) (λ classes s t a b. a ∙ sym b)))
 
 -- the verdict on its files
 abbrev pub JobVerdict : (Bytes → Option Bytes) → FmrunJob → ℕ → Type 0
@@ -110,14 +112,16 @@ module _ (job : FmrunJob) (old : Disk) (held : Bytes → Option Bytes) (known : 
   passes classes status taken last = inr (inr (record { classes = classes; taken = all_taken job.files old.contents held known classes taken; last = last }))
 
   -- the input is read too
-  pub passes_input : (classes : List ClassDef) (status : ℕ) → AllTaken old.contents job.files classes → HasInput job old.contents → Links Runs (modified job.main) classes status → JobVerdict held job status
-  passes_input classes status taken has rest =
-      passes classes status taken (input_read (Links Runs (modified job.main)) held job.input classes status has.input (input_known has.input has.input_is) rest)
+  pub passes_input : (classes : List ClassDef) (status : ℕ) → AreGiven (given_of job) old.contents classes → HasInput job old.contents → Links Runs (modified job.main) classes status
+      → JobVerdict held job status
+  passes_input classes status are has rest =
+      passes are.read status are.taken (input_read (Behind job.made (Links Runs (modified job.main))) held job.input are.read status has.input (input_known has.input has.input_is)
+      (behind (Links Runs (modified job.main)) are status rest))
 
   -- and the program is run
   pub ready_passes : (classes : List ClassDef) (input : Bytes) → IsReady job old.contents classes input → JobVerdict held job DONE
   ready_passes classes input ready =
-      passes_input classes DONE ready.checked.linked.taken (record { input = input; input_is = ready.input_is }) (inr (ready.checked.linked.linked, inr (ready.checked.typed, refl)))
+      passes_input classes DONE ready.checked.linked.source (record { input = input; input_is = ready.input_is }) (inr (ready.checked.linked.linked, inr (ready.checked.typed, refl)))
 
   module _ (new : Disk) (before after : Output) (few : length (job_arguments job) ≤ MAX_ARGUMENTS) where
     -- the verdict of an outcome, unless it is for a fault or for memory
@@ -135,18 +139,18 @@ module _ (job : FmrunJob) (old : Disk) (held : Bytes → Option Bytes) (known : 
     verdict_of (Err (fail.Refused (job_refusal.TooLong file))) ((_, inl long), same) =
         inl (inr (inl (long_stops job.files old.contents held known file.now long.before long.reaches (known_such old.contents held file.now (IsTooLong (total_bytes long.before)) known long.long))))
     verdict_of (Err (fail.Refused (job_refusal.TooLong file))) ((_, inr long), same) =
-        inl (passes long.classes LIMIT long.taken (input_long (Links Runs (modified job.main)) held job.input long.classes file.now long.named
+        inl (passes long.classes LIMIT long.taken (input_long (Behind job.made (Links Runs (modified job.main))) held job.input long.classes file.now long.named
         (known_such old.contents held file.now (λ bytes. MAX_FILE_BYTES < length bytes) known long.long)))
     verdict_of (Err (fail.Refused (job_refusal.Class file r))) comes =
         let bad = comes.0.1 in
         inl (inr (inl (bytes_stop job.files old.contents held known (class_refusal_status r) file.now bad.before r refl bad.reaches (known_such old.contents held file.now (IsRefused r (total_bytes bad.before)) known bad.refused))))
     verdict_of (Err (fail.Refused (job_refusal.Link link))) comes =
-        let found = Some-from_some_and (refusal_of link) (AreNotLinked (given_of job) old.contents) comes.0.1.1.refused in
+        let found = Some-from_some_and (refusal_of link) (AreNotLinked (given_of job) old new) comes.0.1.1.refused in
         let bad = found.2 in
-        inl (passes_input bad.classes LINK bad.taken comes.0.1.0 (inl (not_empty (refusals bad.classes (modified job.main)) found.0 bad.first, refl)))
+        inl (passes_input bad.classes LINK bad.source comes.0.1.0 (inl (not_empty (refusals bad.classes (modified job.main)) found.0 bad.first, refl)))
     verdict_of (Err (fail.Refused (job_refusal.Check name))) comes =
         let bad = comes.0.1.1 in
-        inl (passes_input bad.classes CHECK bad.linked.taken comes.0.1.0 (inr (bad.linked.linked, inl (not_typed (given_program (given_of job) bad.classes) name bad.untyped, refl))))
+        inl (passes_input bad.classes CHECK bad.linked.source comes.0.1.0 (inr (bad.linked.linked, inl (not_typed (given_program (given_of job) bad.classes) name bad.untyped, refl))))
     verdict_of (Err (fail.Refused (job_refusal.Write name))) comes = absurd comes.0.1
 
     -- files of this verdict have its status, unless there was a fault or memory was lacking
@@ -194,28 +198,20 @@ pub one_end : (job : FmrunJob) (old new : Disk) (before after : Output) (held : 
     → (classes : List ClassDef) (input : Bytes) → IsReady job old.contents classes input → (last : State) (printed : List ℕ)
     → IsRun (job_program job classes) choice job.steps (silent (opened_job job classes input)) (record { state = last; printed = printed }) → t ≡ end_status (report_of last).end → s ≡ t
 one_end job old new before after held known line s t ran classes input ready last printed run is =
-    one_verdict (EndsAs held job) (ends_once held job) held job.files s t
-    (inr (inr (record {
-      classes = ran.classes;
-      taken = all_taken job.files old.contents held known ran.classes ran.ready.checked.linked.taken;
-      last = record {
-        input = ran.input;
-        input_is = input_known job old held known ran.input ran.ready.input_is;
-        last = ran.last;
-        printed = ran.runs.printed;
-        run = ran.runs.run;
-        status_is = ran.status_is;
-      };
-    })))
-    (inr (inr (record {
-      classes = classes;
-      taken = all_taken job.files old.contents held known classes ready.checked.linked.taken;
-      last = record {
-        input = input;
-        input_is = input_known job old held known input ready.input_is;
-        last = last;
-        printed = printed;
-        run = run;
-        status_is = is;
-      };
-    })))
+    one_verdict (Behind job.made (EndsAs held job)) (behind_once job.made (EndsAs held job) (ends_once held job)) held job.files s t
+    (inr (inr (given_passes (EndsAs held job) held known ran.ready.checked.linked.source s (record {
+      input = ran.input;
+      input_is = input_known job old held known ran.input ran.ready.input_is;
+      last = ran.last;
+      printed = ran.runs.printed;
+      run = ran.runs.run;
+      status_is = ran.status_is;
+    }))))
+    (inr (inr (given_passes (EndsAs held job) held known ready.checked.linked.source t (record {
+      input = input;
+      input_is = input_known job old held known input ready.input_is;
+      last = last;
+      printed = printed;
+      run = run;
+      status_is = is;
+    }))))

@@ -1,5 +1,5 @@
 -- What one call of the program does to the files, to its output and to the sink of its report.
-use Rattle.std.specs.Prelude.{◌≡◌, ℕ, ◌<◌, ◌≤◌, ◌⊎◌, List, length, MatchOption, None, Option, Some, Result, Ok, Err, string_bytes}
+use Rattle.std.specs.Prelude.{◌≡◌, ℕ, ◌<◌, ◌≤◌, ◌⊎◌, List, length, MatchOption, None, Option, Some, Result, Ok, Err, string_bytes, ◌++◌}
 use Rattle.fm_base.specs.declared.limits.TheConstants.{MAX_ARGUMENTS, MAX_CLASS_FILES, MAX_FILE_BYTES}
 use Rattle.fm_code.specs.declared.class_file.ClassDef.{ClassDef}
 use Rattle.fm_files.specs.Files.{Bytes, Contents, Disk}
@@ -9,10 +9,11 @@ use Rattle.fm_frames.specs.States.{State}
 use Rattle.fm_load.specs.Given.{AreMany, IsUntouched, IsUnread, IsLong, IsRefusedFile, IsNotLinked, IsNotTyped}
 use Rattle.fm_load.specs.Reading.{ReadsAll}
 use Rattle.fm_load.specs.Refusal.{refusal_line, refusal_status}
+use Rattle.fm_load.specs.Returned.{ReadsUpTo, returned}
 use Rattle.fm_load.specs.Taking.{AllTaken}
 use Rattle.fm_load.specs.declared.refusal.JobRefusal.{JobRefusal}
 use Rattle.fm_load.specs.declared.refusal.JobRefusal.TheVariants as job_refusal
-use Rattle.fm_run_job.specs.Reading.{IsInputOf}
+use Rattle.fm_run_job.specs.Reading.{IsInputOf, and_input}
 use Rattle.fm_link_refusals.specs.Refused.{refusal_of}
 use Rattle.fm_run_job.specs.Reports.{report_line, end_status}
 use Rattle.fm_cli_requests.specs.FmrunRequest.{FmrunJob, Asks, AskNoJob}
@@ -35,7 +36,7 @@ use Rattle.fmrun.specs.declared.program_text.TheConstants.{HELP, VERSION_LINE}
 
 -- ---- what a job does whatever its outcome
 
--- it reads only its files, and no write fails and no contents change
+-- it reads only its files, in their order, writes nothing, and no contents change
 abbrev pub StaysWithin : FmrunJob → Disk → Disk → Type 0
 StaysWithin job = ReadsAll (job_files job)
 
@@ -48,21 +49,25 @@ pub record AreManyArguments (job : FmrunJob) (count : ℕ) (old new : Disk) : Ty
   pub many : MAX_ARGUMENTS < count
   pub kept : new ≡ old
 
--- all class files are taken, and the read of the file of the input failed, and nothing else, and no contents changed
+-- all class files are taken, as their reads returned them, and the read of the file of the input failed, which was the last, and nothing
+-- else, no contents changed, and nothing was written
 pub record IsInputUnread (job : FmrunJob) (file : Bytes) (old new : Disk) : Type 0 where
   pub named : job.input ≡ Some file
   pub classes : List ClassDef
   pub taken : AllTaken old.contents job.files classes
   pub fault : HasReadFault file old new
   pub kept : new.contents ≡ old.contents
+  pub unwritten : new.writes ≡ old.writes
+  pub last : ReadsUpTo job.files classes (record { name = file; bytes = None }) old new
 
--- all class files are taken, and the file of the input is too long, which was seen
+-- all class files are taken, as their reads returned them, and the file of the input is too long, which its read, the last one, saw
 pub record IsInputLong (job : FmrunJob) (file : Bytes) (old new : Disk) : Type 0 where
   pub named : job.input ≡ Some file
   pub classes : List ClassDef
   pub taken : AllTaken old.contents job.files classes
   pub long : HoldsSuch old.contents file (λ bytes. MAX_FILE_BYTES < length bytes)
   pub seen : MAX_FILE_BYTES < new.widest_read file
+  pub last : ReadsUpTo job.files classes (record { name = file; bytes = None }) old new
   pub untouched : IsUntouched old new
 
 -- the input is read
@@ -72,6 +77,10 @@ pub record HasInput (job : FmrunJob) (contents : Contents) : Type 0 where
 
 -- ---- how a job is run
 
+-- the reads returned the bytes of these classes and this input, where a file is named for it, and nothing else was read
+abbrev pub ReadsJob : FmrunJob → List ClassDef → Bytes → Disk → Disk → Type 0
+ReadsJob job classes input old new = new.reads ≡ and_input (old.reads ++ returned job.files classes) job.input input
+
 -- the run was opened with these classes and this input, and reached its end: what it printed went
 -- to the output, each step's bytes in one put, and this is its line and its status. Where no method
 -- of the program calls FreeMe it didn't end in a fault
@@ -79,6 +88,7 @@ pub record HasRun (job : FmrunJob) (line : List ℕ) (status : ℕ) (old new : D
   pub classes : List ClassDef
   pub input : Bytes
   pub ready : IsReady job old.contents classes input
+  pub reads : ReadsJob job classes input old new
   pub last : State
   pub runs : RunsTo (job_program job classes) choice job.steps (opened_job job classes input) last before after
   pub line_is : line ≡ report_line (job_program job classes) (report_of last)
@@ -91,6 +101,7 @@ pub record HasFailed (job : FmrunJob) (old new : Disk) (before after : Output) :
   pub classes : List ClassDef
   pub input : Bytes
   pub ready : IsReady job old.contents classes input
+  pub reads : ReadsJob job classes input old new
   pub fails : FailsRun (job_program job classes) choice job.steps (opened_job job classes input) before after
   pub untouched : IsUntouched old new
 
@@ -99,6 +110,7 @@ pub record HasBroken (job : FmrunJob) (old new : Disk) (before after : Output) :
   pub classes : List ClassDef
   pub input : Bytes
   pub ready : IsReady job old.contents classes input
+  pub reads : ReadsJob job classes input old new
   pub breaks : BreaksRun (job_program job classes) choice job.steps (opened_job job classes input) before after
   pub untouched : IsUntouched old new
 

@@ -15,6 +15,7 @@ pub const HELP: &str = "\
 fmrun runs the class files of a program; memory that FreeMe.free frees serves again.
 
 usage: fmrun [--steps N] [--words N] [--frames N] [--input FILE] [--args TEXT] CLASS FILE...
+       fmrun [..] --make N
 
   --steps N      the budget of steps (100000000)
   --words N      how many words may be live at once (4194304)
@@ -23,6 +24,7 @@ usage: fmrun [--steps N] [--words N] [--frames N] [--input FILE] [--args TEXT] C
   --args TEXT    the arguments of main, a space between each two
   CLASS          the class of the main method, with / between the parts of its name
   FILE...        the class files of the program
+  --make N       a large program that is made, of class G, for N from 1 to 100
   -h, --help     print this help; taken as the only word
   -V, --version  print the version; taken as the only word
 

@@ -1,6 +1,7 @@
 // The program over files and sinks in memory.
 
 mod ends;
+mod made;
 mod rows;
 mod samples;
 mod stores;

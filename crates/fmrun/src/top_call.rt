@@ -23,7 +23,7 @@ use fm_cli_requests::{ProgramText, arguments_of};
 use fm_files::{Files, Sink};
 use fm_law_cells_made::law_most_held;
 use fm_law_linked::law_can_run;
-use fm_load::{JobRefusal, read_classes};
+use fm_load::{JobRefusal, given_classes};
 use fm_run_job::{Budgets, RunReport, read_input};
 use std::alloc::Global;
 
@@ -142,7 +142,7 @@ fn do_words<'a, F: Files, O: Sink>(
     }
 }
 
-// Reads the files, and runs the program where all are taken and make one of typed methods.
+// Reads the files, or makes the class, and runs the program where all are taken and make one of typed methods.
 fn do_job<'a, F: Files, O: Sink>(
     alloc: Global,
     request: FmrunRequest<'a>,
@@ -163,7 +163,7 @@ fn do_job<'a, F: Files, O: Sink>(
     if arguments.len() > MAX_ARGUMENTS as usize {
         return Err(JobFail::Refused(JobRefusal::TooManyArguments(arguments.len())));
     }
-    let classes = read_classes(alloc, names, files)?;
+    let classes = given_classes(alloc, names, request.made, files)?;
     let bytes = read_input(alloc, request.input, files)?;
     let input: &[u8] = &bytes;
     let budgets = Budgets {

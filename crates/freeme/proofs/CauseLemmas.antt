@@ -25,14 +25,14 @@ use Rattle.fm_world.specs.Causes.{Refusal}
 use Rattle.fm_world.specs.Linking.{refusals}
 use Rattle.fm_world.specs.Programs.{program_of}
 use Rattle.fm_load.specs.ClassRefusal.{class_refusal_status}
-use Rattle.fm_load.specs.Given.{AreMany, IsUntouched, AreNotLinked, IsNotLinked, given_program}
+use Rattle.fm_load.specs.Given.{AreGiven, AreMany, IsUntouched, AreNotLinked, IsNotLinked, given_program}
 use Rattle.freeme.specs.Causes.{AskFor, AskForGiven, BecomesAs, IsKnownAs, cause_status, SaysWords, SaysRead, SaysRefused, SaysLimit, SaysLink, SaysCheck, SaysNotFreed, SaysDone, SaysUnwritten, SaysWrite, SaysMemory, LacksLine, IsForWords, IsForRead, IsForBytes, IsForLimit, IsForLink, IsForCheck, IsForRewrite, IsForDone, IsForWrite, IsForMemory, IsFaultless, KeepsContents, ChangesOnly}
 use Rattle.fm_load.specs.Causes.{FailsARead, FailsAWrite, IsMissing, HasTooMany, IsKnownLong, IsKnownRefused, IsKnownUnlinked, IsKnownUntyped}
 use Rattle.fm_load.specs.LinkRefusal.{cause_line}
 use Rattle.fm_cli_requests.specs.FreemeRequest.{FreemeJob, Asks, AskNoJob, AskNothing, AskOnlyForText}
 use Rattle.fm_cli_requests.specs.ProgramText.{AskForNoText}
 use Rattle.freeme.specs.Jobs.{given_of, main_name}
-use Rattle.fm_load.specs.Taking.{total_bytes, AllTaken, IsTooLong, IsRefused}
+use Rattle.fm_load.specs.Taking.{total_bytes, IsTooLong, IsRefused}
 use Rattle.freeme.specs.TopCall.{IsFirstCause, StaysWithin, IsBroken, ComesTo, ComesOfJob, ComesOf, Outcome, outcome_line, outcome_status}
 use Rattle.freeme.specs.Refusal.{rewrite_status}
 use Rattle.freeme.specs.declared.refusal.FreeRefusal.TheVariants as free_refusal
@@ -43,7 +43,8 @@ use Rattle.fm_cli.specs.CommandRefusal.{memory_line}
 use Rattle.freeme.proofs.JobLemmas.{reads_within}
 use Rattle.fm_load.proofs.ReadLemmas.{reads_none}
 use Rattle.fm_cli_requests.proofs.FreemeRequestLemmas.{asks_one}
-use Rattle.fm_load.proofs.KnownLemmas.{all_taken, bytes_stop, long_stops, missing_stops, not_empty, not_typed}
+use Rattle.fm_load.proofs.GivenLemmas.{Behind, behind_once, given_passes}
+use Rattle.fm_load.proofs.KnownLemmas.{bytes_stop, long_stops, missing_stops, not_empty, not_typed}
 use Rattle.fm_load.proofs.RefusalLemmas.{class_status}
 use Rattle.fm_load.proofs.VerdictLemmas.{Ends, EndsOnce, Links, links_once, Verdict, one_verdict}
 
@@ -182,25 +183,32 @@ fails_so words old new o (inl j) = job_fails j.job old new o j.comes
 fails_so words old new o (inr (inl nothing)) = inl (no_fault_where_same old new nothing.kept)
 fails_so words old new o (inr (inr lacking)) = inl (no_fault_where_same old new lacking.kept)
 
--- contents are kept but where classes are written
-job_keeps : (job : FreemeJob) (old new : Disk) (o : Outcome) → ComesTo job old new o → outcome_status o ≢ DONE → outcome_status o ≢ WRITE → outcome_status o ≢ OUT_OF_MEMORY → new.contents ≡ old.contents
+-- contents are kept, and nothing is written,
+abbrev IsUnchanged : Disk → Disk → Type 0
+IsUnchanged old new = (new.contents ≡ old.contents) × (new.writes ≡ old.writes)
+
+unchanged_where_same : (old new : Disk) → new ≡ old → IsUnchanged old new
+unchanged_where_same old new same = (ap (λ (d : Disk). d.contents) same, ap (λ (d : Disk). d.writes) same)
+
+-- but where classes are written
+job_keeps : (job : FreemeJob) (old new : Disk) (o : Outcome) → ComesTo job old new o → outcome_status o ≢ DONE → outcome_status o ≢ WRITE → outcome_status o ≢ OUT_OF_MEMORY → IsUnchanged old new
 job_keeps job old new (Ok lines) comes done write memory = absurd (done refl)
 job_keeps job old new (Err (free_refusal.Job (job_refusal.Shared refusal.Words))) comes done write memory = absurd comes
 job_keeps job old new (Err (free_refusal.Job (job_refusal.TooManyArguments count))) comes done write memory = absurd comes
-job_keeps job old new (Err (free_refusal.Job (job_refusal.Shared (refusal.Read file)))) comes done write memory = comes.kept
-job_keeps job old new (Err (free_refusal.Rewrite cause name)) comes done write memory = comes.untouched.kept
+job_keeps job old new (Err (free_refusal.Job (job_refusal.Shared (refusal.Read file)))) comes done write memory = (comes.kept, comes.unwritten)
+job_keeps job old new (Err (free_refusal.Rewrite cause name)) comes done write memory = (comes.untouched.kept, comes.untouched.unwritten)
 job_keeps job old new (Err (free_refusal.Job (job_refusal.Shared refusal.OutOfMemory))) comes done write memory = absurd (memory refl)
-job_keeps job old new (Err (free_refusal.Job (job_refusal.TooManyFiles count))) comes done write memory = ap (λ d. d.contents) comes.kept
-job_keeps job old new (Err (free_refusal.Job (job_refusal.TooLong file))) comes done write memory = comes.untouched.kept
-job_keeps job old new (Err (free_refusal.Job (job_refusal.Class file r))) comes done write memory = comes.untouched.kept
-job_keeps job old new (Err (free_refusal.Job (job_refusal.Link fail))) comes done write memory = comes.untouched.kept
-job_keeps job old new (Err (free_refusal.Job (job_refusal.Check name))) comes done write memory = comes.untouched.kept
+job_keeps job old new (Err (free_refusal.Job (job_refusal.TooManyFiles count))) comes done write memory = unchanged_where_same old new comes.kept
+job_keeps job old new (Err (free_refusal.Job (job_refusal.TooLong file))) comes done write memory = (comes.untouched.kept, comes.untouched.unwritten)
+job_keeps job old new (Err (free_refusal.Job (job_refusal.Class file r))) comes done write memory = (comes.untouched.kept, comes.untouched.unwritten)
+job_keeps job old new (Err (free_refusal.Job (job_refusal.Link fail))) comes done write memory = (comes.untouched.kept, comes.untouched.unwritten)
+job_keeps job old new (Err (free_refusal.Job (job_refusal.Check name))) comes done write memory = (comes.untouched.kept, comes.untouched.unwritten)
 job_keeps job old new (Err (free_refusal.Job (job_refusal.Write name))) comes done write memory = absurd (write refl)
 
-keeps : (words : List Bytes) (old new : Disk) (o : Outcome) → ComesOf words old new o → outcome_status o ≢ DONE → outcome_status o ≢ WRITE → outcome_status o ≢ OUT_OF_MEMORY → new.contents ≡ old.contents
+keeps : (words : List Bytes) (old new : Disk) (o : Outcome) → ComesOf words old new o → outcome_status o ≢ DONE → outcome_status o ≢ WRITE → outcome_status o ≢ OUT_OF_MEMORY → IsUnchanged old new
 keeps words old new o (inl j) done write memory = job_keeps j.job old new o j.comes done write memory
-keeps words old new o (inr (inl nothing)) done write memory = ap (λ d. d.contents) nothing.kept
-keeps words old new o (inr (inr lacking)) done write memory = ap (λ d. d.contents) lacking.kept
+keeps words old new o (inr (inl nothing)) done write memory = unchanged_where_same old new nothing.kept
+keeps words old new o (inr (inr lacking)) done write memory = unchanged_where_same old new lacking.kept
 
 -- ---- verdicts, where contents are known
 
@@ -258,11 +266,13 @@ found_of main classes fail.NoMemory first = absurd first
 
 -- the verdict on the files of a job
 abbrev JobVerdict : (known found : ℕ) → (Bytes → Option Bytes) → FreemeJob → ℕ → Type 0
-JobVerdict known found held job status = Verdict (Links (Rewrites (main_name job) known found) (main_name job)) held job.files status
+JobVerdict known found held job status = Verdict (Behind job.made (Links (Rewrites (main_name job) known found) (main_name job))) held job.files status
 
 module _ (job : FreemeJob) (old new : Disk) (held : Bytes → Option Bytes) (known : old.contents ≡ Some held) (sought : ℕ) where
-  all_known : (classes : List ClassDef) → AllTaken old.contents job.files classes → AllTaken (Some held) job.files classes
-  all_known = all_taken job.files old.contents held known
+  -- classes that are given, with their outcome
+  given_known : {classes : List ClassDef} → AreGiven (given_of job) old.contents classes → (status : ℕ) → Links (Rewrites (main_name job) sought status) (main_name job) classes status
+      → JobVerdict sought status held job status
+  given_known are status last = inr (inr (given_passes (Links (Rewrites (main_name job) sought status) (main_name job)) held known are status last))
 
   -- the verdict of an outcome, unless it is for a fault or for memory
   abbrev Comes : ℕ → Type 0
@@ -272,51 +282,45 @@ module _ (job : FreemeJob) (old new : Disk) (held : Bytes → Option Bytes) (kno
   verdict_of (Ok lines) comes =
       let freed = comes.freed in
       let made = freed.rewritten in
-      inl (inr (inr (record {
-        classes = freed.classes;
-        taken = all_known freed.classes freed.checked.linked.taken;
-        last = inr (
-          freed.checked.linked.linked,
+      inl (given_known freed.checked.linked.source DONE (inr (
+        freed.checked.linked.linked,
+        inr (
+          freed.checked.typed,
           inr (
-            freed.checked.typed,
-            inr (
-              inr (record {
-                no_call = made.no_call;
-                facts = made.full.facts;
-                exact = made.full.exact;
-                least = made.least;
-                status = ap cause_status made.no_cause;
-              }),
-              refl,
-            ),
+            inr (record {
+              no_call = made.no_call;
+              facts = made.full.facts;
+              exact = made.full.exact;
+              least = made.least;
+              status = ap cause_status made.no_cause;
+            }),
+            refl,
           ),
-        );
-      })))
+        ),
+      )))
   verdict_of (Err (free_refusal.Job (job_refusal.Shared refusal.Words))) comes = absurd comes
   verdict_of (Err (free_refusal.Job (job_refusal.TooManyArguments count))) comes = absurd comes
   verdict_of (Err (free_refusal.Job (job_refusal.Shared (refusal.Read file)))) comes = inr (inl refl)
   verdict_of (Err (free_refusal.Rewrite cause name)) comes =
-      inl (inr (inr (record {
-        classes = comes.classes;
-        taken = all_known comes.classes comes.checked.linked.taken;
-        last = inr (comes.checked.linked.linked, inr (comes.checked.typed, inr (found_of (main_name job) comes.classes cause comes.refused, refl)));
-      })))
+      inl (given_known comes.checked.linked.source (rewrite_status cause)
+      (inr (comes.checked.linked.linked, inr (comes.checked.typed, inr (found_of (main_name job) comes.classes cause comes.refused, refl)))))
   verdict_of (Err (free_refusal.Job (job_refusal.Shared refusal.OutOfMemory))) comes = inr (inr (inr refl))
   verdict_of (Err (free_refusal.Job (job_refusal.TooManyFiles count))) comes = let count = comes.count_is in let many = comes.many in inl (inl (omega arith, refl))
   verdict_of (Err (free_refusal.Job (job_refusal.TooLong file))) comes = inl (inr (inl (long_stops job.files old.contents held known file.now comes.before comes.reaches (known_such old.contents held file.now (IsTooLong (total_bytes comes.before)) known comes.long))))
   verdict_of (Err (free_refusal.Job (job_refusal.Class file r))) comes = inl (inr (inl (bytes_stop job.files old.contents held known (class_refusal_status r) file.now comes.before r refl comes.reaches (known_such old.contents held file.now (IsRefused r (total_bytes comes.before)) known comes.refused))))
   verdict_of (Err (free_refusal.Job (job_refusal.Link fail))) comes =
-      let found = Some-from_some_and (refusal_of fail) (AreNotLinked (given_of job) old.contents) comes.refused in
+      let found = Some-from_some_and (refusal_of fail) (AreNotLinked (given_of job) old new) comes.refused in
       let refused = found.2 in
-      inl (inr (inr (record { classes = refused.classes; taken = all_known refused.classes refused.taken; last = inl (not_empty (refusals refused.classes (main_name job)) found.0 refused.first, refl) })))
-  verdict_of (Err (free_refusal.Job (job_refusal.Check name))) comes = inl (inr (inr (record { classes = comes.classes; taken = all_known comes.classes comes.linked.taken; last = inr (comes.linked.linked, inl (not_typed (given_program (given_of job) comes.classes) name comes.untyped, refl)) })))
+      inl (given_known refused.source LINK (inl (not_empty (refusals refused.classes (main_name job)) found.0 refused.first, refl)))
+  verdict_of (Err (free_refusal.Job (job_refusal.Check name))) comes =
+      inl (given_known comes.linked.source CHECK (inr (comes.linked.linked, inl (not_typed (given_program (given_of job) comes.classes) name comes.untyped, refl))))
   verdict_of (Err (free_refusal.Job (job_refusal.Write name))) comes = inr (inr (inl refl))
 
   own_verdict : (status found : ℕ) → JobVerdict sought found held job status → JobVerdict sought found held job found → status ≡ found
   own_verdict status found verdict own =
       let Rest = Rewrites (main_name job) sought found in
-      let once = links_once Rest (main_name job) (rewrites_once (main_name job) sought found) in
-      one_verdict (Links Rest (main_name job)) once held job.files status found verdict own
+      let once = behind_once job.made (Links Rest (main_name job)) (links_once Rest (main_name job) (rewrites_once (main_name job) sought found)) in
+      one_verdict (Behind job.made (Links Rest (main_name job))) once held job.files status found verdict own
 
   -- files of this verdict have its status, unless there was a fault or memory was lacking
   status_of : (status : ℕ) (o : Outcome) → JobVerdict sought (outcome_status o) held job status → ComesTo job old new o → Contains (status ∷ instead_for_file) (outcome_status o)
@@ -331,8 +335,8 @@ module _ (job : FreemeJob) (old new : Disk) (held : Bytes → Option Bytes) (kno
 
 -- too many files have one status, and memory may be lacking
 many_status : (job : FreemeJob) (old new : Disk) → HasTooMany (given_of job) → (o : Outcome) → ComesTo job old new o → Contains (LIMIT ∷ instead_for_words) (outcome_status o)
-many_status job old new many (Ok lines) comes = absurd (let few = comes.freed.checked.linked.taken.few in omega arith)
-many_status job old new many (Err (free_refusal.Rewrite cause name)) comes = absurd (let few = comes.checked.linked.taken.few in omega arith)
+many_status job old new many (Ok lines) comes = absurd (let few = comes.freed.checked.linked.source.taken.few in omega arith)
+many_status job old new many (Err (free_refusal.Rewrite cause name)) comes = absurd (let few = comes.checked.linked.source.taken.few in omega arith)
 many_status job old new many (Err (free_refusal.Job (job_refusal.Shared refusal.Words))) comes = absurd comes
 many_status job old new many (Err (free_refusal.Job (job_refusal.TooManyArguments count))) comes = absurd comes
 many_status job old new many (Err (free_refusal.Job (job_refusal.Shared (refusal.Read file)))) comes = absurd (let few = comes.reaches.few in omega arith)
@@ -341,8 +345,8 @@ many_status job old new many (Err (free_refusal.Job (job_refusal.TooManyFiles co
 many_status job old new many (Err (free_refusal.Job (job_refusal.TooLong file))) comes = (0, omega arith, refl)
 many_status job old new many (Err (free_refusal.Job (job_refusal.Class file r))) comes = absurd (let few = comes.reaches.few in omega arith)
 many_status job old new many (Err (free_refusal.Job (job_refusal.Link fail))) comes =
-    absurd (let found = Some-from_some_and (refusal_of fail) (AreNotLinked (given_of job) old.contents) comes.refused in let few = found.2.taken.few in omega arith)
-many_status job old new many (Err (free_refusal.Job (job_refusal.Check name))) comes = absurd (let few = comes.linked.taken.few in omega arith)
+    absurd (let found = Some-from_some_and (refusal_of fail) (AreNotLinked (given_of job) old new) comes.refused in let few = found.2.source.taken.few in omega arith)
+many_status job old new many (Err (free_refusal.Job (job_refusal.Check name))) comes = absurd (let few = comes.linked.source.taken.few in omega arith)
 many_status job old new many (Err (free_refusal.Job (job_refusal.Write name))) comes = (1, omega arith, refl)
 
 -- a job isn't refused for its words
@@ -396,29 +400,21 @@ module _ (words : List Bytes) (old new : Disk) (o : Outcome) (comes : ComesOf wo
   untyped_decides : AskForGiven words (IsKnownUntyped old) → Contains (CHECK ∷ instead_for_file) (outcome_status o)
   untyped_decides (job, (asked, cause)) =
       let found = Some-from_is_some old.contents cause.known in
-      decided CHECK job found.0 found.1 asked (inr (inr (record {
-        classes = cause.classes;
-        taken = all_taken job.files old.contents found.0 found.1 cause.classes cause.linked.taken;
-        last = inr (cause.linked.linked, inl (cause.untyped, refl));
-      })))
+      decided CHECK job found.0 found.1 asked (inr (inr
+      (given_passes (Links (Rewrites (main_name job) CHECK (outcome_status o)) (main_name job)) found.0 found.1 cause.linked.source CHECK (inr (cause.linked.linked, inl (cause.untyped, refl))))))
 
   unlinked_decides : AskForGiven words (IsKnownUnlinked old) → Contains (LINK ∷ instead_for_file) (outcome_status o)
   unlinked_decides (job, (asked, cause)) =
       let found = Some-from_is_some old.contents cause.known in
-      decided LINK job found.0 found.1 asked (inr (inr (record {
-        classes = cause.classes;
-        taken = all_taken job.files old.contents found.0 found.1 cause.classes cause.taken;
-        last = inl (cause.refused, refl);
-      })))
+      decided LINK job found.0 found.1 asked (inr (inr
+      (given_passes (Links (Rewrites (main_name job) LINK (outcome_status o)) (main_name job)) found.0 found.1 cause.source LINK (inl (cause.refused, refl)))))
 
   rewriting_decides : (status : ℕ) → AskFor words (IsKnownAs status old) → Contains (status ∷ instead_for_file) (outcome_status o)
   rewriting_decides status (job, (asked, cause)) =
       let found = Some-from_is_some old.contents cause.known in
-      decided status job found.0 found.1 asked (inr (inr (record {
-        classes = cause.classes;
-        taken = all_taken job.files old.contents found.0 found.1 cause.classes cause.checked.linked.taken;
-        last = inr (cause.checked.linked.linked, inr (cause.checked.typed, inl (cause.becomes, refl)));
-      })))
+      decided status job found.0 found.1 asked (inr (inr
+      (given_passes (Links (Rewrites (main_name job) status (outcome_status o)) (main_name job)) found.0 found.1 cause.checked.linked.source status
+      (inr (cause.checked.linked.linked, inr (cause.checked.typed, inl (cause.becomes, refl)))))))
 
   many_decide : AskForGiven words HasTooMany → Contains (LIMIT ∷ instead_for_words) (outcome_status o)
   many_decide (job, (asked, many)) = ⊎_elim
@@ -517,7 +513,7 @@ module _ {words : List Bytes} {old new : Disk} {before after : Output} {result :
     own_line : ComesOf words old new o → outcome_status o ≡ OUT_OF_MEMORY → IsUntouched old new ⊎ AskFor words (λ job. IsBroken job old new)
     own_line (inl j) same = stopped words old new before after o j same
     own_line (inr (inl nothing)) same = absurd (let other = sym same ∙ ap outcome_status nothing.refused in omega arith)
-    own_line (inr (inr lacking)) same = inl (record { faultless = no_fault_where_same old new lacking.kept; kept = ap (λ (d : Disk). d.contents) lacking.kept })
+    own_line (inr (inr lacking)) same = inl (record { faultless = no_fault_where_same old new lacking.kept; kept = ap (λ (d : Disk). d.contents) lacking.kept; unwritten = ap (λ (d : Disk). d.writes) lacking.kept })
 
     go : Tells (outcome_line o) (outcome_status o) before after result → SaysMemory words old new before after ⊎ (LacksLine words old new before after ⊎ AskOnlyForText words)
     go (inl own) =

@@ -16,17 +16,16 @@ use Rattle.fm_code.specs.Spells.{HasSpelling}
 use Rattle.fm_code.specs.declared.class_file.ClassDef.{ClassDef}
 use Rattle.fm_files.specs.Files.{Bytes, Contents, Disk}
 use Rattle.fm_files.specs.Sink.{Output}
-use Rattle.fm_load.proofs.KnownLemmas.{all_taken}
-use Rattle.fm_load.proofs.TakenLemmas.{are_spelled}
+use Rattle.fm_load.proofs.GivenLemmas.{Behind, behind_once, given_passes, given_spelled}
 use Rattle.fm_load.proofs.VerdictLemmas.{Ends, EndsOnce, one_verdict}
-use Rattle.fm_load.specs.Given.{IsUnread}
-use Rattle.fm_load.specs.Taking.{AllTaken, ClassIsSpelled}
+use Rattle.fm_load.specs.Given.{AreGiven, Given, IsUnread}
+use Rattle.fm_load.specs.Taking.{ClassIsSpelled}
 use Rattle.fm_rewrite.specs.FreeCalls.{first_call}
 use Rattle.fm_world.specs.Programs.{program_of}
 use Rattle.freeme.proofs.WrittenLemmas.{names_same}
 use Rattle.freeme.specs.Causes.{AskFor, BecomesAs, IsForDone, IsForRead, IsForWrite, IsKnownAs, SaysRead, SaysWrite, cause_status}
 use Rattle.freeme.specs.Complete.{CanBeDone, IsComplete, NothingFails}
-use Rattle.freeme.specs.Jobs.{main_name}
+use Rattle.freeme.specs.Jobs.{given_of, main_name}
 use Rattle.freeme.specs.TopCall.{IsUnwritten}
 use Rattle.freeme.specs.Writing.{IsFileOf, class_text, file_name, written_name}
 
@@ -61,16 +60,15 @@ sorted_once P classes s t (inl a) (inr b) = absurd (b.0 a.0)
 sorted_once P classes s t (inr a) (inl b) = absurd (a.0 b.0)
 sorted_once P classes s t (inr a) (inr b) = a.1 ∙ sym b.1
 
--- where contents are known, files are taken as classes of one sort
-one_sort : (P : List ClassDef → Type 0) (files : List Bytes) (contents : Contents) → IsSome contents → (these others : List ClassDef)
-    → AllTaken contents files these → AllTaken contents files others → P these → ¬ P others → ⊥
-one_sort P files contents known these others taken also holds fails =
+-- where contents are known, the classes that are given are of one sort
+one_sort : (P : List ClassDef → Type 0) (given : Given) (contents : Contents) → IsSome contents → (these others : List ClassDef)
+    → AreGiven given contents these → AreGiven given contents others → P these → ¬ P others → ⊥
+one_sort P given contents known these others are also holds fails =
     let held = Some-from_is_some contents known in
-    let first = all_taken files contents held.0 held.1 these taken in
-    let second = all_taken files contents held.0 held.1 others also in
     let unlike : DONE ≢ WRITE = λ is. omega arith in
-    unlike (one_verdict (Sorts P) (sorted_once P) held.0 files DONE WRITE (inr (inr (record { classes = these; taken = first; last = inl (holds, refl) })))
-    (inr (inr (record { classes = others; taken = second; last = inr (fails, refl) }))))
+    unlike (one_verdict (Behind given.made (Sorts P)) (behind_once given.made (Sorts P) (sorted_once P)) held.0 given.files DONE WRITE
+    (inr (inr (given_passes (Sorts P) held.0 held.1 are DONE (inl (holds, refl)))))
+    (inr (inr (given_passes (Sorts P) held.0 held.1 also WRITE (inr (fails, refl))))))
 
 -- the files of classes are those of their names
 files_named : (folder : Bytes) (classes : List ClassDef) → map (file_name folder) (map class_text classes) ≡ map (written_name folder) classes
@@ -104,7 +102,7 @@ module _ {words : List Bytes} {old new : Disk} {before after : Output} (job : Fr
     spelled : AllByRecursion HasSpelling given
     spelled =
         AllByRecursion-weaker ClassIsSpelled HasSpelling (λ c spells. (class_bytes c, spells)) given
-        (are_spelled old.contents job.files given unwritten.freed.checked.linked.taken.taken)
+        (given_spelled unwritten.freed.checked.linked.source)
 
     files : map (written_name job.folder) made ≡ map (written_name job.folder) given
     files =
@@ -128,7 +126,7 @@ module _ {words : List Bytes} {old new : Disk} {before after : Output} (job : Fr
     fails_here kept = let low = kept name here in let rose = unwritten.fails.fault.rose in omega arith
 
     not_unwritten : ⊥
-    not_unwritten = one_sort Kept job.files old.contents can.known classes given can.checked.linked.taken unwritten.freed.checked.linked.taken none.writes fails_here
+    not_unwritten = one_sort Kept (given_of job) old.contents can.known classes given can.checked.linked.source unwritten.freed.checked.linked.source none.writes fails_here
 
   not_write : ¬ SaysWrite words old new before after
   not_write (inl unput) = let rose = unput.fails.fault in let kept = none.puts in omega arith

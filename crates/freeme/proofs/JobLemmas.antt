@@ -1,5 +1,5 @@
 -- What a job leaves after its files are read, and after its classes are written.
-use Rattle.std.proofs.Common.{◌≡◌, ◌≢◌, ◌≤◌, ℕ, ◌+◌, inl, inr, ⊎_elim, List, [], ◌∷◌, length, map, take, Contains, Option, Some, None, IfSome, IsSomeAnd, Bor, Result, Ok, Err, string_bytes, refl, sym, ap, ◌∙◌, subst, arith}
+use Rattle.std.proofs.Common.{◌≡◌, ◌≢◌, ◌≤◌, ℕ, ◌+◌, inl, inr, ⊎_elim, List, [], ◌∷◌, ◌++◌, append-nil, length, map, take, Contains, Option, Some, None, IfSome, IsSomeAnd, Bor, Result, Ok, Err, string_bytes, refl, sym, ap, ◌∙◌, subst, arith}
 use Rattle.std.specs.List.{AllByRecursion, slice_get}
 use Rattle.std.proofs.lemmas.List.{take-map}
 use Rattle.std.proofs.lemmas.List.Elements.{All-contains, All-from_recursion}
@@ -7,10 +7,10 @@ use Rattle.std.proofs.lemmas.Option.{slice_get-map}
 use Rattle.std.specs.Option.{option_map}
 use Rattle.fm_summ_shapes.specs.Analysed.{IsAccepted}
 use Rattle.fm_law_relinked.specs.Again.{SafeClassesLink}
-use Rattle.fm_base.proofs.ListFacts.{AllByRecursion-weaker}
+use Rattle.fm_base.proofs.ListFacts.{AllByRecursion-both, AllByRecursion-weaker}
 use Rattle.fm_base.proofs.OptionFacts.{Some-from_some_and, IsSome-from_some}
 use Rattle.fm_base.proofs.TestFacts.{same_or_other}
-use Rattle.fm_files.specs.Files.{Bytes, Contents, Disk}
+use Rattle.fm_files.specs.Files.{Bytes, Call, Contents, Disk}
 use Rattle.fm_code.specs.ClassBytes.{class_bytes}
 use Rattle.fm_code.specs.ConstantPool.{class_name_at}
 use Rattle.fm_code.specs.Profile.{IsSupported, IsWithinLimits, Profile}
@@ -35,16 +35,17 @@ use Rattle.freeme.proofs.WrittenLemmas.{one_count_each, written_accepted, writte
 use Rattle.freeme.proofs.TakenAgain.{again_taken}
 use Rattle.freeme.proofs.UnheldLemmas.{are_still}
 use Rattle.fm_law_spelled.specs.Names.{AreNew}
-use Rattle.fm_law_spelled.specs.Changed.{IsShort}
-use Rattle.fm_load.specs.Given.{IsFirstUntypedName, IsUntouched, IsNotLinked, IsNotTyped, AreChecked, given_program}
+use Rattle.fm_load.specs.Given.{AreGiven, Given, IsFirstUntypedName, IsMadeAlone, IsUntouched, IsNotLinked, IsNotTyped, AreChecked, given_program, made_classes}
 use Rattle.fm_load.specs.Changes.{RisesOnlyAt, ChangesOnlyAt}
 use Rattle.fm_cli_requests.specs.FreemeRequest.{FreemeJob, job_of}
 use Rattle.freeme.specs.Jobs.{given_of, main_name}
-use Rattle.fm_load.specs.Taking.{AreTaken, ClassIsSpelled}
+use Rattle.fm_load.specs.Taking.{AllTaken, ClassIsSpelled}
 use Rattle.freeme.specs.TopCall.{AreFreed, AreTakenAgain, IsFirstCause, IsNotFreed, StaysWithin, IsDone, ComesTo, told_name}
-use Rattle.freeme.specs.Writing.{HasName, class_text, written_name, class_lines, IsClassFileIn, IsFileOf, AreWritten, AllWritten}
+use Rattle.freeme.specs.Writing.{HasName, class_text, written_name, class_lines, IsClassFileIn, IsFileOf, AreWritten, AllWritten, class_writes}
 use Rattle.fm_load.specs.Judging.{ComesOfProgram}
-use Rattle.fm_load.specs.Reading.{ReadsAll, AreRead}
+use Rattle.fm_load.specs.Reading.{ReadsAll}
+use Rattle.fm_load.specs.Returned.{ReadsAs, ReadsFirst, returned}
+use Rattle.fm_load.specs.inner.Giving.{AreMadeOf}
 use Rattle.freeme.specs.inner.Freeing.{ComesOfFreeing}
 use Rattle.freeme.specs.inner.Writing.{AreApart, KeepsReads, ComesOfClasses}
 use Rattle.freeme.specs.declared.refusal.FreeRefusal.{FreeRefusal}
@@ -53,7 +54,7 @@ use Rattle.fm_load.specs.declared.refusal.JobRefusal.{JobRefusal}
 use Rattle.fm_load.specs.declared.refusal.JobRefusal.TheVariants as job_refusal
 use Rattle.fm_load.proofs.ChangesLemmas.{rises_of_kept, rises_then, changes_of_kept, changes_then, faultless_then, write_fault_then}
 use Rattle.fm_cli_requests.specs.declared.freeme_request.FreemeRequest.{FreemeRequest}
-use Rattle.fm_load.proofs.TakenLemmas.{are_spelled, are_within}
+use Rattle.fm_load.proofs.GivenLemmas.{given_accepted, given_returned, given_short, given_spelled}
 
 -- ---- classes that are taken
 
@@ -63,27 +64,12 @@ have_names classes spelled = AllByRecursion-weaker ClassIsSpelled HasName named 
   named : (c : ClassDef) → ClassIsSpelled c → HasName c
   named c spells = let found = Some-from_some_and (class_name_at c.pool.entries c.this_class) _ spells.this_class in IsSome-from_some (class_name_at c.pool.entries c.this_class) found.0 found.1
 
--- they are accepted, and no longer than a file may be
-accepted_classes : (contents : Contents) (files : List Bytes) (classes : List ClassDef) → AreTaken contents files classes → AllByRecursion IsAccepted classes
-accepted_classes contents [] [] taken = tt
-accepted_classes contents (f ∷ files) (c ∷ classes) taken = (
-  record { spelled = (class_bytes c, taken.0.spelled); within = taken.0.profile.limits; supported = taken.0.profile.supported },
-  accepted_classes contents files classes taken.1,
-)
-accepted_classes contents [] (c ∷ classes) taken = absurd taken
-accepted_classes contents (f ∷ files) [] taken = absurd taken
-
-short_classes : (contents : Contents) (files : List Bytes) (classes : List ClassDef) → AreTaken contents files classes → AllByRecursion IsShort classes
-short_classes contents [] [] taken = tt
-short_classes contents (f ∷ files) (c ∷ classes) taken = (taken.0.short, short_classes contents files classes taken.1)
-short_classes contents [] (c ∷ classes) taken = absurd taken
-short_classes contents (f ∷ files) [] taken = absurd taken
-
-have_profiles : (contents : Contents) (files : List Bytes) (classes : List ClassDef) → AreTaken contents files classes → AllByRecursion Profile classes
-have_profiles contents [] [] taken = tt
-have_profiles contents (f ∷ files) (c ∷ classes) taken = (taken.0.profile, have_profiles contents files classes taken.1)
-have_profiles contents [] (c ∷ classes) taken = absurd taken
-have_profiles contents (f ∷ files) [] taken = absurd taken
+-- they are accepted
+accepted_classes : {given : Given} {contents : Contents} {classes : List ClassDef} → AreGiven given contents classes → AllByRecursion IsAccepted classes
+accepted_classes {given} {contents} {classes} are =
+    AllByRecursion-weaker (λ c. ClassIsSpelled c × Profile c) IsAccepted
+    (λ c both. record { spelled = (class_bytes c, both.0); within = both.1.limits; supported = both.1.supported }) classes
+    (AllByRecursion-both ClassIsSpelled Profile classes (given_spelled are) (given_accepted are))
 
 -- the only bytes that spell a class are its own
 are_spelled_so : (classes : List ClassDef) → AllByRecursion HasSpelling classes → AllByRecursion ClassIsSpelled classes
@@ -102,21 +88,27 @@ apart_of classes new place = at (slice_get classes place) refl where
 
 -- ---- after the files are read
 
-module _ (job : FreemeJob) (old new : Disk) (classes : List ClassDef) (read : AreRead job.files classes old new) (all : ReadsAll job.files old new) where
+module _ (job : FreemeJob) (old new : Disk) (classes : List ClassDef) (source : AreGiven (given_of job) old.contents classes) (faultless : HasNoFileFault old new)
+    (calls : ReadsAs job.files classes old new) (all : ReadsAll job.files old new) where
   -- nothing else was done
   pub read_untouched : IsUntouched old new
-  read_untouched = record { faultless = read.faultless; kept = all.writes.contents }
+  read_untouched = record { faultless = faultless; kept = all.writes.contents; unwritten = all.writes.calls }
+
+  -- nothing else was read
+  read_first : ReadsFirst job.files classes old new
+  read_first = ([], calls ∙ ap (λ (more : List Call). old.reads ++ more) (sym (append-nil (returned job.files classes))))
 
   -- they make no program
   pub is_not_linked : (cause : Option Refusal) → IsSomeAnd cause (λ r. slice_get (refusals classes (main_name job)) 0 ≡ Some r) → IsNotLinked (given_of job) cause old new
   is_not_linked None first = absurd first
-  is_not_linked (Some r) first = record { refused = record { classes = classes; taken = read.taken; first = first }; untouched = read_untouched }
+  is_not_linked (Some r) first = record { refused = record { classes = classes; source = source; reads = read_first; first = first }; untouched = read_untouched }
 
   -- they make a program, of which a method isn't typed
   pub is_not_typed : (name : Bytes) → refusals classes (main_name job) ≡ [] → IsFirstUntypedName (given_program (given_of job) classes) name → IsNotTyped (given_of job) name old new
   is_not_typed name linked untyped = record {
     classes = classes;
-    linked = record { taken = read.taken; linked = linked };
+    linked = record { source = source; linked = linked };
+    reads = read_first;
     untyped = untyped;
     untouched = read_untouched;
   }
@@ -127,6 +119,7 @@ module _ (job : FreemeJob) (old new : Disk) (classes : List ClassDef) (read : Ar
   is_not_freed cause name checked refused is = record {
     classes = classes;
     checked = checked;
+    reads = calls;
     refused = refused;
     name_is = is;
     untouched = read_untouched;
@@ -135,6 +128,7 @@ module _ (job : FreemeJob) (old new : Disk) (classes : List ClassDef) (read : Ar
 pub reads_within : (job : FreemeJob) (old new : Disk) → ReadsAll job.files old new → StaysWithin job old new
 reads_within job old new all = record {
   reads = all.reads;
+  asked = all.asked;
   writes = rises_of_kept (IsClassFileIn job.folder) old.write_faults new.write_faults all.writes.faults;
   contents = changes_of_kept (IsClassFileIn job.folder) old.contents new.contents all.writes.contents;
 }
@@ -194,11 +188,16 @@ module _ (job : FreemeJob) (old between new : Disk) (all : ReadsAll job.files ol
       widest = rises_then (Contains job.files) (λ _. ⊥) (Contains job.files) old.widest_read between.widest_read new.widest_read (λ n there. there) (λ n none. absurd none) all.reads.widest (rises_of_kept (λ _. ⊥) between.widest_read new.widest_read keeps.widest);
       within = λ name. let first = all.reads.within name in let same = keeps.widest name in omega arith;
     };
+    asked = (all.asked.0, keeps.calls ∙ all.asked.1, all.asked.2);
     writes = rises_then (λ _. ⊥) (IsClassFileIn job.folder) (IsClassFileIn job.folder) old.write_faults between.write_faults new.write_faults (λ n none. absurd none) (λ n there. there) (rises_of_kept (λ _. ⊥) old.write_faults between.write_faults all.writes.faults) writes.faults;
     contents = let P : Contents → Type 0 = λ c. ChangesOnlyAt (IsClassFileIn job.folder) c new.contents in subst P same_contents writes.contents;
   }
 
-  module _ (made : Rewritten) (faultless : HasNoFileFault old between) (freed : AreFreed job old.contents made) where
+  -- writes behind none
+  writes_behind : (more : List Call) → new.writes ≡ between.writes ++ more → new.writes ≡ old.writes ++ more
+  writes_behind more now = now ∙ ap (λ (calls : List Call). calls ++ more) all.writes.calls
+
+  module _ (made : Rewritten) (faultless : HasNoFileFault old between) (freed : AreFreed job old.contents made) (calls : ReadsAs job.files freed.classes old between) where
     written : (begun done : List ClassDef) → AreWritten job.folder done begun between.contents new.contents → AreWritten job.folder done begun old.contents new.contents
     written begun done = let P : Contents → Type 0 = λ c. AreWritten job.folder done begun c new.contents in subst P same_contents
 
@@ -207,8 +206,14 @@ module _ (job : FreemeJob) (old between new : Disk) (all : ReadsAll job.files ol
     is_done lines is now = record {
       made = made;
       freed = freed;
-      written = record { written = written made.classes.items made.classes.items now.written; faultless = faultless_then old between new faultless now.faultless };
-      unheld = are_still freed.classes (main_name job) made job.folder job.files old.contents new.contents freed.checked.linked.taken.taken freed.rewritten
+      reads = keeps.calls ∙ calls;
+      written = record {
+        written = written made.classes.items made.classes.items now.written;
+        faultless = faultless_then old between new faultless now.faultless;
+        writes = writes_behind (class_writes job.folder made.classes.items) now.writes;
+      };
+      unheld = are_still freed.classes (main_name job) made job.folder job.files old.contents new.contents freed.checked.linked.source.read (made_classes job.made)
+          freed.checked.linked.source.taken.taken freed.checked.linked.source.classes_are freed.rewritten
           (written made.classes.items made.classes.items now.written).hold;
       lines_are = is;
     }
@@ -218,6 +223,7 @@ module _ (job : FreemeJob) (old between new : Disk) (all : ReadsAll job.files ol
     write_ended (job_refusal.Write name) now = record {
       made = made;
       freed = freed;
+      reads = keeps.calls ∙ calls;
       fails = record {
         count = now.count;
         class = now.class;
@@ -225,39 +231,53 @@ module _ (job : FreemeJob) (old between new : Disk) (all : ReadsAll job.files ol
         name_is = now.name_is;
         written = written (take (now.count + 1) made.classes.items) (take now.count made.classes.items) now.written;
         fault = write_fault_then (string_bytes name) old between new faultless now.fault;
+        writes = writes_behind (class_writes job.folder (take now.count made.classes.items) ++ record { name = string_bytes name; bytes = None } ∷ []) now.writes;
       };
     }
     write_ended (job_refusal.Shared refusal.OutOfMemory) now = inr (record {
       made = made;
       freed = freed;
+      reads = keeps.calls ∙ calls;
       written = record {
         count = now.count;
+        some_left = now.some_left;
         written = written (take now.count made.classes.items) (take now.count made.classes.items) now.written;
         faultless = faultless_then old between new faultless now.faultless;
+        writes = writes_behind (class_writes job.folder (take now.count made.classes.items)) now.writes;
       };
     })
     write_ended r now = absurd now
 
 -- ---- a request whose files are read, by their names and their classes as slices
 
--- the files of the request are these, and these classes were read of them
+-- the files of the request are these, and these classes were given by them
 pub record Reads (request : FreemeRequest) (names : List (Bor Bytes)) (classes : List ClassDef) (old between : Disk) : Type 0 where
   pub files_are : map (λ n. n.now) names ≡ (job_of request).files
-  pub read : AreRead (job_of request).files classes old between
+  pub source : AreGiven (given_of (job_of request)) old.contents classes
+  pub faultless : HasNoFileFault old between
+  pub calls : ReadsAs (job_of request).files classes old between
   pub all : ReadsAll (job_of request).files old between
 
-pub reads_of : {names : List (Bor Bytes)} {classes items : List ClassDef} {old between : Disk} (request : FreemeRequest) → names ≡ request.files.items → classes ≡ items
-    → ReadsAll (map (λ n. n.now) names) old between → AreRead (map (λ n. n.now) names) items old between → Reads request names classes old between
-reads_of {names} {classes} {items} {old} {between} request same lent all read =
+pub reads_of : {names : List (Bor Bytes)} {classes items : List ClassDef} {old between : Disk} (request : FreemeRequest) → IsMadeAlone (given_of (job_of request))
+    → names ≡ request.files.items → classes ≡ items → ReadsAll (map (λ n. n.now) names) old between → AreMadeOf (map (λ n. n.now) names) request.made items old between
+    → Reads request names classes old between
+reads_of {names} {classes} {items} {old} {between} request alone same lent all made =
     let files : map (λ n. n.now) names ≡ (job_of request).files = ap (map (λ n. n.now)) same in
-    let P : List Bytes → Type 0 = λ fs. AreRead fs classes old between in
-    let Q : List ClassDef → Type 0 = λ cs. AreRead (map (λ n. n.now) names) cs old between in
+    let P : List Bytes → Type 0 = λ fs. AllTaken old.contents fs made.read in
+    let Q : List Bytes → Type 0 = λ fs. ReadsAs fs made.read old between in
     let R : List Bytes → Type 0 = λ fs. ReadsAll fs old between in
-    record { files_are = files; read = subst P files (subst Q (sym lent) read); all = subst R files all }
+    let taken = subst P files made.are_read.taken in
+    record {
+      files_are = files;
+      source = record { read = made.read; taken = taken; alone = alone; classes_are = lent ∙ made.classes_are };
+      faultless = made.are_read.faultless;
+      calls = subst Q files made.are_read.reads ∙ ap (λ (calls : List Call). old.reads ++ calls) (given_returned old.contents (job_of request).files made.read classes request.made taken.taken (lent ∙ made.classes_are));
+      all = subst R files all;
+    }
 
 module _ {request : FreemeRequest} {names : List (Bor Bytes)} {classes : List ClassDef} {old between : Disk} (reads : Reads request names classes old between) where
   pub spelled : AllByRecursion ClassIsSpelled classes
-  spelled = are_spelled old.contents (job_of request).files classes reads.read.taken.taken
+  spelled = given_spelled reads.source
 
   pub named : AllByRecursion HasName classes
   named = have_names classes spelled
@@ -267,37 +287,37 @@ module _ {request : FreemeRequest} {names : List (Bor Bytes)} {classes : List Cl
   ends_read = reads_within (job_of request) old between reads.all
 
   pub within : AllByRecursion IsWithinLimits classes
-  within = are_within old.contents (job_of request).files classes reads.read.taken.taken
+  within = AllByRecursion-weaker Profile IsWithinLimits (λ c profile. profile.limits) classes (given_accepted reads.source)
 
   -- or a program of which a method isn't typed
   pub ends_refused : (r : JobRefusal) → ComesOfProgram classes (main_name (job_of request)) (Err r) → ComesTo (job_of request) old between (Err (free_refusal.Job r))
-  ends_refused (job_refusal.Link fail) now = is_not_linked (job_of request) old between classes reads.read reads.all (refusal_of fail) now
-  ends_refused (job_refusal.Check name) now = is_not_typed (job_of request) old between classes reads.read reads.all name now.0 now.1
-  ends_refused (job_refusal.Shared refusal.OutOfMemory) now = inl (read_untouched (job_of request) old between classes reads.read reads.all)
+  ends_refused (job_refusal.Link fail) now = is_not_linked (job_of request) old between classes reads.source reads.faultless reads.calls reads.all (refusal_of fail) now
+  ends_refused (job_refusal.Check name) now = is_not_typed (job_of request) old between classes reads.source reads.faultless reads.calls reads.all name now.0 now.1
+  ends_refused (job_refusal.Shared refusal.OutOfMemory) now = inl (read_untouched (job_of request) old between classes reads.source reads.faultless reads.calls reads.all)
   ends_refused r now = absurd now
 
   -- memory can't be had before anything is written
   pub ends_out_of_memory : ComesTo (job_of request) old between (Err (free_refusal.Job (job_refusal.Shared refusal.OutOfMemory)))
-  ends_out_of_memory = inl (read_untouched (job_of request) old between classes reads.read reads.all)
+  ends_out_of_memory = inl (read_untouched (job_of request) old between classes reads.source reads.faultless reads.calls reads.all)
 
   -- they make a program whose methods are typed
   pub are_checked : {program : Program} → IsLinked classes (main_name (job_of request)) (Ok program) × AreTyped (program_of classes (main_name (job_of request))) → AreChecked (given_of (job_of request)) old.contents classes
-  are_checked (linked, typed) = record { linked = record { taken = reads.read.taken; linked = linked.0 }; typed = typed }
+  are_checked (linked, typed) = record { linked = record { source = reads.source; linked = linked.0 }; typed = typed }
 
   -- the program is that of judged class files
   pub are_judged : {program : Program} → IsLinked classes (main_name (job_of request)) (Ok program) × AreTyped (program_of classes (main_name (job_of request))) → AreJudged classes program
   are_judged (linked, typed) = record {
     main = main_name (job_of request);
     program_is = linked.1;
-    accepted = accepted_classes old.contents (job_of request).files classes reads.read.taken.taken;
+    accepted = accepted_classes reads.source;
     linked = linked.0;
     typed = typed;
   }
 
   -- a program that isn't rewritten
   pub ends_not_freed : AreChecked (given_of (job_of request)) old.contents classes → (r : FreeRefusal) → ComesOfFreeing classes (main_name (job_of request)) (Err r) → ComesTo (job_of request) old between (Err r)
-  ends_not_freed checked (free_refusal.Rewrite cause name) now = is_not_freed (job_of request) old between classes reads.read reads.all cause name checked now.0 now.1
-  ends_not_freed checked (free_refusal.Job (job_refusal.Shared refusal.OutOfMemory)) now = inl (read_untouched (job_of request) old between classes reads.read reads.all)
+  ends_not_freed checked (free_refusal.Rewrite cause name) now = is_not_freed (job_of request) old between classes reads.source reads.faultless reads.calls reads.all cause name checked now.0 now.1
+  ends_not_freed checked (free_refusal.Job (job_refusal.Shared refusal.OutOfMemory)) now = inl (read_untouched (job_of request) old between classes reads.source reads.faultless reads.calls reads.all)
   ends_not_freed checked r now = absurd now
 
   -- the classes that are rewritten, with what is reported of them
@@ -306,7 +326,7 @@ module _ {request : FreemeRequest} {names : List (Bor Bytes)} {classes : List Cl
     judged = record {
       main = main_name (job_of request);
       program_is = refl;
-      accepted = accepted_classes old.contents (job_of request).files classes reads.read.taken.taken;
+      accepted = accepted_classes reads.source;
       linked = checked.linked.linked;
       typed = checked.typed;
     }
@@ -314,7 +334,7 @@ module _ {request : FreemeRequest} {names : List (Bor Bytes)} {classes : List Cl
     made_spelled : AllByRecursion ClassIsSpelled made.classes.items
     made_spelled =
         are_spelled_so made.classes.items
-        (written_spelled classes (main_name (job_of request)) made judged (short_classes old.contents (job_of request).files classes reads.read.taken.taken) rewritten)
+        (written_spelled classes (main_name (job_of request)) made judged (given_short reads.source) rewritten)
 
     taken_again : SafeClassesLink → SafeClassesAreTyped → AreTakenAgain classes (main_name (job_of request)) made rewritten
     taken_again link retype =
@@ -323,7 +343,7 @@ module _ {request : FreemeRequest} {names : List (Bor Bytes)} {classes : List Cl
 
     made_profiles : AllByRecursion Profile made.classes.items
     made_profiles =
-        written_accepted classes (main_name (job_of request)) made judged (have_profiles old.contents (job_of request).files classes reads.read.taken.taken) rewritten
+        written_accepted classes (main_name (job_of request)) made judged (given_accepted reads.source) rewritten
 
     does_the_same : CheckedAreTaken → ClassesDoTheSame → DoesTheSame classes (main_name (job_of request)) made.classes.items rewritten.marks rewritten.full
     does_the_same taken same =
@@ -332,7 +352,7 @@ module _ {request : FreemeRequest} {names : List (Bor Bytes)} {classes : List Cl
         (AllByRecursion-weaker ClassIsSpelled HasSpelling (λ c spells. (class_bytes c, spells)) made.classes.items made_spelled)
         (AllByRecursion-weaker Profile IsSupported (λ c profile. profile.supported) made.classes.items made_profiles)
 
-    freed : SafeClassesLink → SafeClassesAreTyped → CheckedAreTaken → ClassesDoTheSame → AreFreed (job_of request) old.contents made
+    abbrev freed : SafeClassesLink → SafeClassesAreTyped → CheckedAreTaken → ClassesDoTheSame → AreFreed (job_of request) old.contents made
     freed link retype taken same = record {
       classes = classes;
       checked = checked;
@@ -367,10 +387,10 @@ module _ {request : FreemeRequest} {names : List (Bor Bytes)} {classes : List Cl
         → IsDone (job_of request) lines old new
     ends_done lines told is now =
         let P : List ClassDef → Type 0 = λ cs. AllWritten request.folder.now cs between new in
-        is_done (job_of request) old between new reads.all keeps made reads.read.faultless (freed checked made rewritten link retype taken same) lines
+        is_done (job_of request) old between new reads.all keeps made reads.faultless (freed checked made rewritten link retype taken same) reads.calls lines
         (is ∙ ap (class_lines written) told ∙ ap (λ (cs : List ClassDef). class_lines cs made.counts.items) lent) (subst P lent now)
 
     pub ends_unwritten : (r : JobRefusal) → ComesOfClasses request.folder.now written between new (Err r) → ComesTo (job_of request) old new (Err (free_refusal.Job r))
     ends_unwritten r now =
         let P : List ClassDef → Type 0 = λ cs. ComesOfClasses request.folder.now cs between new (Err r) in
-        write_ended (job_of request) old between new reads.all keeps made reads.read.faultless (freed checked made rewritten link retype taken same) r (subst P lent now)
+        write_ended (job_of request) old between new reads.all keeps made reads.faultless (freed checked made rewritten link retype taken same) reads.calls r (subst P lent now)

@@ -16,6 +16,7 @@ keeps_meaning words old new before after result done is = by_said (done.only is)
     asked = said.asked;
     classes = said.done.freed.classes;
     checked = said.done.freed.checked;
+    reads = said.done.reads;
     made = said.done.made;
     rewritten = said.done.freed.rewritten;
     written = said.done.written;

@@ -110,7 +110,7 @@ module _ (words : List Bytes) (files : Disk) (before after : Output) (result : �
     go (inr (inr lacking)) = ap (λ (o : Output). o.faults) lacking.1
 
   pub text_kept : KeepsContents files files result
-  text_kept among = refl
+  text_kept among = (refl, refl)
 
   pub text_changes : ChangesOnly words files files
   text_changes = record { asked = λ job has. absurd (no_job job has); unasked = λ none. refl }

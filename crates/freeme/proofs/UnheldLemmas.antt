@@ -68,27 +68,30 @@ holds_still file name before after (Some old) None same held now = tt
 holds_still file name before after (Some old) (Some new) same held now = now ∙ ap Some same ∙ sym held
 
 module _ (plans : Plans) (hold : (method : ℕ) → is_some (plans method) ≡ true → 0 < site_count (plans method)) (folder : Bytes) (old new : Contents) where
-  files_still : (first : ℕ) (files : List Bytes) (classes : List ClassDef) → AreTaken old files classes
-      → AllByRecursion (λ (c : ClassDef). Holds new (written_name folder c) (class_bytes c)) (rewritten_from plans first classes)
-      → AreStill folder files (rewritten_from plans first classes) (counts_from plans first classes) old new
-  files_still first [] [] taken written = tt
-  files_still first (file ∷ files) (c ∷ classes) taken written = (
+  -- of the classes of files, with one more behind them that was not read
+  files_still : (first : ℕ) (files : List Bytes) (read more : List ClassDef) → AreTaken old files read
+      → AllByRecursion (λ (c : ClassDef). Holds new (written_name folder c) (class_bytes c)) (rewritten_from plans first (read ++ more))
+      → AreStill folder files (rewritten_from plans first (read ++ more)) (counts_from plans first (read ++ more)) old new
+  files_still first [] [] more taken written = tt
+  files_still first (file ∷ files) (c ∷ read) more taken written = (
     λ none. holds_still file (written_name folder (rewritten_class plans first c)) (class_bytes c) (class_bytes (rewritten_class plans first c)) old new
         (ap class_bytes (class_still plans hold first c none)) taken.0.holds written.0,
-    files_still (first + length c.methods) files classes taken.1 written.1,
+    files_still (first + length c.methods) files read more taken.1 written.1,
   )
-  files_still first [] (c ∷ classes) taken written = absurd taken
-  files_still first (file ∷ files) [] taken written = absurd taken
+  files_still first [] (c ∷ read) more taken written = absurd taken
+  files_still first (file ∷ files) [] more taken written = absurd taken
 
 -- the classes of which no site is held are written byte for byte as they were read
-pub are_still : (given : List ClassDef) (main : List ℕ) (made : Rewritten) (folder : Bytes) (files : List Bytes) (old new : Contents) → AreTaken old files given
-    → AreRewritten given main made → AllByRecursion (λ (c : ClassDef). Holds new (written_name folder c) (class_bytes c)) made.classes.items
+pub are_still : (given : List ClassDef) (main : List ℕ) (made : Rewritten) (folder : Bytes) (files : List Bytes) (old new : Contents) (read more : List ClassDef)
+    → AreTaken old files read → given ≡ read ++ more → AreRewritten given main made → AllByRecursion (λ (c : ClassDef). Holds new (written_name folder c) (class_bytes c)) made.classes.items
     → AreStill folder files made.classes.items made.counts.items old new
-are_still given main made folder files old new taken are written =
+are_still given main made folder files old new read more taken given_is are written =
     let p = program_of given main in
     let plans = full_plans p are.full.facts in
     let P : List ClassDef → Type 0 = AllByRecursion (λ (c : ClassDef). Holds new (written_name folder c) (class_bytes c)) in
-    let now = subst P are.full.written_is written in
-    let all = files_still plans (plans_hold p are.full.facts) folder old new first_given files given taken now in
+    let now = subst P (are.full.written_is ∙ ap (rewritten_from plans first_given) given_is) written in
+    let first = files_still plans (plans_hold p are.full.facts) folder old new first_given files read more taken now in
+    let Still : List ClassDef → Type 0 = λ cs. AreStill folder files (rewritten_from plans first_given cs) (counts_from plans first_given cs) old new in
+    let all = subst Still (sym given_is) first in
     subst (λ (classes : List ClassDef). AreStill folder files classes made.counts.items old new) (sym are.full.written_is)
     (subst (λ (counts : List Count). AreStill folder files (rewritten_from plans first_given given) counts old new) (sym are.counts_are) all)

@@ -1,10 +1,11 @@
 -- Classes that are written one after the other.
-use Rattle.std.proofs.Common.{◌≡◌, ◌≤◌, ℕ, ◌+◌, List, [], ◌∷◌, ◌++◌, codes, length, map, take, Contains, Err, Some, IfSome, string_bytes, refl, sym, ap, ◌∙◌, subst, arith, length-append}
+use Rattle.std.proofs.Common.{◌≡◌, ◌<◌, ◌≤◌, ℕ, ◌+◌, List, [], ◌∷◌, ◌++◌, codes, length, map, take, Contains, Err, Some, IfSome, string_bytes, refl, sym, ap, ◌∙◌, subst, arith, length-append, append-nil, None}
 use Rattle.std.specs.List.{AllByRecursion, slice_get}
 use Rattle.std.proofs.lemmas.List.{map_push, take_all}
+use Rattle.std.proofs.lemmas.Option.{slice_get_within}
 use Rattle.std.proofs.lemmas.List.Elements.{Contains-append_left, Contains-append_right}
 use Rattle.fm_base.proofs.ListFacts.{same_parts, same_tail}
-use Rattle.fm_files.specs.Files.{Bytes, Contents, Disk, OthersAreKept, Holds}
+use Rattle.fm_files.specs.Files.{Bytes, Call, Contents, Disk, OthersAreKept, Holds}
 use Rattle.fm_code.specs.ClassBytes.{class_bytes}
 use Rattle.fm_code.specs.declared.class_file.ClassDef.{ClassDef}
 use Rattle.fm_cli.specs.Outside.{HasWriteFault}
@@ -13,10 +14,11 @@ use Rattle.fm_load.specs.declared.refusal.JobRefusal.{JobRefusal}
 use Rattle.fm_load.specs.declared.refusal.JobRefusal.TheVariants as job_refusal
 use Rattle.fm_load.specs.Changes.{ChangesOnlyAt}
 use Rattle.fm_load.specs.Given.{IsUntouched}
-use Rattle.freeme.specs.Writing.{class_text, file_name, written_name, IsFileOf, AllWritten, SomeWritten, FailsToWrite}
+use Rattle.freeme.specs.Writing.{class_text, file_name, written_name, IsFileOf, AllWritten, SomeWritten, FailsToWrite, class_write, class_writes}
 use Rattle.freeme.specs.inner.Writing.{AreApart, IsWritten, IsWriteFailed, ComesOfClass, ComesOfClasses}
 use Rattle.fm_load.proofs.ChangesLemmas.{changes_of_kept, changes_then, holds_still, faultless_then, write_fault_then}
 use Rattle.fm_load.proofs.ListLemmas.{take_next, AllByRecursion-next}
+use Rattle.fm_load.proofs.ReadLemmas.{call_behind}
 
 -- ---- names
 
@@ -46,6 +48,10 @@ module _ (folder : Bytes) (classes : List ClassDef) (i : ℕ) (class : ClassDef)
   names_next : map (written_name folder) (take (i + 1) classes) ≡ map (written_name folder) (take i classes) ++ written_name folder class ∷ []
   names_next = ap (map (written_name folder)) (take_next classes i class there) ∙ map_push (written_name folder) (take i classes) class
 
+  -- their writes, and one more
+  writes_next : class_writes folder (take (i + 1) classes) ≡ class_writes folder (take i classes) ++ class_write folder class ∷ []
+  writes_next = ap (class_writes folder) (take_next classes i class there) ∙ map_push (class_write folder) (take i classes) class
+
   among_next : (name : Bytes) → IsFileOf folder (take i classes) name → IsFileOf folder (take (i + 1) classes) name
   among_next name among =
       let Has : List Bytes → Type 0 = λ names. Contains names name in
@@ -74,6 +80,9 @@ module _ (folder : Bytes) (classes : List ClassDef) (i : ℕ) (class : ClassDef)
         others = changes_next old.contents between.contents new.contents before.written.others now.others;
       };
       faultless = faultless_then old between new before.faultless now.faultless;
+      writes =
+          call_behind old.writes between.writes new.writes (class_writes folder (take i classes)) (class_write folder class) before.writes now.writes
+          ∙ ap (λ (calls : List Call). old.writes ++ calls) (sym writes_next);
     }
 
     -- its write failed
@@ -88,17 +97,22 @@ module _ (folder : Bytes) (classes : List ClassDef) (i : ℕ) (class : ClassDef)
         others = changes_next old.contents between.contents new.contents before.written.others now.others;
       };
       fault = let Fault : Bytes → Type 0 = λ n. HasWriteFault n old new in subst Fault (sym same) (write_fault_then (written_name folder class) old between new before.faultless now.fault);
+      writes =
+          let Fails : Bytes → Type 0 = λ n. new.writes ≡ old.writes ++ (class_writes folder (take i classes) ++ record { name = n; bytes = None } ∷ []) in
+          subst Fails (sym same) (call_behind old.writes between.writes new.writes (class_writes folder (take i classes)) (record { name = written_name folder class; bytes = None }) before.writes now.writes);
     }
 
 -- memory couldn't be had for the next one
-pub write_stops : (folder : Bytes) (classes : List ClassDef) (i : ℕ) (old between new : Disk) → AllWritten folder (take i classes) old between → IsUntouched between new → SomeWritten folder classes old new
-write_stops folder classes i old between new before now = record {
+pub write_stops : (folder : Bytes) (classes : List ClassDef) (i : ℕ) (old between new : Disk) → i < length classes → AllWritten folder (take i classes) old between → IsUntouched between new → SomeWritten folder classes old new
+write_stops folder classes i old between new left before now = record {
   count = i;
+  some_left = left;
   written = record {
     hold = let P : Contents → Type 0 = λ contents. AllByRecursion (λ c. Holds contents (written_name folder c) (class_bytes c)) (take i classes) in subst P (sym now.kept) before.written.hold;
     others = let P : Contents → Type 0 = λ contents. ChangesOnlyAt (IsFileOf folder (take i classes)) old.contents contents in subst P (sym now.kept) before.written.others;
   };
   faultless = faultless_then old between new before.faultless now.faultless;
+  writes = now.unwritten ∙ before.writes;
 }
 
 -- none is written yet, and all are
@@ -106,6 +120,7 @@ pub none_written : (folder : Bytes) (classes : List ClassDef) (disk : Disk) → 
 none_written folder classes disk = record {
   written = record { hold = tt; others = changes_of_kept (IsFileOf folder (take 0 classes)) disk.contents disk.contents refl };
   faultless = record { reads = λ name. refl; writes = λ name. refl };
+  writes = sym (append-nil disk.writes);
 }
 
 pub all_written : (folder : Bytes) (classes : List ClassDef) (i : ℕ) (old new : Disk) → length classes ≤ i → AllWritten folder (take i classes) old new → AllWritten folder classes old new
@@ -115,5 +130,5 @@ all_written folder classes i old new all written = let P : List ClassDef → Typ
 pub write_ends : {old between : Disk} (new : Disk) (folder : Bytes) (classes : List ClassDef) (i : ℕ) (class : ClassDef) → slice_get classes i ≡ Some class → AreApart classes → (r : JobRefusal) →
     AllWritten folder (take i classes) old between → ComesOfClass folder class between new (Err r) → ComesOfClasses folder classes old new (Err r)
 write_ends {old} {between} new folder classes i class there apart (job_refusal.Write name) before now = write_fails folder classes i class there apart (string_bytes name) old between new now.0 before now.1
-write_ends {old} {between} new folder classes i class there apart (job_refusal.Shared refusal.OutOfMemory) before now = write_stops folder classes i old between new before now
+write_ends {old} {between} new folder classes i class there apart (job_refusal.Shared refusal.OutOfMemory) before now = write_stops folder classes i old between new (slice_get_within classes i class there) before now
 write_ends {old} {between} new folder classes i class there apart r before now = absurd now

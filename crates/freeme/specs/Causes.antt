@@ -263,10 +263,11 @@ abbrev pub IsFaultless : Disk → Disk → Output → Output → ℕ → Type 0
 IsFaultless old new before after result =
     Contains (DONE ∷ WORDS ∷ MALFORMED ∷ VERSION ∷ LIMIT ∷ UNSUPPORTED ∷ LINK ∷ CHECK ∷ CALLS_FREE ∷ POOL_FULL ∷ METHOD_TOO_LONG ∷ []) result → HasNoFileFault old new × (after.faults ≡ before.faults)
 
--- a refusal before the first write leaves all contents as they were
+-- a refusal before the first write leaves all contents as they were, and writes nothing
 abbrev pub KeepsContents : Disk → Disk → ℕ → Type 0
 KeepsContents old new result =
-    Contains (WORDS ∷ READ ∷ MALFORMED ∷ VERSION ∷ LIMIT ∷ UNSUPPORTED ∷ LINK ∷ CHECK ∷ CALLS_FREE ∷ POOL_FULL ∷ METHOD_TOO_LONG ∷ []) result → new.contents ≡ old.contents
+    Contains (WORDS ∷ READ ∷ MALFORMED ∷ VERSION ∷ LIMIT ∷ UNSUPPORTED ∷ LINK ∷ CHECK ∷ CALLS_FREE ∷ POOL_FULL ∷ METHOD_TOO_LONG ∷ []) result
+    → (new.contents ≡ old.contents) × (new.writes ≡ old.writes)
 
 -- a job reads only its files and changes no name but those of class files in its folder, and words
 -- that ask for no job leave the files as they were

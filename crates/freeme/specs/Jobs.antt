@@ -8,6 +8,6 @@ use Rattle.fm_load.specs.Given.{Given}
 abbrev pub main_name : FreemeJob → List ℕ
 main_name job = modified job.main
 
--- its class files and its main class
+-- its class files or the class that is made, and its main class
 abbrev pub given_of : FreemeJob → Given
-given_of job = record { files = job.files; main = main_name job }
+given_of job = record { files = job.files; made = job.made; main = main_name job }

@@ -23,6 +23,7 @@ use Rattle.fm_world.specs.Causes.{declared_name, method_text}
 use Rattle.fm_world.specs.Linking.{refusals}
 use Rattle.fm_world.specs.Programs.{class_info, Outline, program_of}
 use Rattle.fm_load.specs.Given.{given_program, IsUntouched, AreMany, IsUnread, IsLong, IsRefusedFile, IsNotLinked, IsNotTyped, AreChecked}
+use Rattle.fm_load.specs.Returned.{ReadsAs, ReadsInOrder}
 use Rattle.fm_load.specs.Taking.{ClassIsSpelled}
 use Rattle.fm_load.specs.Changes.{RisesOnlyAt, ChangesOnlyAt, ReadsOnly}
 use Rattle.freeme.specs.Refusal.{refusal_line, refusal_status}
@@ -39,9 +40,10 @@ use Rattle.fm_load.specs.declared.refusal.JobRefusal.TheVariants as job_refusal
 
 -- ---- what a job does whatever its outcome
 
--- a job reads only its files, and changes no name but those of class files in its folder
+-- a job reads only its files, in their order, and changes no name but those of class files in its folder
 pub record StaysWithin (job : FreemeJob) (old new : Disk) : Type 0 where
   pub reads : ReadsOnly (Contains job.files) old new
+  pub asked : ReadsInOrder job.files old new
   pub writes : RisesOnlyAt (IsClassFileIn job.folder) old.write_faults new.write_faults
   pub contents : ChangesOnlyAt (IsClassFileIn job.folder) old.contents new.contents
 
@@ -72,17 +74,18 @@ abbrev pub HoldsStill : (file name : Bytes) → (old new : Contents) → Type 0
 HoldsStill file name old new = IfSome old (λ before. IfSome new (λ after. after name ≡ before file))
 
 -- of files with the classes that are written of them, and with what is reported of these: each
--- class of which no site is held is written byte for byte as read
+-- class of which no site is held is written byte for byte as read; a class that was made was not read
 abbrev pub AreStill : (folder : Bytes) → List Bytes → List ClassDef → List Count → (old new : Contents) → Type 0
-AreStill folder [] [] [] old new = Unit {0}
+AreStill folder [] classes counts old new = Unit {0}
 AreStill folder (file ∷ files) (c ∷ classes) (count ∷ counts) old new =
     (count.sites ≡ 0 → HoldsStill file (written_name folder c) old new) × AreStill folder files classes counts old new
 AreStill folder files classes counts old new = ⊥
 
--- they are written, and these are their lines
+-- they are written, of the classes that were read, and these are their lines
 pub record IsDone (job : FreemeJob) (lines : List ℕ) (old new : Disk) : Type 0 where
   pub made : Rewritten
   pub freed : AreFreed job old.contents made
+  pub reads : ReadsAs job.files freed.classes old new
   pub written : AllWritten job.folder made.classes.items old new
   pub unheld : AreStill job.folder job.files made.classes.items made.counts.items old.contents new.contents
   pub lines_are : lines ≡ class_lines made.classes.items made.counts.items
@@ -91,12 +94,14 @@ pub record IsDone (job : FreemeJob) (lines : List ℕ) (old new : Disk) : Type 0
 pub record IsUnwritten (job : FreemeJob) (name : Bytes) (old new : Disk) : Type 0 where
   pub made : Rewritten
   pub freed : AreFreed job old.contents made
+  pub reads : ReadsAs job.files freed.classes old new
   pub fails : FailsToWrite job.folder made.classes.items name old new
 
--- some of them are written
+-- some of them are written, but not the last one
 pub record IsBroken (job : FreemeJob) (old new : Disk) : Type 0 where
   pub made : Rewritten
   pub freed : AreFreed job old.contents made
+  pub reads : ReadsAs job.files freed.classes old new
   pub written : SomeWritten job.folder made.classes.items old new
 
 -- the method or the class that a cause names, by its name
@@ -116,6 +121,7 @@ IsFirstCause classes main cause = ComesOfRewriting classes main (Err cause)
 pub record IsNotFreed (job : FreemeJob) (cause : RewriteFail) (name : Bytes) (old new : Disk) : Type 0 where
   pub classes : List ClassDef
   pub checked : AreChecked (given_of job) old.contents classes
+  pub reads : ReadsAs job.files classes old new
   pub refused : IsFirstCause classes (main_name job) cause
   pub name_is : name ≡ told_name (given_program (given_of job) classes).outline cause
   pub untouched : IsUntouched old new

@@ -1,8 +1,8 @@
 -- The names and the lines of classes, and what is written of them.
-use Rattle.std.specs.Prelude.{◌≡◌, ℕ, ◌+◌, List, [], ◌∷◌, ◌++◌, codes, map, take, unwrap_or, Contains, Some, IsSome, slice_get}
+use Rattle.std.specs.Prelude.{◌≡◌, ℕ, ◌+◌, ◌<◌, List, [], ◌∷◌, ◌++◌, length, codes, map, take, unwrap_or, Contains, Some, None, IsSome, slice_get}
 use Rattle.std.specs.Fmt.{decimal}
 use Rattle.std.specs.List.{AllByRecursion}
-use Rattle.fm_files.specs.Files.{Bytes, Contents, Disk, Holds}
+use Rattle.fm_files.specs.Files.{Bytes, Call, Contents, Disk, Holds}
 use Rattle.fm_code.specs.ClassBytes.{class_bytes}
 use Rattle.fm_code.specs.ConstantPool.{class_name_at}
 use Rattle.fm_code.specs.declared.class_file.ClassDef.{ClassDef}
@@ -56,18 +56,29 @@ pub record AreWritten (folder : Bytes) (written begun : List ClassDef) (old new 
   pub hold : AllByRecursion (λ c. Holds new (written_name folder c) (class_bytes c)) written
   pub others : ChangesOnlyAt (IsFileOf folder begun) old new
 
--- all classes are written, and nothing failed
+-- the write of a class, of its bytes to its own file
+abbrev pub class_write : Bytes → ClassDef → Call
+class_write folder c = record { name = written_name folder c; bytes = Some (class_bytes c) }
+
+-- one such write of each class
+abbrev pub class_writes : Bytes → List ClassDef → List Call
+class_writes folder classes = map (class_write folder) classes
+
+-- all classes are written, in order and each once, and nothing failed
 pub record AllWritten (folder : Bytes) (classes : List ClassDef) (old new : Disk) : Type 0 where
   pub written : AreWritten folder classes classes old.contents new.contents
   pub faultless : HasNoFileFault old new
+  pub writes : new.writes ≡ old.writes ++ class_writes folder classes
 
--- the first of them are written, and nothing failed
+-- the first of them are written, the last one isn't, and nothing failed
 pub record SomeWritten (folder : Bytes) (classes : List ClassDef) (old new : Disk) : Type 0 where
   pub count : ℕ
+  pub some_left : count < length classes
   pub written : AreWritten folder (take count classes) (take count classes) old.contents new.contents
   pub faultless : HasNoFileFault old new
+  pub writes : new.writes ≡ old.writes ++ class_writes folder (take count classes)
 
--- the first of them are written, and the write of the next one failed, and nothing else
+-- the first of them are written, and the write of the next one failed, which was the last, and nothing else
 pub record FailsToWrite (folder : Bytes) (classes : List ClassDef) (name : Bytes) (old new : Disk) : Type 0 where
   pub count : ℕ
   pub class : ClassDef
@@ -75,3 +86,4 @@ pub record FailsToWrite (folder : Bytes) (classes : List ClassDef) (name : Bytes
   pub name_is : name ≡ written_name folder class
   pub written : AreWritten folder (take count classes) (take (count + 1) classes) old.contents new.contents
   pub fault : HasWriteFault name old new
+  pub writes : new.writes ≡ old.writes ++ (class_writes folder (take count classes) ++ record { name = name; bytes = None } ∷ [])

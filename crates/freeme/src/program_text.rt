@@ -15,10 +15,12 @@ pub const HELP: &str = "\
 freeme writes the class files of a program again, with calls that free what dies young.
 
 usage: freeme --out DIR --main CLASS FILE...
+       freeme --out DIR --make N
 
   --out DIR      write each class as DIR/NAME.class
   --main CLASS   the class of the main method, with / between the parts of its name
   FILE...        the class files of the program
+  --make N       a large program that is made, of class G, for N from 1 to 100
   -h, --help     print this help; taken as the only word
   -V, --version  print the version; taken as the only word
 

@@ -5,6 +5,7 @@ mod checking;
 mod family;
 mod lengths;
 mod linking;
+mod made;
 mod malformed;
 mod refused;
 mod rows;

@@ -6,6 +6,8 @@ ghost use Rattle.fm_cli.specs.declared.status.TheConstants.{MALFORMED, UNSUPPORT
 ghost use Rattle.freeme.specs.Causes.{ChangesOnly, IsFaultless, IsForBytes, IsForCheck, IsForDone, IsForLimit, IsForLink, IsForMemory, IsForRead, IsForRewrite, IsForText, IsForWords, IsForWrite, IsStatus, KeepsContents};
 ghost use Rattle.freeme.specs.Complete.{IsComplete};
 ghost use Rattle.fm_cli_requests.specs.FreemeRequest.{job_of};
+ghost use Rattle.fm_load.specs.Given.{IsMadeAlone};
+ghost use Rattle.freeme.specs.Jobs.{given_of};
 ghost use Rattle.freeme.specs.Meaning.{KeepsMeaning};
 ghost use Rattle.freeme.specs.TopCall.{ComesOf, ComesTo, IsTopCall, StaysWithin, outcome_line, outcome_status};
 ghost use Rattle.freeme.specs.declared.status.TheConstants.{CALLS_FREE, METHOD_TOO_LONG, POOL_FULL};
@@ -25,7 +27,7 @@ use fm_files::{Files, Sink};
 use fm_law_headline::{law_headline, law_taken};
 use fm_law_relinked::law_links;
 use fm_law_retyped::law_typed;
-use fm_load::{JobRefusal, read_classes};
+use fm_load::{JobRefusal, given_classes};
 use fm_rewrite::Count;
 use std::alloc::Global;
 
@@ -104,19 +106,21 @@ fn do_words<'a, F: Files>(
 ) -> Result<String, FreeRefusal<'a>>
     ensures { ComesOf (texts words.now) (F.disk files.old) (F.disk files.new) result }
 {
-    match request_of(alloc, words)? {
+    let asked = request_of(alloc, words)?;
+    match asked {
         Some(request) => do_job(alloc, request, files),
         None => Err(FreeRefusal::Job(JobRefusal::Shared(CommandRefusal::Words))),
     }
 }
 
-// Reads the class files, and writes them with what frees their dead objects, where all are taken and make
-// a program of typed methods that may be rewritten.
+// Reads the class files, or makes the class, and writes them with what frees their dead objects, where all
+// are taken and make a program of typed methods that may be rewritten.
 fn do_job<'a, F: Files>(
     alloc: Global,
     request: FreemeRequest<'a>,
     files: &mut F,
 ) -> Result<String, FreeRefusal<'a>>
+    requires { IsMadeAlone (given_of (job_of request)) }
     ensures within { StaysWithin (job_of request.entry) (F.disk files.old) (F.disk files.new) }
     ensures comes { ComesTo (job_of request.entry) (F.disk files.old) (F.disk files.new) result }
 {
@@ -124,7 +128,7 @@ fn do_job<'a, F: Files>(
     if names.len() > MAX_CLASS_FILES as usize {
         return Err(FreeRefusal::Job(JobRefusal::TooManyFiles(names.len())));
     }
-    let read = read_classes(alloc, names, files)?;
+    let read = given_classes(alloc, names, request.made, files)?;
     let classes: &[ClassDef] = &read;
     let program = judge_program(alloc, classes, request.main)?;
     let made = freed_classes(alloc, &program, classes)?;

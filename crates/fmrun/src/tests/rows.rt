@@ -7,9 +7,9 @@ use fm_test_programs::*;
 use std::alloc::Global;
 use std::test::Fail;
 
-// The status, how the run ends, and the numbers in the order of the line: steps, objects, frees, freed
-// words, live words, peak words and cells made.
-type Report = (u8, &'static str, [u64; 7]);
+/// The status, how the run ends, and the numbers in the order of the line: steps, objects, frees, freed
+/// words, live words, peak words and cells made.
+pub type Report = (u8, &'static str, [u64; 7]);
 
 // A program, the options, what is printed, and the reports of the class files that are read and of those
 // that are written, where they are.
@@ -351,8 +351,8 @@ fn words_for(
     Ok(words)
 }
 
-// The line of a report.
-fn line_of(alloc: Global, report: Report) -> Result<String, NoMemory> {
+/// The line of a report.
+pub fn line_of(alloc: Global, report: Report) -> Result<String, NoMemory> {
     let (_, end, [steps, objects, frees, freed, live, peak, made]) = report;
     let line = format!(in alloc;
         "{end}; steps {steps}, objects {objects}, frees {frees}, freed words {freed}, \

@@ -1,6 +1,6 @@
 -- The result of the write of classes, of one and of all.
-use Rattle.std.specs.Prelude.{◌≡◌, ℕ, List, map, take, Contains, Result, Ok, Err, IfSome, slice_get, string_bytes}
-use Rattle.fm_files.specs.Files.{Bytes, Disk, AreKept, OthersAreKept, Holds}
+use Rattle.std.specs.Prelude.{◌≡◌, ℕ, List, map, take, Contains, Some, None, Result, Ok, Err, IfSome, slice_get, string_bytes}
+use Rattle.fm_files.specs.Files.{Bytes, Disk, AreKept, OthersAreKept, Holds, and_call}
 use Rattle.fm_code.specs.ClassBytes.{class_bytes}
 use Rattle.fm_code.specs.declared.class_file.ClassDef.{ClassDef}
 use Rattle.fm_cli.specs.Outside.{HasNoFileFault, HasWriteFault}
@@ -14,21 +14,24 @@ use Rattle.fm_load.specs.declared.refusal.JobRefusal.TheVariants as job_refusal
 abbrev pub AreApart : List ClassDef → Type 0
 AreApart classes = (place : ℕ) → IfSome (slice_get classes place) (λ c. ¬ Contains (map class_text (take place classes)) (class_text c))
 
--- no read failed, and nothing was seen
+-- nothing was read
 pub record KeepsReads (old new : Disk) : Type 0 where
   pub faults : AreKept old.read_faults new.read_faults
   pub widest : AreKept old.widest_read new.widest_read
+  pub calls : new.reads ≡ old.reads
 
 -- one class is written
 pub record IsWritten (name : Bytes) (class : ClassDef) (old new : Disk) : Type 0 where
   pub holds : Holds new.contents name (class_bytes class)
   pub others : OthersAreKept name old.contents new.contents
   pub faultless : HasNoFileFault old new
+  pub writes : new.writes ≡ and_call old.writes name (Some (class_bytes class))
 
 -- the write of one failed
 pub record IsWriteFailed (name : Bytes) (old new : Disk) : Type 0 where
   pub others : OthersAreKept name old.contents new.contents
   pub fault : HasWriteFault name old new
+  pub writes : new.writes ≡ and_call old.writes name None
 
 -- what comes of the write of one class
 abbrev pub ComesOfClass : Bytes → ClassDef → Disk → Disk → Result Unit JobRefusal → Type 0

@@ -1,6 +1,6 @@
 use Rattle.std.proofs.Common.{[], ◌∷◌, codes}
 use Rattle.clap.specs.Words.{app_of}
-use Rattle.fm_cli_requests.specs.Values.{files_rule, wanted_option_rule}
+use Rattle.fm_cli_requests.specs.Values.{files_rule, option_rule}
 use Rattle.fm_cli_requests.proofs.CommandLemmas.{with_one_more}
 use Rattle.fm_cli_requests.proofs.FreemeRequestLemmas.{is_command}
 use Rattle.fm_cli_requests.proofs.freeme_request.freeme_command.Goals as goal
@@ -8,9 +8,11 @@ use Rattle.fm_cli_requests.proofs.freeme_request.freeme_command.Goals as goal
 pub returns : goal.returns
 returns c =
     let name = codes "freeme" in
-    let out = wanted_option_rule (codes "out") in
-    let main = wanted_option_rule (codes "main") in
+    let out = option_rule (codes "out") in
+    let main = option_rule (codes "main") in
+    let make = option_rule (codes "make") in
     let one = with_one_more name [] out c.command.ensures c.in_ok-arg.ensures c.option.ensures.rule c.option.ensures.local in
     let two = with_one_more name (out ∷ []) main one c.in_ok-arg-2.ensures c.option-2.ensures.rule c.option-2.ensures.local in
-    let three = with_one_more name (out ∷ main ∷ []) files_rule two c.in_ok-command.ensures c.files.ensures.rule c.files.ensures.local in
-    is_command (app_of c.in_ok-command.command) three
+    let three = with_one_more name (out ∷ main ∷ []) make two c.in_ok-arg-3.ensures c.option-3.ensures.rule c.option-3.ensures.local in
+    let four = with_one_more name (out ∷ main ∷ make ∷ []) files_rule three c.in_ok-command.ensures c.files.ensures.rule c.files.ensures.local in
+    is_command (app_of c.in_ok-command.command) four

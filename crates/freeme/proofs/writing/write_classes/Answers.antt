@@ -20,6 +20,7 @@ loop-class-preserved g c =
       keeps = record {
         faults = λ name. c.write_one.ensures.keeps.faults name ∙ c.loop-class.invariant.keeps.faults name;
         widest = λ name. c.write_one.ensures.keeps.widest name ∙ c.loop-class.invariant.keeps.widest name;
+        calls = c.write_one.ensures.keeps.calls ∙ c.loop-class.invariant.keeps.calls;
       };
       written = write_next c.args.folder.now classes c.loop-class.class-index c.class-item.result there c.requires.apart c.loop-class.invariant.written c.in_ok-write_one.ensures.comes;
     }
