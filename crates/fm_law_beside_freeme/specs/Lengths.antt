@@ -1,5 +1,5 @@
 -- What is left to refuse of files that hold class files that are accepted, link and are typed: how long they are.
-use Rattle.std.specs.Prelude.{◌≡◌, ℕ, List, [], ◌∷◌, Option, Some}
+use Rattle.std.specs.Prelude.{◌≡◌, ℕ, List, [], ◌∷◌, Option, Some, None}
 use Rattle.fm_files.specs.Files.{Bytes, Disk}
 use Rattle.fm_code.specs.ClassBytes.{class_bytes}
 use Rattle.fm_code.specs.Profile.{Profile}
