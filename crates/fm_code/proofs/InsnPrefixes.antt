@@ -5,15 +5,8 @@ use Rattle.std.proofs.lemmas.List.{drop-append-le, length-drop}
 use Rattle.std.specs.List.{AllByRecursion}
 use Rattle.std.specs.Option.{option_map}
 use Rattle.fm_code.specs.Numbers.{number_of_two}
-use Rattle.fm_code.specs.InstructionTable.{Reading, malformed, bare, byte, signed_byte, two_bytes, short, signed_short, jump, long_jump, left_out, increment, interface_call, array_of_arrays, new_array, wide_local, wide, padding_at, signed_fours, is_number, table_switch, pairs_of, lookup_switch, switch, constants_and_loads, stores_and_stack, arithmetic, control_and_objects, Row, rows, reading_of, insn_at}
-use Rattle.fm_code.specs.declared.operations.Reg.TheVariants as reg
-use Rattle.fm_code.specs.declared.operations.Elem.TheVariants as elem
-use Rattle.fm_code.specs.declared.operations.Test.TheVariants as test
-use Rattle.fm_code.specs.declared.operations.Op.TheVariants as op
-use Rattle.fm_code.specs.declared.operations.Shift.TheVariants as shift
-use Rattle.fm_code.specs.declared.operations.Conv.TheVariants as conv
+use Rattle.fm_code.specs.InstructionTable.{Reading, malformed, bare, byte, two_bytes, short, signed_short, jump, long_jump, left_out, increment, interface_call, array_of_arrays, new_array, wide_local, wide, padding_at, signed_fours, is_number, table_switch, pairs_of, lookup_switch, switch, constants_and_loads, stores_and_stack, arithmetic, control_and_objects, Row, rows, reading_of, insn_at}
 use Rattle.fm_code.specs.declared.instructions.Insn.{Insn}
-use Rattle.fm_code.specs.declared.instructions.Insn.TheVariants as insn
 use Rattle.fm_base.proofs.ListFacts.{AllByRecursion-append, AllByRecursion-get_or}
 use Rattle.fm_code.proofs.Prefixes.{split_same}
 
@@ -54,9 +47,6 @@ length-byte f offset (a ∷ b ∷ rest) j e = cc
 
 TellsEnd-byte : (f : ℕ → Insn) → TellsEnd (byte f)
 TellsEnd-byte f = TellsEnd-length 1 (byte f) (length-byte f)
-
-TellsEnd-signed_byte : (f : ℤ → Insn) → TellsEnd (signed_byte f)
-TellsEnd-signed_byte f = TellsEnd-length 1 (signed_byte f) (length-byte _)
 
 pub length-two_bytes : (f : ℕ → ℕ → Option Insn) → HasLength 2 (two_bytes f)
 length-two_bytes f offset [] j e = cc
@@ -258,91 +248,30 @@ TellsEnd-switch f tells_count offset x y r s i j x_read y_read e =
     let y_size = length-drop pad y in
     (split_same x y r s (omega arith) e).0
 
--- ---- the table
+TellsEnd-table : TellsEnd (switch table_switch)
+TellsEnd-table = TellsEnd-switch table_switch TellsCount-table
 
-infixr 45 ◌also◌
--- a reading's fact in front of those of the later ones
-◌also◌ : {A B : Type 0} → A → B → A × B
-a also b = (a, b)
+TellsEnd-lookup : TellsEnd (switch lookup_switch)
+TellsEnd-lookup = TellsEnd-switch lookup_switch TellsCount-lookup
+
+-- ---- the table
 
 -- what a row reads is determined by the bytes alone
 abbrev RowTellsEnd : Row → Type 0
 RowTellsEnd row = TellsEnd row.1
 
--- 0 to 53
 TellsEnd-constants_and_loads : AllByRecursion RowTellsEnd constants_and_loads
-TellsEnd-constants_and_loads =
-    TellsEnd-bare insn.Nop also TellsEnd-bare insn.Null also TellsEnd-bare (insn.Const (negsuc 0)) also TellsEnd-bare (insn.Const (pos 0))
-    also TellsEnd-bare (insn.Const (pos 1)) also TellsEnd-bare (insn.Const (pos 2)) also TellsEnd-bare (insn.Const (pos 3))
-    also TellsEnd-bare (insn.Const (pos 4)) also TellsEnd-bare (insn.Const (pos 5)) also TellsEnd-bare (insn.LongConst (pos 0))
-    also TellsEnd-bare (insn.LongConst (pos 1)) also TellsEnd-left_out 11 0 also TellsEnd-left_out 12 0 also TellsEnd-left_out 13 0
-    also TellsEnd-left_out 14 0 also TellsEnd-left_out 15 0 also TellsEnd-signed_byte insn.Const also TellsEnd-signed_short insn.Const
-    also TellsEnd-byte insn.LoadPool also TellsEnd-short insn.LoadPool also TellsEnd-short insn.LoadPool also TellsEnd-byte (insn.Load reg.Int)
-    also TellsEnd-byte (insn.Load reg.Long) also TellsEnd-left_out 23 1 also TellsEnd-left_out 24 1 also TellsEnd-byte (insn.Load reg.Ref)
-    also TellsEnd-bare (insn.Load reg.Int 0) also TellsEnd-bare (insn.Load reg.Int 1) also TellsEnd-bare (insn.Load reg.Int 2)
-    also TellsEnd-bare (insn.Load reg.Int 3) also TellsEnd-bare (insn.Load reg.Long 0) also TellsEnd-bare (insn.Load reg.Long 1)
-    also TellsEnd-bare (insn.Load reg.Long 2) also TellsEnd-bare (insn.Load reg.Long 3) also TellsEnd-left_out 34 0 also TellsEnd-left_out 35 0
-    also TellsEnd-left_out 36 0 also TellsEnd-left_out 37 0 also TellsEnd-left_out 38 0 also TellsEnd-left_out 39 0 also TellsEnd-left_out 40 0
-    also TellsEnd-left_out 41 0 also TellsEnd-bare (insn.Load reg.Ref 0) also TellsEnd-bare (insn.Load reg.Ref 1)
-    also TellsEnd-bare (insn.Load reg.Ref 2) also TellsEnd-bare (insn.Load reg.Ref 3) also TellsEnd-bare (insn.ArrayLoad elem.Int)
-    also TellsEnd-bare (insn.ArrayLoad elem.Long) also TellsEnd-left_out 48 0 also TellsEnd-left_out 49 0 also TellsEnd-bare (insn.ArrayLoad elem.Ref)
-    also TellsEnd-bare (insn.ArrayLoad elem.Byte) also TellsEnd-bare (insn.ArrayLoad elem.Char) also TellsEnd-bare (insn.ArrayLoad elem.Short) also tt
+TellsEnd-constants_and_loads = search (TellsEnd-bare, TellsEnd-left_out, TellsEnd-byte, TellsEnd-short, TellsEnd-signed_short)
 
--- 54 to 95
 TellsEnd-stores_and_stack : AllByRecursion RowTellsEnd stores_and_stack
-TellsEnd-stores_and_stack =
-    TellsEnd-byte (insn.Store reg.Int) also TellsEnd-byte (insn.Store reg.Long) also TellsEnd-left_out 56 1 also TellsEnd-left_out 57 1
-    also TellsEnd-byte (insn.Store reg.Ref) also TellsEnd-bare (insn.Store reg.Int 0) also TellsEnd-bare (insn.Store reg.Int 1)
-    also TellsEnd-bare (insn.Store reg.Int 2) also TellsEnd-bare (insn.Store reg.Int 3) also TellsEnd-bare (insn.Store reg.Long 0)
-    also TellsEnd-bare (insn.Store reg.Long 1) also TellsEnd-bare (insn.Store reg.Long 2) also TellsEnd-bare (insn.Store reg.Long 3)
-    also TellsEnd-left_out 67 0 also TellsEnd-left_out 68 0 also TellsEnd-left_out 69 0 also TellsEnd-left_out 70 0 also TellsEnd-left_out 71 0
-    also TellsEnd-left_out 72 0 also TellsEnd-left_out 73 0 also TellsEnd-left_out 74 0 also TellsEnd-bare (insn.Store reg.Ref 0)
-    also TellsEnd-bare (insn.Store reg.Ref 1) also TellsEnd-bare (insn.Store reg.Ref 2) also TellsEnd-bare (insn.Store reg.Ref 3)
-    also TellsEnd-bare (insn.ArrayStore elem.Int) also TellsEnd-bare (insn.ArrayStore elem.Long) also TellsEnd-left_out 81 0
-    also TellsEnd-left_out 82 0 also TellsEnd-bare (insn.ArrayStore elem.Ref) also TellsEnd-bare (insn.ArrayStore elem.Byte)
-    also TellsEnd-bare (insn.ArrayStore elem.Char) also TellsEnd-bare (insn.ArrayStore elem.Short) also TellsEnd-bare insn.Pop
-    also TellsEnd-bare insn.Pop2 also TellsEnd-bare insn.Dup also TellsEnd-bare insn.DupX1 also TellsEnd-bare insn.DupX2 also TellsEnd-bare insn.Dup2
-    also TellsEnd-bare insn.Dup2X1 also TellsEnd-bare insn.Dup2X2 also TellsEnd-bare insn.Swap also tt
+TellsEnd-stores_and_stack = search (TellsEnd-bare, TellsEnd-left_out, TellsEnd-byte)
 
--- 96 to 152
 TellsEnd-arithmetic : AllByRecursion RowTellsEnd arithmetic
-TellsEnd-arithmetic =
-    TellsEnd-bare (insn.IntOp op.Add) also TellsEnd-bare (insn.LongOp op.Add) also TellsEnd-left_out 98 0 also TellsEnd-left_out 99 0
-    also TellsEnd-bare (insn.IntOp op.Sub) also TellsEnd-bare (insn.LongOp op.Sub) also TellsEnd-left_out 102 0 also TellsEnd-left_out 103 0
-    also TellsEnd-bare (insn.IntOp op.Mul) also TellsEnd-bare (insn.LongOp op.Mul) also TellsEnd-left_out 106 0 also TellsEnd-left_out 107 0
-    also TellsEnd-bare (insn.IntOp op.Div) also TellsEnd-bare (insn.LongOp op.Div) also TellsEnd-left_out 110 0 also TellsEnd-left_out 111 0
-    also TellsEnd-bare (insn.IntOp op.Rem) also TellsEnd-bare (insn.LongOp op.Rem) also TellsEnd-left_out 114 0 also TellsEnd-left_out 115 0
-    also TellsEnd-bare insn.IntNeg also TellsEnd-bare insn.LongNeg also TellsEnd-left_out 118 0 also TellsEnd-left_out 119 0
-    also TellsEnd-bare (insn.IntShift shift.Left) also TellsEnd-bare (insn.LongShift shift.Left) also TellsEnd-bare (insn.IntShift shift.Right)
-    also TellsEnd-bare (insn.LongShift shift.Right) also TellsEnd-bare (insn.IntShift shift.RightZero)
-    also TellsEnd-bare (insn.LongShift shift.RightZero) also TellsEnd-bare (insn.IntOp op.And) also TellsEnd-bare (insn.LongOp op.And)
-    also TellsEnd-bare (insn.IntOp op.Or) also TellsEnd-bare (insn.LongOp op.Or) also TellsEnd-bare (insn.IntOp op.Xor)
-    also TellsEnd-bare (insn.LongOp op.Xor) also TellsEnd-increment also TellsEnd-bare (insn.Convert conv.IntToLong) also TellsEnd-left_out 134 0
-    also TellsEnd-left_out 135 0 also TellsEnd-bare (insn.Convert conv.LongToInt) also TellsEnd-left_out 137 0 also TellsEnd-left_out 138 0
-    also TellsEnd-left_out 139 0 also TellsEnd-left_out 140 0 also TellsEnd-left_out 141 0 also TellsEnd-left_out 142 0 also TellsEnd-left_out 143 0
-    also TellsEnd-left_out 144 0 also TellsEnd-bare (insn.Convert conv.IntToByte) also TellsEnd-bare (insn.Convert conv.IntToChar)
-    also TellsEnd-bare (insn.Convert conv.IntToShort) also TellsEnd-bare insn.LongCompare also TellsEnd-left_out 149 0 also TellsEnd-left_out 150 0
-    also TellsEnd-left_out 151 0 also TellsEnd-left_out 152 0 also tt
+TellsEnd-arithmetic = search (TellsEnd-bare, TellsEnd-left_out, TellsEnd-increment)
 
--- 153 to 201
 TellsEnd-control_and_objects : AllByRecursion RowTellsEnd control_and_objects
 TellsEnd-control_and_objects =
-    TellsEnd-jump (insn.IfInt test.Eq) also TellsEnd-jump (insn.IfInt test.Ne) also TellsEnd-jump (insn.IfInt test.Lt)
-    also TellsEnd-jump (insn.IfInt test.Ge) also TellsEnd-jump (insn.IfInt test.Gt) also TellsEnd-jump (insn.IfInt test.Le)
-    also TellsEnd-jump (insn.IfPair test.Eq) also TellsEnd-jump (insn.IfPair test.Ne) also TellsEnd-jump (insn.IfPair test.Lt)
-    also TellsEnd-jump (insn.IfPair test.Ge) also TellsEnd-jump (insn.IfPair test.Gt) also TellsEnd-jump (insn.IfPair test.Le)
-    also TellsEnd-jump (insn.IfSame true) also TellsEnd-jump (insn.IfSame false) also TellsEnd-jump insn.Goto also TellsEnd-left_out 168 2
-    also TellsEnd-left_out 169 1
-    also TellsEnd-switch table_switch TellsCount-table also TellsEnd-switch lookup_switch TellsCount-lookup
-    also TellsEnd-bare (insn.Return (Some reg.Int))
-    also TellsEnd-bare (insn.Return (Some reg.Long)) also TellsEnd-left_out 174 0 also TellsEnd-left_out 175 0
-    also TellsEnd-bare (insn.Return (Some reg.Ref)) also TellsEnd-bare (insn.Return None) also TellsEnd-short insn.GetStatic
-    also TellsEnd-short insn.PutStatic also TellsEnd-short insn.GetField also TellsEnd-short insn.PutField also TellsEnd-short insn.Virtual
-    also TellsEnd-short insn.Special also TellsEnd-short insn.Static also TellsEnd-interface_call also TellsEnd-left_out 186 4 also TellsEnd-short insn.New
-    also TellsEnd-new_array also TellsEnd-short insn.NewRefs also TellsEnd-bare insn.Length also TellsEnd-bare insn.Throw
-    also TellsEnd-short insn.Cast also TellsEnd-short insn.IsA also TellsEnd-left_out 194 0 also TellsEnd-left_out 195 0 also TellsEnd-wide
-    also TellsEnd-array_of_arrays also TellsEnd-jump (insn.IfNull true) also TellsEnd-jump (insn.IfNull false) also TellsEnd-long_jump insn.Goto
-    also TellsEnd-left_out 201 4 also tt
+    search (TellsEnd-bare, TellsEnd-left_out, TellsEnd-short, TellsEnd-jump, TellsEnd-long_jump, TellsEnd-table, TellsEnd-lookup, TellsEnd-interface_call, TellsEnd-new_array, TellsEnd-wide, TellsEnd-array_of_arrays)
 
 -- each row of the table determines its end
 TellsEnd-rows : AllByRecursion RowTellsEnd rows
