@@ -1,5 +1,5 @@
 -- How many words instructions take off the operand stack (JVMS 2.6.2, 6.5).
-use Rattle.std.specs.Prelude.{ℕ, ◌+◌, Some, None}
+use Rattle.std.specs.Prelude.{ℕ, ◌+◌, Bool, true, false, List, [], ◌∷◌, Some, None}
 use Rattle.fm_code.specs.declared.instructions.Insn.{Insn}
 use Rattle.fm_code.specs.declared.instructions.Insn.TheVariants as insn
 use Rattle.fm_code.specs.declared.operations.Conv.{Conv}
@@ -25,13 +25,50 @@ element_words elem.Int = 1
 element_words elem.Long = 2
 element_words elem.Ref = 1
 
--- the words of the number that is converted (JVMS 6.5.i2l and its like)
-abbrev pub conv_words : Conv → ℕ
-conv_words conv.IntToLong = 1
-conv_words conv.LongToInt = 2
-conv_words conv.IntToByte = 1
-conv_words conv.IntToChar = 1
-conv_words conv.IntToShort = 1
+-- the words of a long, or of an int
+abbrev pub number_words : (is_long : Bool) → ℕ
+number_words true = 2
+number_words false = 1
+
+-- whether a conversion takes a long, and not an int (JVMS 6.5.i2l and its like)
+abbrev pub takes_long : Conv → Bool
+takes_long conv.IntToLong = false
+takes_long conv.LongToInt = true
+takes_long conv.IntToByte = false
+takes_long conv.IntToChar = false
+takes_long conv.IntToShort = false
+
+-- whether a conversion gives a long, and not an int (JVMS 6.5.i2l and its like)
+abbrev pub gives_long : Conv → Bool
+gives_long conv.IntToLong = true
+gives_long conv.LongToInt = false
+gives_long conv.IntToByte = false
+gives_long conv.IntToChar = false
+gives_long conv.IntToShort = false
+
+-- the numbers that an instruction computes with, from the top of the stack: whether each is a long. Others than instructions that take
+-- numbers, give one and do nothing else have none here (JVMS 6.5.iadd and its like)
+abbrev pub numbers_taken : Insn → List Bool
+numbers_taken (insn.IntOp op) = false ∷ false ∷ []
+numbers_taken (insn.LongOp op) = true ∷ true ∷ []
+numbers_taken insn.IntNeg = false ∷ []
+numbers_taken insn.LongNeg = true ∷ []
+numbers_taken (insn.IntShift shift) = false ∷ false ∷ []
+numbers_taken (insn.LongShift shift) = false ∷ true ∷ []
+numbers_taken (insn.Convert to) = takes_long to ∷ []
+numbers_taken insn.LongCompare = true ∷ true ∷ []
+numbers_taken i = []
+
+-- whether the number that such an instruction gives is a long
+abbrev pub number_given : Insn → Bool
+number_given (insn.IntOp op) = false
+number_given (insn.LongOp op) = true
+number_given insn.IntNeg = false
+number_given insn.LongNeg = true
+number_given (insn.IntShift shift) = false
+number_given (insn.LongShift shift) = true
+number_given (insn.Convert to) = gives_long to
+number_given i = false
 
 -- the words that an instruction takes, where the value of the field that it names has `field` words, and the arguments of the method that it
 -- names have `arguments` words with the receiver
@@ -59,7 +96,7 @@ words_taken field arguments insn.IntNeg = 1
 words_taken field arguments insn.LongNeg = 2
 words_taken field arguments (insn.IntShift shift) = 2
 words_taken field arguments (insn.LongShift shift) = 3
-words_taken field arguments (insn.Convert to) = conv_words to
+words_taken field arguments (insn.Convert to) = number_words (takes_long to)
 words_taken field arguments insn.LongCompare = 4
 words_taken field arguments (insn.IfInt test target) = 1
 words_taken field arguments (insn.IfPair test target) = 2

@@ -1,7 +1,7 @@
 // The choices that several instructions have in common (JVMS 6.5).
 
 ghost use Rattle.std.specs.Prelude.{◌≡◌, ◌<◌, ◌≤◌};
-ghost use Rattle.fm_code.specs.StackWords.{conv_words, element_words, reg_words};
+ghost use Rattle.fm_code.specs.StackWords.{element_words, number_words, reg_words, takes_long};
 
 /// What a local variable or a word of the operand stack holds.
 #[derive(Clone, Copy, Debug, PartialEq, Eq, PartialOrd, Ord, Hash)]
@@ -98,13 +98,19 @@ pub enum Conv {
 }
 
 impl Conv {
-    /// The words of the operand stack that the number has that is converted: 2 for a long, else 1.
-    pub fn words_taken(self) -> usize
-        ensures { result ≡ conv_words self }
+    /// Whether a long is converted; else an int is.
+    #[inline(always)]
+    pub fn takes_long(self) -> bool
+        ensures { result ≡ takes_long self }
     {
-        match self {
-            Conv::LongToInt => 2,
-            _ => 1,
-        }
+        matches!(self, Conv::LongToInt)
+    }
+
+    /// The words of the operand stack that the number has that is converted: 2 for a long, else 1.
+    #[inline(always)]
+    pub fn words_taken(self) -> usize
+        ensures { result ≡ number_words (takes_long self) }
+    {
+        if self.takes_long() { 2 } else { 1 }
     }
 }

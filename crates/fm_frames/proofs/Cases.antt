@@ -10,7 +10,7 @@ use Rattle.fm_world.specs.declared.uses.Use.{Use}
 use Rattle.fm_world.specs.declared.uses.Use.TheVariants as resolved
 use Rattle.fm_types.specs.Fits.{fits_type}
 use Rattle.fm_frames.specs.Effects.{Effect, faulty, stuck}
-use Rattle.fm_frames.specs.Operands.{on_any, on_held, on_held_of, on_int, on_int_of, on_long, on_long_of, on_object, on_passing, on_reference, on_reference_of, or_thrown, thrown, thrown_null}
+use Rattle.fm_frames.specs.Operands.{on_any, on_held, on_held_of, on_int, on_int_of, on_long, on_long_of, on_number, on_object, on_passing, on_reference, on_reference_of, or_thrown, thrown, thrown_null}
 use Rattle.fm_frames.specs.Sights.{Gone, Looks, Null, Sight, Thing, Word}
 use Rattle.fm_frames.specs.Uses.{by_type, on_field, on_method, on_type}
 use Rattle.fm_frames.specs.declared.values.Value.TheVariants as value
@@ -33,6 +33,10 @@ module _ (P : Effect → Type 0) where
 
   pub by_long : (sights : List Sight) (operand : ℕ) (k : ℤ → Effect) → P stuck → ((n : ℤ) → P (k n)) → P (on_long sights operand k)
   by_long sights operand k none some = by_long_of (slice_get sights operand) k none some
+
+  pub by_number : (is_long : Bool) (sights : List Sight) (k : ℤ → Effect) → P stuck → ((n : ℤ) → P (k n)) → P (on_number is_long sights k)
+  by_number true sights k none some = by_long sights 1 k none some
+  by_number false sights k none some = by_int sights 0 k none some
 
   by_reference_of : (s : Option Sight) (k : Bool → Effect) → P stuck → ((b : Bool) → P (k b)) → P (on_reference_of s k)
   by_reference_of None k none some = none

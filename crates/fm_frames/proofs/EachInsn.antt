@@ -2,7 +2,6 @@
 use Rattle.std.proofs.Common.{◌≡◌, ℕ, ℤ, pos, ◌+◌, ◌-◌, ◌<◌, ◌||◌, not, Bool, true, false, arith, List, [], ◌∷◌, codes, reverse, length, take, Option, Some, None, option_map, refl, slice_get}
 use Rattle.std.specs.Prelude.{int_lt, unsigned_abs, nat_lt}
 use Rattle.std.specs.List.{AllByRecursion, list_any, range_with_len}
-use Rattle.fm_alu.specs.Operations.{result_of_op}
 use Rattle.fm_base.specs.Kinds.{kind_words}
 use Rattle.fm_base.specs.declared.ids.FieldId.{FieldId}
 use Rattle.fm_base.specs.declared.ids.TypeId.{TypeId}
@@ -11,16 +10,14 @@ use Rattle.fm_base.specs.declared.kinds.Kind.{Kind}
 use Rattle.fm_base.specs.declared.kinds.Kind.TheVariants as kind
 use Rattle.fm_base.specs.declared.kinds.TypeRef.{TypeRef}
 use Rattle.fm_code.specs.SpellsCode.{LocalsFit, targets_of}
-use Rattle.fm_code.specs.StackWords.{element_words}
+use Rattle.fm_code.specs.StackWords.{element_words, number_given}
 use Rattle.fm_code.specs.declared.instructions.Insn.{Insn}
 use Rattle.fm_code.specs.declared.instructions.Insn.TheVariants as insn
-use Rattle.fm_code.specs.declared.operations.Conv.{Conv}
-use Rattle.fm_code.specs.declared.operations.Conv.TheVariants as conv
 use Rattle.fm_code.specs.declared.operations.Elem.{Elem}
 use Rattle.fm_code.specs.declared.operations.Elem.TheVariants as elem
-use Rattle.fm_code.specs.declared.operations.Op.{Op}
 use Rattle.fm_code.specs.declared.operations.Reg.{Reg}
 use Rattle.fm_code.specs.declared.operations.Reg.TheVariants as reg
+use Rattle.fm_types.proofs.EachCheckRow.{is_number, wanted_by}
 use Rattle.fm_types.specs.ArrayRows.{is_array_of}
 use Rattle.fm_types.specs.Fits.{fits_type}
 use Rattle.fm_types.specs.Named.{throwable_type}
@@ -33,15 +30,16 @@ use Rattle.fm_world.specs.declared.uses.Use.TheVariants as resolved
 use Rattle.fm_frames.specs.ArrayRows as arrays
 use Rattle.fm_frames.specs.ArrayRows.{array_actions, element_kind, element_type, on_element, put_element, put_reference}
 use Rattle.fm_frames.specs.CallRows as calls
-use Rattle.fm_frames.specs.Effects.{acting, Effect, Enters, Exits, Falls, Faults, faulty, going, int_word, Jumps, JumpsIfSame, loaded, long_words, Make, MakeLiteral, making, Next, null_word, OfLiteral, OfLocal, OfMade, OfOperand, OfPlace, OfStatic, LocalPlus, Plain, Put, Returns, SetStatic, Source, Throws, words}
+use Rattle.fm_frames.specs.Effects.{acting, Effect, Enters, Exits, Falls, Faults, faulty, given_number, going, int_word, Jumps, JumpsIfSame, loaded, long_words, Make, MakeLiteral, making, Next, null_word, OfLiteral, OfLocal, OfMade, OfOperand, OfPlace, OfStatic, LocalPlus, Plain, Put, Returns, SetStatic, Source, Throws, words}
 use Rattle.fm_frames.specs.JumpRows as jumps
 use Rattle.fm_frames.specs.NumberRows as numbers
 use Rattle.fm_frames.specs.ObjectRows as objects
-use Rattle.fm_frames.specs.Operands.{on_int, on_long, size_of_type, thrown, thrown_null}
+use Rattle.fm_frames.specs.Operands.{size_of_type, thrown, thrown_null}
 use Rattle.fm_frames.specs.Rows.{effect_of}
 use Rattle.fm_frames.specs.Sights.{Looks, Sight, Thing}
 use Rattle.fm_frames.specs.declared.values.Value.TheVariants as value
-use Rattle.fm_frames.proofs.Cases.{by_held, by_if, by_int, by_long, by_object, by_on_field, by_on_type, by_passing, by_reference, by_thrown}
+use Rattle.fm_frames.proofs.Cases.{by_held, by_if, by_int, by_long, by_object, by_on_field, by_on_type, by_passing, by_reference}
+use Rattle.fm_frames.proofs.EachNumber.{each_number}
 use Rattle.fm_frames.proofs.Failures.{Arithmetic, ArrayStore, ClassCast, Failures, IndexOutside, NegativeSize, NullPointer}
 use Rattle.fm_frames.proofs.SwitchTargets.{few_keys, key_within, table_within}
 
@@ -133,6 +131,11 @@ pub record InsnLeaves (o : Outline) (s : List Sight) (method : ℕ) (i : Insn) (
       → is_array_of e it.type ≡ true → A (put_element (element_words e) it place)
   pub calls : IsCall i → CallRows o s method u byte A
 
+-- the words of a number name nothing
+number_named : (i : Insn) (is_long : Bool) (n : ℤ) → AllByRecursion (IsNamed i) (given_number is_long n)
+number_named i true n = (tt, (tt, tt))
+number_named i false n = (tt, tt)
+
 -- what holds of a value, and of the second half of a long, holds of the words of a value of each kind
 pub loaded_all : (P : Source → Type 0) → P (Plain value.Top) → (k : Kind) (source : Source) → P source → AllByRecursion P (loaded k source)
 loaded_all P half kind.Long source holds = (half, (holds, tt))
@@ -172,32 +175,14 @@ module _ (o : Outline) (s : List Sight) (method : ℕ) (byte : Option ℕ) (A : 
     constant_row index it_is (resolved.OfMethod m t) is = l.failures.none
     constant_row index it_is resolved.Unused is = l.failures.none
 
-    -- an int or a long is computed of one or two operands
-    of_int : (takes n : ℕ) (gives : ℤ → List Source) → ((a : ℤ) → AllByRecursion (IsNamed i) (gives a)) → A (on_int s n (λ a. words takes (gives a)))
-    of_int takes n gives named = by_int A s n _ l.failures.none (λ a. given takes (gives a) (named a))
-
-    of_long : (takes n : ℕ) (gives : ℤ → List Source) → ((a : ℤ) → AllByRecursion (IsNamed i) (gives a)) → A (on_long s n (λ a. words takes (gives a)))
-    of_long takes n gives named = by_long A s n _ l.failures.none (λ a. given takes (gives a) (named a))
-
-    convert_row : (to : Conv) → A (numbers.convert_effect to s)
-    unfolding numbers.convert_effect
-    convert_row conv.IntToLong = of_int 1 0 _ (λ a. (tt, (tt, tt)))
-    convert_row conv.LongToInt = of_long 2 1 _ (λ a. (tt, tt))
-    convert_row conv.IntToByte = of_int 1 0 _ (λ a. (tt, tt))
-    convert_row conv.IntToChar = of_int 1 0 _ (λ a. (tt, tt))
-    convert_row conv.IntToShort = of_int 1 0 _ (λ a. (tt, tt))
-
-    operation_row : (op : Op) → A (numbers.int_op_effect o op s)
-    unfolding numbers.int_op_effect
-    operation_row op =
-        by_int A s 0 _ l.failures.none (λ b. by_int A s 1 _ l.failures.none (λ a. by_thrown A o (result_of_op op 32 a b) (λ n. words 2 (int_word n))
-        (l.failures.raised Arithmetic) (λ n. given 2 (int_word n) (tt, tt))))
-
-    long_operation_row : (op : Op) → A (numbers.long_op_effect o op s)
-    unfolding numbers.long_op_effect
-    long_operation_row op =
-        by_long A s 1 _ l.failures.none (λ b. by_long A s 3 _ l.failures.none (λ a. by_thrown A o (result_of_op op 64 a b) (λ n. words 4 (long_words n))
-        (l.failures.raised Arithmetic) (λ n. given 4 (long_words n) (tt, (tt, tt)))))
+    number_row : is_number i ≡ true → A (effect_of o method u i byte s)
+    number_row is =
+        each_number o s method u byte A i is (record {
+          int = λ n at k each. by_int A s n k l.failures.none each;
+          long = λ n at k each. by_long A s n k l.failures.none each;
+          thrown = l.failures.raised Arithmetic;
+          gives = λ n. given (length (wanted_by i)) (given_number (number_given i) n) (number_named i (number_given i) n);
+        })
 
     jump_row : (takes : ℕ) → 0 < length (targets_of i) → (taken : Bool) → A (going takes (jumps.jumps_if taken))
     jump_row takes some true = going_on takes (Jumps 0) some
@@ -347,7 +332,7 @@ module _ (o : Outline) (s : List Sight) (method : ℕ) (byte : Option ℕ) (A : 
   -- ---- all instructions
 
   pub each_insn : (i : Insn) (u : Use) → L i u → A (effect_of o method u i byte s)
-  unfolding effect_of numbers.load_effect numbers.store_effect numbers.move_effect numbers.int_negate_effect numbers.long_negate_effect numbers.int_shift_effect numbers.long_shift_effect numbers.compare_effect jumps.int_jump_effect jumps.pair_jump_effect jumps.null_jump_effect jumps.table_effect jumps.lookup_effect
+  unfolding effect_of numbers.load_effect numbers.store_effect numbers.move_effect jumps.int_jump_effect jumps.pair_jump_effect jumps.null_jump_effect jumps.table_effect jumps.lookup_effect
   each_insn insn.Nop u l = given insn.Nop u l 0 [] tt
   each_insn insn.Null u l = given insn.Null u l 0 null_word (refl, tt)
   each_insn (insn.Const n) u l = given (insn.Const n) u l 0 (int_word n) (tt, tt)
@@ -372,16 +357,6 @@ module _ (o : Outline) (s : List Sight) (method : ℕ) (byte : Option ℕ) (A : 
   each_insn insn.Dup2X1 u l = given insn.Dup2X1 u l _ _ (tt, (tt, (tt, (tt, (tt, tt)))))
   each_insn insn.Dup2X2 u l = given insn.Dup2X2 u l _ _ (tt, (tt, (tt, (tt, (tt, (tt, tt))))))
   each_insn insn.Swap u l = given insn.Swap u l _ _ (tt, (tt, tt))
-  each_insn (insn.IntOp op) u l = operation_row (insn.IntOp op) u l op
-  each_insn (insn.LongOp op) u l = long_operation_row (insn.LongOp op) u l op
-  each_insn insn.IntNeg u l = of_int insn.IntNeg u l 1 0 _ (λ a. (tt, tt))
-  each_insn insn.LongNeg u l = of_long insn.LongNeg u l 2 1 _ (λ a. (tt, (tt, tt)))
-  each_insn (insn.IntShift shift) u l =
-      by_int A s 0 _ l.failures.none (λ n. of_int (insn.IntShift shift) u l 2 1 _ (λ a. (tt, tt)))
-  each_insn (insn.LongShift shift) u l =
-      by_int A s 0 _ l.failures.none (λ n. of_long (insn.LongShift shift) u l 3 2 _ (λ a. (tt, (tt, tt))))
-  each_insn (insn.Convert to) u l = convert_row (insn.Convert to) u l to
-  each_insn insn.LongCompare u l = by_long A s 1 _ l.failures.none (λ b. of_long insn.LongCompare u l 4 3 _ (λ a. (tt, tt)))
   each_insn (insn.IfInt test target) u l = by_int A s 0 _ l.failures.none (λ a. jump_row (insn.IfInt test target) u l 1 (omega arith) _)
   each_insn (insn.IfPair test target) u l =
       by_int A s 0 _ l.failures.none (λ b. by_int A s 1 _ l.failures.none (λ a. jump_row (insn.IfPair test target) u l 2 (omega arith) _))
@@ -414,3 +389,4 @@ module _ (o : Outline) (s : List Sight) (method : ℕ) (byte : Option ℕ) (A : 
   each_insn (insn.Special index) u l = (l.calls tt).special
   each_insn (insn.Static index) u l = (l.calls tt).static
   each_insn (insn.LeftOut opcode) u l = l.failures.none
+  each_insn i u l = number_row i u l refl

@@ -33,6 +33,7 @@ pub mod Failures
 pub mod NestedActions
 pub mod SwitchTargets
 pub mod EachInsn
+pub mod EachNumber
 pub mod EachCall
 pub mod UsualAsks
 pub mod EachRow

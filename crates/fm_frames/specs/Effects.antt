@@ -1,6 +1,6 @@
 -- The effect of a step, as plain data: it names values by where they come from, and never a cell.
 -- Operands are counted from the top of the stack as it was before the step.
-use Rattle.std.specs.Prelude.{ℕ, ℤ, Bool, false, List, [], ◌∷◌, Option, None}
+use Rattle.std.specs.Prelude.{ℕ, ℤ, Bool, true, false, List, [], ◌∷◌, Option, None}
 use Rattle.fm_base.specs.declared.kinds.Kind.{Kind}
 use Rattle.fm_base.specs.declared.kinds.Kind.TheVariants as kind
 use Rattle.fm_base.specs.declared.kinds.TypeRef.{TypeRef}
@@ -118,6 +118,11 @@ int_word n = Plain (value.Int n) ∷ []
 -- on a stack the second half of a long lies above it
 abbrev pub long_words : ℤ → List Source
 long_words n = Plain value.Top ∷ Plain (value.Long n) ∷ []
+
+-- the words of a long, or of an int
+abbrev pub given_number : (is_long : Bool) → ℤ → List Source
+given_number true n = long_words n
+given_number false n = int_word n
 
 -- null is one word
 abbrev pub null_word : List Source

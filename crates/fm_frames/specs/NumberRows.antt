@@ -4,9 +4,9 @@ use Rattle.fm_alu.specs.Conversions.{result_of_comparison, result_of_conversion}
 use Rattle.fm_alu.specs.Operations.{result_of_op}
 use Rattle.fm_alu.specs.Shifts.{result_of_shift}
 use Rattle.fm_alu.specs.TwosComplement.{low_bits, signed}
+use Rattle.fm_code.specs.StackWords.{gives_long, number_words, takes_long}
 use Rattle.fm_code.specs.declared.instructions.Insn.{Insn}
 use Rattle.fm_code.specs.declared.operations.Conv.{Conv}
-use Rattle.fm_code.specs.declared.operations.Conv.TheVariants as conv
 use Rattle.fm_code.specs.declared.operations.Op.{Op}
 use Rattle.fm_code.specs.declared.operations.Reg.{Reg}
 use Rattle.fm_code.specs.declared.operations.Reg.TheVariants as reg
@@ -15,8 +15,8 @@ use Rattle.fm_types.specs.Moves.{Moves, moves_of}
 use Rattle.fm_world.specs.Programs.{Outline}
 use Rattle.fm_world.specs.declared.uses.Use.{Use}
 use Rattle.fm_world.specs.declared.uses.Use.TheVariants as resolved
-use Rattle.fm_frames.specs.Effects.{Effect, Plain, OfOperand, OfLocal, LocalPlus, OfLiteral, MakeLiteral, words, stuck, int_word, long_words}
-use Rattle.fm_frames.specs.Operands.{on_int, on_long, or_thrown}
+use Rattle.fm_frames.specs.Effects.{Effect, Plain, OfOperand, OfLocal, LocalPlus, OfLiteral, MakeLiteral, words, stuck, given_number, int_word, long_words}
+use Rattle.fm_frames.specs.Operands.{on_int, on_long, on_number, or_thrown}
 use Rattle.fm_frames.specs.Sights.{Sight}
 use Rattle.fm_frames.specs.declared.values.Value.TheVariants as value
 
@@ -91,13 +91,13 @@ long_shift_effect shift s = on_int s 0 (λ n. on_long s 2 (λ a. words 3 (long_w
 abbrev pub int_converted : Conv → List Sight → Effect
 int_converted to s = on_int s 0 (λ a. words 1 (int_word (result_of_conversion to a)))
 
+-- the result of a conversion takes the place of the number
+abbrev pub converted : Conv → ℤ → Effect
+converted to a = words (number_words (takes_long to)) (given_number (gives_long to) (result_of_conversion to a))
+
 -- what i2l, l2i, i2b, i2c and i2s do (JVMS 6.5)
 unfoldable pub convert_effect : Conv → List Sight → Effect
-convert_effect conv.IntToLong s = on_int s 0 (λ a. words 1 (long_words (result_of_conversion conv.IntToLong a)))
-convert_effect conv.LongToInt s = on_long s 1 (λ a. words 2 (int_word (result_of_conversion conv.LongToInt a)))
-convert_effect conv.IntToByte s = int_converted conv.IntToByte s
-convert_effect conv.IntToChar s = int_converted conv.IntToChar s
-convert_effect conv.IntToShort s = int_converted conv.IntToShort s
+convert_effect to s = on_number (takes_long to) s (converted to)
 
 -- what lcmp does (JVMS 6.5)
 unfoldable pub compare_effect : List Sight → Effect

@@ -56,6 +56,11 @@ on_long_of s follows = stuck
 abbrev pub on_long : List Sight → ℕ → (ℤ → Effect) → Effect
 on_long sights operand follows = on_long_of (slice_get sights operand) follows
 
+-- what follows of the long on top of the stack, or of the int
+abbrev pub on_number : (is_long : Bool) → List Sight → (ℤ → Effect) → Effect
+on_number true sights follows = on_long sights 1 follows
+on_number false sights follows = on_int sights 0 follows
+
 -- ---- references at which nothing is looked
 
 -- whether the reference is null

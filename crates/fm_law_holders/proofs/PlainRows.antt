@@ -5,16 +5,14 @@ use Rattle.std.proofs.lemmas.Bool.{false≢true}
 use Rattle.std.proofs.lemmas.List.{length-replicate}
 use Rattle.std.proofs.lemmas.Option.{same_Some}
 use Rattle.fm_base.proofs.OptionFacts.{cond-some_then, option_and_then-some, option_map-some}
-use Rattle.fm_alu.specs.Operations.{result_of_op}
 use Rattle.fm_base.specs.Kinds.{kind_words}
 use Rattle.fm_base.specs.declared.kinds.Base.TheVariants as base
 use Rattle.fm_base.specs.declared.kinds.Kind.{Kind}
 use Rattle.fm_base.specs.declared.kinds.Kind.TheVariants as kind
 use Rattle.fm_base.specs.declared.kinds.TypeRef.{TypeRef}
+use Rattle.fm_code.specs.StackWords.{number_given}
 use Rattle.fm_code.specs.declared.instructions.Insn.{Insn}
 use Rattle.fm_code.specs.declared.instructions.Insn.TheVariants as insn
-use Rattle.fm_code.specs.declared.operations.Conv.{Conv}
-use Rattle.fm_code.specs.declared.operations.Conv.TheVariants as conv
 use Rattle.fm_code.specs.declared.operations.Elem.{Elem}
 use Rattle.fm_code.specs.declared.operations.Elem.TheVariants as elem
 use Rattle.fm_code.specs.declared.operations.Reg.{Reg}
@@ -36,11 +34,12 @@ use Rattle.fm_world.specs.Programs.{class_of_type, Outline}
 use Rattle.fm_world.specs.Uses.{array_of}
 use Rattle.fm_world.specs.declared.uses.Use.{Use}
 use Rattle.fm_world.specs.declared.uses.Use.TheVariants as resolved
+use Rattle.fm_frames.proofs.EachNumber.{each_number}
 use Rattle.fm_frames.specs.ArrayRows.{array_load_effect, array_made, array_store_effect, length_effect, element_kind, multi_array_effect, ints_at, arrays_of, new_array_effect, new_references_effect, put_element, put_reference}
 use Rattle.fm_frames.specs.Effects.{acting, Effect, going, int_word, Jumps, long_words, Make, null_word, OfOperand, OfPlace, OfStatic, Put, SetStatic, words}
 use Rattle.fm_frames.specs.Effects as effects
 use Rattle.fm_frames.specs.JumpRows.{int_jump_effect, jumps_if, lookup_effect, null_jump_effect, pair_jump_effect, return_effect, same_jump_effect, table_effect, throw_effect}
-use Rattle.fm_frames.specs.NumberRows.{compare_effect, constant_effect, convert_effect, increment_effect, int_negate_effect, int_op_effect, int_shift_effect, load_effect, long_negate_effect, long_op_effect, long_shift_effect, move_effect, moved_words, store_effect}
+use Rattle.fm_frames.specs.NumberRows.{constant_effect, increment_effect, load_effect, move_effect, moved_words, store_effect}
 use Rattle.fm_frames.specs.ObjectRows.{cast_effect, class_of_field, get_field_effect, get_static_effect, is_a_effect, kind_of_field, made_of, new_effect, put_field_effect, put_static_effect, starting}
 use Rattle.fm_frames.specs.Operands.{thrown}
 use Rattle.fm_frames.specs.Rows.{effect_of}
@@ -49,7 +48,7 @@ use Rattle.fm_frames.specs.States.{ref}
 use Rattle.fm_frames.specs.declared.values.Value.{Value}
 use Rattle.fm_law_sound.specs.Leading.{is_call}
 use Rattle.fm_law_sound.proofs.ArrayRows.{by_array}
-use Rattle.fm_law_sound.proofs.Cases.{by_held, by_if, by_int, by_long, by_object, by_on_field, by_on_type, by_reference, by_thrown}
+use Rattle.fm_law_sound.proofs.Cases.{by_held, by_if, by_int, by_long, by_object, by_on_field, by_on_type, by_reference}
 use Rattle.fm_law_sound.proofs.FramesLeft as left
 use Rattle.fm_law_sound.proofs.Leaving.{kind_slots}
 use Rattle.fm_law_sound.proofs.ObjectRows.{row_of_field, row_of_type}
@@ -57,7 +56,7 @@ use Rattle.fm_law_holders.specs.Uninitialised.{IsMadeAt}
 use Rattle.fm_law_holders.proofs.EffectTakes.{arrays_take, element_takes, length_takes, made_takes, put_takes}
 use Rattle.fm_law_holders.proofs.Leaving.{before_are, from, Goes, Leads, leaves_stack, Left, left_are, pushed_goes, Row, Takes, worked_below_goes, worked_goes}
 use Rattle.fm_law_holders.proofs.Slots.{Are, Is, other_is}
-use Rattle.fm_types.proofs.EachCheckRow.{IsPlain}
+use Rattle.fm_types.proofs.EachCheckRow.{a_number, given_by, is_number, IsPlain, wanted_by}
 
 -- ---- slots of which nothing is asked
 
@@ -152,25 +151,19 @@ module _ (r : Row) where
       (left_are r _ _ _
       (left.moved_leaves (Is r.store r.made) (Is r.store r.made) r.before r.after (from r) (before_are r) m (left.moved_row r.before r.after i m is row)))
 
-  -- ---- conversions
+  -- ---- numbers
 
-  convert_goes : (to : Conv) (sights : List Sight) → convert_row o to r.before ≡ Some r.after → Keeps (insn.Convert to) (convert_effect to sights)
-  unfolding convert_row convert_effect
-  convert_goes conv.IntToLong sights row leads =
-      worked_goes r (slot.Int ∷ []) (slot.Top ∷ slot.Long ∷ []) (insn.Convert conv.IntToLong) (convert_effect conv.IntToLong sights) row (tt, (tt, tt))
-      (by_int (Takes 1) sights 0 _ tt (λ a. (refl, refl))) leads
-  convert_goes conv.LongToInt sights row leads =
-      worked_goes r (slot.Top ∷ slot.Long ∷ []) (slot.Int ∷ []) (insn.Convert conv.LongToInt) (convert_effect conv.LongToInt sights) row (tt, tt)
-      (by_long (Takes 2) sights 1 _ tt (λ a. (refl, refl))) leads
-  convert_goes conv.IntToByte sights row leads =
-      worked_goes r (slot.Int ∷ []) (slot.Int ∷ []) (insn.Convert conv.IntToByte) (convert_effect conv.IntToByte sights) row (tt, tt)
-      (by_int (Takes 1) sights 0 _ tt (λ a. (refl, refl))) leads
-  convert_goes conv.IntToChar sights row leads =
-      worked_goes r (slot.Int ∷ []) (slot.Int ∷ []) (insn.Convert conv.IntToChar) (convert_effect conv.IntToChar sights) row (tt, tt)
-      (by_int (Takes 1) sights 0 _ tt (λ a. (refl, refl))) leads
-  convert_goes conv.IntToShort sights row leads =
-      worked_goes r (slot.Int ∷ []) (slot.Int ∷ []) (insn.Convert conv.IntToShort) (convert_effect conv.IntToShort sights) row (tt, tt)
-      (by_int (Takes 1) sights 0 _ tt (λ a. (refl, refl))) leads
+  number_goes : (i : Insn) (u : Use) (byte : Option ℕ) (sights : List Sight) → is_number i ≡ true → worked o (wanted_by i) (given_by i) r.before ≡ Some r.after
+      → Keeps i (effect_of o r.frame.method u i byte sights)
+  number_goes i u byte sights is row leads =
+      worked_goes r (wanted_by i) (given_by i) i (effect_of o r.frame.method u i byte sights) row (a_number (number_given i)).plain
+      (each_number o sights r.frame.method u byte (Takes (length (wanted_by i))) i is (record {
+        int = λ n at k each. by_int (Takes (length (wanted_by i))) sights n k tt each;
+        long = λ n at k each. by_long (Takes (length (wanted_by i))) sights n k tt each;
+        thrown = tt;
+        gives = λ n. (refl, refl);
+      }))
+      leads
 
   -- ---- returns
 
@@ -354,7 +347,7 @@ module _ (r : Row) where
   pub plain_goes : (i : Insn) (u : Use) (news : ℕ → Option TypeRef) (byte : Option ℕ) (sights : List Sight) → is_call i ≡ false
       → row_after o r.frame.method r.frame.item news u i r.before ≡ Some r.after → Leads r i (effect_of o r.frame.method u i byte sights)
       → NewIs (effect_of o r.frame.method u i byte sights) → Goes r (effect_of o r.frame.method u i byte sights)
-  unfolding row_after effect_of int_op_effect long_op_effect int_negate_effect long_negate_effect int_shift_effect long_shift_effect compare_effect int_jump_effect pair_jump_effect null_jump_effect table_effect lookup_effect
+  unfolding convert_row row_after effect_of int_jump_effect pair_jump_effect null_jump_effect table_effect lookup_effect
   plain_goes insn.Nop u news byte sights call row leads new = pushed_goes r [] insn.Nop (words 0 []) row tt (refl, refl) leads
   plain_goes insn.Null u news byte sights call row leads new = pushed_goes r (slot.Null ∷ []) insn.Null (words 0 null_word) row (tt, tt) (refl, refl) leads
   plain_goes (insn.Const n) u news byte sights call row leads new =
@@ -374,28 +367,6 @@ module _ (r : Row) where
   plain_goes insn.Dup2X1 u news byte sights call row leads new = move_goes insn.Dup2X1 _ refl row
   plain_goes insn.Dup2X2 u news byte sights call row leads new = move_goes insn.Dup2X2 _ refl row
   plain_goes insn.Swap u news byte sights call row leads new = move_goes insn.Swap _ refl row
-  plain_goes (insn.IntOp op) u news byte sights call row leads new =
-      worked_goes r (slot.Int ∷ slot.Int ∷ []) (slot.Int ∷ []) (insn.IntOp op) (int_op_effect o op sights) row (tt, tt) (by_int (Takes 2) sights 0 _ tt (λ b. by_int (Takes 2) sights 1 _ tt (λ a.
-      by_thrown (Takes 2) o (result_of_op op 32 a b) _ tt (λ n. (refl, refl))))) leads
-  plain_goes (insn.LongOp op) u news byte sights call row leads new =
-      worked_goes r (slot.Top ∷ slot.Long ∷ slot.Top ∷ slot.Long ∷ []) (slot.Top ∷ slot.Long ∷ []) (insn.LongOp op) (long_op_effect o op sights) row (tt, (tt, tt))
-      (by_long (Takes 4) sights 1 _ tt (λ b. by_long (Takes 4) sights 3 _ tt (λ a.
-      by_thrown (Takes 4) o (result_of_op op 64 a b) _ tt (λ n. (refl, refl))))) leads
-  plain_goes insn.IntNeg u news byte sights call row leads new =
-      worked_goes r (slot.Int ∷ []) (slot.Int ∷ []) insn.IntNeg (int_negate_effect sights) row (tt, tt) (by_int (Takes 1) sights 0 _ tt (λ a. (refl, refl))) leads
-  plain_goes insn.LongNeg u news byte sights call row leads new =
-      worked_goes r (slot.Top ∷ slot.Long ∷ []) (slot.Top ∷ slot.Long ∷ []) insn.LongNeg (long_negate_effect sights) row (tt, (tt, tt))
-      (by_long (Takes 2) sights 1 _ tt (λ a. (refl, refl))) leads
-  plain_goes (insn.IntShift shift) u news byte sights call row leads new =
-      worked_goes r (slot.Int ∷ slot.Int ∷ []) (slot.Int ∷ []) (insn.IntShift shift) (int_shift_effect shift sights) row (tt, tt)
-      (by_int (Takes 2) sights 0 _ tt (λ n. by_int (Takes 2) sights 1 _ tt (λ a. (refl, refl)))) leads
-  plain_goes (insn.LongShift shift) u news byte sights call row leads new =
-      worked_goes r (slot.Int ∷ slot.Top ∷ slot.Long ∷ []) (slot.Top ∷ slot.Long ∷ []) (insn.LongShift shift) (long_shift_effect shift sights) row (tt, (tt, tt))
-      (by_int (Takes 3) sights 0 _ tt (λ n. by_long (Takes 3) sights 2 _ tt (λ a. (refl, refl)))) leads
-  plain_goes (insn.Convert to) u news byte sights call row leads new = convert_goes to sights row leads
-  plain_goes insn.LongCompare u news byte sights call row leads new =
-      worked_goes r (slot.Top ∷ slot.Long ∷ slot.Top ∷ slot.Long ∷ []) (slot.Int ∷ []) insn.LongCompare (compare_effect sights) row (tt, tt)
-      (by_long (Takes 4) sights 1 _ tt (λ b. by_long (Takes 4) sights 3 _ tt (λ a. (refl, refl)))) leads
   plain_goes (insn.IfInt test target) u news byte sights call row leads new =
       worked_goes r (slot.Int ∷ []) [] (insn.IfInt test target) (int_jump_effect test sights) row tt
       (by_int (Takes 1) sights 0 _ tt (λ a. jump_takes 1 _)) leads
@@ -435,3 +406,4 @@ module _ (r : Row) where
   plain_goes (insn.Special index) u news byte sights call row leads new = absurd (false≢true (sym call))
   plain_goes (insn.Static index) u news byte sights call row leads new = absurd (false≢true (sym call))
   plain_goes (insn.LeftOut opcode) u news byte sights call row leads new = absurd (cc)
+  plain_goes i u news byte sights call row leads new = number_goes i u byte sights refl row leads

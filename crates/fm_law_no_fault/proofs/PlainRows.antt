@@ -1,14 +1,13 @@
 -- All rows but those of calls: the effect of each leads on to cells that fit, and none is a fault.
-use Rattle.std.proofs.Common.{◌≡◌, ℕ, Bool, true, false, List, [], ◌∷◌, codes, length, position, take, Option, Some, refl, sym}
+use Rattle.std.proofs.Common.{◌≡◌, ℕ, ℤ, Bool, true, false, List, [], ◌∷◌, codes, length, position, take, Option, Some, refl, sym}
 use Rattle.std.specs.Ordering.{int_eq}
 use Rattle.std.proofs.lemmas.Bool.{false≢true}
-use Rattle.fm_alu.specs.Operations.{result_of_op}
+use Rattle.fm_code.specs.StackWords.{number_given}
 use Rattle.fm_code.specs.declared.instructions.Insn.{Insn}
 use Rattle.fm_code.specs.declared.instructions.Insn.TheVariants as insn
-use Rattle.fm_code.specs.declared.operations.Conv.{Conv}
-use Rattle.fm_code.specs.declared.operations.Conv.TheVariants as conv
+use Rattle.fm_types.proofs.EachCheckRow.{given_by, is_number, wanted_by}
 use Rattle.fm_types.specs.Named.{object_slot}
-use Rattle.fm_types.specs.NumberRows.{convert_row}
+use Rattle.fm_types.specs.NumberRows.{convert_row, number_slots}
 use Rattle.fm_types.specs.Rows.{row_after}
 use Rattle.fm_types.specs.States.{worked}
 use Rattle.fm_types.specs.Typed.{type_of_use}
@@ -16,14 +15,13 @@ use Rattle.fm_types.specs.declared.slots.Slot.{Slot}
 use Rattle.fm_types.specs.declared.slots.Slot.TheVariants as slot
 use Rattle.fm_world.specs.Programs.{Outline}
 use Rattle.fm_world.specs.declared.uses.Use.{Use}
-use Rattle.fm_frames.specs.Effects.{Falls, going, int_word, Jumps, JumpsIfSame, long_words, Next, null_word, words}
+use Rattle.fm_frames.proofs.EachNumber.{each_number}
+use Rattle.fm_frames.specs.Effects.{Falls, given_number, going, int_word, Jumps, JumpsIfSame, long_words, Next, null_word, words}
 use Rattle.fm_frames.specs.JumpRows.{int_jump_effect, jumps_if, key_target, lookup_effect, null_jump_effect, pair_jump_effect, table_effect, table_target}
-use Rattle.fm_frames.specs.NumberRows.{compare_effect, convert_effect, int_converted, int_negate_effect, int_op_effect, int_shift_effect, long_negate_effect, long_op_effect, long_shift_effect}
 use Rattle.fm_frames.specs.Rows.{effect_of}
 use Rattle.fm_frames.specs.Sights.{Sight, sights}
 use Rattle.fm_law_sound.specs.Leading.{is_call, NamesField}
 use Rattle.fm_law_sound.specs.Resolved.{IsNamed}
-use Rattle.fm_law_sound.proofs.Cases.{by_thrown}
 use Rattle.fm_law_no_fault.proofs.ArrayRows.{array_load_whole, array_store_whole, length_whole, new_array_whole, new_references_whole}
 use Rattle.fm_law_no_fault.proofs.JumpRows.{return_whole, throw_whole}
 use Rattle.fm_law_no_fault.proofs.MoveRows.{constant_whole, given_whole, increment_whole, load_whole, move_whole, store_whole}
@@ -54,28 +52,21 @@ module _ (r : Row) where
   abbrev one_long : List Slot
   one_long = slot.Top ∷ slot.Long ∷ []
 
-  abbrev two_longs : List Slot
-  two_longs = slot.Top ∷ slot.Long ∷ slot.Top ∷ slot.Long ∷ []
+  number_gives : (wanted : List Slot) (is_long : Bool) (n : ℤ) → worked o wanted (number_slots is_long) r.before ≡ Some r.after
+      → Whole r (words (length wanted) (given_number is_long n))
+  number_gives wanted true n row = long_given r wanted n row
+  number_gives wanted false n row = int_given r wanted n row
 
-  abbrev int_and_long : List Slot
-  int_and_long = slot.Int ∷ slot.Top ∷ slot.Long ∷ []
-
-  narrowed_whole : (to : Conv) → worked o one_int one_int r.before ≡ Some r.after → Whole r (int_converted to seen)
-  narrowed_whole to checked =
-      asked_int r one_int one_int checked 0 refl _
-      (λ a. int_given r one_int _ checked)
-
-  convert_whole : (to : Conv) → convert_row o to r.before ≡ Some r.after → Whole r (convert_effect to seen)
-  unfolding convert_row convert_effect
-  convert_whole conv.IntToLong checked =
-      asked_int r one_int one_long checked 0 refl _
-      (λ a. long_given r one_int _ checked)
-  convert_whole conv.LongToInt checked =
-      asked_long r one_long one_int checked 1 refl _
-      (λ a. int_given r one_long _ checked)
-  convert_whole conv.IntToByte checked = narrowed_whole conv.IntToByte checked
-  convert_whole conv.IntToChar checked = narrowed_whole conv.IntToChar checked
-  convert_whole conv.IntToShort checked = narrowed_whole conv.IntToShort checked
+  -- what takes numbers and gives one
+  number_whole : (i : Insn) (u : Use) (byte : Option ℕ) → is_number i ≡ true → worked o (wanted_by i) (given_by i) r.before ≡ Some r.after
+      → Whole r (effect_of o r.frame.method u i byte seen)
+  number_whole i u byte is row =
+      each_number o seen r.frame.method u byte (Whole r) i is (record {
+        int = λ n at k each. asked_int r (wanted_by i) (given_by i) row n at k each;
+        long = λ n at k each. asked_long r (wanted_by i) (given_by i) row n at k each;
+        thrown = thrown_whole r (codes "java/lang/ArithmeticException") r.cells.built_in.thrown.1.0;
+        gives = λ n. number_gives (wanted_by i) (number_given i) n row;
+      })
 
   jump_if : (takes : ℕ) (b : Bool) → Leaves r (going takes Falls) → Whole r (going takes (jumps_if b))
   jump_if takes true leaves = record { acts = tt; next = leaves }
@@ -89,7 +80,7 @@ module _ (r : Row) where
 
   pub plain_whole : (i : Insn) (u : Use) (byte : Option ℕ) → NamesField o u i → IsNamed r.program r.frame.method i u → MakesNamed r u i → is_call i ≡ false
       → row_after o r.frame.method r.frame.item r.news u i r.before ≡ Some r.after → Whole r (effect_of o r.frame.method u i byte seen)
-  unfolding row_after effect_of int_op_effect long_op_effect int_negate_effect long_negate_effect int_shift_effect long_shift_effect compare_effect int_jump_effect pair_jump_effect null_jump_effect table_effect lookup_effect
+  unfolding convert_row row_after effect_of int_jump_effect pair_jump_effect null_jump_effect table_effect lookup_effect
   plain_whole insn.Nop u byte names named makes call row = record { acts = tt; next = same_leaves r (words 0 []) row refl refl refl }
   plain_whole insn.Null u byte names named makes call row = given_whole r (slot.Null ∷ []) null_word row (λ y made went. (refl, tt))
   plain_whole (insn.Const n) u byte names named makes call row = given_whole r one_int (int_word n) row (λ y made went. (tt, tt))
@@ -107,23 +98,6 @@ module _ (r : Row) where
   plain_whole insn.Dup2X1 u byte names named makes call row = move_whole r insn.Dup2X1 _ refl row
   plain_whole insn.Dup2X2 u byte names named makes call row = move_whole r insn.Dup2X2 _ refl row
   plain_whole insn.Swap u byte names named makes call row = move_whole r insn.Swap _ refl row
-  plain_whole (insn.IntOp op) u byte names named makes call row =
-      asked_int r two_ints one_int row 0 refl _ (λ b. asked_int r two_ints one_int row 1 refl _ (λ a.
-      by_thrown (Whole r) o (result_of_op op 32 a b) _ (thrown_whole r (codes "java/lang/ArithmeticException") r.cells.built_in.thrown.1.0)
-      (λ n. int_given r two_ints n row)))
-  plain_whole (insn.LongOp op) u byte names named makes call row =
-      asked_long r two_longs one_long row 1 refl _ (λ b. asked_long r two_longs one_long row 3 refl _ (λ a.
-      by_thrown (Whole r) o (result_of_op op 64 a b) _ (thrown_whole r (codes "java/lang/ArithmeticException") r.cells.built_in.thrown.1.0)
-      (λ n. long_given r two_longs n row)))
-  plain_whole insn.IntNeg u byte names named makes call row = asked_int r one_int one_int row 0 refl _ (λ a. int_given r one_int _ row)
-  plain_whole insn.LongNeg u byte names named makes call row = asked_long r one_long one_long row 1 refl _ (λ a. long_given r one_long _ row)
-  plain_whole (insn.IntShift shift) u byte names named makes call row =
-      asked_int r two_ints one_int row 0 refl _ (λ n. asked_int r two_ints one_int row 1 refl _ (λ a. int_given r two_ints _ row))
-  plain_whole (insn.LongShift shift) u byte names named makes call row =
-      asked_int r int_and_long one_long row 0 refl _ (λ n. asked_long r int_and_long one_long row 2 refl _ (λ a. long_given r int_and_long _ row))
-  plain_whole (insn.Convert to) u byte names named makes call row = convert_whole to row
-  plain_whole insn.LongCompare u byte names named makes call row =
-      asked_long r two_longs one_int row 1 refl _ (λ b. asked_long r two_longs one_int row 3 refl _ (λ a. int_given r two_longs _ row))
   plain_whole (insn.IfInt test target) u byte names named makes call row = asked_int r one_int [] row 0 refl _ (λ a. jump_if 1 _ (taken_leaves one_int Falls row))
   plain_whole (insn.IfPair test target) u byte names named makes call row =
       asked_int r two_ints [] row 0 refl _ (λ b. asked_int r two_ints [] row 1 refl _ (λ a. jump_if 2 _ (taken_leaves two_ints Falls row)))
@@ -157,3 +131,4 @@ module _ (r : Row) where
   plain_whole (insn.Special index) u byte names named makes call row = absurd (false≢true (sym call))
   plain_whole (insn.Static index) u byte names named makes call row = absurd (false≢true (sym call))
   plain_whole (insn.LeftOut opcode) u byte names named makes call row = absurd (cc)
+  plain_whole i u byte names named makes call row = number_whole i u byte refl row

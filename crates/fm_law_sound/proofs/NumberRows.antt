@@ -1,29 +1,29 @@
 -- The rows of constants, locals, moves of the stack and numbers leave what the checker's rows give.
-use Rattle.std.proofs.Common.{◌≡◌, ℕ, ℤ, List, [], ◌∷◌, codes, Some, refl, ap}
-use Rattle.fm_alu.specs.Operations.{result_of_op}
+use Rattle.std.proofs.Common.{◌≡◌, ℕ, ℤ, Bool, true, false, List, [], ◌∷◌, codes, length, Option, Some, refl, ap}
+use Rattle.fm_code.specs.StackWords.{number_given}
 use Rattle.fm_code.specs.declared.instructions.Insn.{Insn}
 use Rattle.fm_code.specs.declared.instructions.Insn.TheVariants as insn
-use Rattle.fm_code.specs.declared.operations.Conv.{Conv}
-use Rattle.fm_code.specs.declared.operations.Conv.TheVariants as conv
-use Rattle.fm_code.specs.declared.operations.Op.{Op}
 use Rattle.fm_code.specs.declared.operations.Reg.{Reg}
 use Rattle.fm_code.specs.declared.operations.Reg.TheVariants as reg
-use Rattle.fm_code.specs.declared.operations.Shift.{Shift}
-use Rattle.fm_types.specs.NumberRows.{constant_row, convert_row, increment_row, load_row, store_row}
+use Rattle.fm_types.proofs.EachCheckRow.{given_by, is_number, wanted_by}
+use Rattle.fm_types.specs.NumberRows.{constant_row, increment_row, load_row, number_slots, store_row}
 use Rattle.fm_types.specs.States.{local_at, TypeState, worked}
 use Rattle.fm_types.specs.declared.slots.Slot.TheVariants as slot
 use Rattle.fm_world.specs.Programs.{Outline}
 use Rattle.fm_world.specs.declared.uses.Use.{Use}
 use Rattle.fm_world.specs.declared.uses.Use.TheVariants as resolved
+use Rattle.fm_code.specs.Edges.{falls_through}
+use Rattle.fm_frames.proofs.EachNumber.{each_number}
 use Rattle.fm_frames.specs.Acts.{sum_of}
-use Rattle.fm_frames.specs.Effects.{Effect, int_word, long_words, words}
-use Rattle.fm_frames.specs.NumberRows.{compare_effect, constant_effect, convert_effect, increment_effect, int_converted, int_negate_effect, int_op_effect, int_shift_effect, load_effect, long_negate_effect, long_op_effect, long_shift_effect, store_effect}
+use Rattle.fm_frames.specs.Effects.{Effect, given_number, int_word, long_words, words}
+use Rattle.fm_frames.specs.NumberRows.{constant_effect, increment_effect, load_effect, store_effect}
 use Rattle.fm_frames.specs.Operands.{thrown}
+use Rattle.fm_frames.specs.Rows.{effect_of}
 use Rattle.fm_frames.specs.Sights.{Sight}
 use Rattle.fm_frames.specs.States.{Frame, word_at}
 use Rattle.fm_law_sound.specs.Leading.{LeadsAs, LeavesAs, sources_of}
 use Rattle.fm_law_sound.specs.Sound.{FrameHasKinds, HasKind, LocalHasKind}
-use Rattle.fm_law_sound.proofs.Cases.{by_int, by_long, by_thrown}
+use Rattle.fm_law_sound.proofs.Cases.{by_int, by_long}
 use Rattle.fm_law_sound.proofs.FramesLeft as left
 use Rattle.fm_law_sound.proofs.KindLemmas.{as_local, from_int, int_local, local_kind_or, suited}
 use Rattle.fm_law_sound.proofs.Leaving.{kinds_before, kinds_left, pushed_leaves, worked_leaves}
@@ -36,6 +36,10 @@ int_gives o f n areas made statics = ((n, refl), tt)
 
 pub long_gives : (o : Outline) (f : Frame) (n : ℤ) → GivesSlots o f (slot.Top ∷ slot.Long ∷ []) (long_words n)
 long_gives o f n areas made statics = (refl, ((n, refl), tt))
+
+number_gives : (o : Outline) (f : Frame) (is_long : Bool) (n : ℤ) → GivesSlots o f (number_slots is_long) (given_number is_long n)
+number_gives o f true n = long_gives o f n
+number_gives o f false n = int_gives o f n
 
 module _ (o : Outline) (s : TypeState) (f : Frame) (h : FrameHasKinds s f.locals f.stack) (after : TypeState) where
   -- the effect leads where the checker's row does
@@ -95,84 +99,17 @@ module _ (o : Outline) (s : TypeState) (f : Frame) (h : FrameHasKinds s f.locals
 
   -- ---- numbers
 
-  pub int_op_leads : (op : Op) (sights : List Sight) → worked o (slot.Int ∷ slot.Int ∷ []) (slot.Int ∷ []) s ≡ Some after
-      → Leads (insn.IntOp op) (int_op_effect o op sights)
-  unfolding int_op_effect
-  int_op_leads op sights row =
-      by_int (Leads (insn.IntOp op)) sights 0 _ tt (λ b. by_int (Leads (insn.IntOp op)) sights 1 _ tt (λ a.
-      by_thrown (Leads (insn.IntOp op)) o (result_of_op op 32 a b) _ (thrown_leads (insn.IntOp op) (codes "java/lang/ArithmeticException"))
-      (λ n. (refl, worked_leaves o s f h (slot.Int ∷ slot.Int ∷ []) (slot.Int ∷ []) after (words 2 (int_word n)) row refl refl (int_gives o f n)))))
-
-  pub long_op_leads : (op : Op) (sights : List Sight)
-      → worked o (slot.Top ∷ slot.Long ∷ slot.Top ∷ slot.Long ∷ []) (slot.Top ∷ slot.Long ∷ []) s ≡ Some after
-      → Leads (insn.LongOp op) (long_op_effect o op sights)
-  unfolding long_op_effect
-  long_op_leads op sights row =
-      by_long (Leads (insn.LongOp op)) sights 1 _ tt (λ b. by_long (Leads (insn.LongOp op)) sights 3 _ tt (λ a.
-      by_thrown (Leads (insn.LongOp op)) o (result_of_op op 64 a b) _ (thrown_leads (insn.LongOp op) (codes "java/lang/ArithmeticException"))
-      (λ n. (
-        refl,
-        worked_leaves o s f h (slot.Top ∷ slot.Long ∷ slot.Top ∷ slot.Long ∷ []) (slot.Top ∷ slot.Long ∷ []) after (words 4 (long_words n)) row
-            refl refl (long_gives o f n),
-      ))))
-
-  pub int_negate_leads : (sights : List Sight) → worked o (slot.Int ∷ []) (slot.Int ∷ []) s ≡ Some after → Leads insn.IntNeg (int_negate_effect sights)
-  unfolding int_negate_effect
-  int_negate_leads sights row =
-      by_int (Leads insn.IntNeg) sights 0 _ tt
-      (λ a. (refl, worked_leaves o s f h (slot.Int ∷ []) (slot.Int ∷ []) after (words 1 (int_word _)) row refl refl (int_gives o f _)))
-
-  pub long_negate_leads : (sights : List Sight) → worked o (slot.Top ∷ slot.Long ∷ []) (slot.Top ∷ slot.Long ∷ []) s ≡ Some after
-      → Leads insn.LongNeg (long_negate_effect sights)
-  unfolding long_negate_effect
-  long_negate_leads sights row =
-      by_long (Leads insn.LongNeg) sights 1 _ tt
-      (λ a. (refl, worked_leaves o s f h (slot.Top ∷ slot.Long ∷ []) (slot.Top ∷ slot.Long ∷ []) after (words 2 (long_words _)) row refl refl (long_gives o f _)))
-
-  pub int_shift_leads : (shift : Shift) (sights : List Sight) → worked o (slot.Int ∷ slot.Int ∷ []) (slot.Int ∷ []) s ≡ Some after
-      → Leads (insn.IntShift shift) (int_shift_effect shift sights)
-  unfolding int_shift_effect
-  int_shift_leads shift sights row =
-      by_int (Leads (insn.IntShift shift)) sights 0 _ tt (λ n. by_int (Leads (insn.IntShift shift)) sights 1 _ tt
-      (λ a. (refl, worked_leaves o s f h (slot.Int ∷ slot.Int ∷ []) (slot.Int ∷ []) after (words 2 (int_word _)) row refl refl (int_gives o f _))))
-
-  pub long_shift_leads : (shift : Shift) (sights : List Sight)
-      → worked o (slot.Int ∷ slot.Top ∷ slot.Long ∷ []) (slot.Top ∷ slot.Long ∷ []) s ≡ Some after
-      → Leads (insn.LongShift shift) (long_shift_effect shift sights)
-  unfolding long_shift_effect
-  long_shift_leads shift sights row =
-      by_int (Leads (insn.LongShift shift)) sights 0 _ tt (λ n. by_long (Leads (insn.LongShift shift)) sights 2 _ tt
-      (λ a. (
-        refl,
-        worked_leaves o s f h (slot.Int ∷ slot.Top ∷ slot.Long ∷ []) (slot.Top ∷ slot.Long ∷ []) after (words 3 (long_words _)) row refl refl
-            (long_gives o f _),
-      )))
-
-  narrowed_leads : (to : Conv) (sights : List Sight) → worked o (slot.Int ∷ []) (slot.Int ∷ []) s ≡ Some after
-      → Leads (insn.Convert to) (int_converted to sights)
-  narrowed_leads to sights row =
-      by_int (Leads (insn.Convert to)) sights 0 _ tt
-      (λ a. (refl, worked_leaves o s f h (slot.Int ∷ []) (slot.Int ∷ []) after (words 1 (int_word _)) row refl refl (int_gives o f _)))
-
-  pub convert_leads : (to : Conv) (sights : List Sight) → convert_row o to s ≡ Some after → Leads (insn.Convert to) (convert_effect to sights)
-  unfolding convert_row convert_effect
-  convert_leads conv.IntToLong sights row =
-      by_int (Leads (insn.Convert conv.IntToLong)) sights 0 _ tt
-      (λ a. (refl, worked_leaves o s f h (slot.Int ∷ []) (slot.Top ∷ slot.Long ∷ []) after (words 1 (long_words _)) row refl refl (long_gives o f _)))
-  convert_leads conv.LongToInt sights row =
-      by_long (Leads (insn.Convert conv.LongToInt)) sights 1 _ tt
-      (λ a. (refl, worked_leaves o s f h (slot.Top ∷ slot.Long ∷ []) (slot.Int ∷ []) after (words 2 (int_word _)) row refl refl (int_gives o f _)))
-  convert_leads conv.IntToByte sights row = narrowed_leads conv.IntToByte sights row
-  convert_leads conv.IntToChar sights row = narrowed_leads conv.IntToChar sights row
-  convert_leads conv.IntToShort sights row = narrowed_leads conv.IntToShort sights row
-
-  pub compare_leads : (sights : List Sight) → worked o (slot.Top ∷ slot.Long ∷ slot.Top ∷ slot.Long ∷ []) (slot.Int ∷ []) s ≡ Some after
-      → Leads insn.LongCompare (compare_effect sights)
-  unfolding compare_effect
-  compare_leads sights row =
-      by_long (Leads insn.LongCompare) sights 1 _ tt (λ b. by_long (Leads insn.LongCompare) sights 3 _ tt
-      (λ a. (
-        refl,
-        worked_leaves o s f h (slot.Top ∷ slot.Long ∷ slot.Top ∷ slot.Long ∷ []) (slot.Int ∷ []) after (words 4 (int_word _)) row refl refl
-            (int_gives o f _),
-      )))
+  -- what takes numbers and gives one
+  pub number_leads : (i : Insn) (method : ℕ) (u : Use) (byte : Option ℕ) (sights : List Sight) → is_number i ≡ true → falls_through i ≡ true
+      → worked o (wanted_by i) (given_by i) s ≡ Some after → Leads i (effect_of o method u i byte sights)
+  number_leads i method u byte sights is falls row =
+      each_number o sights method u byte (Leads i) i is (record {
+        int = λ n at k each. by_int (Leads i) sights n k tt each;
+        long = λ n at k each. by_long (Leads i) sights n k tt each;
+        thrown = thrown_leads i (codes "java/lang/ArithmeticException");
+        gives = λ n. (
+          falls,
+          worked_leaves o s f h (wanted_by i) (given_by i) after (words (length (wanted_by i)) (given_number (number_given i) n)) row refl refl
+              (number_gives o f (number_given i) n),
+        );
+      })

@@ -5,6 +5,7 @@ use Rattle.std.proofs.lemmas.Option.{same_Some}
 use Rattle.fm_base.specs.declared.kinds.TypeRef.{TypeRef}
 use Rattle.fm_code.specs.declared.instructions.Insn.{Insn}
 use Rattle.fm_code.specs.declared.instructions.Insn.TheVariants as insn
+use Rattle.fm_types.specs.NumberRows.{convert_row}
 use Rattle.fm_types.specs.Rows.{row_after}
 use Rattle.fm_types.specs.States.{is_whole, TypeState}
 use Rattle.fm_types.specs.declared.slots.Slot.TheVariants as slot
@@ -19,14 +20,14 @@ use Rattle.fm_law_sound.specs.Sound.{FrameHasKinds}
 use Rattle.fm_law_sound.proofs.ArrayRows.{array_load_leads, array_store_leads, length_leads, multi_array_leads, new_array_leads, new_references_leads}
 use Rattle.fm_law_sound.proofs.JumpRows.{goto_leads, int_jump_leads, lookup_leads, move_leads, null_jump_leads, pair_jump_leads, return_leads, same_jump_leads, table_leads, throw_leads}
 use Rattle.fm_law_sound.proofs.Leaving.{pushed_leaves, same_leaves}
-use Rattle.fm_law_sound.proofs.NumberRows.{compare_leads, constant_leads, convert_leads, increment_leads, int_gives, int_negate_leads, int_op_leads, int_shift_leads, Leads, load_leads, long_gives, long_negate_leads, long_op_leads, long_shift_leads, store_leads}
+use Rattle.fm_law_sound.proofs.NumberRows.{constant_leads, increment_leads, int_gives, Leads, load_leads, long_gives, number_leads, store_leads}
 use Rattle.fm_law_sound.proofs.ObjectRows.{cast_leads, get_field_leads, get_static_leads, is_a_leads, new_leads, put_field_leads, put_static_leads}
 
 module _ (o : Outline) (s : TypeState) (f : Frame) (h : FrameHasKinds s f.locals f.stack) (after : TypeState) where
   pub effect_leads : (i : Insn) (u : Use) (news : ℕ → Option TypeRef) (byte : Option ℕ) (sights : List Sight) → is_whole s.stack ≡ true
       → NamesField o u i → is_call i ≡ false → row_after o f.method f.item news u i s ≡ Some after
       → Leads o s f h after i (effect_of o f.method u i byte sights)
-  unfolding row_after effect_of
+  unfolding convert_row row_after effect_of
   effect_leads insn.Nop u news byte sights whole names call row =
       (refl, subst (λ t. LeavesAs o t f (words 0 [])) (same_Some s after row) (same_leaves o s f h (words 0 []) refl refl refl))
   effect_leads insn.Null u news byte sights whole names call row =
@@ -48,14 +49,6 @@ module _ (o : Outline) (s : TypeState) (f : Frame) (h : FrameHasKinds s f.locals
   effect_leads insn.Dup2X1 u news byte sights whole names call row = move_leads o s f h after insn.Dup2X1 _ refl refl row
   effect_leads insn.Dup2X2 u news byte sights whole names call row = move_leads o s f h after insn.Dup2X2 _ refl refl row
   effect_leads insn.Swap u news byte sights whole names call row = move_leads o s f h after insn.Swap _ refl refl row
-  effect_leads (insn.IntOp op) u news byte sights whole names call row = int_op_leads o s f h after op sights row
-  effect_leads (insn.LongOp op) u news byte sights whole names call row = long_op_leads o s f h after op sights row
-  effect_leads insn.IntNeg u news byte sights whole names call row = int_negate_leads o s f h after sights row
-  effect_leads insn.LongNeg u news byte sights whole names call row = long_negate_leads o s f h after sights row
-  effect_leads (insn.IntShift shift) u news byte sights whole names call row = int_shift_leads o s f h after shift sights row
-  effect_leads (insn.LongShift shift) u news byte sights whole names call row = long_shift_leads o s f h after shift sights row
-  effect_leads (insn.Convert to) u news byte sights whole names call row = convert_leads o s f h after to sights row
-  effect_leads insn.LongCompare u news byte sights whole names call row = compare_leads o s f h after sights row
   effect_leads (insn.IfInt test target) u news byte sights whole names call row = int_jump_leads o s f h after test target sights row
   effect_leads (insn.IfPair test target) u news byte sights whole names call row = pair_jump_leads o s f h after test target sights row
   effect_leads (insn.IfSame same target) u news byte sights whole names call row = same_jump_leads o s f h after same target row
@@ -85,3 +78,4 @@ module _ (o : Outline) (s : TypeState) (f : Frame) (h : FrameHasKinds s f.locals
   effect_leads (insn.Special index) u news byte sights whole names call row = absurd (false≢true (sym call))
   effect_leads (insn.Static index) u news byte sights whole names call row = absurd (false≢true (sym call))
   effect_leads (insn.LeftOut opcode) u news byte sights whole names call row = absurd (cc)
+  effect_leads i u news byte sights whole names call row = number_leads o s f h after i f.method u byte sights refl refl row

@@ -1,12 +1,14 @@
 -- Each effect of the table owes to the classes what it should: all rows together, and what the start of a class makes of them.
-use Rattle.std.proofs.Common.{◌≡◌, ℕ, ◌+◌, List, [], length, take, position, Option, Some, None, codes, refl, Contains, arith}
+use Rattle.std.proofs.Common.{◌≡◌, ℕ, ◌+◌, true, false, List, [], length, take, position, Option, Some, None, codes, refl, Contains, arith}
 use Rattle.std.specs.Ordering.{int_eq}
+use Rattle.fm_code.specs.Edges.{falls_through}
+use Rattle.fm_code.specs.Live.{stores_over}
+use Rattle.fm_code.specs.StackWords.{number_given}
 use Rattle.fm_code.specs.declared.instructions.Insn.{Insn}
 use Rattle.fm_code.specs.declared.instructions.Insn.TheVariants as insn
-use Rattle.fm_code.specs.declared.operations.Conv.{Conv}
-use Rattle.fm_code.specs.declared.operations.Conv.TheVariants as conv
 use Rattle.fm_conn.specs.Rows as pairs
 use Rattle.fm_conn.specs.Facts.{AreFacts, Facts}
+use Rattle.fm_types.proofs.EachCheckRow.{is_number, takes_wanted, wanted_by}
 use Rattle.fm_types.specs.Named.{class_of_method}
 use Rattle.fm_types.specs.Typed.{use_by}
 use Rattle.fm_world.specs.Lookups.{select, special_target}
@@ -15,18 +17,19 @@ use Rattle.fm_world.specs.Programs.{class_of_type, Program, targets}
 use Rattle.fm_world.specs.declared.calls.Call.{Call}
 use Rattle.fm_same.specs.Standing.{method_of}
 use Rattle.fm_world.specs.Chains.{is_sub}
+use Rattle.fm_frames.proofs.EachNumber.{each_number}
 use Rattle.fm_frames.specs.CallRows.{entered, entered_as, interface_effect, native_of, receiver_class, special_effect, static_effect, virtual_effect, words_of_arguments}
-use Rattle.fm_frames.specs.Effects.{Calls, going, int_word, Jumps, JumpsIfSame, long_words, null_word}
+use Rattle.fm_frames.specs.Effects.{Calls, given_number, going, int_word, Jumps, JumpsIfSame, long_words, null_word}
 use Rattle.fm_frames.specs.JumpRows.{int_jump_effect, key_target, lookup_effect, null_jump_effect, pair_jump_effect, table_effect, table_target}
 use Rattle.fm_frames.specs.declared.natives.Native.{Native}
-use Rattle.fm_frames.specs.NumberRows.{compare_effect, convert_effect, increment_effect, int_negate_effect, int_op_effect, int_shift_effect, long_negate_effect, long_op_effect, long_shift_effect}
+use Rattle.fm_frames.specs.NumberRows.{increment_effect}
 use Rattle.fm_frames.specs.ObjectRows.{is_a_effect}
 use Rattle.fm_frames.specs.Rows.{effect_of}
 use Rattle.fm_frames.specs.Operands.{thrown, thrown_null}
 use Rattle.fm_frames.specs.Sights.{Sight}
 use Rattle.fm_frames.specs.States.{Frame}
 use Rattle.fm_same.specs.Covering.{CoversTargets, MeetsTarget}
-use Rattle.fm_law_sound.proofs.Cases.{by_any, by_held, by_if, by_object, by_on_method, by_on_type, by_reference, by_thrown}
+use Rattle.fm_law_sound.proofs.Cases.{by_any, by_held, by_if, by_object, by_on_method, by_on_type, by_reference}
 use Rattle.fm_law_sound.proofs.JumpRows.{few_keys, key_within, table_within}
 use Rattle.fm_same.proofs.ItemFacts.{AtInsn, goes_obey, used}
 use Rattle.fm_same.proofs.NativeRows.{native_obeys}
@@ -34,7 +37,7 @@ use Rattle.fm_same.proofs.ArrayRows.{array_load_obeys, array_store_obeys, length
 use Rattle.fm_same.proofs.EndRows.{cast_obeys, return_obeys, throw_obeys}
 use Rattle.fm_same.proofs.MoveRows.{constant_obeys, load_obeys, move_obeys, store_obeys}
 use Rattle.fm_same.proofs.ObjectRows.{get_field_obeys, get_static_obeys, new_obeys, put_field_obeys, put_static_obeys, started_obeys}
-use Rattle.fm_same.proofs.PlainRows.{faulty_obeys, going_obeys, int_obeys, jump_obeys, long_obeys, null_obeys, Owes, stuck_obeys, thrown_obeys, words_obey}
+use Rattle.fm_same.proofs.PlainRows.{faulty_obeys, going_obeys, int_obeys, jump_obeys, long_obeys, null_obeys, Owes, plain_number, stuck_obeys, thrown_obeys, words_obey}
 
 module _ (p : Program) (facts : Facts) (exact : AreFacts p facts) (f : Frame) (i : Insn) (h : AtInsn p facts f i) where
   -- a method with code is entered
@@ -110,31 +113,25 @@ module _ (p : Program) (facts : Facts) (exact : AreFacts p facts) (f : Frame) wh
       (entered_obeys p facts exact f i h (words_of_arguments p.outline m.0) m.0 byte s _ refl
       (covers m.0 (record { method = m; type = n; named = is; is = refl }))))
 
-  -- ---- conversions
+  -- ---- numbers
 
-  convert_obeys : (to : Conv) (h : AtInsn p facts f (insn.Convert to)) (s : List Sight) → Owes p facts exact f (insn.Convert to) h (convert_effect to s)
-  unfolding convert_effect pairs.words_taken
-  convert_obeys conv.IntToLong h s =
-      let i : Insn = insn.Convert conv.IntToLong in
-      int_obeys p facts exact f i h s 0 _ (λ a. words_obey p facts exact f i h (λ k. refl) refl 1 _ (tt, (tt, tt)) (omega arith))
-  convert_obeys conv.LongToInt h s =
-      let i : Insn = insn.Convert conv.LongToInt in
-      long_obeys p facts exact f i h s 1 _ (λ a. words_obey p facts exact f i h (λ k. refl) refl 2 _ (tt, tt) (omega arith))
-  convert_obeys conv.IntToByte h s =
-      let i : Insn = insn.Convert conv.IntToByte in
-      int_obeys p facts exact f i h s 0 _ (λ a. words_obey p facts exact f i h (λ k. refl) refl 1 _ (tt, tt) (omega arith))
-  convert_obeys conv.IntToChar h s =
-      let i : Insn = insn.Convert conv.IntToChar in
-      int_obeys p facts exact f i h s 0 _ (λ a. words_obey p facts exact f i h (λ k. refl) refl 1 _ (tt, tt) (omega arith))
-  convert_obeys conv.IntToShort h s =
-      let i : Insn = insn.Convert conv.IntToShort in
-      int_obeys p facts exact f i h s 0 _ (λ a. words_obey p facts exact f i h (λ k. refl) refl 1 _ (tt, tt) (omega arith))
+  number_obeys : (i : Insn) (h : AtInsn p facts f i) (byte : Option ℕ) (s : List Sight) → is_number i ≡ true → falls_through i ≡ true
+      → ((k : ℕ) → stores_over k i ≡ false) → Owes p facts exact f i h (effect_of p.outline f.method (use_by p f.method i) i byte s)
+  unfolding pairs.words_taken
+  number_obeys i h byte s is falls keeps =
+      let taken : pairs.words_taken p.outline (used p facts exact f i h) i ≡ length (wanted_by i) = takes_wanted _ _ i is in
+      each_number p.outline s f.method (use_by p f.method i) byte (Owes p facts exact f i h) i is (record {
+        int = λ n at k each. int_obeys p facts exact f i h s n k each;
+        long = λ n at k each. long_obeys p facts exact f i h s n k each;
+        thrown = thrown_obeys p facts exact f i h keeps (codes "java/lang/ArithmeticException");
+        gives = λ n. words_obey p facts exact f i h keeps falls (length (wanted_by i)) (given_number (number_given i) n) (plain_number (number_given i) n) (omega arith);
+      })
 
   -- ---- the whole table
 
   pub effect_obeys : (i : Insn) (h : AtInsn p facts f i) (byte : Option ℕ) (s : List Sight) → CoversTargets p facts f h.code i s
       → Owes p facts exact f i h (effect_of p.outline f.method (use_by p f.method i) i byte s)
-  unfolding effect_of compare_effect int_jump_effect int_negate_effect int_op_effect int_shift_effect is_a_effect long_negate_effect long_op_effect long_shift_effect lookup_effect null_jump_effect pair_jump_effect table_effect pairs.joined_by pairs.words_taken
+  unfolding effect_of int_jump_effect is_a_effect lookup_effect null_jump_effect pair_jump_effect table_effect pairs.joined_by pairs.words_taken
   effect_obeys insn.Nop h byte s covers = words_obey p facts exact f insn.Nop h (λ k. refl) refl 0 [] tt (omega arith)
   effect_obeys insn.Null h byte s covers = words_obey p facts exact f insn.Null h (λ k. refl) refl 0 null_word (refl, tt) (omega arith)
   effect_obeys (insn.Const n) h byte s covers = words_obey p facts exact f (insn.Const n) h (λ k. refl) refl 0 (int_word n) (tt, tt) (omega arith)
@@ -154,32 +151,6 @@ module _ (p : Program) (facts : Facts) (exact : AreFacts p facts) (f : Frame) wh
   effect_obeys insn.Dup2X1 h byte s covers = move_obeys p facts exact f insn.Dup2X1 h _ refl (λ k. refl) refl refl refl
   effect_obeys insn.Dup2X2 h byte s covers = move_obeys p facts exact f insn.Dup2X2 h _ refl (λ k. refl) refl refl refl
   effect_obeys insn.Swap h byte s covers = move_obeys p facts exact f insn.Swap h _ refl (λ k. refl) refl refl refl
-  effect_obeys (insn.IntOp op) h byte s covers =
-      let i : Insn = insn.IntOp op in
-      int_obeys p facts exact f i h s 0 _ (λ b. int_obeys p facts exact f i h s 1 _ (λ a. by_thrown (Owes p facts exact f i h) p.outline _ _
-      (thrown_obeys p facts exact f i h (λ k. refl) (codes "java/lang/ArithmeticException"))
-      (λ n. words_obey p facts exact f i h (λ k. refl) refl 2 (int_word n) (tt, tt) (omega arith))))
-  effect_obeys (insn.LongOp op) h byte s covers =
-      let i : Insn = insn.LongOp op in
-      long_obeys p facts exact f i h s 1 _ (λ b. long_obeys p facts exact f i h s 3 _ (λ a. by_thrown (Owes p facts exact f i h) p.outline _ _
-      (thrown_obeys p facts exact f i h (λ k. refl) (codes "java/lang/ArithmeticException"))
-      (λ n. words_obey p facts exact f i h (λ k. refl) refl 4 (long_words n) (tt, (tt, tt)) (omega arith))))
-  effect_obeys insn.IntNeg h byte s covers =
-      let i : Insn = insn.IntNeg in
-      int_obeys p facts exact f i h s 0 _ (λ a. words_obey p facts exact f i h (λ k. refl) refl 1 _ (tt, tt) (omega arith))
-  effect_obeys insn.LongNeg h byte s covers =
-      let i : Insn = insn.LongNeg in
-      long_obeys p facts exact f i h s 1 _ (λ a. words_obey p facts exact f i h (λ k. refl) refl 2 _ (tt, (tt, tt)) (omega arith))
-  effect_obeys (insn.IntShift shift) h byte s covers =
-      let i : Insn = insn.IntShift shift in
-      int_obeys p facts exact f i h s 0 _ (λ n. int_obeys p facts exact f i h s 1 _ (λ a. words_obey p facts exact f i h (λ k. refl) refl 2 _ (tt, tt) (omega arith)))
-  effect_obeys (insn.LongShift shift) h byte s covers =
-      let i : Insn = insn.LongShift shift in
-      int_obeys p facts exact f i h s 0 _ (λ n. long_obeys p facts exact f i h s 2 _ (λ a. words_obey p facts exact f i h (λ k. refl) refl 3 _ (tt, (tt, tt)) (omega arith)))
-  effect_obeys (insn.Convert to) h byte s covers = convert_obeys to h s
-  effect_obeys insn.LongCompare h byte s covers =
-      let i : Insn = insn.LongCompare in
-      long_obeys p facts exact f i h s 1 _ (λ b. long_obeys p facts exact f i h s 3 _ (λ a. words_obey p facts exact f i h (λ k. refl) refl 4 _ (tt, tt) (omega arith)))
   effect_obeys (insn.IfInt test target) h byte s covers =
       let i : Insn = insn.IfInt test target in
       int_obeys p facts exact f i h s 0 _ (λ a. jump_obeys p facts exact f i h (λ k. refl) (omega arith) refl 1 (omega arith) _)
@@ -223,3 +194,4 @@ module _ (p : Program) (facts : Facts) (exact : AreFacts p facts) (f : Frame) wh
   effect_obeys (insn.Special index) h byte s covers = special_obeys index h byte s covers
   effect_obeys (insn.Static index) h byte s covers = static_obeys index h byte s covers
   effect_obeys (insn.LeftOut opcode) h byte s covers = stuck_obeys p facts exact f (insn.LeftOut opcode) h
+  effect_obeys i h byte s covers = number_obeys i h byte s refl refl (λ k. refl)

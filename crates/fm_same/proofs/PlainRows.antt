@@ -11,7 +11,7 @@ use Rattle.fm_conn.specs.Facts.{AreFacts, Facts}
 use Rattle.fm_conn.specs.Nodes.{Global, Local}
 use Rattle.fm_conn.specs.Rows as pairs
 use Rattle.fm_world.specs.Programs.{Program}
-use Rattle.fm_frames.specs.Effects.{Effect, Next, Falls, Jumps, Faults, going, Source, Plain, OfOperand, OfLocal, LocalPlus, OfPlace, OfStatic, OfMade, OfLiteral, SameOperands, stuck, words, faulty}
+use Rattle.fm_frames.specs.Effects.{Effect, given_number, Next, Falls, Jumps, Faults, going, Source, Plain, OfOperand, OfLocal, LocalPlus, OfPlace, OfStatic, OfMade, OfLiteral, SameOperands, stuck, words, faulty}
 use Rattle.fm_frames.specs.JumpRows.{jumps_if}
 use Rattle.fm_frames.specs.Operands.{on_int, on_long, thrown, thrown_null}
 use Rattle.fm_frames.specs.Sights.{Sight}
@@ -36,6 +36,11 @@ IsPlainSource SameOperands = Unit {0}
 plain_place : (x : Point) (home class n place : ℕ) (k : Kind) → IsPlainKind k → ComesFrom x home class (OfPlace n place k)
 plain_place x home class n place (kind.Ref t) h = absurd h
 plain_place x home class n place k h = tt
+
+-- the words of a number are plain
+pub plain_number : (is_long : Bool) (n : ℤ) → AllByRecursion IsPlainSource (given_number is_long n)
+plain_number true n = (tt, (tt, tt))
+plain_number false n = (tt, tt)
 
 pub plain_from : (x : Point) (home class : ℕ) (s : Source) → IsPlainSource s → ComesFrom x home class s
 plain_from x home class (Plain v) h = h

@@ -1,5 +1,5 @@
 -- What holds of each row of the checker, where it holds of the few sorts of steps that rows are made of.
-use Rattle.std.proofs.Common.{◌≡◌, refl, subst, ℕ, ℤ, zero, suc, ◌+◌, ◌<◌, ◌≤◌, ◌&&◌, Bool, true, false, List, [], ◌∷◌, ◌++◌, length, replicate, Option, Some, None, option_and_then, slice_get, cond, arith, length-append}
+use Rattle.std.proofs.Common.{◌≡◌, refl, subst, sym, ℕ, ℤ, zero, suc, ◌+◌, ◌<◌, ◌≤◌, ◌&&◌, Bool, true, false, List, [], ◌∷◌, ◌++◌, length, replicate, Option, Some, None, option_and_then, slice_get, cond, arith, length-append}
 use Rattle.std.specs.Prelude.{nat_le, nat_lt}
 use Rattle.std.specs.List.{AllByRecursion, flat_map}
 use Rattle.std.specs.Option.{option_to_list}
@@ -9,11 +9,9 @@ use Rattle.fm_base.proofs.ListFacts.{AllByRecursion-append, AllByRecursion-rever
 use Rattle.fm_base.specs.declared.kinds.Kind.{Kind}
 use Rattle.fm_base.specs.declared.kinds.Kind.TheVariants as kind
 use Rattle.fm_base.specs.declared.kinds.TypeRef.{TypeRef}
-use Rattle.fm_code.specs.StackWords.{conv_words, element_words, reg_words, words_taken}
+use Rattle.fm_code.specs.StackWords.{element_words, number_given, number_words, numbers_taken, reg_words, takes_long, words_taken}
 use Rattle.fm_code.specs.declared.instructions.Insn.{Insn}
 use Rattle.fm_code.specs.declared.instructions.Insn.TheVariants as insn
-use Rattle.fm_code.specs.declared.operations.Conv.{Conv}
-use Rattle.fm_code.specs.declared.operations.Conv.TheVariants as conv
 use Rattle.fm_code.specs.declared.operations.Elem.{Elem}
 use Rattle.fm_code.specs.declared.operations.Reg.{Reg}
 use Rattle.fm_code.specs.declared.operations.Reg.TheVariants as reg
@@ -24,7 +22,7 @@ use Rattle.fm_types.specs.ArrayRows.{array_load_row, array_store_row, length_row
 use Rattle.fm_types.specs.CallRows.{constructor_called, instance_call_row, is_constructor, is_initializer, names_own_or_above, return_row, returned_by, same_reg, special_call_row, static_call_row}
 use Rattle.fm_types.specs.Moves.{Moves}
 use Rattle.fm_types.specs.Named.{argument_words, class_of_method, field_words, object_slot, on_field, on_method, on_type, parameters_of, result_of, result_words, throwable_type}
-use Rattle.fm_types.specs.NumberRows.{constant_row, convert_row, increment_row, load_row, move_row, store_row}
+use Rattle.fm_types.specs.NumberRows.{constant_row, convert_row, increment_row, load_row, move_row, number_slots, store_row}
 use Rattle.fm_types.specs.ObjectRows.{cast_row, get_field_row, get_static_row, is_a_row, new_row, put_field_row, put_static_row, takes_field, throw_row}
 use Rattle.fm_types.specs.Rows.{row_after}
 use Rattle.fm_types.specs.States.{int_word, is_whole, local_slots, long_words, pushed, stack_slots, TypeState, worked, worked_below}
@@ -107,11 +105,55 @@ two_ints = record { whole = refl; plain = (tt, (tt, tt)) }
 a_long : AreWords long_words
 a_long = record { whole = refl; plain = (tt, (tt, tt)) }
 
-two_longs : AreWords (long_words ++ long_words)
-two_longs = record { whole = refl; plain = (tt, (tt, (tt, (tt, tt)))) }
+-- a long, or an int
+pub a_number : (is_long : Bool) → AreWords (number_slots is_long)
+a_number true = a_long
+a_number false = an_int
 
-int_and_long : AreWords (int_word ++ long_words)
-int_and_long = record { whole = refl; plain = (tt, (tt, (tt, tt))) }
+-- ---- instructions that take numbers, give one and do nothing else
+
+-- the words of numbers, from the top of the stack
+abbrev pub slots_of : List Bool → List Slot
+slots_of [] = []
+slots_of (is_long ∷ []) = number_slots is_long
+slots_of (is_long ∷ next ∷ more) = number_slots is_long ++ slots_of (next ∷ more)
+
+pub numbers : (longs : List Bool) → AreWords (slots_of longs)
+numbers [] = no_words
+numbers (is_long ∷ []) = a_number is_long
+numbers (true ∷ next ∷ more) = let words = numbers (next ∷ more) in record { whole = words.whole; plain = (tt, (tt, words.plain)) }
+numbers (false ∷ next ∷ more) = let words = numbers (next ∷ more) in record { whole = words.whole; plain = (tt, words.plain) }
+
+-- the words that the instruction takes, and those that it gives
+abbrev pub wanted_by : Insn → List Slot
+wanted_by i = slots_of (numbers_taken i)
+
+abbrev pub given_by : Insn → List Slot
+given_by i = number_slots (number_given i)
+
+-- whether there is a number
+abbrev pub has_one : List Bool → Bool
+has_one [] = false
+has_one (is_long ∷ more) = true
+
+abbrev pub is_number : Insn → Bool
+is_number i = has_one (numbers_taken i)
+
+number_length : (is_long : Bool) → number_words is_long ≡ length (number_slots is_long)
+number_length true = refl
+number_length false = refl
+
+-- it takes as many words as it wants
+pub takes_wanted : (field arguments : ℕ) (i : Insn) → is_number i ≡ true → words_taken field arguments i ≡ length (wanted_by i)
+takes_wanted field arguments (insn.Convert to) is = number_length (takes_long to)
+takes_wanted field arguments i is = cc
+
+-- its row takes these words and gives those
+pub number_row : (o : Outline) (method item : ℕ) (news : ℕ → Option TypeRef) (u : Use) (i : Insn) (s : TypeState) → is_number i ≡ true
+    → row_after o method item news u i s ≡ worked o (wanted_by i) (given_by i) s
+unfolding convert_row row_after
+number_row o method item news u insn.Nop s is = absurd (false≢true is)
+number_row o method item news u i s is = cc
 
 a_reference : (t : TypeRef) → AreWords (slot.Ref t ∷ [])
 a_reference t = record { whole = refl; plain = (tt, tt) }
@@ -209,7 +251,7 @@ module _ (o : Outline) (method : ℕ) (u : Use) (i : Insn) (A : ℕ → Row → 
   by_method (resolved.OfMethod m t) f each = by_some (length (argument_words o m.0) + 1) (slice_get o.types t.0) (f m.0) (each m.0)
   by_method v f each = l.none
 
-  -- ---- constants, conversions and returns
+  -- ---- constants and returns
 
   constant : (v : Use) → A 0 (λ item news s. constant_row o v s)
   unfolding constant_row
@@ -217,14 +259,6 @@ module _ (o : Outline) (method : ℕ) (u : Use) (i : Insn) (A : ℕ → Row → 
   constant (resolved.OfLong value) = l.pushes long_words a_long
   constant (resolved.OfText text) = l.pushes (slot.Ref _ ∷ []) (a_reference _)
   constant v = l.none
-
-  converted : (c : Conv) → A (conv_words c) (λ item news s. convert_row o c s)
-  unfolding convert_row
-  converted conv.IntToLong = l.works int_word long_words an_int a_long
-  converted conv.LongToInt = l.works long_words int_word a_long an_int
-  converted conv.IntToByte = l.works int_word int_word an_int an_int
-  converted conv.IntToChar = l.works int_word int_word an_int an_int
-  converted conv.IntToShort = l.works int_word int_word an_int an_int
 
   returned : (value : Option Reg) (result : Option Kind) → A (words_taken 2 0 (insn.Return value)) (λ item news s. return_by o s value result)
   returned None None = l.built
@@ -334,7 +368,7 @@ module _ (o : Outline) (method : ℕ) (u : Use) (i : Insn) (A : ℕ → Row → 
   -- ---- all instructions
 
   each : (j : Insn) → i ≡ j → A (words_taken 2 (called_words o u) j) (λ item news s. row_after o method item news u j s)
-  unfolding row_after move_row return_row throw_row
+  unfolding convert_row row_after move_row return_row throw_row
   each insn.Nop is = l.kept
   each insn.Null is = l.pushes (slot.Null ∷ []) (record { whole = refl; plain = (tt, tt) })
   each (insn.Const value) is = l.pushes int_word an_int
@@ -355,14 +389,6 @@ module _ (o : Outline) (method : ℕ) (u : Use) (i : Insn) (A : ℕ → Row → 
       l.moves (record { takes = 4; gives = 0 ∷ 1 ∷ 2 ∷ 3 ∷ 0 ∷ 1 ∷ [] })
       (omega arith, (omega arith, (omega arith, (omega arith, (omega arith, (omega arith, tt))))))
   each insn.Swap is = l.moves (record { takes = 2; gives = 1 ∷ 0 ∷ [] }) (omega arith, (omega arith, tt))
-  each (insn.IntOp op) is = l.works (int_word ++ int_word) int_word two_ints an_int
-  each (insn.LongOp op) is = l.works (long_words ++ long_words) long_words two_longs a_long
-  each insn.IntNeg is = l.works int_word int_word an_int an_int
-  each insn.LongNeg is = l.works long_words long_words a_long a_long
-  each (insn.IntShift shift) is = l.works (int_word ++ int_word) int_word two_ints an_int
-  each (insn.LongShift shift) is = l.works (int_word ++ long_words) long_words int_and_long a_long
-  each (insn.Convert c) is = converted c
-  each insn.LongCompare is = l.works (long_words ++ long_words) int_word two_longs an_int
   each (insn.IfInt test target) is = l.works int_word [] an_int no_words
   each (insn.IfPair test target) is = l.works (int_word ++ int_word) [] two_ints no_words
   each (insn.IfSame same target) is = l.works (object_slot o ∷ object_slot o ∷ []) [] (two_references _) no_words
@@ -390,6 +416,9 @@ module _ (o : Outline) (method : ℕ) (u : Use) (i : Insn) (A : ℕ → Row → 
   each (insn.Special index) is = calls_special index is u
   each (insn.Static index) is = calls_static u
   each (insn.LeftOut opcode) is = l.none
+  each j is =
+      subst (λ n. A n (λ item news s. worked o (wanted_by j) (given_by j) s)) (sym (takes_wanted 2 (called_words o u) j refl))
+      (l.works (wanted_by j) (given_by j) (numbers (numbers_taken j)) (a_number (number_given j)))
 
   pub each_check_row : A (words_taken 2 (called_words o u) i) (λ item news s. row_after o method item news u i s)
   each_check_row = each i refl

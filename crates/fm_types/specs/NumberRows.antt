@@ -1,9 +1,9 @@
 -- The rows of constants, locals, moves of the stack, numbers and switches (JVMS 6.5).
 use Rattle.std.specs.Prelude.{ℕ, Bool, true, false, List, [], ◌∷◌, codes, Option, Some, None, option_and_then, if◌then◌else◌, slice_get}
 use Rattle.std.specs.Option.{option_map}
+use Rattle.fm_code.specs.StackWords.{gives_long, takes_long}
 use Rattle.fm_code.specs.declared.instructions.Insn.{Insn}
 use Rattle.fm_code.specs.declared.operations.Conv.{Conv}
-use Rattle.fm_code.specs.declared.operations.Conv.TheVariants as conv
 use Rattle.fm_code.specs.declared.operations.Reg.{Reg}
 use Rattle.fm_code.specs.declared.operations.Reg.TheVariants as reg
 use Rattle.fm_types.specs.Moves.{moved, moves_of}
@@ -85,10 +85,11 @@ move_row i s = option_and_then (λ m. option_and_then of_stack (moved m s.stack)
 
 -- ---- numbers
 
+-- the words of a long, or of an int
+abbrev pub number_slots : (is_long : Bool) → List Slot
+number_slots true = long_words
+number_slots false = int_word
+
 -- a number becomes one of another kind (JVMS 6.5, i2l to i2s)
 unfoldable pub convert_row : Outline → Conv → TypeState → Option TypeState
-convert_row o conv.IntToLong s = worked o int_word long_words s
-convert_row o conv.LongToInt s = worked o long_words int_word s
-convert_row o conv.IntToByte s = worked o int_word int_word s
-convert_row o conv.IntToChar s = worked o int_word int_word s
-convert_row o conv.IntToShort s = worked o int_word int_word s
+convert_row o to s = worked o (number_slots (takes_long to)) (number_slots (gives_long to)) s
