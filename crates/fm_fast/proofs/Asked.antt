@@ -1,6 +1,7 @@
 -- A frame whose words have the kinds that the checker found has what the row of its next instruction asks.
-use Rattle.std.proofs.Common.{◌≡◌, ◌≢◌, ℕ, ℤ, true, List, [], ◌∷◌, ◌++◌, length, drop, take, zero, suc, Bool, cond, option_map, Option, Some, None, slice_get, refl, ap, sym, ◌∙◌, subst}
+use Rattle.std.proofs.Common.{◌≡◌, ◌≢◌, ℕ, ◌+◌, ℤ, true, false, arith, List, [], ◌∷◌, ◌++◌, length, drop, take, zero, suc, Bool, cond, option_map, Option, Some, None, slice_get, refl, ap, sym, ◌∙◌, subst}
 use Rattle.std.proofs.lemmas.Bool.{false≢true}
+use Rattle.std.proofs.lemmas.List.{drop-drop}
 use Rattle.std.proofs.lemmas.Option.{none-some}
 use Rattle.fm_base.proofs.OptionFacts.{cond-some_then, option_and_then-some, option_map-some}
 use Rattle.fm_base.specs.declared.ids.FieldId.{FieldId}
@@ -9,25 +10,25 @@ use Rattle.fm_base.specs.declared.kinds.Kind.{Kind}
 use Rattle.fm_base.specs.declared.kinds.Kind.TheVariants as kind
 use Rattle.fm_base.specs.declared.kinds.TypeRef.{TypeRef}
 use Rattle.fm_cells.specs.declared.answers.Cell.{Cell}
+use Rattle.fm_code.specs.StackWords.{numbers_taken}
 use Rattle.fm_code.specs.declared.instructions.Insn.{Insn}
 use Rattle.fm_code.specs.declared.instructions.Insn.TheVariants as insn
-use Rattle.fm_code.specs.declared.operations.Conv.{Conv}
-use Rattle.fm_code.specs.declared.operations.Conv.TheVariants as conv
 use Rattle.fm_code.specs.declared.operations.Elem.{Elem}
 use Rattle.fm_code.specs.declared.operations.Elem.TheVariants as elem
 use Rattle.fm_code.specs.declared.operations.Reg.{Reg}
 use Rattle.fm_code.specs.declared.operations.Reg.TheVariants as reg
-use Rattle.fm_fast.specs.Operands.{AsksOf, AsksOfConversion, AsksOfPut, AsksOfStore, HasInt, HasLocalOf, HasReference, HasWord, HasWordOf}
+use Rattle.fm_fast.specs.Operands.{AsksOf, AsksOfPut, AsksOfStore, HasInt, HasLocalOf, HasNumbers, HasReference, HasWord, HasWordOf}
 use Rattle.fm_frames.specs.States.{Frame, word_at}
 use Rattle.fm_frames.specs.declared.values.Value.{Value}
 use Rattle.fm_frames.specs.declared.values.Value.TheVariants as value
 use Rattle.fm_law_sound.proofs.KindLemmas.{as_local, int_local, local_kind_or, taken_rest, taken_words}
 use Rattle.fm_law_sound.proofs.FramesLeft.{related_at}
 use Rattle.fm_law_sound.specs.Sound.{FrameHasKinds, HasKind, HaveKinds, IsReference, LocalHasKind}
+use Rattle.fm_types.proofs.EachCheckRow.{given_by, has_one, is_number, number_row, numbers, slots_of, wanted_by}
 use Rattle.fm_types.specs.ArrayRows.{array_load_row, array_store_row, element_of, is_array_of, length_row, null_element, on_array}
 use Rattle.fm_types.specs.Fits.{fits, object_of}
 use Rattle.fm_types.specs.Named.{field_words, object_slot}
-use Rattle.fm_types.specs.NumberRows.{convert_row, increment_row, is_int, load_row, loaded, move_row, store_row, suits}
+use Rattle.fm_types.specs.NumberRows.{increment_row, is_int, load_row, loaded, move_row, store_row, suits}
 use Rattle.fm_types.specs.ObjectRows.{get_field_row, put_field_row, takes_field}
 use Rattle.fm_types.specs.Rows.{row_after}
 use Rattle.fm_types.specs.States.{is_long, is_reference, is_whole, local_at, pushed, stack_slots, taken, TypeState, worked, worked_below}
@@ -57,14 +58,6 @@ one-long : (words : List Value) → HaveKinds (slot.Top ∷ slot.Long ∷ []) (t
 one-long [] h = absurd h
 one-long (v ∷ []) h = absurd h.1
 one-long (v ∷ w ∷ words) h = (h.1.0.0, ap Some h.1.0.1)
-
-two-longs : (words : List Value) → HaveKinds (slot.Top ∷ slot.Long ∷ slot.Top ∷ slot.Long ∷ []) (take 4 words)
-    → ((n : ℤ) × (slice_get words 3 ≡ Some (value.Long n))) × ((n : ℤ) × (slice_get words 1 ≡ Some (value.Long n)))
-two-longs [] h = absurd h
-two-longs (v ∷ []) h = absurd h.1
-two-longs (v ∷ w ∷ []) h = absurd h.1.1
-two-longs (v ∷ w ∷ x ∷ []) h = absurd h.1.1.1
-two-longs (v ∷ w ∷ x ∷ y ∷ words) h = ((h.1.1.1.0.0, ap Some h.1.1.1.0.1), (h.1.0.0, ap Some h.1.0.1))
 
 int-below : (words : List Value) → HaveKinds (slot.Top ∷ slot.Long ∷ slot.Int ∷ []) (take 3 words)
     → ((n : ℤ) × (slice_get words 2 ≡ Some (value.Int n))) × ((n : ℤ) × (slice_get words 1 ≡ Some (value.Long n)))
@@ -202,13 +195,52 @@ module _ (o : Outline) (s : TypeState) (f : Frame) (callers : List Frame) (h : F
   doubles [] is row = absurd (none-some after row)
   doubles (found ∷ stack) is row = first-word found stack f.stack (subst (λ xs. HaveKinds xs f.stack) is h.in_stack)
 
-  converts : (to : Conv) → convert_row o to s ≡ Some after → AsksOfConversion to (f ∷ callers)
-  unfolding convert_row
-  converts conv.IntToLong row = one-int f.stack (words-taken (slot.Int ∷ []) (slot.Top ∷ slot.Long ∷ []) refl row)
-  converts conv.LongToInt row = one-long f.stack (words-taken (slot.Top ∷ slot.Long ∷ []) (slot.Int ∷ []) refl row)
-  converts conv.IntToByte row = one-int f.stack (words-taken (slot.Int ∷ []) (slot.Int ∷ []) refl row)
-  converts conv.IntToChar row = one-int f.stack (words-taken (slot.Int ∷ []) (slot.Int ∷ []) refl row)
-  converts conv.IntToShort row = one-int f.stack (words-taken (slot.Int ∷ []) (slot.Int ∷ []) refl row)
+  -- ---- numbers
+
+  -- the words from a place on
+  word-there : (place : ℕ) (v : Value) (words : List Value) → drop place f.stack ≡ v ∷ words → slice_get f.stack place ≡ Some v
+  word-there place v words is = sym (top-left place f.stack) ∙ ap (λ xs. slice_get xs 0) is
+
+  words-after : (place : ℕ) (v : Value) (words : List Value) → drop place f.stack ≡ v ∷ words → drop (place + 1) f.stack ≡ words
+  words-after place v words is = sym (drop-drop 1 place f.stack) ∙ ap (drop 1) is
+
+  words-behind : (place : ℕ) (v w : Value) (words : List Value) → drop place f.stack ≡ v ∷ w ∷ words → drop (place + 2) f.stack ≡ words
+  words-behind place v w words is =
+      let next : place + 2 ≡ place + 1 + 1 = omega arith in
+      ap (λ n. drop n f.stack) next ∙ words-after (place + 1) w words (words-after place v (w ∷ words) is)
+
+  -- the numbers that are wanted are there
+  numbers-there : (longs : List Bool) (place : ℕ) (words : List Value) → drop place f.stack ≡ words
+      → HaveKinds (slots_of longs) (take (length (slots_of longs)) words) → HasNumbers longs (f ∷ callers) place
+  numbers-there [] place words is h = tt
+  numbers-there (false ∷ []) place [] is h = absurd h
+  numbers-there (true ∷ []) place [] is h = absurd h
+  numbers-there (false ∷ next ∷ more) place [] is h = absurd h
+  numbers-there (true ∷ next ∷ more) place [] is h = absurd h
+  numbers-there (true ∷ []) place (v ∷ []) is h = absurd h.1
+  numbers-there (true ∷ next ∷ more) place (v ∷ []) is h = absurd h.1
+  numbers-there (false ∷ []) place (v ∷ words) is h = (h.0.0, word-there place v words is ∙ ap Some h.0.1)
+  numbers-there (false ∷ next ∷ more) place (v ∷ words) is h = (
+    numbers-there (next ∷ more) (place + 1) words (words-after place v words is) h.1,
+    (h.0.0, word-there place v words is ∙ ap Some h.0.1),
+  )
+  numbers-there (true ∷ []) place (v ∷ w ∷ words) is h =
+      (h.1.0.0, word-there (place + 1) w words (words-after place v (w ∷ words) is) ∙ ap Some h.1.0.1)
+  numbers-there (true ∷ next ∷ more) place (v ∷ w ∷ words) is h = (
+    numbers-there (next ∷ more) (place + 2) words (words-behind place v w words is) h.1.1,
+    (h.1.0.0, word-there (place + 1) w words (words-after place v (w ∷ words) is) ∙ ap Some h.1.0.1),
+  )
+
+  no-numbers : (longs : List Bool) → has_one longs ≡ false → HasNumbers longs (f ∷ callers) 0
+  no-numbers [] none = tt
+  no-numbers (is_long ∷ more) none = absurd (false≢true (sym none))
+
+  numbers-asked : (method item : ℕ) (news : ℕ → Option TypeRef) (u : Use) (i : Insn) (number : Bool) → is_number i ≡ number
+      → row_after o method item news u i s ≡ Some after → HasNumbers (numbers_taken i) (f ∷ callers) 0
+  numbers-asked method item news u i true is row =
+      numbers-there (numbers_taken i) 0 f.stack refl
+      (words-taken (wanted_by i) (given_by i) (numbers (numbers_taken i)).whole (sym (number_row o method item news u i s is) ∙ row))
+  numbers-asked method item news u i false is row = no-numbers (numbers_taken i) is
 
   reads : (u : Use) → get_field_row o u s ≡ Some after → HasReference (f ∷ callers) 0
   unfolding get_field_row
@@ -307,11 +339,6 @@ module _ (o : Outline) (s : TypeState) (f : Frame) (callers : List Frame) (h : F
   asked method item news u (insn.Load kind place) row = loads kind place row
   asked method item news u (insn.Store kind place) row = stores kind place s.stack refl row
   asked method item news u (insn.Inc place by) row = increments place row
-  asked method item news u (insn.IntOp op) row = two-ints f.stack (words-taken (slot.Int ∷ slot.Int ∷ []) (slot.Int ∷ []) refl row)
-  asked method item news u (insn.IntShift shift) row = two-ints f.stack (words-taken (slot.Int ∷ slot.Int ∷ []) (slot.Int ∷ []) refl row)
-  asked method item news u (insn.LongOp op) row =
-      two-longs f.stack (words-taken (slot.Top ∷ slot.Long ∷ slot.Top ∷ slot.Long ∷ []) (slot.Top ∷ slot.Long ∷ []) refl row)
-  asked method item news u (insn.Convert to) row = converts to row
   asked method item news u insn.Dup row = doubles s.stack refl row
   asked method item news u (insn.IfInt test target) row = one-int f.stack (words-taken (slot.Int ∷ []) [] refl row)
   asked method item news u (insn.IfPair test target) row = two-ints f.stack (words-taken (slot.Int ∷ slot.Int ∷ []) [] refl row)
@@ -322,4 +349,4 @@ module _ (o : Outline) (s : TypeState) (f : Frame) (callers : List Frame) (h : F
   asked method item news u (insn.ArrayLoad e) row = elements-loaded e row
   asked method item news u (insn.ArrayStore e) row = elements-stored e row
   asked method item news u insn.Length row = lengths row
-  asked method item news u i row = tt
+  asked method item news u i row = numbers-asked method item news u i (is_number i) refl row

@@ -1,12 +1,12 @@
 -- What rows require of the words that they look at, which typed code has there.
-use Rattle.std.specs.Prelude.{◌≡◌, ◌≢◌, ℕ, ℤ, List, Some, slice_get}
+use Rattle.std.specs.Prelude.{◌≡◌, ◌≢◌, ℕ, ◌+◌, ℤ, Bool, true, false, List, [], ◌∷◌, Some, slice_get}
 use Rattle.fm_base.specs.declared.kinds.Kind.{Kind}
 use Rattle.fm_base.specs.declared.kinds.Kind.TheVariants as kind
 use Rattle.fm_cells.specs.declared.answers.Cell.{Cell}
+use Rattle.fm_code.specs.StackWords.{number_words, numbers_taken, takes_long}
 use Rattle.fm_code.specs.declared.instructions.Insn.{Insn}
 use Rattle.fm_code.specs.declared.instructions.Insn.TheVariants as insn
 use Rattle.fm_code.specs.declared.operations.Conv.{Conv}
-use Rattle.fm_code.specs.declared.operations.Conv.TheVariants as conv
 use Rattle.fm_code.specs.declared.operations.Elem.{Elem}
 use Rattle.fm_code.specs.declared.operations.Elem.TheVariants as elem
 use Rattle.fm_code.specs.declared.operations.Reg.{Reg}
@@ -56,10 +56,20 @@ HasWordOf reg.Int frames = HasInt frames 0
 HasWordOf reg.Long frames = HasLong frames 1
 HasWordOf reg.Ref frames = HasReference frames 0
 
+-- there is a long whose second half is at the place, or an int there
+abbrev pub HasNumber : (is_long : Bool) → List Frame → (place : ℕ) → Type 0
+HasNumber true frames place = HasLong frames (place + 1)
+HasNumber false frames place = HasInt frames place
+
+-- there are these numbers from the place on
+abbrev pub HasNumbers : (longs : List Bool) → List Frame → (place : ℕ) → Type 0
+HasNumbers [] frames place = Unit {0}
+HasNumbers (is_long ∷ []) frames place = HasNumber is_long frames place
+HasNumbers (is_long ∷ next ∷ more) frames place = HasNumbers (next ∷ more) frames (place + number_words is_long) × HasNumber is_long frames place
+
 -- what a conversion requires (JVMS 6.5.i2l and its like)
 abbrev pub AsksOfConversion : Conv → List Frame → Type 0
-AsksOfConversion conv.LongToInt frames = HasLong frames 1
-AsksOfConversion to frames = HasInt frames 0
+AsksOfConversion to frames = HasNumber (takes_long to) frames 0
 
 -- what a store into an array requires: the array, an index and a number; one into an array of
 -- references requires nothing (JVMS 6.5.iastore and its like)
@@ -80,10 +90,6 @@ abbrev pub AsksOf : Insn → List Frame → Type 0
 AsksOf (insn.Load kind place) frames = HasLocalOf kind frames place
 AsksOf (insn.Store kind place) frames = HasWordOf kind frames
 AsksOf (insn.Inc place by) frames = HasIntLocal frames place
-AsksOf (insn.IntOp op) frames = HasInt frames 1 × HasInt frames 0
-AsksOf (insn.IntShift shift) frames = HasInt frames 1 × HasInt frames 0
-AsksOf (insn.LongOp op) frames = HasLong frames 3 × HasLong frames 1
-AsksOf (insn.Convert to) frames = AsksOfConversion to frames
 AsksOf insn.Dup frames = HasWord frames 0
 AsksOf (insn.IfInt test target) frames = HasInt frames 0
 AsksOf (insn.IfPair test target) frames = HasInt frames 1 × HasInt frames 0
@@ -93,4 +99,4 @@ AsksOf (insn.GetField index) frames = HasReference frames 0
 AsksOf (insn.ArrayLoad e) frames = HasReference frames 1 × HasInt frames 0
 AsksOf (insn.ArrayStore e) frames = AsksOfStore e frames
 AsksOf insn.Length frames = HasReference frames 0
-AsksOf i frames = Unit {0}
+AsksOf i frames = HasNumbers (numbers_taken i) frames 0
