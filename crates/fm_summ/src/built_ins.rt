@@ -12,8 +12,27 @@ use fm_check_rows::words_of;
 use fm_code::{ACC_STATIC, has_flag};
 use fm_conn::End2;
 use fm_types::Slot;
-use fm_world::{Body, MethodInfo};
+use fm_world::{BUILDER_ROW, Body, FREE_ME_ROW, MethodInfo, STRING_ROW, THROWABLE_ROW};
 use std::alloc::Global;
+
+// The rows that link ends, by their places among the methods of their classes.
+const STRING_TO_STRING: u16 = STRING_ROW + 5;
+
+const APPEND_INT: u16 = BUILDER_ROW + 1;
+
+const APPEND_LONG: u16 = BUILDER_ROW + 2;
+
+const APPEND_CHAR: u16 = BUILDER_ROW + 3;
+
+const APPEND_BOOLEAN: u16 = BUILDER_ROW + 4;
+
+const APPEND_TEXT: u16 = BUILDER_ROW + 5;
+
+const THROWABLE_INIT_OF: u16 = THROWABLE_ROW + 1;
+
+const GET_MESSAGE: u16 = THROWABLE_ROW + 2;
+
+const FREE_ME_LINK: u16 = FREE_ME_ROW + 1;
 
 /// The ends of a method without code. Those that a built-in method links have one number, and each
 /// other end has its own.
@@ -68,9 +87,30 @@ fn is_linked_by(row: Option<u16>, end: End2) -> bool
         return false;
     };
     match end {
-        End2::Return => matches!(row, 9 | 16 | 17 | 18 | 19 | 20 | 39 | 42),
-        End2::Parameter(0) => matches!(row, 9 | 16 | 17 | 18 | 19 | 20 | 38 | 39 | 42),
-        End2::Parameter(1) => matches!(row, 38 | 42),
+        End2::Return => matches!(
+            row,
+            STRING_TO_STRING
+                | APPEND_INT
+                | APPEND_LONG
+                | APPEND_CHAR
+                | APPEND_BOOLEAN
+                | APPEND_TEXT
+                | GET_MESSAGE
+                | FREE_ME_LINK
+        ),
+        End2::Parameter(0) => matches!(
+            row,
+            STRING_TO_STRING
+                | APPEND_INT
+                | APPEND_LONG
+                | APPEND_CHAR
+                | APPEND_BOOLEAN
+                | APPEND_TEXT
+                | THROWABLE_INIT_OF
+                | GET_MESSAGE
+                | FREE_ME_LINK
+        ),
+        End2::Parameter(1) => matches!(row, THROWABLE_INIT_OF | FREE_ME_LINK),
         _ => false,
     }
 }

@@ -30,20 +30,24 @@ macro_rules! methods {
     };
 }
 
-// The rows at which the methods of a class begin: after those of the class before it.
-const STRING_ROW: u16 = OBJECT_METHODS.len() as u16;
+/// The row at which the methods of String begin: after those of Object.
+pub const STRING_ROW: u16 = OBJECT_METHODS.len() as u16;
 
-const BUILDER_ROW: u16 = STRING_ROW + STRING_METHODS.len() as u16;
+/// The row at which those of StringBuilder and of StringBuffer begin: after those of String.
+pub const BUILDER_ROW: u16 = STRING_ROW + STRING_METHODS.len() as u16;
 
+// Those of the others, each after the class before it.
 const SYSTEM_ROW: u16 = BUILDER_ROW + STRING_BUFFER_METHODS.len() as u16;
 
 const PRINT_STREAM_ROW: u16 = SYSTEM_ROW + SYSTEM_METHODS.len() as u16;
 
 const INPUT_STREAM_ROW: u16 = PRINT_STREAM_ROW + PRINT_STREAM_METHODS.len() as u16;
 
-const THROWABLE_ROW: u16 = INPUT_STREAM_ROW + INPUT_STREAM_METHODS.len() as u16;
+/// The row at which those of all throwables begin.
+pub const THROWABLE_ROW: u16 = INPUT_STREAM_ROW + INPUT_STREAM_METHODS.len() as u16;
 
-const FREE_ME_ROW: u16 = THROWABLE_ROW + THROWABLE_METHODS.len() as u16;
+/// The row at which those of FreeMe begin.
+pub const FREE_ME_ROW: u16 = THROWABLE_ROW + THROWABLE_METHODS.len() as u16;
 
 pub const OBJECT_METHODS: [BuiltInMethod; 4] = methods![0;
     PUBLIC "<init>" "()V",

@@ -5,9 +5,9 @@ ghost use Rattle.std.specs.List.{filter_map, flat_map, list_all, list_any, range
 ghost use Rattle.std.specs.Option.{option_map};
 ghost use Rattle.fm_code.specs.declared.class_file.ClassDef.{ClassDef};
 ghost use Rattle.fm_world.specs.Acyclic.{IsAcyclic};
-ghost use Rattle.fm_world.specs.BuiltIns.{built_in, built_in_methods, built_in_rows, free_me_row, throwable_row};
+ghost use Rattle.fm_world.specs.BuiltIns.{builder_row, built_in, built_in_methods, built_in_rows, free_me_row, string_row, throwable_row};
 ghost use Rattle.fm_world.specs.Numbers.{type_number, type_of_class, types_of};
-ghost use Rattle.fm_world.specs.declared.built_in_methods.TheConstants.{BUILT_IN_METHODS};
+ghost use Rattle.fm_world.specs.declared.built_in_methods.TheConstants.{BUILDER_ROW, BUILT_IN_METHODS, FREE_ME_ROW, STRING_ROW, THROWABLE_ROW};
 ghost use Rattle.fm_world.specs.declared.declarations.DeclaredClass.{DeclaredClass};
 ghost use Rattle.fm_world.specs.inner.Tables.{IsLinear};
 ghost use Rattle.fm_world.specs.Rows.{hidden_kinds, row_of};
@@ -20,14 +20,16 @@ ghost use Rattle.fm_world.specs.Lookups.{select, special_target};
 ghost use Rattle.fm_world.specs.Members.{kinds_of, methods_of, size_of, slot_of};
 ghost use Rattle.fm_world.specs.Programs.{Program, classes_of, program_of, targets};
 
-/// Facts of the built-in classes: how many there are, with how many methods; the rows are numbered
-/// without a gap in the order in which they first occur; the row of `FreeMe.free`; the constructor
-/// of the last throwable has the row of that of `Throwable`; an object of a throwable has one
-/// hidden field, which leads to a text.
+/// Facts of the built-in classes: how many there are, with how many methods, and where the rows of
+/// some begin, as the code has it; the rows are numbered without a gap in the order in which they
+/// first occur; the row of `FreeMe.free`; the constructor of the last throwable has the row of that of
+/// `Throwable`; an object of a throwable has one hidden field, which leads to a text.
 pub fn law_built_in()
     ensures classes { length built_in ≡ 28 }
     ensures methods { length (methods_of built_in) ≡ built_in_methods }
     ensures counted { BUILT_IN_METHODS ≡ built_in_methods }
+    ensures begin { STRING_ROW ∷ BUILDER_ROW ∷ THROWABLE_ROW ∷ FREE_ME_ROW ∷ []
+        ≡ string_row ∷ builder_row ∷ throwable_row ∷ free_me_row ∷ [] }
     ensures rows { distinct nat_eq (filter_map (λ m. m.method.row) (methods_of built_in))
         ≡ range_with_len 0 built_in_rows }
     ensures free { row_of (codes "FreeMe") (codes "free") (codes "(Ljava/lang/Object;)V")

@@ -6,6 +6,7 @@ use Rattle.fm_code.specs.AccessFlags.{is_static}
 use Rattle.fm_types.specs.States.{is_reference, local_slots}
 use Rattle.fm_types.specs.declared.slots.Slot.{Slot}
 use Rattle.fm_types.specs.declared.slots.Slot.TheVariants as slot
+use Rattle.fm_world.specs.BuiltIns.{builder_row, free_me_row, string_row, throwable_row}
 use Rattle.fm_world.specs.declared.records.Body.{Body}
 use Rattle.fm_world.specs.declared.records.Body.TheVariants as body
 use Rattle.fm_world.specs.declared.records.MethodInfo.{MethodInfo}
@@ -47,11 +48,28 @@ row_in b = None
 abbrev pub is_one_of : List ℕ → ℕ → Bool
 is_one_of rows row = list_any (λ n. n == row) rows
 
+-- the rows whose result is the receiver by itself, by their places among the methods of their classes: toString of a text, and append
+abbrev pub giving_itself : List ℕ → List ℕ
+giving_itself more =
+    (string_row + 5) ∷ (builder_row + 1) ∷ (builder_row + 2) ∷ (builder_row + 3) ∷ (builder_row + 4) ∷ (builder_row + 5) ∷ more
+
+-- the constructor of a throwable with a message
+abbrev pub init_of_row : ℕ
+init_of_row = throwable_row + 1
+
+-- getMessage
+abbrev pub get_message_row : ℕ
+get_message_row = throwable_row + 2
+
+-- link of FreeMe
+abbrev pub link_row : ℕ
+link_row = free_me_row + 1
+
 -- the rows that link the end with others
 abbrev pub linking_rows : End2 → List ℕ
-linking_rows end.Return = 9 ∷ 16 ∷ 17 ∷ 18 ∷ 19 ∷ 20 ∷ 39 ∷ 42 ∷ []
+linking_rows end.Return = giving_itself (get_message_row ∷ link_row ∷ [])
 linking_rows (end.Parameter k) =
-    if k == 0 then 9 ∷ 16 ∷ 17 ∷ 18 ∷ 19 ∷ 20 ∷ 38 ∷ 39 ∷ 42 ∷ [] else if k == 1 then 38 ∷ 42 ∷ [] else []
+    if k == 0 then giving_itself (init_of_row ∷ get_message_row ∷ link_row ∷ []) else if k == 1 then init_of_row ∷ link_row ∷ [] else []
 linking_rows end.Global = []
 
 -- whether a built-in method links an end with others
