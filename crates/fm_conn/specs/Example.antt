@@ -3,10 +3,11 @@ use Rattle.fm_types.specs.Example.{program_with, typed_code, typed_states}
 use Rattle.fm_conn.specs.Nodes.{Node, Local, Slot, TypedMethod}
 use Rattle.fm_conn.specs.Links.{Linked}
 use Rattle.fm_conn.specs.Pairs.{Linking}
+use Rattle.fm_world.specs.BuiltIns.{built_in_methods}
 
 -- the main of the checker's example, with its states: new, dup, <init>, astore_1, return, and a handler
 abbrev pub example : TypedMethod
-example = record { program = program_with typed_code; number = 86; code = typed_code; states = typed_states }
+example = record { program = program_with typed_code; number = built_in_methods; code = typed_code; states = typed_states }
 
 -- the word that `new` gives, its copies up to the local, and the local
 abbrev pub made_word : Node

@@ -1,5 +1,5 @@
 -- FreeMe.free in the classes of a program: it has a number, and is static.
-use Rattle.std.proofs.Common.{◌≡◌, refl, ◌∙◌, ap, ℕ, zero, suc, ◌+◌, ◌<◌, ◌≤◌, ◌⊎◌, inl, inr, Bool, true, false, ◌||◌, List, ◌∷◌, ◌++◌, length, length-append, map, Option, Some, option_and_then, option_map, arith}
+use Rattle.std.proofs.Common.{◌≡◌, refl, ◌∙◌, ap, ℕ, zero, suc, ◌+◌, ◌<◌, ◌≤◌, ◌⊎◌, inl, inr, Bool, true, false, ◌||◌, List, [], ◌∷◌, ◌++◌, length, length-append, map, Option, Some, option_and_then, option_map, arith}
 use Rattle.std.specs.List.{list_any, range_with_len}
 use Rattle.std.proofs.lemmas.Bool.{cases_lt, false≢true}
 use Rattle.std.proofs.lemmas.Iterator.Adapters.{position_from-zero}
@@ -10,7 +10,7 @@ use Rattle.fm_code.specs.AccessFlags.{is_static}
 use Rattle.fm_code.specs.FreeEntries.{free_class, free_descriptor, free_method, free_name}
 use Rattle.fm_code.specs.declared.class_file.ClassDef.{ClassDef}
 use Rattle.fm_types.proofs.LeastJoins.{same_type-refl}
-use Rattle.fm_world.specs.BuiltIns.{built_in}
+use Rattle.fm_world.specs.BuiltIns.{buffer_methods, builder_methods, built_in, input_stream_methods, object_methods, print_stream_methods, string_methods, system_methods, throwable_methods}
 use Rattle.fm_world.specs.Causes.{method_flags}
 use Rattle.fm_world.specs.Chains.{chain_of, first_found, interfaces_of, parent_of, same_type, upwards}
 use Rattle.fm_world.specs.Declarations.{declared_from}
@@ -21,12 +21,15 @@ use Rattle.fm_world.specs.Numbers.{class_types, type_of_class}
 use Rattle.fm_world.specs.Programs.{classes_of}
 use Rattle.fm_world.specs.declared.declarations.DeclaredClass.{DeclaredClass}
 
--- the numbers of the class FreeMe and of its method free
+-- the number of the class FreeMe
 abbrev pub free_class_number : ℕ
 free_class_number = 8
 
+-- that of its method free, which comes after the methods of the classes before it
 abbrev pub free_method_number : ℕ
-free_method_number = 49
+free_method_number =
+    length object_methods + length string_methods + length (builder_methods []) + length buffer_methods + length system_methods
+    + length print_stream_methods + length input_stream_methods + length throwable_methods
 
 pub class_number_is : (given : List ClassDef) → class_number (classes_of given) free_class ≡ Some free_class_number
 unfolding classes_of built_in

@@ -41,14 +41,14 @@ use Rattle.fm_place.specs.Safe.{AreSafe, method_in_facts, Safe}
 use Rattle.fm_place.specs.Woven.{woven_code, woven_marks}
 use Rattle.fm_same.specs.Resolved.{IsResolved}
 use Rattle.fm_types.specs.Typed.{use_by, use_in}
-use Rattle.fm_world.specs.BuiltIns.{built_in}
+use Rattle.fm_world.specs.BuiltIns.{built_in, free_me_row}
 use Rattle.fm_world.specs.Members.{method_at, methods_of}
 use Rattle.fm_world.specs.Programs.{classes_of, code_at, Outline, outline_of, Program, program_of}
 
 -- ---- FreeMe.free
 
--- its row is that of this number
-row_is : (given : List ClassDef) → (method_at (classes_of given) free_method_number).method.row ≡ Some 41
+-- its row is the first of its class
+row_is : (given : List ClassDef) → (method_at (classes_of given) free_method_number).method.row ≡ Some free_me_row
 unfolding classes_of built_in methods_of
 row_is given = refl
 
@@ -56,7 +56,7 @@ classes_are : (given : List ClassDef) (main : List ℕ) → (program_of given ma
 unfolding outline_of program_of
 classes_are given main = refl
 
-own_row : (given : List ClassDef) (main : List ℕ) → (method_at (program_of given main).outline.classes free_method_number).method.row ≡ Some 41
+own_row : (given : List ClassDef) (main : List ℕ) → (method_at (program_of given main).outline.classes free_method_number).method.row ≡ Some free_me_row
 own_row given main = ap (λ classes. (method_at classes free_method_number).method.row) (classes_are given main) ∙ row_is given
 
 native_is : (given : List ClassDef) (main : List ℕ) → native_of (program_of given main).outline free_method_number ≡ Some FreeMeFree
@@ -72,7 +72,7 @@ calls_free numbered given main resolved = record {
       ap (λ (o : Outline). slice_get o.types free_class_number) (program_outline given main)
       ∙ type_found (outline_of given main).types (has_free numbered given main).number;
   row = native_is given main;
-  started = λ started. nothing-starts (program_of given main) started free_method_number 41 resolved.runnable resolved.rows (own_row given main);
+  started = λ started. nothing-starts (program_of given main) started free_method_number free_me_row resolved.runnable resolved.rows (own_row given main);
 }
 
 -- ---- one method

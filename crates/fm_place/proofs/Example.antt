@@ -56,10 +56,10 @@ pub marks : slice_get (marks_with (full_plans popping_program popping_facts) (po
 unfolding built_in chain_of resolved_field resolved_method fields_of methods_of texts_of types_of classes_of outline_of uses_of codes_of program_of used_indices words_taken sought_class_text sought_class sought_name sought_descriptor sought_pair sought_free marks_of
 marks = refl
 
-pub counts : sites_in (full_plans popping_program popping_facts) 86 popping_class ≡ 1
+pub counts : sites_in (full_plans popping_program popping_facts) main_number popping_class ≡ 1
 unfolding built_in chain_of resolved_field resolved_method fields_of methods_of texts_of types_of classes_of outline_of uses_of codes_of program_of used_indices words_taken
 counts = refl
 
-pub frees : frees_in (full_plans popping_program popping_facts) 86 popping_class ≡ 1
+pub frees : frees_in (full_plans popping_program popping_facts) main_number popping_class ≡ 1
 unfolding built_in chain_of resolved_field resolved_method fields_of methods_of texts_of types_of classes_of outline_of uses_of codes_of program_of used_indices words_taken
 frees = refl

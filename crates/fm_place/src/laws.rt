@@ -78,6 +78,8 @@ pub fn law_example()
     ensures marks { slice_get
         (marks_with (full_plans popping_program popping_facts) (popping_class ∷ [])) main_number
         ≡ Some popping_marks }
-    ensures counts { sites_in (full_plans popping_program popping_facts) 86 popping_class ≡ 1 }
-    ensures frees { frees_in (full_plans popping_program popping_facts) 86 popping_class ≡ 1 }
+    ensures counts { sites_in (full_plans popping_program popping_facts) main_number popping_class
+        ≡ 1 }
+    ensures frees { frees_in (full_plans popping_program popping_facts) main_number popping_class
+        ≡ 1 }
 {}
