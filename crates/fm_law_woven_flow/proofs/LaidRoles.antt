@@ -22,8 +22,7 @@ use Rattle.fm_law_woven_flow.specs.inner.RolesOf.{branch_roles, jump_of, laid_ro
 
 -- how many items a new one becomes
 abbrev pub width : Bool → ℕ
-width true = 2
-width false = 1
+width splits = if splits then 2 else 1
 
 branch_width : (r : Role) (taken : Option Condition) → length (branch_roles r taken) ≡ width (is_some taken)
 branch_width r None = refl
