@@ -21,7 +21,7 @@ use Rattle.fm_frames.specs.States.{null}
 
 -- the operand is the row's receiver, of this sort
 abbrev pub IsReceiver : Native → Receiver → ℕ → Type 0
-IsReceiver row receiver n = ((native_type row).receiver ≡ receiver) × (n ≡ arguments_words (native_type row).arguments)
+IsReceiver native receiver n = ((native_type native).receiver ≡ receiver) × (n ≡ arguments_words (native_type native).arguments)
 
 -- the topmost word of an argument of this type is the operand
 abbrev pub IsAmong : List Given → ℕ → Given → Type 0
@@ -32,15 +32,15 @@ IsAmong (argument ∷ next ∷ arguments) n given =
 
 -- the same of the row's arguments
 abbrev pub IsArgument : Native → ℕ → Given → Type 0
-IsArgument row n given = IsAmong (native_type row).arguments n given
+IsArgument native n given = IsAmong (native_type native).arguments n given
 
 -- the words are those of the row
 abbrev pub Takes : Native → ℕ → Type 0
-Takes row n = n ≡ native_words row
+Takes native n = n ≡ native_words native
 
 -- this is what the row returns
 abbrev pub Returns : Native → Returned → Type 0
-Returns row result = (native_type row).result ≡ result
+Returns native result = (native_type native).result ≡ result
 
 -- whether a value is an int on a stack
 abbrev pub is_int : Shown → Bool
@@ -86,61 +86,61 @@ any_units o s = record {
 }
 
 -- what holds of an effect that asks for an operand of the row, where it holds of what follows
-pub record NativeAsks (o : Outline) (s : List Sight) (row : Native) (Units : List ℕ → Type 0) (A : Effect → Type 0) : Type 0 where
+pub record NativeAsks (o : Outline) (s : List Sight) (native : Native) (Units : List ℕ → Type 0) (A : Effect → Type 0) : Type 0 where
   -- the receiver, and what a hidden field of it leads to
-  pub receiver_any : (n : ℕ) → IsReceiver row AnyReceiver n → (k : Looks → Effect) → ((it : Looks) → IsAt s n it → A (k it)) → A (on_any o s n k)
-  pub receiver_text : (n : ℕ) → IsReceiver row TextReceiver n → (k : List ℕ → Effect) → ((units : List ℕ) → Units units → A (k units)) → A (on_text o s n k)
-  pub builder : (n : ℕ) → IsReceiver row BuilderReceiver n → (k : Looks → Effect)
+  pub receiver_any : (n : ℕ) → IsReceiver native AnyReceiver n → (k : Looks → Effect) → ((it : Looks) → IsAt s n it → A (k it)) → A (on_any o s n k)
+  pub receiver_text : (n : ℕ) → IsReceiver native TextReceiver n → (k : List ℕ → Effect) → ((units : List ℕ) → Units units → A (k units)) → A (on_text o s n k)
+  pub builder : (n : ℕ) → IsReceiver native BuilderReceiver n → (k : Looks → Effect)
       → ((it : Looks) → IsAt s n it → is_builder o it ≡ true → A (k it)) → A (on_builder o s n k)
-  pub built : (n : ℕ) → IsReceiver row BuilderReceiver n → (k : List ℕ → Effect)
+  pub built : (n : ℕ) → IsReceiver native BuilderReceiver n → (k : List ℕ → Effect)
       → ((it : Looks) → IsAt s n it → is_builder o it ≡ true → (units : List ℕ) → Units units → A (k units)) → A (on_built o s n k)
-  pub throwable : (n : ℕ) → IsReceiver row ThrowableReceiver n → (k : Looks → Effect)
+  pub throwable : (n : ℕ) → IsReceiver native ThrowableReceiver n → (k : Looks → Effect)
       → ((it : Looks) → IsAt s n it → IsThrowable o it → A (k it)) → A (on_object o (throwable_type o) s n k)
   pub message : (n : ℕ) (it : Looks) → IsAt s n it → IsThrowable o it → (k : Option (List ℕ) → Effect) → A (k None)
       → ((units : List ℕ) → Units units → A (k (Some units))) → A (on_inner o n it k)
   -- the arguments
-  pub int : (n : ℕ) → IsArgument row n an_int → (k : ℤ → Effect) → ((z : ℤ) → A (k z)) → A (on_int s n k)
-  pub text : (n : ℕ) → IsArgument row n a_text → (k : List ℕ → Effect) → ((units : List ℕ) → Units units → A (k units)) → A (on_text o s n k)
-  pub object : (n : ℕ) → IsArgument row n AnObject → (none : Effect) (k : Looks → Effect) → A none → ((it : Looks) → IsAt s n it → A (k it))
+  pub int : (n : ℕ) → IsArgument native n an_int → (k : ℤ → Effect) → ((z : ℤ) → A (k z)) → A (on_int s n k)
+  pub text : (n : ℕ) → IsArgument native n a_text → (k : List ℕ → Effect) → ((units : List ℕ) → Units units → A (k units)) → A (on_text o s n k)
+  pub object : (n : ℕ) → IsArgument native n AnObject → (none : Effect) (k : Looks → Effect) → A none → ((it : Looks) → IsAt s n it → A (k it))
       → A (on_held none s n k)
-  pub shown : (shown : Shown) → (native_type row).arguments ≡ AShown shown ∷ [] → (k : List ℕ → Effect)
+  pub shown : (shown : Shown) → (native_type native).arguments ≡ AShown shown ∷ [] → (k : List ℕ → Effect)
       → ((units : List ℕ) → Units units → A (k units)) → A (on_shown o shown s k)
 
 -- what holds of the effects that end a row
-pub record NativeLeaves (o : Outline) (s : List Sight) (row : Native) (Units : List ℕ → Type 0) (A : Effect → Type 0) : Type 0 where
+pub record NativeLeaves (o : Outline) (s : List Sight) (native : Native) (Units : List ℕ → Type 0) (A : Effect → Type 0) : Type 0 where
   -- its words are taken, and its result is given
-  pub nothing : (n : ℕ) → Takes row n → Returns row Nothing → A (words n [])
-  pub number : (n : ℕ) (shown : Shown) → is_int shown ≡ true → Takes row n → Returns row (AGiven (AShown shown)) → (z : ℤ) → A (words n (int_word z))
-  pub same : (n : ℕ) → Takes row n → Returns row (AGiven a_boolean) → A (words n (SameOperands ∷ []))
-  pub text_given : (n : ℕ) → Takes row n → Returns row (AGiven a_text) → (units : List ℕ) → Units units → A (making n (text_made o units))
+  pub nothing : (n : ℕ) → Takes native n → Returns native Nothing → A (words n [])
+  pub number : (n : ℕ) (shown : Shown) → is_int shown ≡ true → Takes native n → Returns native (AGiven (AShown shown)) → (z : ℤ) → A (words n (int_word z))
+  pub same : (n : ℕ) → Takes native n → Returns native (AGiven a_boolean) → A (words n (SameOperands ∷ []))
+  pub text_given : (n : ℕ) → Takes native n → Returns native (AGiven a_text) → (units : List ℕ) → Units units → A (making n (text_made o units))
   -- input, output, the end of the run, and an index outside
-  pub byte : (n : ℕ) → Takes row n → Returns row (AGiven an_int) → (z : ℤ) → A (record (words n (int_word z)) { reads = true })
-  pub printed : (n : ℕ) → Takes row n → Returns row Nothing → (bytes : List ℕ) → A (printing n bytes)
-  pub exits : (n : ℕ) → Takes row n → (z : ℤ) → A (going n (Exits z))
+  pub byte : (n : ℕ) → Takes native n → Returns native (AGiven an_int) → (z : ℤ) → A (record (words n (int_word z)) { reads = true })
+  pub printed : (n : ℕ) → Takes native n → Returns native Nothing → (bytes : List ℕ) → A (printing n bytes)
+  pub exits : (n : ℕ) → Takes native n → (z : ℤ) → A (going n (Exits z))
   pub outside : A (thrown_outside o)
   -- the hidden field of the receiver is set to null, or to a new text
-  pub begun : (it : Looks) → IsAt s 0 it → HidesText o it → Takes row 1 → Returns row Nothing
+  pub begun : (it : Looks) → IsAt s 0 it → HidesText o it → Takes native 1 → Returns native Nothing
       → A (acting 1 (Put (OfOperand 0) 0 (text_kind o) (Plain null) ∷ []))
-  pub text_put : (n operand : ℕ) (it : Looks) → IsAt s operand it → HidesText o it → Takes row n → Returns row Nothing → (units : List ℕ) → Units units
+  pub text_put : (n operand : ℕ) (it : Looks) → IsAt s operand it → HidesText o it → Takes native n → Returns native Nothing → (units : List ℕ) → Units units
       → A (acting n (has_text o operand units))
   -- what only one row does: where ends are linked
-  pub itself : row ≡ StringToString → A (words 1 (OfOperand 0 ∷ []))
-  pub appended : (shown : Shown) → row ≡ Append shown → (it : Looks) → IsAt s (shown_words shown) it → is_builder o it ≡ true → (units : List ℕ) → Units units
+  pub itself : native ≡ StringToString → A (words 1 (OfOperand 0 ∷ []))
+  pub appended : (shown : Shown) → native ≡ Append shown → (it : Looks) → IsAt s (shown_words shown) it → is_builder o it ≡ true → (units : List ℕ) → Units units
       → A (record (acting (shown_words shown + 1) (has_text o (shown_words shown) units)) { gives = OfOperand (shown_words shown) ∷ [] })
-  pub message_put : row ≡ ThrowableInitOf → (it : Looks) → IsAt s 1 it → IsThrowable o it
+  pub message_put : native ≡ ThrowableInitOf → (it : Looks) → IsAt s 1 it → IsThrowable o it
       → A (acting 2 (Put (OfOperand 1) 0 (text_kind o) (OfOperand 0) ∷ []))
-  pub message_given : row ≡ GetMessage → (it : Looks) → IsAt s 0 it → IsThrowable o it → A (words 1 (OfPlace 0 0 (text_kind o) ∷ []))
+  pub message_given : native ≡ GetMessage → (it : Looks) → IsAt s 0 it → IsThrowable o it → A (words 1 (OfPlace 0 0 (text_kind o) ∷ []))
   -- and what FreeMe does
-  pub freed : row ≡ FreeMeFree → (it : Looks) → IsAt s 0 it → A (acting 1 (Free 0 ∷ []))
-  pub unlinked : row ≡ FreeMeLink → A (words 2 (OfOperand 0 ∷ []))
-  pub linked : row ≡ FreeMeLink → (it : Looks) → IsAt s 1 it → it.fixed ≡ false → A (record (acting 2 (SetChain 1 0 ∷ [])) { gives = OfOperand 1 ∷ [] })
-  pub chain_freed : row ≡ FreeMeFreeChain → A (acting 1 (FreeChain 0 ∷ []))
+  pub freed : native ≡ FreeMeFree → (it : Looks) → IsAt s 0 it → A (acting 1 (Free 0 ∷ []))
+  pub unlinked : native ≡ FreeMeLink → A (words 2 (OfOperand 0 ∷ []))
+  pub linked : native ≡ FreeMeLink → (it : Looks) → IsAt s 1 it → it.fixed ≡ false → A (record (acting 2 (SetChain 1 0 ∷ [])) { gives = OfOperand 1 ∷ [] })
+  pub chain_freed : native ≡ FreeMeFreeChain → A (acting 1 (FreeChain 0 ∷ []))
 
 -- ---- all rows
 
 module _ (o : Outline) (s : List Sight) where
-  pub native_cases : (row : Native) (Units : List ℕ → Type 0) (A : Effect → Type 0) → KeepsUnits o s Units → NativeAsks o s row Units A
-      → NativeLeaves o s row Units A → (byte : Option ℕ) → A (native_effect o row byte s)
+  pub native_cases : (native : Native) (Units : List ℕ → Type 0) (A : Effect → Type 0) → KeepsUnits o s Units → NativeAsks o s native Units A
+      → NativeLeaves o s native Units A → (byte : Option ℕ) → A (native_effect o native byte s)
   unfolding native_effect object_native string_native builder_native stream_native throwable_native free_native
   native_cases ObjectInit Units A keeps a l byte = l.nothing 1 refl refl
   native_cases ObjectHashCode Units A keeps a l byte = a.receiver_any 0 (refl, refl) _ (λ it seen. l.number 1 ShownInt refl refl refl _)

@@ -43,8 +43,8 @@ receiver_count true arguments =
 receiver_count false arguments = sym (arguments_count Slot given_slots given_count arguments)
 
 -- a row takes as many words as it has slots
-words_count : (row : Native) → native_words row ≡ length (native_slots row)
-words_count row = receiver_count (has_receiver row) (native_type row).arguments
+words_count : (native : Native) → native_words native ≡ length (native_slots native)
+words_count native = receiver_count (has_receiver native) (native_type native).arguments
 
 -- an int is one word
 pub int_slots : (shown : Shown) → is_int shown ≡ true → shown_slots shown ≡ slot.Int ∷ []
@@ -89,62 +89,62 @@ receiver_reference ShownText values h = (two_references values h).1
 
 module _ (o : Outline) (f : Frame) where
   abbrev Leads : Native → Effect → Type 0
-  Leads row e = NativeLeads o f row e e.next
+  Leads native e = NativeLeads o f native e e.next
 
   -- the words of a row are on the stack
   abbrev Has : Native → Type 0
-  Has row = HaveKinds (native_slots row) (take (length (native_slots row)) f.stack)
+  Has native = HaveKinds (native_slots native) (take (length (native_slots native)) f.stack)
 
-  failures : (row : Native) → Failures o (Leads row)
-  failures row = record { raised = λ name areas made. tt; none = tt; lost = λ n. tt }
+  failures : (native : Native) → Failures o (Leads native)
+  failures native = record { raised = λ name areas made. tt; none = tt; lost = λ n. tt }
 
-  gives : (row : Native) (n : ℕ) (result : Returned) (given : List Source) → Takes row n → Returns row result → GivesSlots o f (returned_slots result) given
-      → Leads row (words n given)
-  gives row n result given takes returns slots =
-      (takes ∙ words_count row, refl, subst (λ r. GivesSlots o f (returned_slots r) given) (sym returns) slots)
+  gives : (native : Native) (n : ℕ) (result : Returned) (given : List Source) → Takes native n → Returns native result → GivesSlots o f (returned_slots result) given
+      → Leads native (words n given)
+  gives native n result given takes returns slots =
+      (takes ∙ words_count native, refl, subst (λ r. GivesSlots o f (returned_slots r) given) (sym returns) slots)
 
-  gives_none : (row : Native) (n : ℕ) → Takes row n → Returns row Nothing → Leads row (words n [])
-  gives_none row n takes returns = gives row n Nothing [] takes returns (λ areas made statics. tt)
+  gives_none : (native : Native) (n : ℕ) → Takes native n → Returns native Nothing → Leads native (words n [])
+  gives_none native n takes returns = gives native n Nothing [] takes returns (λ areas made statics. tt)
 
-  gives_int : (row : Native) (n : ℕ) (shown : Shown) → is_int shown ≡ true → Takes row n → Returns row (AGiven (AShown shown)) → (z : ℤ)
-      → Leads row (words n (int_word z))
-  gives_int row n shown is takes returns z =
-      gives row n (AGiven (AShown shown)) (int_word z) takes returns
+  gives_int : (native : Native) (n : ℕ) (shown : Shown) → is_int shown ≡ true → Takes native n → Returns native (AGiven (AShown shown)) → (z : ℤ)
+      → Leads native (words n (int_word z))
+  gives_int native n shown is takes returns z =
+      gives native n (AGiven (AShown shown)) (int_word z) takes returns
       (subst (λ slots. GivesSlots o f slots (int_word z)) (sym (int_slots shown is)) (λ areas made statics. ((z, refl), tt)))
 
   -- what only one row does
-  as_row : (row one : Native) (e : Effect) → row ≡ one → Has row → (Has one → Leads one e) → Leads row e
-  as_row row one e is have leads = subst (λ r. Has r → Leads r e) (sym is) leads have
+  as_row : (native one : Native) (e : Effect) → native ≡ one → Has native → (Has one → Leads one e) → Leads native e
+  as_row native one e is have leads = subst (λ r. Has r → Leads r e) (sym is) leads have
 
-  leaves : (s : List Sight) (row : Native) → Has row → NativeLeaves o s row Any (Leads row)
-  leaves s row have = record {
-    nothing = λ n takes returns. gives_none row n takes returns;
-    number = λ n shown is takes returns z. gives_int row n shown is takes returns z;
-    same = λ n takes returns. gives row n (AGiven a_boolean) (SameOperands ∷ []) takes returns (λ areas made statics. ((_, refl), tt));
-    text_given = λ n takes returns units fit. gives row n (AGiven a_text) (OfMade 0 ∷ []) takes returns (λ areas made statics. (tt, tt));
-    byte = λ n takes returns z. gives_int row n ShownInt refl takes returns z;
-    printed = λ n takes returns bytes. gives_none row n takes returns;
+  leaves : (s : List Sight) (native : Native) → Has native → NativeLeaves o s native Any (Leads native)
+  leaves s native have = record {
+    nothing = λ n takes returns. gives_none native n takes returns;
+    number = λ n shown is takes returns z. gives_int native n shown is takes returns z;
+    same = λ n takes returns. gives native n (AGiven a_boolean) (SameOperands ∷ []) takes returns (λ areas made statics. ((_, refl), tt));
+    text_given = λ n takes returns units fit. gives native n (AGiven a_text) (OfMade 0 ∷ []) takes returns (λ areas made statics. (tt, tt));
+    byte = λ n takes returns z. gives_int native n ShownInt refl takes returns z;
+    printed = λ n takes returns bytes. gives_none native n takes returns;
     exits = λ n takes z. tt;
     outside = λ areas made. tt;
-    begun = λ it seen hides takes returns. gives_none row 1 takes returns;
-    text_put = λ n operand it seen hides takes returns units fit. gives_none row n takes returns;
-    itself = λ is. as_row row StringToString (words 1 (OfOperand 0 ∷ [])) is have
+    begun = λ it seen hides takes returns. gives_none native 1 takes returns;
+    text_put = λ n operand it seen hides takes returns units fit. gives_none native n takes returns;
+    itself = λ is. as_row native StringToString (words 1 (OfOperand 0 ∷ [])) is have
         (λ has. (refl, refl, λ areas made statics. (one_reference f.stack has, tt)));
     appended = λ shown is it seen builds units fit.
-        as_row row (Append shown) (record (acting (shown_words shown + 1) (has_text o (shown_words shown) units)) { gives = OfOperand (shown_words shown) ∷ [] }) is have
+        as_row native (Append shown) (record (acting (shown_words shown + 1) (has_text o (shown_words shown) units)) { gives = OfOperand (shown_words shown) ∷ [] }) is have
         (λ has. (words_count (Append shown), refl, λ areas made statics. (receiver_reference shown f.stack has, tt)));
-    message_put = λ is it seen may. as_row row ThrowableInitOf (acting 2 (Put (OfOperand 1) 0 (text_kind o) (OfOperand 0) ∷ [])) is have
+    message_put = λ is it seen may. as_row native ThrowableInitOf (acting 2 (Put (OfOperand 1) 0 (text_kind o) (OfOperand 0) ∷ [])) is have
         (λ has. (refl, refl, λ areas made statics. tt));
-    message_given = λ is it seen may. as_row row GetMessage (words 1 (OfPlace 0 0 (text_kind o) ∷ [])) is have
+    message_given = λ is it seen may. as_row native GetMessage (words 1 (OfPlace 0 0 (text_kind o) ∷ [])) is have
         (λ has. (refl, refl, λ areas made statics. (read_kind (text_kind o) _, tt)));
-    freed = λ is it seen. as_row row FreeMeFree (acting 1 (Free 0 ∷ [])) is have (λ has. (refl, refl, λ areas made statics. tt));
-    unlinked = λ is. as_row row FreeMeLink (words 2 (OfOperand 0 ∷ [])) is have
+    freed = λ is it seen. as_row native FreeMeFree (acting 1 (Free 0 ∷ [])) is have (λ has. (refl, refl, λ areas made statics. tt));
+    unlinked = λ is. as_row native FreeMeLink (words 2 (OfOperand 0 ∷ [])) is have
         (λ has. (refl, refl, λ areas made statics. ((two_references f.stack has).0, tt)));
-    linked = λ is it seen loose. as_row row FreeMeLink (record (acting 2 (SetChain 1 0 ∷ [])) { gives = OfOperand 1 ∷ [] }) is have
+    linked = λ is it seen loose. as_row native FreeMeLink (record (acting 2 (SetChain 1 0 ∷ [])) { gives = OfOperand 1 ∷ [] }) is have
         (λ has. (refl, refl, λ areas made statics. ((two_references f.stack has).1, tt)));
-    chain_freed = λ is. as_row row FreeMeFreeChain (acting 1 (FreeChain 0 ∷ [])) is have (λ has. (refl, refl, λ areas made statics. tt));
+    chain_freed = λ is. as_row native FreeMeFreeChain (acting 1 (FreeChain 0 ∷ [])) is have (λ has. (refl, refl, λ areas made statics. tt));
   }
 
-  pub native_leads : (row : Native) (byte : Option ℕ) (s : List Sight) → HaveKinds (native_slots row) (take (length (native_slots row)) f.stack)
-      → Leads row (native_effect o row byte s)
-  native_leads row byte s have = each_native o s (Leads row) (failures row) (λ n it seen hides. tt) row (leaves s row have) byte
+  pub native_leads : (native : Native) (byte : Option ℕ) (s : List Sight) → HaveKinds (native_slots native) (take (length (native_slots native)) f.stack)
+      → Leads native (native_effect o native byte s)
+  native_leads native byte s have = each_native o s (Leads native) (failures native) (λ n it seen hides. tt) native (leaves s native have) byte
