@@ -19,7 +19,7 @@ use crate::error::CheckFail;
 use crate::steps::run;
 use fm_base::limits::{MAX_LOCAL_WORDS, MAX_STACK_WORDS};
 use fm_base::{MethodId, NoMemory, Seq};
-use fm_check_rows::{class_of_method, is_constructor};
+use fm_check_rows::{is_constructor, this_class};
 use fm_check_walk::{CheckedMethod, KnownState, Walk, is_within, parameter_slots};
 use fm_code::{ACC_STATIC, Code, has_flag};
 use fm_types::{Slot, Stack, State, Typing};
@@ -158,7 +158,7 @@ fn receiver_slots(alloc: Global, program: &Program, method: MethodId) -> Result<
     if is_constructor(program, method) {
         slots.push(Slot::UninitThis)?;
     } else {
-        slots.push(Slot::Ref(type_of_class(class_of_method(program, method))))?;
+        slots.push(Slot::Ref(type_of_class(this_class(program, method))))?;
     }
     Ok(slots)
 }

@@ -17,7 +17,7 @@ mod words;
 
 pub use call_rows::is_constructor;
 pub use laws::law_uses;
-pub use method::{built_in_type, class_of_method, use_in};
+pub use method::{built_in_type, class_of_method, this_class, use_in};
 pub use moves::is_whole;
 pub use named::type_of_use;
 pub use rows::apply;

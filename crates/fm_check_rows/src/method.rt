@@ -3,7 +3,7 @@
 ghost use Rattle.std.specs.Prelude.{◌≡◌, ◌<◌, length};
 ghost use Rattle.std.specs.Str.{bytes_eq};
 ghost use Rattle.fm_check_rows.specs.Members.{NamesMember, UsesNameMembers};
-ghost use Rattle.fm_types.specs.Named.{built_in_type, class_of_method};
+ghost use Rattle.fm_types.specs.Named.{built_in_type, class_of_method, this_class};
 ghost use Rattle.fm_types.specs.Typed.{made_at, use_in};
 ghost use Rattle.fm_world.specs.Chains.{class_at};
 ghost use Rattle.fm_world.specs.Members.{methods_of};
@@ -21,6 +21,14 @@ pub fn class_of_method(program: &Program, m: MethodId) -> ClassId
     ensures within { result.0 < length program.now.outline.classes }
 {
     program.method(m).class
+}
+
+/// The class on whose objects a method is called. Takes no memory.
+pub fn this_class(program: &Program, m: MethodId) -> ClassId
+    requires { m.0 < length (methods_of program.now.outline.classes) }
+    ensures { result.0 ≡ this_class program.now.outline m.0 }
+{
+    program.self_of(class_of_method(program, m))
 }
 
 /// What an index of the method's class stands for. Takes no memory.

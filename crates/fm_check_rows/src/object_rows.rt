@@ -11,7 +11,7 @@ ghost use Rattle.fm_types.specs.Typings.{type_state};
 ghost use Rattle.fm_world.specs.Members.{fields_of, methods_of};
 
 use crate::field_rows::field_words;
-use crate::method::class_of_method;
+use crate::method::{class_of_method, this_class};
 use crate::named::type_at;
 use crate::words::take;
 use fm_base::{Base, FieldId, MethodId, NoMemory, TypeRef};
@@ -144,11 +144,10 @@ fn takes_field(
         ≡ takes_field program.now.outline method.0 field.0 named receiver }
 {
     if let Slot::UninitThis = receiver {
-        let own = class_of_method(program, method);
-        if program.field(field).class.0 != own.0 {
+        if program.field(field).class.0 != class_of_method(program, method).0 {
             return false;
         }
-        return fits_type(program, type_of_class(own), named);
+        return fits_type(program, type_of_class(this_class(program, method)), named);
     }
     fits(program, receiver, Slot::Ref(named))
 }

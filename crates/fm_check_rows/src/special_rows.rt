@@ -17,7 +17,7 @@ ghost use Rattle.fm_world.specs.Programs.{class_of_type};
 use crate::call_rows::{
     argument_words, called_words, is_constructor, is_initializer, result_words,
 };
-use crate::method::{class_of_method, made_at};
+use crate::method::{class_of_method, made_at, this_class};
 use crate::named::type_at;
 use crate::object_rows::replaced;
 use crate::words::{take, work};
@@ -62,7 +62,8 @@ fn is_parent(program: &Program, own: ClassId, class: ClassId) -> bool
     }
 }
 
-// Whether the type is that of the class or of its superclass.
+// Whether the type is that of the class on whose objects the class's methods are called, or of its
+// superclass.
 fn names_own_or_parent(program: &Program, own: ClassId, named: TypeRef) -> bool
     requires { own.0 < length program.now.outline.classes }
     ensures { result ≡ names_own_or_parent program.now.outline own.0 named }
@@ -70,7 +71,7 @@ fn names_own_or_parent(program: &Program, own: ClassId, named: TypeRef) -> bool
     let Some(class) = class_of_type(named) else {
         return false;
     };
-    if class.0 == own.0 {
+    if class.0 == program.self_of(own).0 {
         return true;
     }
     is_parent(program, own, class)
@@ -150,7 +151,12 @@ fn construct_this(
     if !names_own_or_parent(program, own, named) {
         return Ok(false);
     }
-    initialise(alloc, state, None, type_of_class(own))?;
+    initialise(
+        alloc,
+        state,
+        None,
+        type_of_class(this_class(program, method)),
+    )?;
     state.built = true;
     Ok(true)
 }
@@ -209,7 +215,7 @@ pub fn special_call_row(
     if is_initializer(program, m) {
         return Ok(false);
     }
-    let own = class_of_method(program, method);
+    let own = this_class(program, method);
     if !names_own_or_above(program, own, named) {
         return Ok(false);
     }

@@ -30,7 +30,7 @@ use Rattle.fm_types.proofs.StateOrder.{IsShaped}
 use Rattle.fm_types.proofs.Zips.{Follows, follows-if, follows-map, follows-then}
 use Rattle.fm_types.specs.ArrayRows.{array_load_row, array_store_row, element_of, is_array_of, length_row, null_element, on_array, stored_element}
 use Rattle.fm_types.specs.CallRows.{constructed, constructor_called, initialised, is_type, names_own_or_parent}
-use Rattle.fm_types.specs.Named.{argument_words, class_of_method, field_words, parameters_of}
+use Rattle.fm_types.specs.Named.{argument_words, class_of_method, field_words, parameters_of, this_class}
 use Rattle.fm_types.specs.NumberRows.{increment_row, is_int, load_row, loaded, store_row, stored_from, suits}
 use Rattle.fm_types.specs.ObjectRows.{has_objects, new_row, takes_field}
 use Rattle.fm_types.specs.Rows.{row_after}
@@ -316,10 +316,10 @@ constructed-carried P v o method news named (slot.Uninit item) s t plain h =
     follows-if (IsCarried P v) (is_type named (news item)) (is_type named (news item)) _ _ (λ e. e)
     (λ e. initialised-carried P v (is_uninit item) named s t (uninit_test item) plain h)
 constructed-carried P v o method news named slot.UninitThis s t plain h =
-    follows-if (IsCarried P v) (names_own_or_parent o own named) (names_own_or_parent o own named) _ _ (λ e. e)
+    follows-if (IsCarried P v) (names_own_or_parent o (class_of_method o method) named) (names_own_or_parent o (class_of_method o method) named) _ _ (λ e. e)
     (λ e. built (initialised-carried P v is_uninit_this (type_of_class own) s t this_test plain h)) where
       own : ℕ
-      own = class_of_method o method
+      own = this_class o method
 
       built : IsCarried P v (initialised is_uninit_this (type_of_class own) s) (initialised is_uninit_this (type_of_class own) t)
           → IsCarried P v (record (initialised is_uninit_this (type_of_class own) s) { built = true })

@@ -16,7 +16,7 @@ use Rattle.fm_code.specs.Edges.{insn_of, IsHandlerEdge, IsNormalEdge}
 use Rattle.fm_code.specs.declared.code_array.Code.{Code}
 use Rattle.fm_code.specs.declared.code_array.Handler.{Handler}
 use Rattle.fm_types.specs.CallRows.{is_constructor}
-use Rattle.fm_types.specs.Named.{class_of_method, parameters_of}
+use Rattle.fm_types.specs.Named.{class_of_method, parameters_of, this_class}
 use Rattle.fm_types.specs.Rows.{row_after}
 use Rattle.fm_types.specs.States.{local_slots, state_fits, TypeState}
 use Rattle.fm_types.specs.Typed.{after_item, caught_type, entry_slots, entry_state, FitsAt, FitsHandler, handler_state, IsTypingOf, made_at, state_at, use_by}
@@ -65,7 +65,7 @@ unfolding entry_state
 entry_other o method code =
     AllByRecursion-append IsPlain (entry_slots o method) (replicate (code.max_locals - length (entry_slots o method)) slot.Top)
     (AllByRecursion-append IsPlain _ (flat_map local_slots (parameters_of o method))
-    (receiver_other (is_static (method_at o.classes method).method.flags) (is_constructor o method) (type_of_class (class_of_method o method)))
+    (receiver_other (is_static (method_at o.classes method).method.flags) (is_constructor o method) (type_of_class (this_class o method)))
     (all_flat IsPlain local_slots (parameters_of o method) local_other))
     (tops_other (code.max_locals - length (entry_slots o method)))
 

@@ -23,7 +23,7 @@ use Rattle.fm_conn.specs.Summaries.{same_number}
 use Rattle.fm_types.proofs.Zips.{zip-refl}
 use Rattle.fm_types.specs.ArrayRows.{multi_array_row, new_array_row, new_references_row}
 use Rattle.fm_types.specs.CallRows.{constructed, constructor_called, initialised, instance_call_row, is_constructor, is_initializer, is_type, names_own_or_above, special_call_row, static_call_row}
-use Rattle.fm_types.specs.Named.{argument_words, class_of_method, on_method, on_type, result_of, result_words}
+use Rattle.fm_types.specs.Named.{argument_words, class_of_method, on_method, on_type, result_of, result_words, this_class}
 use Rattle.fm_types.specs.Rows.{row_after}
 use Rattle.fm_types.specs.States.{is_uninit, replaced, stack_slots, taken, TypeState, worked}
 use Rattle.fm_types.specs.Typed.{state_at}
@@ -237,14 +237,14 @@ module _ (facts : Facts) (x : TypedMethod) (item : ℕ) (news : ℕ → Option T
       (result_leaves o f.m.0 (argument_words o f.m.0) s after has (untested (is_initializer o f.m.0) _ after f.row))
 
   abbrev own : TypeRef
-  own = type_of_class (class_of_method o x.number)
+  own = type_of_class (this_class o x.number)
 
   -- the row of a special call
   abbrev special_row : ℕ → TypeRef → Option TypeState
   special_row m named =
       cond (is_constructor o m) (constructor_called o x.number news m named s)
       (cond (is_initializer o m) None
-      (cond (names_own_or_above o (class_of_method o x.number) named) (worked o (with_receiver o m own) (result_words o m) s) None))
+      (cond (names_own_or_above o (this_class o x.number) named) (worked o (with_receiver o m own) (result_words o m) s) None))
 
   no_constructor : (m : ℕ) → has_reference_result o m ≡ true → (b : Bool) → is_constructor o m ≡ b → b ≡ false
   no_constructor m has false is = refl
@@ -272,7 +272,7 @@ module _ (facts : Facts) (x : TypedMethod) (item : ℕ) (news : ℕ → Option T
       (instance_words i f.m f.t own flagged f.use_is refl
       (ap (λ b. cond b 0 1 + words_of_arguments o f.m.0) (flagged f.m f.t false f.use_is refl)))
       (result_leaves o f.m.0 (with_receiver o f.m.0 own) s after has
-      (tested (names_own_or_above o (class_of_method o x.number) f.named) _ after (untested (is_initializer o f.m.0) _ after left)))
+      (tested (names_own_or_above o (this_class o x.number) f.named) _ after (untested (is_initializer o f.m.0) _ after left)))
 
   pub received_leaves : (i : Insn) → IsFlagged i → receives_new facts x (call_of x i) ≡ true
       → row_after o x.number item news (use_at x i) i s ≡ Some after → LeavesOne s after (words_taken o (use_at x i) i)
@@ -400,8 +400,8 @@ constructor_leaves x j news s after (insn.Special index) flagged at both row =
     let i : Insn = insn.Special index in
     let u : Use = use_at x i in
     let otherwise_row : ℕ → TypeRef → Option TypeState = λ m named. cond (is_initializer o m) None
-    (cond (names_own_or_above o (class_of_method o x.number) named)
-    (worked o (with_receiver o m (type_of_class (class_of_method o x.number))) (result_words o m) s) None) in
+    (cond (names_own_or_above o (this_class o x.number) named)
+    (worked o (with_receiver o m (type_of_class (this_class o x.number))) (result_words o m) s) None) in
     let f = found_by o u (λ m named. cond (is_constructor o m) (constructor_called o x.number news m named s) (otherwise_row m named)) after row in
     let names : names_constructor o u ≡ true = and_left (names_constructor o u) (is_doubled x j (depth_at x j - words_taken o u i)) both in
     let doubled : is_doubled x j (depth_at x j - words_taken o u i) ≡ true =

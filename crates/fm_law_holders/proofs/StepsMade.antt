@@ -6,7 +6,7 @@ use Rattle.fm_cells.specs.Choices.{lawful}
 use Rattle.fm_code.specs.Edges.{insn_of}
 use Rattle.fm_code.specs.declared.code_array.Code.{Code}
 use Rattle.fm_code.specs.declared.instructions.Insn.{Insn}
-use Rattle.fm_types.specs.Named.{class_of_method}
+use Rattle.fm_types.specs.Named.{this_class}
 use Rattle.fm_types.specs.Rows.{row_after}
 use Rattle.fm_types.specs.States.{TypeState}
 use Rattle.fm_types.specs.Typed.{made_at, MeetsItem, use_by}
@@ -88,7 +88,7 @@ module _ (p : Program) (typings : Typings) (typed : AreTyped p typings) (steps :
 
       -- what holds of the effect with its class's start
       record Goes (e : Effect) : Type 0 where
-        owes : RowIsWhole p z.areas.store (class_of_method o f.method) (made_at p f.method standing.code) after f e
+        owes : RowIsWhole p z.areas.store (this_class o f.method) (made_at p f.method standing.code) after f e
         follows : Follows p typings typed steps choose z f callers whole.sound made are i after at_row e
 
       goes : Goes (next_effect p x)
@@ -96,7 +96,7 @@ module _ (p : Program) (typings : Typings) (typed : AreTyped p typings) (steps :
       goes =
           subst (λ e. Goes (with_start o z.areas.started e)) (sym (ap (effect_by p x f) found_insn))
           (record {
-            owes = start_owes p cells steps.tree numbers z.areas.store f.stack (class_of_method o f.method) (made_at p f.method standing.code) after f refl
+            owes = start_owes p cells steps.tree numbers z.areas.store f.stack (this_class o f.method) (made_at p f.method standing.code) after f refl
                 z.areas.started
                 (effect_of o f.method (use_by p f.method i) i (slice_get z.input 0) (sights o z.areas.store f.stack))
                 (rows_owe p typings typed steps cells free z.areas whole.sound.areas whole.areas f i after at_row standing whole.frames.0 (slice_get z.input 0));

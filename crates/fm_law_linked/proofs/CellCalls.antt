@@ -18,6 +18,7 @@ use Rattle.fm_code.specs.declared.code_array.Code.{Code}
 use Rattle.fm_code.specs.declared.instructions.Insn.TheVariants as insn
 use Rattle.fm_check_program.proofs.Trees.{no_built_in_refused}
 use Rattle.fm_world.proofs.Completions.{count_is}
+use Rattle.fm_link_supers.proofs.BuiltInParents.{self_is_own}
 use Rattle.fm_link_supers.proofs.HierarchyLemmas.{interfaces_only, superinterfaces_only}
 use Rattle.fm_link_supers.proofs.ParentRefusals.{tree_object_is_class}
 use Rattle.fm_law_linked.proofs.Calls.{call_there, IsCall}
@@ -36,7 +37,7 @@ use Rattle.fm_law_sound.specs.Resolved.{IsNamed}
 use Rattle.fm_types.proofs.ClassTree.{among_own, object-within}
 use Rattle.fm_types.specs.CallRows.{is_constructor, is_initializer, names_own_or_above}
 use Rattle.fm_types.specs.Fits.{fits_type, is_seen_as_object, object_of}
-use Rattle.fm_types.specs.Named.{class_of_method}
+use Rattle.fm_types.specs.Named.{class_of_method, this_class}
 use Rattle.fm_law_no_fault.specs.CellsResolved.{CallsFit, IsMet, Selects}
 use Rattle.fm_world.specs.BuiltIns.{built_in}
 use Rattle.fm_world.specs.Chains.{chain_of, class_at, first_found, interfaces_of, is_above_arrays, is_among, is_sub, is_sub_base, superclasses_of, superinterfaces_of}
@@ -88,6 +89,11 @@ module _ (given : List ClassDef) (main : List ℕ) (spelled : AllByRecursion Has
     where_named : IsNamedMethod given call.at.member method
     unfolding outline_of
     where_named = named_method given main spelled clean call.at.member method call.at.found
+
+  -- a method has objects of the class that declares it as its own
+  this_is : (method : ℕ) → this_class o method ≡ class_of_method o method
+  unfolding outline_of
+  this_is method = self_is_own given (no_built_in_refused given main clean) (method_at (classes_of given) method).class
 
   -- ---- invokespecial
 
@@ -310,7 +316,7 @@ module _ (given : List ClassDef) (main : List ℕ) (spelled : AllByRecursion Has
       record {
         target = found.target;
         selected = ap (λ c. select (classes_of given) c method) r.is ∙ found.selected;
-        receives = found.receives;
+        receives = ap (λ class. fits_type (classes_of given) of (type_of_class class)) (this_is found.target) ∙ found.receives;
       }
 
   met : (of : TypeRef) → IsMet (outline_of given main) of → IsReceiver given of
@@ -337,6 +343,19 @@ calls_fit given main spelled supported clean =
           let it = where_named given main spelled clean x.code caller index m.0 t.0 false call named at in
           selected_by given main spelled clean supported x.code caller index m.0 t.0 call of plain r it
           (interface_reached given main spelled clean x.code caller index m.0 t.0 false call named of at sub r it);
-      special = λ method index m t named x at ordinary above. special_fits given main spelled clean method index m t named x at above;
-      constructors = λ method index m t named x at constructor. constructed_class given main spelled clean method index m t named x at constructor;
+      special = λ method index m t named x at ordinary above.
+          let this = this_is given main spelled clean method in
+          let target = special_target (classes_of given) (method_at (classes_of given) method).class (class_of_type named) m.0 in
+          ap (λ class. fits_type (classes_of given) (type_of_class class) (type_of_class (this_class (outline_of given main) target))) this
+          ∙ ap (λ class. fits_type (classes_of given) (type_of_class (method_at (classes_of given) method).class) (type_of_class class))
+          (this_is given main spelled clean target)
+          ∙ special_fits given main spelled clean method index m t named x at
+          (ap (λ class. names_own_or_above (outline_of given main) class named) (sym this) ∙ above);
+      constructors = λ method index m t named x at constructor.
+          constructed_class given main spelled clean method index m t named x at constructor
+          ∙ ap Some (sym (this_is given main spelled clean
+          (special_target (classes_of given) (method_at (classes_of given) method).class (class_of_type named) m.0)));
+      selves = λ class.
+          ap (λ n. is_among class (chain_of (classes_of given) n)) (self_is_own given (no_built_in_refused given main clean) class)
+          ∙ among_own (classes_of given) class (let inside = object-within (classes_of given) (tree given main spelled clean) in omega (arith, inside));
     }

@@ -24,7 +24,7 @@ use Rattle.fm_law_linked.proofs.Steps.{concrete_there}
 use Rattle.fm_law_sound.proofs.FoundMethods.{found_among, IsFound, own_method_found}
 use Rattle.fm_law_sound.specs.Resolved.{MainIsReady}
 use Rattle.fm_types.specs.CallRows.{is_constructor}
-use Rattle.fm_types.specs.Named.{class_of_method, parameters_of}
+use Rattle.fm_types.specs.Named.{parameters_of, this_class}
 use Rattle.fm_types.specs.States.{local_slots}
 use Rattle.fm_types.specs.Typed.{entry_slots}
 use Rattle.fm_types.specs.declared.slots.Slot.TheVariants as slot
@@ -112,7 +112,7 @@ main_takes : (o : Outline) (given : List DeclaredClass) (method : ℕ) → o.cla
     → entry_slots o method ≡ slot.Ref arguments_array ∷ []
 unfolding arguments_array
 main_takes o given method classes static descriptor =
-    ap (λ b. cond b [] (cond (is_constructor o method) (slot.UninitThis ∷ []) (slot.Ref (type_of_class (class_of_method o method)) ∷ []))
+    ap (λ b. cond b [] (cond (is_constructor o method) (slot.UninitThis ∷ []) (slot.Ref (type_of_class (this_class o method)) ∷ []))
     ++ flat_map local_slots (parameters_of o method)) static
     ∙ ap (λ d. flat_map local_slots (parameter_kinds o.classes d)) descriptor
     ∙ ap (λ n. flat_map local_slots (unwrap_or (option_map (kind_with 1) (option_map of_class n)) kind.Int ∷ []))

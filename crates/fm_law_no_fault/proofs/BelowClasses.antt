@@ -8,7 +8,7 @@ use Rattle.fm_base.specs.declared.kinds.TypeRef.{TypeRef}
 use Rattle.fm_types.proofs.ClassTree.{among_own, among-trans, object-within}
 use Rattle.fm_types.specs.CallRows.{is_class, names_own_or_parent}
 use Rattle.fm_types.specs.Fits.{AreTree}
-use Rattle.fm_world.specs.Chains.{chain_of, is_among, parent_of, upwards}
+use Rattle.fm_world.specs.Chains.{chain_of, is_among, parent_of, self_of, upwards}
 use Rattle.fm_world.specs.Numbers.{type_of_class}
 use Rattle.fm_world.specs.Programs.{class_of_type, Outline}
 use Rattle.fm_world.specs.declared.declarations.DeclaredClass.{DeclaredClass}
@@ -60,24 +60,27 @@ module _ (o : Outline) (tree : AreTree o.classes) where
     by_class None h = absurd (false≢true h)
     by_class (Some found) h = among-trans o.classes tree found own above h second
 
-  -- the class that a constructor may name for its own object is the own one or its superclass
-  pub named_above : (own class : ℕ) (found : Option ℕ) → found ≡ Some class → (t : TypeRef) → class_of_type t ≡ found → names_own_or_parent o own t ≡ true
-      → is_among class (chain_of o.classes own) ≡ true
-  named_above own class found is t type_is names = by_class (class_of_type t) (type_is ∙ is) names where
+  -- the class that a constructor may name for its own object is the class of that object or one above it, where the own class is so
+  pub named_above : (own class : ℕ) → is_among own (chain_of o.classes (self_of o.classes own)) ≡ true → (t : TypeRef) → class_of_type t ≡ Some class
+      → names_own_or_parent o own t ≡ true → is_among class (chain_of o.classes (self_of o.classes own)) ≡ true
+  named_above own class above t type_is names = by_class (class_of_type t) type_is names where
+    self : ℕ
+    self = self_of o.classes own
+
     of_class : Option ℕ → Bool
     of_class None = false
-    of_class (Some c) = (c == own) || is_class c (parent_of o.classes own)
+    of_class (Some c) = (c == self) || is_class c (parent_of o.classes own)
 
     by_parent : (found : Option ℕ) → parent_of o.classes own ≡ found → (c : ℕ) → is_class c found ≡ true → parent_of o.classes own ≡ Some c
     by_parent None is c h = absurd (false≢true h)
     by_parent (Some d) is c h = is ∙ ap Some (sym (eqb-true c d h))
 
-    by_class : (found : Option ℕ) → found ≡ Some class → of_class found ≡ true → is_among class (chain_of o.classes own) ≡ true
+    by_class : (found : Option ℕ) → found ≡ Some class → of_class found ≡ true → is_among class (chain_of o.classes self) ≡ true
     by_class None same h = absurd (cc)
     by_class (Some c) same h =
         let level : c ≡ class = same_Some c class same in
         ⊎_elim
-        (λ here. subst (λ n. is_among n (chain_of o.classes own) ≡ true) (sym (eqb-true c own here) ∙ level) (among_own o.classes own some_classes))
-        (λ above. subst (λ n. is_among n (chain_of o.classes own) ≡ true) level
-        (parent_among o.classes some_classes own c (by_parent (parent_of o.classes own) refl c above)))
-        (or_cases (c == own) (is_class c (parent_of o.classes own)) h)
+        (λ here. subst (λ n. is_among n (chain_of o.classes self) ≡ true) (sym (eqb-true c self here) ∙ level) (among_own o.classes self some_classes))
+        (λ higher. subst (λ n. is_among n (chain_of o.classes self) ≡ true) level
+        (among-trans o.classes tree self own c above (parent_among o.classes some_classes own c (by_parent (parent_of o.classes own) refl c higher))))
+        (or_cases (c == self) (is_class c (parent_of o.classes own)) h)

@@ -10,7 +10,7 @@ use Rattle.fm_code.specs.declared.instructions.Insn.{Insn}
 use Rattle.fm_code.specs.declared.instructions.Insn.TheVariants as insn
 use Rattle.fm_types.specs.CallRows.{instance_call_row, is_constructor, is_initializer, static_call_row}
 use Rattle.fm_types.specs.Fits.{fits, fits_type}
-use Rattle.fm_types.specs.Named.{argument_words, class_of_method, result_words}
+use Rattle.fm_types.specs.Named.{argument_words, class_of_method, result_words, this_class}
 use Rattle.fm_types.specs.Rows.{row_after}
 use Rattle.fm_types.specs.States.{taken, TypeState, worked}
 use Rattle.fm_types.specs.Typed.{use_by}
@@ -87,7 +87,7 @@ module _ (i : Insn) (c : CallAt i) where
             slot_there = last.0;
             at = last.2;
             reference = reference_kind o c.areas.store r.own r.news last.0 t (word_at c.frame.stack k) last.3 fits_it.kind;
-            leads = inr (seen_holds r k it (λ w. fits_type o.classes w (type_of_class (class_of_method o sel.target))) here sel.receives);
+            leads = inr (seen_holds r k it (λ w. fits_type o.classes w (type_of_class (this_class o sel.target))) here sel.receives);
             constructs = λ constructor. absurd (false≢true (sym (same_constructor i c m.0 sel.target alike.name ∙ ordinary) ∙ constructor));
           };
         }) instance (takes m.0) (ap method_in is))

@@ -13,7 +13,7 @@ use Rattle.fm_code.specs.declared.code_array.Code.{Code}
 use Rattle.fm_code.specs.declared.instructions.Insn.{Insn}
 use Rattle.fm_types.specs.CallRows.{is_constructor, is_initializer}
 use Rattle.fm_types.specs.Fits.{fits, fits_type}
-use Rattle.fm_types.specs.Named.{argument_words, built_in_type, class_of_method, parameters_of, result_words, throwable_type}
+use Rattle.fm_types.specs.Named.{argument_words, built_in_type, parameters_of, result_words, this_class, throwable_type}
 use Rattle.fm_types.specs.States.{local_slots, stack_slots, taken, TypeState}
 use Rattle.fm_types.specs.Typed.{entry_slots, made_at, use_by}
 use Rattle.fm_types.specs.declared.slots.Slot.{Slot}
@@ -139,8 +139,8 @@ module _ (i : Insn) (c : CallAt i) where
     pub slot_there : Slot
     pub at : slice_get r.before.stack n ≡ Some slot_there
     pub reference : IsReference (word_at c.frame.stack n)
-    pub leads : LeadsToA o c.areas.store (λ w. fits_type o.classes w (type_of_class (class_of_method o target))) (cell_of (word_at c.frame.stack n))
-    pub constructs : is_constructor o target ≡ true → HoldsA o c.areas.store (is_below o (class_of_method o target)) (cell_of (word_at c.frame.stack n))
+    pub leads : LeadsToA o c.areas.store (λ w. fits_type o.classes w (type_of_class (this_class o target))) (cell_of (word_at c.frame.stack n))
+    pub constructs : is_constructor o target ≡ true → HoldsA o c.areas.store (is_below o (this_class o target)) (cell_of (word_at c.frame.stack n))
 
   -- the method that a call leads to, with the words that it takes
   pub record Target (named target : ℕ) : Type 0 where
@@ -162,19 +162,19 @@ module _ (i : Insn) (c : CallAt i) where
 
     module _ (code : Code) where
       abbrev There : List Slot → List Value → Type 0
-      There slots words = AllZip (Cell o c.areas.store (class_of_method o target) (made_at c.program target code)) slots words
+      There slots words = AllZip (Cell o c.areas.store (this_class o target) (made_at c.program target code)) slots words
 
       arguments_there : There (flat_map local_slots (parameters_of o target)) (reverse (take n c.frame.stack))
       arguments_there =
           let here = zip_reversed (Cell o c.areas.store r.own r.news) (argument_words o named) (take n c.frame.stack) (taken_cells r (argument_words o named) t.rest t.taken_is) in
           let turned = subst (λ xs. AllZip (Cell o c.areas.store r.own r.news) xs (reverse (take n c.frame.stack)))
           (reverse-reverse (flat_map local_slots (parameters_of o named)) ∙ ap (flat_map local_slots) same_parameters) here in
-          elsewhere o c.areas.store r.own (class_of_method o target) r.news (made_at c.program target code) (flat_map local_slots (parameters_of o target))
+          elsewhere o c.areas.store r.own (this_class o target) r.news (made_at c.program target code) (flat_map local_slots (parameters_of o target))
           (reverse (take n c.frame.stack))
-          (locals_anyones o c.areas.store r.own (class_of_method o target) r.news (made_at c.program target code) (parameters_of o target)) turned
+          (locals_anyones o c.areas.store r.own (this_class o target) r.news (made_at c.program target code) (parameters_of o target)) turned
 
       receiver_there : (w : Received target n) (b : Bool) → is_constructor o target ≡ b
-          → There (cond b (slot.UninitThis ∷ []) (slot.Ref (type_of_class (class_of_method o target)) ∷ [])) (word_at c.frame.stack n ∷ [])
+          → There (cond b (slot.UninitThis ∷ []) (slot.Ref (type_of_class (this_class o target)) ∷ [])) (word_at c.frame.stack n ∷ [])
       receiver_there w true is = (w.constructs is, tt)
       receiver_there w false is = (w.leads, tt)
 
@@ -182,17 +182,17 @@ module _ (i : Insn) (c : CallAt i) where
           → There (entry_slots o target) (reverse (take (suc n) c.frame.stack))
       with_receiver w instance =
           let one = receiver_there w (is_constructor o target) refl in
-          let both = zip-append (Cell o c.areas.store (class_of_method o target) (made_at c.program target code)) _ (word_at c.frame.stack n ∷ [])
+          let both = zip-append (Cell o c.areas.store (this_class o target) (made_at c.program target code)) _ (word_at c.frame.stack n ∷ [])
           (flat_map local_slots (parameters_of o target)) (reverse (take n c.frame.stack)) one arguments_there in
           let words : reverse (take (suc n) c.frame.stack) ≡ word_at c.frame.stack n ∷ reverse (take n c.frame.stack) =
           ap reverse (take_more n c.frame.stack r.before.stack w.slot_there long w.at) ∙ reverse-append (take n c.frame.stack) (word_at c.frame.stack n ∷ []) in
           subst (λ ws. There (entry_slots o target) ws) (sym words)
-          (subst (λ b. There (cond b [] (cond (is_constructor o target) (slot.UninitThis ∷ []) (slot.Ref (type_of_class (class_of_method o target)) ∷ []))
+          (subst (λ b. There (cond b [] (cond (is_constructor o target) (slot.UninitThis ∷ []) (slot.Ref (type_of_class (this_class o target)) ∷ []))
           ++ flat_map local_slots (parameters_of o target)) (word_at c.frame.stack n ∷ reverse (take n c.frame.stack))) (sym instance) both)
 
       without_receiver : is_static (method_at o.classes target).method.flags ≡ true → There (entry_slots o target) (reverse (take n c.frame.stack))
       without_receiver static =
-          subst (λ b. There (cond b [] (cond (is_constructor o target) (slot.UninitThis ∷ []) (slot.Ref (type_of_class (class_of_method o target)) ∷ []))
+          subst (λ b. There (cond b [] (cond (is_constructor o target) (slot.UninitThis ∷ []) (slot.Ref (type_of_class (this_class o target)) ∷ []))
           ++ flat_map local_slots (parameters_of o target)) (reverse (take n c.frame.stack))) (sym static) arguments_there
 
       entry_there : (words : ℕ) (b : Bool) → is_static_call i ≡ b → words ≡ n + cond b 0 1 → There (entry_slots o target) (reverse (take words c.frame.stack))
@@ -218,22 +218,22 @@ module _ (i : Insn) (c : CallAt i) where
       received : has_receiver row ≡ true → is_static_call i ≡ false
       received has = no_receiver ∙ ap not has
 
-      operands : HasOperands r row (type_of_class (class_of_method o target))
+      operands : HasOperands r row (type_of_class (this_class o target))
       operands = record {
         rest = t.rest;
         taken_is = subst (λ xs. taken o xs r.before.stack ≡ Some t.rest) same_arguments t.taken_is;
         receiver = λ has.
             let w : Received target n = t.receiver (received has) in
-            subst (λ k. Receives r k (λ v. fits_type o.classes v (type_of_class (class_of_method o target)))) (ap length same_arguments)
+            subst (λ k. Receives r k (λ v. fits_type o.classes v (type_of_class (this_class o target)))) (ap length same_arguments)
             (record { slot_there = w.slot_there; at = w.at; reference = w.reference; leads = w.leads });
         suits = λ has v fits_it. asked.receiver (t.static ∙ received has) v fits_it;
       }
 
-      same_result : result_given o (type_of_class (class_of_method o target)) row ≡ result_words o named
+      same_result : result_given o (type_of_class (this_class o target)) row ≡ result_words o named
       same_result = sym asked.result ∙ ap (λ d. stack_slots (option_to_list (result_kind o.classes d))) t.same_descriptor
 
       native_suits : (words : ℕ) → words ≡ n + cond (is_static_call i) 0 1 → words_of_call o i named ≡ Some words → method_in u ≡ Some named
-          → (e : Effect) (next : Next) → NativeNext r row (type_of_class (class_of_method o target)) e next
+          → (e : Effect) (next : Next) → NativeNext r row (type_of_class (this_class o target)) e next
           → NextSuits c.program c.areas.store r.own r.news c.after c.frame e next
       native_suits words count takes names e Falls owes = λ y made went.
           let taken_off : e.takes ≡ words =
@@ -253,7 +253,7 @@ module _ (i : Insn) (c : CallAt i) where
       native_owed : (words : ℕ) → words ≡ n + cond (is_static_call i) 0 1 → words_of_call o i named ≡ Some words → method_in u ≡ Some named
           → is_free_me row ≡ false → Owed (native_effect o row c.byte seen)
       native_owed words count takes names other =
-          let built = native_whole r (type_of_class (class_of_method o target)) row operands other c.byte in
+          let built = native_whole r (type_of_class (this_class o target)) row operands other c.byte in
           record {
             owes = λ leads. record {
               acts = built.acts;

@@ -11,7 +11,7 @@ use Rattle.fm_cells.specs.Stores.{object_at, Store}
 use Rattle.fm_code.specs.declared.code_array.Code.{Code}
 use Rattle.fm_code.specs.declared.code_array.Handler.{Handler}
 use Rattle.fm_types.specs.Fits.{AreTree, fits_type}
-use Rattle.fm_types.specs.Named.{class_of_method, throwable_type}
+use Rattle.fm_types.specs.Named.{class_of_method, this_class, throwable_type}
 use Rattle.fm_types.specs.States.{TypeState}
 use Rattle.fm_types.specs.Typed.{caught_type, FitsAt, FitsHandler, handler_state, IsTypingOf, made_at, MeetsItem, type_of_use, use_in}
 use Rattle.fm_world.specs.Chains.{is_sub}
@@ -77,7 +77,7 @@ module _ (p : Program) (fit : CatchesFit p) (t : TypeRef) (thrown : fits_type p.
         let among : handler_among p f t stands.code.handlers ≡ Some handler =
         sym (ap (λ o. option_and_then (λ (c : Code). handler_among p f t c.handlers) o) stands.code_is) ∙ found in
         let takes = takes_fitting typings f stands.known stands.code.handlers handler meets.handlers among in
-        let fits : FrameFits p.outline store (class_of_method p.outline f.method) (made_at p f.method stands.code) stands.known f.locals f.stack =
+        let fits : FrameFits p.outline store (this_class p.outline f.method) (made_at p f.method stands.code) stands.known f.locals f.stack =
         whole stands.code stands.known stands.code_is stands.at in
         brought_whole p typings tree typed store (record f { item = handler; stack = v ∷ [] }) stands.code stands.code_is (handler_state takes.0 stands.known)
         refl takes.2

@@ -8,7 +8,7 @@ use Rattle.fm_code.specs.Edges.{insn_of}
 use Rattle.fm_code.specs.declared.code_array.Code.{Code}
 use Rattle.fm_code.specs.declared.instructions.Insn.{Insn}
 use Rattle.fm_code.specs.declared.instructions.Insn.TheVariants as insn
-use Rattle.fm_types.specs.Named.{class_of_method}
+use Rattle.fm_types.specs.Named.{this_class}
 use Rattle.fm_types.specs.States.{TypeState}
 use Rattle.fm_types.specs.Typed.{made_at, type_of_use, use_by, use_in}
 use Rattle.fm_world.specs.Programs.{Program}
@@ -53,7 +53,7 @@ no_fault r e h = by_next e.next h.next where
 
 module _ (p : Program) (typings : Typings) (typed : AreTyped p typings) (steps : StepsAreResolved p) (cells : CellsAreResolved p) (x : Areas) (sound : AreasAreSound p.outline x) (areas : AreasAreWhole p.outline x) (f : Frame) (i : Insn) (after : TypeState) (h : StandsAtRow p typings f i after) (stands : StandsWithout p typings 0 f) (whole : FrameIsWhole p typings x.store f) where
   abbrev pub own : ℕ
-  own = class_of_method p.outline f.method
+  own = this_class p.outline f.method
 
   abbrev pub news : ℕ → Option TypeRef
   news = made_at p f.method h.code

@@ -10,7 +10,7 @@ use Rattle.fm_code.specs.Edges.{IsNormalEdge}
 use Rattle.fm_code.specs.declared.code_array.Code.{Code}
 use Rattle.fm_code.specs.declared.instructions.Insn.{Insn}
 use Rattle.fm_types.specs.Fits.{AreTree}
-use Rattle.fm_types.specs.Named.{class_of_method}
+use Rattle.fm_types.specs.Named.{this_class}
 use Rattle.fm_types.specs.States.{is_whole, state_fits, TypeState}
 use Rattle.fm_types.specs.Typed.{entry_slots, entry_state, FitsAt, IsTypingOf, made_at, MeetsItem, state_at}
 use Rattle.fm_types.specs.declared.slots.Slot.{Slot}
@@ -37,27 +37,27 @@ use Rattle.fm_law_no_fault.proofs.SlotsFit.{frame_along}
 -- given
 known_whole : (p : Program) (typings : Typings) (store : Store) (f : Frame) (code : Code) (known : TypeState) → code_at p f.method ≡ Some code
     → state_at (typings f.method) f.item ≡ Some known
-    → FrameFits p.outline store (class_of_method p.outline f.method) (made_at p f.method code) known f.locals f.stack → FrameIsWhole p typings store f
+    → FrameFits p.outline store (this_class p.outline f.method) (made_at p f.method code) known f.locals f.stack → FrameIsWhole p typings store f
 known_whole p typings store f code known code_is at h other found other_is there =
     let same_code : code ≡ other = same_Some code other (sym code_is ∙ other_is) in
     let same_state : known ≡ found = same_Some known found (sym at ∙ there) in
-    subst (λ c. FrameFits p.outline store (class_of_method p.outline f.method) (made_at p f.method c) found f.locals f.stack) same_code
-    (subst (λ s. FrameFits p.outline store (class_of_method p.outline f.method) (made_at p f.method code) s f.locals f.stack) same_state h)
+    subst (λ c. FrameFits p.outline store (this_class p.outline f.method) (made_at p f.method c) found f.locals f.stack) same_code
+    (subst (λ s. FrameFits p.outline store (this_class p.outline f.method) (made_at p f.method code) s f.locals f.stack) same_state h)
 
 -- ---- along an edge
 
 -- what is brought to an item, and fits, is whole there
 pub brought_whole : (p : Program) (typings : Typings) → AreTree p.outline.classes → AreTyped p typings → (store : Store) (f : Frame) (code : Code)
     → code_at p f.method ≡ Some code → (brought : TypeState) → is_whole brought.stack ≡ true → FitsAt p (typings f.method) f.item brought
-    → FrameFits p.outline store (class_of_method p.outline f.method) (made_at p f.method code) brought f.locals f.stack → FrameIsWhole p typings store f
+    → FrameFits p.outline store (this_class p.outline f.method) (made_at p f.method code) brought f.locals f.stack → FrameIsWhole p typings store f
 brought_whole p typings tree typed store f code is brought whole fits_at h =
     let typing : IsTypingOf p f.method code (typings f.method) = typing_of p typings typed f.method code is in
     let found = Some-from_some_and (state_at (typings f.method) f.item) (λ s. state_fits p.outline brought s ≡ true) fits_at in
     let meets : MeetsItem p f.method code (typings f.method) f.item found.0 = typing.items f.item found.0 found.1 in
     known_whole p typings store f code found.0 is found.1
-    (frame_along p.outline tree store (class_of_method p.outline f.method) (made_at p f.method code) brought found.0 whole meets.whole found.2 f.locals f.stack h)
+    (frame_along p.outline tree store (this_class p.outline f.method) (made_at p f.method code) brought found.0 whole meets.whole found.2 f.locals f.stack h)
 
-module _ (p : Program) (typings : Typings) (tree : AreTree p.outline.classes) (typed : AreTyped p typings) (f : Frame) (callers : List Frame) (i : Insn) (after : TypeState) (h : StandsAtRow p typings f i after) (e : Effect) (areas : Areas) (made : List ℕ) (fits : FrameFits p.outline areas.store (class_of_method p.outline f.method) (made_at p f.method h.code) after (written (sources_of f areas made) e.writes f.locals) (stack_after (sources_of f areas made) e f.stack)) (below : AllByRecursion (FrameIsWhole p typings areas.store) callers) where
+module _ (p : Program) (typings : Typings) (tree : AreTree p.outline.classes) (typed : AreTyped p typings) (f : Frame) (callers : List Frame) (i : Insn) (after : TypeState) (h : StandsAtRow p typings f i after) (e : Effect) (areas : Areas) (made : List ℕ) (fits : FrameFits p.outline areas.store (this_class p.outline f.method) (made_at p f.method h.code) after (written (sources_of f areas made) e.writes f.locals) (stack_after (sources_of f areas made) e f.stack)) (below : AllByRecursion (FrameIsWhole p typings areas.store) callers) where
   goes_whole : (next : ℕ) → IsNormalEdge h.code f.item next
       → AllByRecursion (FrameIsWhole p typings areas.store) (steps.went (sources_of f areas made) e f next ∷ callers)
   goes_whole next edge = (
@@ -87,7 +87,7 @@ module _ (p : Program) (typings : Typings) (tree : AreTree p.outline.classes) (t
 pub going_whole : (p : Program) (typings : Typings) → AreTree p.outline.classes → AreTyped p typings
     → (f : Frame) (callers : List Frame) (i : Insn) (after : TypeState) (h : StandsAtRow p typings f i after)
     → (e : Effect) → IsGoingOn e.next → LeadsAs p.outline i after f e e.next → (areas : Areas) (made : List ℕ)
-    → FrameFits p.outline areas.store (class_of_method p.outline f.method) (made_at p f.method h.code) after
+    → FrameFits p.outline areas.store (this_class p.outline f.method) (made_at p f.method h.code) after
     (written (sources_of f areas made) e.writes f.locals) (stack_after (sources_of f areas made) e f.stack)
     → AllByRecursion (FrameIsWhole p typings areas.store) callers
     → (x : State) → AllByRecursion (FrameIsWhole p typings areas.store) (continued p (sources_of f areas made) e f callers x).frames
@@ -106,11 +106,11 @@ module _ (o : Outline) (store : Store) (own : ℕ) (news : ℕ → Option TypeRe
 
 module _ (p : Program) (typings : Typings) (typed : AreTyped p typings) (store : Store) where
   pub new_whole : (method : ℕ) (code : Code) (arguments : List Value) → code_at p method ≡ Some code
-      → AllZip (WordFits p.outline store (class_of_method p.outline method) (made_at p method code)) (entry_slots p.outline method) arguments
+      → AllZip (WordFits p.outline store (this_class p.outline method) (made_at p method code)) (entry_slots p.outline method) arguments
       → FrameIsWhole p typings store (new_frame p method arguments)
   unfolding entry_state
   new_whole method code arguments is h =
-      let own : ℕ = class_of_method p.outline method in
+      let own : ℕ = this_class p.outline method in
       let news : ℕ → Option TypeRef = made_at p method code in
       let slots : List Slot = entry_slots p.outline method in
       let typing : IsTypingOf p method code (typings method) = typing_of p typings typed method code is in
@@ -133,6 +133,6 @@ module _ (p : Program) (typings : Typings) (typed : AreTyped p typings) (store :
   started_whole [] each frames below = below
   started_whole (m ∷ methods) each frames below = (
     new_whole m each.0.code [] each.0.code_is
-        (subst (λ slots. AllZip (WordFits p.outline store (class_of_method p.outline m) (made_at p m each.0.code)) slots []) (sym each.0.no_arguments) tt),
+        (subst (λ slots. AllZip (WordFits p.outline store (this_class p.outline m) (made_at p m each.0.code)) slots []) (sym each.0.no_arguments) tt),
     started_whole methods each.1 frames below,
   )

@@ -21,7 +21,8 @@ use Rattle.fm_types.specs.States.{local_slots, stack_slots}
 use Rattle.fm_types.specs.declared.slots.Slot.{Slot}
 use Rattle.fm_types.specs.declared.slots.Slot.TheVariants as slot
 use Rattle.fm_world.specs.BuiltIns.{built_in, object_name, string_name}
-use Rattle.fm_world.specs.Chains.{chain_of, is_among}
+use Rattle.fm_world.proofs.Completions.{count_is, self_built_in}
+use Rattle.fm_world.specs.Chains.{chain_of, is_among, self_of}
 use Rattle.fm_world.specs.Declarations.{no_method}
 use Rattle.fm_world.specs.Descriptors.{class_number, declared_kind, field_type, first_type, kind_in, kind_with, of_class, parameter_kinds, parameter_types, result_kind, result_type, types_from, types_in}
 use Rattle.fm_world.specs.Members.{method_at, methods_of, OwnedMethod}
@@ -171,7 +172,7 @@ fits_row m (Some row) =
     && (same_bool (is_static m.method.flags) (not (has_receiver row)) && (declares m.class (native_type row).receiver && declares_own m.class (native_type row).result))
 
 abbrev fits_it : OwnedMethod → Bool
-fits_it m = fits_row m (option_and_then native_of_row m.method.row)
+fits_it m = nat_lt m.class 28 && fits_row m (option_and_then native_of_row m.method.row)
 
 abbrev all_fit : List OwnedMethod → Bool
 all_fit [] = true
@@ -350,8 +351,13 @@ module _ (p : Program) (runnable : IsRunnable p) (tree : AreTree p.outline.class
   fits_here method inside =
       ap fits_it (ap (λ classes. method_at classes method) runnable.classes ∙ method_same given method inside) ∙ fits_at (methods_of built_in) method table_fits
 
-  asked_by : (method : ℕ) (row : Native) → fits_row (here method) (Some row) ≡ true → TakesAsAsked out method row
-  asked_by method row fits =
+  -- a built-in class completes no other one
+  own_objects : (class : ℕ) → class < 28 → self_of out.classes class ≡ class
+  own_objects class early = ap (λ classes. self_of classes class) runnable.classes ∙ self_built_in given class (omega (arith, early, count_is))
+
+  asked_by : (method : ℕ) (row : Native) → self_of out.classes (here method).class ≡ (here method).class → fits_row (here method) (Some row) ≡ true
+      → TakesAsAsked out method row
+  asked_by method row own fits =
       let m : OwnedMethod = here method in
       let first = and_parts (bytes_eq m.method.descriptor (descriptor_of (m.class == 3) row)) (same_bool (is_static m.method.flags) (not (has_receiver row)) && (declares m.class (native_type row).receiver && declares_own m.class (native_type row).result)) fits in
       let second = and_parts (same_bool (is_static m.method.flags) (not (has_receiver row))) (declares m.class (native_type row).receiver && declares_own m.class (native_type row).result) first.1 in
@@ -361,9 +367,11 @@ module _ (p : Program) (runnable : IsRunnable p) (tree : AreTree p.outline.class
       record {
         arguments = ap (λ d. stack_slots (parameter_kinds out.classes d)) descriptor ∙ arguments_are out given runnable.classes (m.class == 3) row;
         result = ap (λ d. stack_slots (option_to_list (result_kind out.classes d))) descriptor
-            ∙ result_are out given runnable.classes m.class (m.class == 3) refl row third.1;
+            ∙ result_are out given runnable.classes m.class (m.class == 3) refl row third.1
+            ∙ ap (λ class. result_given out (type_of_class class) row) (sym own);
         static = bools_same (is_static m.method.flags) (not (has_receiver row)) second.0;
-        receiver = λ instance t fits_class. receives m.class (native_type row).receiver third.0 t fits_class;
+        receiver = λ instance t fits_class.
+            receives m.class (native_type row).receiver third.0 t (subst (λ class. fits_type out.classes t (type_of_class class) ≡ true) own fits_class);
       }
 
   pub built_ins_asked : ((method : ℕ) → length (methods_of built_in) ≤ method → (here method).method.row ≡ None) → (method : ℕ) (row : Native)
@@ -371,5 +379,6 @@ module _ (p : Program) (runnable : IsRunnable p) (tree : AreTree p.outline.class
   built_ins_asked rows method row native = by_place (cases_lt method (length (methods_of built_in))) where
     by_place : (method < length (methods_of built_in)) ⊎ (length (methods_of built_in) ≤ method) → TakesAsAsked out method row
     by_place (inl inside) =
-        asked_by method row (sym (ap (fits_row (here method)) native) ∙ fits_here method inside)
+        let parts = and_parts (nat_lt (here method).class 28) (fits_row (here method) (option_and_then native_of_row (here method).method.row)) (fits_here method inside) in
+        asked_by method row (own_objects (here method).class (ltb-true (here method).class 28 parts.0)) (sym (ap (fits_row (here method)) native) ∙ parts.1)
     by_place (inr past) = absurd (none-some row (sym (ap (option_and_then native_of_row) (rows method past)) ∙ native))

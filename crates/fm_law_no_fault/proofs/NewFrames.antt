@@ -5,7 +5,7 @@ use Rattle.std.proofs.lemmas.Option.{same_Some}
 use Rattle.std.proofs.lemmas.Slice.Zip.{AllZip-long}
 use Rattle.fm_base.specs.declared.kinds.TypeRef.{TypeRef}
 use Rattle.fm_cells.specs.Stores.{Store}
-use Rattle.fm_types.specs.Named.{class_of_method}
+use Rattle.fm_types.specs.Named.{this_class}
 use Rattle.fm_types.specs.Typed.{entry_slots, entry_state, made_at}
 use Rattle.fm_types.specs.declared.slots.Slot.{Slot}
 use Rattle.fm_types.specs.declared.slots.Slot.TheVariants as slot
@@ -31,7 +31,7 @@ pub new_frame_whole : (p : Program) (typings : Typings) → AreTyped p typings �
     → FrameIsWhole p typings store (new_frame p method arguments)
 unfolding entry_state
 new_frame_whole p typings typed store method arguments stands suit code known code_is at =
-    let own : ℕ = class_of_method p.outline method in
+    let own : ℕ = this_class p.outline method in
     let news : ℕ → Option TypeRef = made_at p method code in
     let slots : List Slot = entry_slots p.outline method in
     let typing = typing_of p typings typed method code code_is in

@@ -18,7 +18,7 @@ use Rattle.fm_code.specs.declared.instructions.Insn.TheVariants as insn
 use Rattle.fm_types.specs.CallRows.{is_type}
 use Rattle.fm_types.specs.Fits.{fits, fits_type}
 use Rattle.fm_types.specs.Named as typed
-use Rattle.fm_types.specs.Named.{class_of_method, field_words, object_slot}
+use Rattle.fm_types.specs.Named.{class_of_method, field_words, object_slot, this_class}
 use Rattle.fm_types.specs.ObjectRows.{cast_row, get_field_row, get_static_row, has_objects, is_a_row, new_row, put_field_row, put_static_row, takes_field}
 use Rattle.fm_types.specs.States.{is_uninit, replaced, stack_slots, taken, TypeState, worked}
 use Rattle.fm_types.specs.Typed.{type_of_use}
@@ -248,9 +248,10 @@ module _ (r : Row) where
       → (v : Value) → WordFits o r.areas.store r.own r.news below v
       → IsReference v × LeadsToA o r.areas.store (λ u. fits_type o.classes u named) (cell_of v)
   receiver_leads field named slot.UninitThis slots given v fits_it =
-      let own : ℕ = class_of_method o r.frame.method in
-      let passes = cond-some_then (((field_at o.classes field).class == own) && fits_type o.classes (type_of_class own) named) (Some []) slots given in
-      let parts = and_parts ((field_at o.classes field).class == own) (fits_type o.classes (type_of_class own) named) passes.0 in (
+      let own : ℕ = this_class o r.frame.method in
+      let ours : Bool = (field_at o.classes field).class == class_of_method o r.frame.method in
+      let passes = cond-some_then (ours && fits_type o.classes (type_of_class own) named) (Some []) slots given in
+      let parts = and_parts ours (fits_type o.classes (type_of_class own) named) passes.0 in (
         fits_it.kind,
         inr (holds_weaker o r.areas.store (is_below o r.own) (λ u. fits_type o.classes u named)
             (λ u below. type-trans o.classes r.steps.tree u (type_of_class own) named

@@ -15,7 +15,7 @@ use Rattle.fm_cells.specs.Objects.{Object, Request}
 use Rattle.fm_cells.specs.Stores.{live_words, object_at, opened, Store}
 use Rattle.fm_code.specs.AccessFlags.{is_static}
 use Rattle.fm_types.specs.Fits.{AreTree, fits_type}
-use Rattle.fm_types.specs.Named.{class_of_method}
+use Rattle.fm_types.specs.Named.{this_class}
 use Rattle.fm_types.specs.Typed.{made_at}
 use Rattle.fm_types.specs.declared.slots.Slot.TheVariants as slot
 use Rattle.fm_types.proofs.Order.{type-refl}
@@ -252,7 +252,7 @@ module _ (p : Program) (typings : Typings) (typed : AreTyped p typings) (steps :
   main_whole : (areas : Areas) (arguments : ℕ) → IsAn oo areas.store (arguments_type oo) arguments
       → FrameIsWhole p typings areas.store (new_frame p oo.main (ref arguments ∷ []))
   main_whole areas arguments is =
-      let Fits = WordFits oo areas.store (class_of_method oo oo.main) (made_at p oo.main main.code) in
+      let Fits = WordFits oo areas.store (this_class oo oo.main) (made_at p oo.main main.code) in
       new_whole p typings typed areas.store oo.main main.code (ref arguments ∷ []) main.code_is
       (subst (λ slots. AllZip Fits slots (ref arguments ∷ [])) (sym cells.places.main) (
         record {

@@ -9,7 +9,7 @@ use Rattle.fm_base.specs.declared.kinds.TypeRef.{TypeRef}
 use Rattle.fm_cells.specs.Stores.{Store}
 use Rattle.fm_code.specs.declared.code_array.Code.{Code}
 use Rattle.fm_types.specs.Fits.{fits_type}
-use Rattle.fm_types.specs.Named.{class_of_method, result_words, throwable_type}
+use Rattle.fm_types.specs.Named.{result_words, this_class, throwable_type}
 use Rattle.fm_types.specs.States.{TypeState}
 use Rattle.fm_types.specs.Typed.{entry_slots, made_at}
 use Rattle.fm_types.specs.declared.slots.Slot.{Slot}
@@ -83,7 +83,7 @@ CellsLeave o store own news after f e =
 abbrev pub ArgumentsSuit : Program → Store → ℕ → List Value → Type 0
 ArgumentsSuit p store target arguments =
     (code : Code) → code_at p target ≡ Some code
-    → AllZip (Cell p.outline store (class_of_method p.outline target) (made_at p target code)) (entry_slots p.outline target) arguments
+    → AllZip (Cell p.outline store (this_class p.outline target) (made_at p target code)) (entry_slots p.outline target) arguments
 
 abbrev pub NextSuits : Program → Store → ℕ → (ℕ → Option TypeRef) → TypeState → Frame → Effect → Next → Type 0
 NextSuits p store own news after f e Falls = CellsLeave p.outline store own news after f e

@@ -13,7 +13,7 @@ use Rattle.fm_code.specs.declared.code_array.Code.{Code}
 use Rattle.fm_code.specs.declared.instructions.Insn.{Insn}
 use Rattle.fm_types.specs.CallRows.{is_type}
 use Rattle.fm_types.specs.Fits.{AreTree, fits_type}
-use Rattle.fm_types.specs.Named.{class_of_method, result_of, result_words}
+use Rattle.fm_types.specs.Named.{result_of, result_words, this_class}
 use Rattle.fm_types.specs.Rows.{row_after}
 use Rattle.fm_types.specs.States.{is_uninit, is_uninit_this, stack_slots, TypeState}
 use Rattle.fm_types.specs.Typed.{made_at, use_by}
@@ -117,7 +117,7 @@ module _ (o : Outline) (tree : AreTree o.classes) (store : Store) (own : ℕ) (n
   -- ---- the state after a call
 
   module _ (nothing_given : ConstructorsGiveNothing o) (s : TypeState) (named : ℕ) (locals words result : List Value) (in_locals : AllZip (Cell o store own news) s.locals locals) (has : AllZip (Cell o store own news) (result_words o named) result) where
-    pub call_cells : (i : Insn) (method item count : ℕ) → own ≡ class_of_method o method → (u : Use) (after : TypeState)
+    pub call_cells : (i : Insn) (method item count : ℕ) → own ≡ this_class o method → (u : Use) (after : TypeState)
         → words_of_call o i named ≡ Some count → method_in u ≡ Some named → AllZip (Cell o store own news) (drop count s.stack) words
         → row_after o method item news u i s ≡ Some after → CellsFit o store own news after locals (result ++ words)
     call_cells i method item count own_is u after takes names in_stack row =
@@ -132,9 +132,9 @@ module _ (o : Outline) (tree : AreTree o.classes) (store : Store) (own : ℕ) (n
 module _ (p : Program) (typings : Typings) (tree : AreTree p.outline.classes) (typed : AreTyped p typings) (nothing_given : ConstructorsGiveNothing p.outline) (store : Store) (f g : Frame) (callers : List Frame) (result : List Value) where
   -- the caller's words without those of the call
   caller_words : (call : Calling p typings f g) → FrameIsWhole p typings store g
-      → AllZip (Cell p.outline store (class_of_method p.outline g.method) (made_at p g.method call.stands.code)) (drop call.words call.stands.known.stack) g.stack
+      → AllZip (Cell p.outline store (this_class p.outline g.method) (made_at p g.method call.stands.code)) (drop call.words call.stands.known.stack) g.stack
   caller_words call whole =
-      let own : ℕ = class_of_method p.outline g.method in
+      let own : ℕ = this_class p.outline g.method in
       let news : ℕ → Option TypeRef = made_at p g.method call.stands.code in
       let fits_it : FrameFits p.outline store own news call.stands.known g.locals g.stack = whole call.stands.code call.stands.known call.stands.code_is call.stands.at in
       let long : length g.stack ≡ length (drop call.words call.stands.known.stack) =
@@ -164,26 +164,26 @@ module _ (p : Program) (typings : Typings) (tree : AreTree p.outline.classes) (t
         row = found.1;
         targets = call_targets p.outline call.called call.named call.words _ call.takes;
       } in
-      let fits_it : FrameFits p.outline store (class_of_method p.outline g.method) (made_at p g.method code) known g.locals g.stack =
+      let fits_it : FrameFits p.outline store (this_class p.outline g.method) (made_at p g.method code) known g.locals g.stack =
       whole code known call.stands.code_is call.stands.at in
       let given_kinds : HaveKinds (result_words p.outline call.named) result =
       subst (λ d. HaveKinds (stack_slots (option_to_list (result_kind p.outline.classes d))) result) call.same_descriptor kinds in
-      let there : AllZip (Cell p.outline store (class_of_method p.outline g.method) (made_at p g.method code)) (result_words p.outline f.method) result =
-      result_elsewhere p.outline store own (class_of_method p.outline g.method) news (made_at p g.method code) (result_of p.outline f.method) result cells in
-      let given_cells : AllZip (Cell p.outline store (class_of_method p.outline g.method) (made_at p g.method code)) (result_words p.outline call.named) result =
-      subst (λ d. AllZip (Cell p.outline store (class_of_method p.outline g.method) (made_at p g.method code)) (stack_slots (option_to_list (result_kind p.outline.classes d))) result) call.same_descriptor there in
+      let there : AllZip (Cell p.outline store (this_class p.outline g.method) (made_at p g.method code)) (result_words p.outline f.method) result =
+      result_elsewhere p.outline store own (this_class p.outline g.method) news (made_at p g.method code) (result_of p.outline f.method) result cells in
+      let given_cells : AllZip (Cell p.outline store (this_class p.outline g.method) (made_at p g.method code)) (result_words p.outline call.named) result =
+      subst (λ d. AllZip (Cell p.outline store (this_class p.outline g.method) (made_at p g.method code)) (stack_slots (option_to_list (result_kind p.outline.classes d))) result) call.same_descriptor there in
       let after_kinds : FrameHasKinds found.0 g.locals (result ++ g.stack) =
       call_kinds p.outline nothing_given known call.named g.locals g.stack result call.stands.locals given_kinds call.called g.method g.item
       call.words (made_at p g.method code) (use_by p g.method call.called) found.0 call.takes call.names call.stands.stack found.1 in
-      let after_cells : CellsFit p.outline store (class_of_method p.outline g.method) (made_at p g.method code) found.0 g.locals (result ++ g.stack) =
-      call_cells p.outline tree store (class_of_method p.outline g.method) (made_at p g.method code) nothing_given known call.named g.locals g.stack result
-      (local_cells p.outline store (class_of_method p.outline g.method) (made_at p g.method code) known.locals g.locals fits_it.in_locals) given_cells
+      let after_cells : CellsFit p.outline store (this_class p.outline g.method) (made_at p g.method code) found.0 g.locals (result ++ g.stack) =
+      call_cells p.outline tree store (this_class p.outline g.method) (made_at p g.method code) nothing_given known call.named g.locals g.stack result
+      (local_cells p.outline store (this_class p.outline g.method) (made_at p g.method code) known.locals g.locals fits_it.in_locals) given_cells
       call.called g.method g.item call.words refl (use_by p g.method call.called) found.0 call.takes call.names (caller_words call whole) found.1 in
       let falls : falls_through call.called ≡ true = call_falls p.outline call.called call.named call.words call.takes in
       brought_whole p typings tree typed store (record g { item = g.item + 1; stack = result ++ g.stack }) code call.stands.code_is found.0
       (after_whole p typings tree typed g call.called found.0 at_row)
       (edge_fits p typings tree typed g call.called found.0 at_row (g.item + 1) (next_edge p typings tree typed g call.called found.0 at_row falls))
-      (fits_by p.outline store (class_of_method p.outline g.method) (made_at p g.method code) found.0 g.locals (result ++ g.stack) after_kinds after_cells)
+      (fits_by p.outline store (this_class p.outline g.method) (made_at p g.method code) found.0 g.locals (result ++ g.stack) after_kinds after_cells)
 
 pub returned_whole : (p : Program) (typings : Typings) → AreTree p.outline.classes → AreTyped p typings → ConstructorsGiveNothing p.outline → (store : Store)
     → (f g : Frame) (callers : List Frame) → StandBelow p typings f (g ∷ callers) → (n : ℕ) → HaveKinds (result_words p.outline f.method) (take n f.stack)

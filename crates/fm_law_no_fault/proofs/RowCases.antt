@@ -8,7 +8,7 @@ use Rattle.fm_base.specs.declared.kinds.TypeRef.{TypeRef}
 use Rattle.fm_cells.specs.Objects.{Object}
 use Rattle.fm_cells.specs.Stores.{object_at}
 use Rattle.fm_types.specs.Fits.{fits, fits_type}
-use Rattle.fm_types.specs.Named.{built_in_type, class_of_method, throwable_type}
+use Rattle.fm_types.specs.Named.{built_in_type, this_class, throwable_type}
 use Rattle.fm_types.specs.States.{is_whole, taken, TypeState, worked}
 use Rattle.fm_types.specs.declared.slots.Slot.{Slot}
 use Rattle.fm_types.specs.declared.slots.Slot.TheVariants as slot
@@ -41,13 +41,13 @@ pub record Row : Type 0 where
   pub areas : Areas
   pub sound : AreasAreSound program.outline areas
   pub whole : AreasAreWhole program.outline areas
-  -- the class of the frame's method, and what the items of the method make
+  -- the class whose objects the frame's method has as its own, and what the items of the method make
   pub own : ℕ
   pub news : ℕ → Option TypeRef
   pub before : TypeState
   pub unsplit : is_whole before.stack ≡ true
   pub frame : Frame
-  pub own_is : own ≡ class_of_method program.outline frame.method
+  pub own_is : own ≡ this_class program.outline frame.method
   pub locals : AllZip (LocalFits program.outline areas.store own news) before.locals frame.locals
   pub stack : AllZip (WordFits program.outline areas.store own news) before.stack frame.stack
   pub after : TypeState

@@ -11,7 +11,7 @@ use Rattle.fm_types.proofs.LeastJoins.{same_type-eq}
 use Rattle.fm_types.proofs.Order.{type-trans}
 use Rattle.fm_types.specs.CallRows.{constructed, constructor_called, is_constructor, is_initializer, is_type, names_own_or_above, names_own_or_parent, special_call_row}
 use Rattle.fm_types.specs.Fits.{fits_type}
-use Rattle.fm_types.specs.Named.{argument_words, class_of_method, result_words}
+use Rattle.fm_types.specs.Named.{argument_words, class_of_method, result_words, this_class}
 use Rattle.fm_types.specs.States.{taken, TypeState, worked}
 use Rattle.fm_types.specs.Typed.{use_by}
 use Rattle.fm_types.specs.declared.slots.Slot.{Slot}
@@ -75,10 +75,11 @@ module _ (i : Insn) (c : CallAt i) where
           one_made t w None is other = absurd (false≢true is)
           one_made t w (Some y) is other = same_type-eq w y other ∙ sym (same_type-eq t y is)
     constructed_holds t class class_is slot.UninitThis s row v fits_it =
-        let parts = cond-some_then (names_own_or_parent o r.own t) _ c.after row in (
+        let above = c.cells.calls.selves (class_of_method o c.frame.method) in
+        let parts = cond-some_then (names_own_or_parent o (class_of_method o c.frame.method) t) _ c.after row in (
           fits_it.kind,
           holds_weaker o c.areas.store (is_below o r.own) (is_below o class)
-              (λ w below. below_trans o c.steps.tree r.own class w below (named_above o c.steps.tree r.own class (Some class) refl t class_is parts.0))
+              (λ w below. below_trans o c.steps.tree r.own class w below (named_above o c.steps.tree (class_of_method o c.frame.method) class above t class_is parts.0))
               (cell_of v) fits_it.cell,
         )
     constructed_holds t class class_is slot.Top s row v fits_it = absurd (cc)
@@ -112,7 +113,7 @@ module _ (i : Insn) (c : CallAt i) where
           }) instance (takes m.0) (ap method_in is))
 
       -- a method of the own class or of one above it
-      ordinary_owed : is_constructor o m.0 ≡ false → fits_type o.classes (type_of_class r.own) (type_of_class (class_of_method o target)) ≡ true → (rest : List Slot)
+      ordinary_owed : is_constructor o m.0 ≡ false → fits_type o.classes (type_of_class r.own) (type_of_class (this_class o target)) ≡ true → (rest : List Slot)
           → taken o (argument_words o m.0 ++ slot.Ref (type_of_class r.own) ∷ []) r.before.stack ≡ Some rest
           → Owes (on_reference seen (words_of_arguments o m.0) entering)
       ordinary_owed ordinary above rest taken_is =
@@ -125,8 +126,8 @@ module _ (i : Insn) (c : CallAt i) where
             slot_there = last.0;
             at = last.2;
             reference = leads.0;
-            leads = leads_weaker o c.areas.store (λ w. fits_type o.classes w (type_of_class r.own)) (λ w. fits_type o.classes w (type_of_class (class_of_method o target)))
-                (λ w fits_it. type-trans o.classes c.steps.tree w (type_of_class r.own) (type_of_class (class_of_method o target)) fits_it above) _ leads.1;
+            leads = leads_weaker o c.areas.store (λ w. fits_type o.classes w (type_of_class r.own)) (λ w. fits_type o.classes w (type_of_class (this_class o target)))
+                (λ w fits_it. type-trans o.classes c.steps.tree w (type_of_class r.own) (type_of_class (this_class o target)) fits_it above) _ leads.1;
             constructs = λ constructor. absurd (false≢true (sym (same_constructor i c m.0 target alike.name ∙ ordinary) ∙ constructor));
           }))
 
@@ -135,28 +136,28 @@ module _ (i : Insn) (c : CallAt i) where
       constructed_after [] = None
       constructed_after (receiver ∷ stack) = constructed o c.frame.method r.news t receiver (record r.before { stack = stack })
 
-      constructor_by : class_of_type t ≡ Some (class_of_method o target) → (rest : List Slot) → taken o (argument_words o m.0) r.before.stack ≡ Some rest
+      constructor_by : class_of_type t ≡ Some (this_class o target) → (rest : List Slot) → taken o (argument_words o m.0) r.before.stack ≡ Some rest
           → constructed_after rest ≡ Some c.after → Owes (on_reference seen (words_of_arguments o m.0) entering)
       constructor_by class_is [] taken_is row = absurd (cc)
       constructor_by class_is (receiver ∷ rest) taken_is row =
           let at : slice_get r.before.stack k ≡ Some receiver = first_of k r.before.stack receiver rest (taken_drop o (argument_words o m.0) r.before.stack (receiver ∷ rest) taken_is) in
           let fits_it : WordFits o c.areas.store r.own r.news receiver (word_at c.frame.stack k) =
           word_fits_at o c.areas.store r.own r.news r.before.stack c.frame.stack r.stack k receiver at in
-          let holds = constructed_holds t (class_of_method o target) class_is receiver (record r.before { stack = rest }) row (word_at c.frame.stack k) fits_it in
+          let holds = constructed_holds t (this_class o target) class_is receiver (record r.before { stack = rest }) row (word_at c.frame.stack k) fits_it in
           subst (λ j. Owes (on_reference seen j entering)) (arguments_count o m.0)
-          (slot_reference o c.areas.store r.own r.news Owes r.before.stack c.frame.stack r.stack k receiver at entering (is_below o (class_of_method o target)) holds.0 (inr holds.1)
+          (slot_reference o c.areas.store r.own r.news Owes r.before.stack c.frame.stack r.stack k receiver at entering (is_below o (this_class o target)) holds.0 (inr holds.1)
           (either_owed (receiver ∷ rest) taken_is (record {
             slot_there = receiver;
             at = at;
             reference = holds.0;
-            leads = inr (holds_weaker o c.areas.store (is_below o (class_of_method o target)) (λ w. fits_type o.classes w (type_of_class (class_of_method o target)))
-                (λ w below. below_fits o w (class_of_method o target) below) _ holds.1);
+            leads = inr (holds_weaker o c.areas.store (is_below o (this_class o target)) (λ w. fits_type o.classes w (type_of_class (this_class o target)))
+                (λ w below. below_fits o w (this_class o target) below) _ holds.1);
             constructs = λ constructor. holds.1;
           })))
 
       special_by : (b : Bool) → is_constructor o m.0 ≡ b
-          → (is_constructor o m.0 ≡ true → class_of_type t ≡ Some (class_of_method o target))
-          → (is_constructor o m.0 ≡ false → names_own_or_above o r.own t ≡ true → fits_type o.classes (type_of_class r.own) (type_of_class (class_of_method o target)) ≡ true)
+          → (is_constructor o m.0 ≡ true → class_of_type t ≡ Some (this_class o target))
+          → (is_constructor o m.0 ≡ false → names_own_or_above o r.own t ≡ true → fits_type o.classes (type_of_class r.own) (type_of_class (this_class o target)) ≡ true)
           → cond b (constructor_called o c.frame.method r.news m.0 t r.before) (cond (is_initializer o m.0) None
           (cond (names_own_or_above o r.own t)
           (worked o (argument_words o m.0 ++ slot.Ref (type_of_class r.own) ∷ []) (result_words o m.0) r.before) None)) ≡ Some c.after
@@ -172,9 +173,9 @@ module _ (i : Insn) (c : CallAt i) where
           ordinary_owed named (ordinary named second.0) found.0 found.1
 
     pub special_owed : ((m : MethodId) (n : TypeId) (t : TypeRef) → u ≡ resolved.OfMethod m n → slice_get o.types n.0 ≡ Some t → is_constructor o m.0 ≡ true
-        → class_of_type t ≡ Some (class_of_method o (special_of c.program c.frame.method m t)))
+        → class_of_type t ≡ Some (this_class o (special_of c.program c.frame.method m t)))
         → ((m : MethodId) (n : TypeId) (t : TypeRef) → u ≡ resolved.OfMethod m n → slice_get o.types n.0 ≡ Some t → is_constructor o m.0 ≡ false
-        → names_own_or_above o r.own t ≡ true → fits_type o.classes (type_of_class r.own) (type_of_class (class_of_method o (special_of c.program c.frame.method m t))) ≡ true)
+        → names_own_or_above o r.own t ≡ true → fits_type o.classes (type_of_class r.own) (type_of_class (this_class o (special_of c.program c.frame.method m t))) ≡ true)
         → special_call_row o c.frame.method r.news u r.before ≡ Some c.after → Owes (special_effect o c.frame.method u c.byte seen)
     unfolding special_call_row special_effect
     special_owed constructs ordinary row =

@@ -13,7 +13,7 @@ use Rattle.fm_code.specs.Edges.{insn_of}
 use Rattle.fm_code.specs.declared.code_array.Code.{Code}
 use Rattle.fm_code.specs.declared.instructions.Insn.{Insn}
 use Rattle.fm_types.specs.Fits.{fits_type}
-use Rattle.fm_types.specs.Named.{class_of_method, result_words, throwable_type}
+use Rattle.fm_types.specs.Named.{result_words, this_class, throwable_type}
 use Rattle.fm_types.specs.Rows.{row_after}
 use Rattle.fm_types.specs.States.{TypeState}
 use Rattle.fm_types.specs.Typed.{IsTypingOf, made_at, MeetsItem, use_by}
@@ -123,7 +123,7 @@ module _ (p : Program) (typings : Typings) (steps : StepsAreResolved p) (cells :
   o = p.outline
 
   abbrev own : ℕ
-  own = class_of_method o f.method
+  own = this_class o f.method
 
   abbrev news : ℕ → Option TypeRef
   news = made_at p f.method h.code
@@ -255,7 +255,7 @@ module _ (p : Program) (typings : Typings) (typed : AreTyped p typings) (steps :
       -- what holds of the effect with its class's start
       record Goes (e : Effect) : Type 0 where
         leads : StepLeads p f i after e e.next
-        owes : RowIsWhole p z.areas.store (class_of_method oo f.method) (made_at p f.method standing.code) after f e
+        owes : RowIsWhole p z.areas.store (this_class oo f.method) (made_at p f.method standing.code) after f e
 
       goes : Goes (next_effect p x)
       unfolding next_effect
@@ -263,7 +263,7 @@ module _ (p : Program) (typings : Typings) (typed : AreTyped p typings) (steps :
           subst (λ e. Goes (with_start oo z.areas.started e)) (sym (ap (effect_by p x f) found_insn))
           (record {
             leads = class_leads p steps f i after z.areas.started effect effect.starts (effect_leads_on (is_call i) refl);
-            owes = start_owes p cells steps.tree numbers z.areas.store f.stack (class_of_method oo f.method) (made_at p f.method standing.code) after f refl
+            owes = start_owes p cells steps.tree numbers z.areas.store f.stack (this_class oo f.method) (made_at p f.method standing.code) after f refl
                 z.areas.started effect
                 (rows z.areas whole.sound.areas whole.areas f i after at_row standing whole.frames.0 (slice_get z.input 0));
           })

@@ -4,7 +4,7 @@ use Rattle.std.specs.List.{AllZip}
 use Rattle.std.proofs.lemmas.Option.{same_Some}
 use Rattle.std.proofs.lemmas.Slice.Zip.{AllZip-long}
 use Rattle.fm_cells.specs.Stores.{Store}
-use Rattle.fm_types.specs.Named.{class_of_method}
+use Rattle.fm_types.specs.Named.{this_class}
 use Rattle.fm_types.specs.States.{TypeState}
 use Rattle.fm_types.specs.Typed.{made_at}
 use Rattle.fm_types.specs.declared.slots.Slot.{Slot}
@@ -34,9 +34,9 @@ lowest_drop (suc n) (x ∷ xs) =
 pub waiting_whole : (p : Program) (typings : Typings) (store : Store) (f : Frame) (words : ℕ) → StandsWithout p typings 0 f → FrameIsWhole p typings store f
     → FrameIsWhole p typings store (record f { stack = drop words f.stack })
 waiting_whole p typings store f words stands whole code known code_is at =
-    let fits : FrameFits p.outline store (class_of_method p.outline f.method) (made_at p f.method code) known f.locals f.stack =
+    let fits : FrameFits p.outline store (this_class p.outline f.method) (made_at p f.method code) known f.locals f.stack =
     whole code known code_is at in
-    let Fits = WordFits p.outline store (class_of_method p.outline f.method) (made_at p f.method code) in
+    let Fits = WordFits p.outline store (this_class p.outline f.method) (made_at p f.method code) in
     let same : stands.known ≡ known = same_Some stands.known known (sym stands.at ∙ at) in
     let level : length known.stack ≡ length f.stack =
     ap (λ (s : TypeState). length s.stack) (sym same) ∙ sym (AllZip-long HasKind stands.known.stack f.stack stands.stack) in

@@ -9,11 +9,11 @@ use Rattle.fm_code.specs.AccessFlags.{is_static}
 use Rattle.fm_code.specs.declared.instructions.Insn.TheVariants as insn
 use Rattle.fm_types.specs.CallRows.{is_constructor, is_initializer, names_own_or_above}
 use Rattle.fm_types.specs.Fits.{fits_type, object_of}
-use Rattle.fm_types.specs.Named.{argument_words, built_in_type, class_of_method, object_slot, result_words, throwable_type}
+use Rattle.fm_types.specs.Named.{argument_words, built_in_type, class_of_method, object_slot, result_words, this_class, throwable_type}
 use Rattle.fm_types.specs.Typed.{entry_slots}
 use Rattle.fm_types.specs.declared.slots.Slot.{Slot}
 use Rattle.fm_types.specs.declared.slots.Slot.TheVariants as slot
-use Rattle.fm_world.specs.Chains.{is_sub}
+use Rattle.fm_world.specs.Chains.{chain_of, is_among, is_sub, self_of}
 use Rattle.fm_world.specs.Lookups.{select, special_target}
 use Rattle.fm_world.specs.Members.{field_at, method_at}
 use Rattle.fm_world.specs.Numbers.{type_of_class}
@@ -66,7 +66,7 @@ IsMet o t = IsTypeIn o.classes t × HasObjects o t
 pub record Selects (p : Program) (of : TypeRef) (method : ℕ) : Type 0 where
   pub target : ℕ
   pub selected : select p.outline.classes (unwrap_or (class_of_type of) (object_of p.outline.classes)) method ≡ Some target
-  pub receives : fits_type p.outline.classes of (type_of_class (class_of_method p.outline target)) ≡ true
+  pub receives : fits_type p.outline.classes of (type_of_class (this_class p.outline target)) ≡ true
 
 -- the method that a call by invokespecial leads to
 abbrev pub special_of : Program → ℕ → MethodId → TypeRef → ℕ
@@ -115,10 +115,10 @@ result_given o t row = returned_asked o t (native_type row).result
 -- A built-in method has the parameters that its row looks at, and the result that its row gives; and what fits the class that declares it may be its receiver.
 pub record TakesAsAsked (o : Outline) (method : ℕ) (row : Native) : Type 0 where
   pub arguments : argument_words o method ≡ arguments_asked o row
-  pub result : result_words o method ≡ result_given o (type_of_class (class_of_method o method)) row
+  pub result : result_words o method ≡ result_given o (type_of_class (this_class o method)) row
   pub static : is_static (method_at o.classes method).method.flags ≡ not (has_receiver row)
   pub receiver : is_static (method_at o.classes method).method.flags ≡ false
-      → (t : TypeRef) → fits_type o.classes t (type_of_class (class_of_method o method)) ≡ true → suits_row o row t ≡ true
+      → (t : TypeRef) → fits_type o.classes t (type_of_class (this_class o method)) ≡ true → suits_row o row t ≡ true
 
 -- ---- built-in classes
 
@@ -165,11 +165,13 @@ pub record CallsFit (p : Program) : Type 0 where
   -- (JVMS 6.5.invokespecial)
   pub special : (method index : ℕ) (m : MethodId) (t : TypeId) (named : TypeRef) → IsNamed p method (insn.Special index) (resolved.OfMethod m t)
       → slice_get p.outline.types t.0 ≡ Some named → is_constructor p.outline m.0 ≡ false
-      → names_own_or_above p.outline (class_of_method p.outline method) named ≡ true
-      → fits_type p.outline.classes (type_of_class (class_of_method p.outline method)) (type_of_class (class_of_method p.outline (special_of p method m named))) ≡ true
+      → names_own_or_above p.outline (this_class p.outline method) named ≡ true
+      → fits_type p.outline.classes (type_of_class (this_class p.outline method)) (type_of_class (this_class p.outline (special_of p method m named))) ≡ true
   pub constructors : (method index : ℕ) (m : MethodId) (t : TypeId) (named : TypeRef) → IsNamed p method (insn.Special index) (resolved.OfMethod m t)
       → slice_get p.outline.types t.0 ≡ Some named → is_constructor p.outline m.0 ≡ true
-      → class_of_type named ≡ Some (class_of_method p.outline (special_of p method m named))
+      → class_of_type named ≡ Some (this_class p.outline (special_of p method m named))
+  -- a class is the one whose objects its methods have, or one above it (JVMS 4.10.1.9.invokespecial)
+  pub selves : (class : ℕ) → is_among class (chain_of p.outline.classes (self_of p.outline.classes class)) ≡ true
 
 -- all that a program needs so that each cell fits its place
 pub record CellsAreResolved (p : Program) : Type 0 where

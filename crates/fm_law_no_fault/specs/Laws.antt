@@ -7,7 +7,7 @@ use Rattle.fm_cells.specs.Objects.{Object}
 use Rattle.fm_cells.specs.Stores.{object_at, Store}
 use Rattle.fm_code.specs.declared.instructions.Insn.{Insn}
 use Rattle.fm_types.specs.Fits.{AreTree, fits, fits_type}
-use Rattle.fm_types.specs.Named.{class_of_method, throwable_type}
+use Rattle.fm_types.specs.Named.{this_class, throwable_type}
 use Rattle.fm_types.specs.States.{is_whole, state_fits, TypeState}
 use Rattle.fm_types.specs.Typed.{made_at, use_by}
 use Rattle.fm_types.specs.declared.slots.Slot.{Slot}
@@ -108,7 +108,7 @@ GoingOnKeepsWhole =
     (p : Program) (typings : Typings) → AreTree p.outline.classes → AreTyped p typings
     → (f : Frame) (callers : List Frame) (i : Insn) (after : TypeState) (h : StandsAtRow p typings f i after)
     → (e : Effect) → IsGoingOn e.next → LeadsAs p.outline i after f e e.next → (areas : Areas) (made : List ℕ)
-    → FrameFits p.outline areas.store (class_of_method p.outline f.method) (made_at p f.method h.code) after
+    → FrameFits p.outline areas.store (this_class p.outline f.method) (made_at p f.method h.code) after
     (written (sources_of f areas made) e.writes f.locals) (stack_after (sources_of f areas made) e f.stack)
     → AllByRecursion (FrameIsWhole p typings areas.store) callers
     → (x : State) → AllByRecursion (FrameIsWhole p typings areas.store) (continued p (sources_of f areas made) e f callers x).frames

@@ -12,7 +12,7 @@ use Rattle.fm_cells.specs.Stores.{object_at, Store}
 use Rattle.fm_code.specs.declared.code_array.Code.{Code}
 use Rattle.fm_types.specs.CallRows.{is_type}
 use Rattle.fm_types.specs.Fits.{fits_type}
-use Rattle.fm_types.specs.Named.{class_of_method}
+use Rattle.fm_types.specs.Named.{this_class}
 use Rattle.fm_types.specs.States.{TypeState}
 use Rattle.fm_types.specs.Typed.{made_at, state_at}
 use Rattle.fm_types.specs.declared.slots.Slot.{Slot}
@@ -47,8 +47,8 @@ is_below o own t = of_class (class_of_type t) where
   of_class None = false
   of_class (Some class) = is_among own (chain_of o.classes class)
 
--- The cell of a value where the checker has a slot of a method of this class, whose items make objects of these types: what isn't initialised is of exactly
--- the type that was made, and a constructor's own object is of its class or one below it (JVMS 4.10.1.4).
+-- The cell of a value where the checker has a slot of a method that has objects of this class as its own, and whose items make objects of these types: what
+-- isn't initialised is of exactly the type that was made, and a constructor's own object is of that class or one below it (JVMS 4.10.1.4).
 abbrev pub CellFits : Outline → Store → (own : ℕ) → (news : ℕ → Option TypeRef) → Slot → ℕ → Type 0
 CellFits o store own news slot.Top cell = Unit {0}
 CellFits o store own news slot.Int cell = Unit {0}
@@ -85,7 +85,7 @@ pub record FrameFits (o : Outline) (store : Store) (own : ℕ) (news : ℕ → O
 abbrev pub FrameIsWhole : Program → Typings → Store → Frame → Type 0
 FrameIsWhole p typings store f =
     (code : Code) (known : TypeState) → code_at p f.method ≡ Some code → state_at (typings f.method) f.item ≡ Some known
-    → FrameFits p.outline store (class_of_method p.outline f.method) (made_at p f.method code) known f.locals f.stack
+    → FrameFits p.outline store (this_class p.outline f.method) (made_at p f.method code) known f.locals f.stack
 
 -- ---- what frames share
 

@@ -21,7 +21,7 @@ use Rattle.fm_types.specs.ArrayRows.{array_load_row, array_store_row, element_of
 use Rattle.fm_types.specs.CallRows.{constructed, constructor_called, initialised, is_type, names_own_or_parent}
 use Rattle.fm_types.specs.Fits.{fits}
 use Rattle.fm_types.specs.Moves.{Moves, moved}
-use Rattle.fm_types.specs.Named.{argument_words, class_of_method, field_words, parameters_of}
+use Rattle.fm_types.specs.Named.{argument_words, class_of_method, field_words, parameters_of, this_class}
 use Rattle.fm_types.specs.NumberRows.{increment_row, is_int, load_row, loaded, store_row, stored_from, suits}
 use Rattle.fm_types.specs.ObjectRows.{has_objects, new_row, takes_field}
 use Rattle.fm_types.specs.States.{cut_before, int_word, is_long, is_reference, is_uninit, is_uninit_this, is_whole, local_at, pushed, replaced, taken, TypeState, worked_below}
@@ -324,13 +324,12 @@ module _ (numbers : ℕ → ℕ) (more : List Slot) (apart : AreApart numbers) (
         ap (λ x. cond (is_type named x) (Some (initialised (is_uninit (numbers item)) named (to s))) None) (same_news item)
         ∙ tested to (is_type named (news item)) (Some (initialised (is_uninit (numbers item)) named (to s))) (Some (initialised (is_uninit item) named s)) (ap Some state)
     constructed_with o method named slot.UninitThis s =
-        let own = class_of_method o method in
-        let t = type_of_class own in
+        let t = type_of_class (this_class o method) in
         let locals = replaced_with numbers is_uninit_this is_uninit_this (slot.Ref t) (uninit_this_with numbers) refl more none_of_this s.locals in
         let stack = replaced_stack numbers is_uninit_this is_uninit_this (slot.Ref t) (uninit_this_with numbers) refl s.stack in
         let state : record (initialised is_uninit_this t (to s)) { built = true } ≡ to (record (initialised is_uninit_this t s) { built = true }) =
         λ k. record { locals = locals k; stack = stack k; built = true } in
-        tested to (names_own_or_parent o own named) (Some (record (initialised is_uninit_this t (to s)) { built = true }))
+        tested to (names_own_or_parent o (class_of_method o method) named) (Some (record (initialised is_uninit_this t (to s)) { built = true }))
         (Some (record (initialised is_uninit_this t s) { built = true })) (ap Some state)
 
     abbrev constructs_of : Outline → ℕ → (ℕ → Option TypeRef) → TypeRef → TypeState → List Slot → Option TypeState

@@ -32,7 +32,7 @@ use Rattle.fm_law_sound.specs.Going.{ConstructorsGiveNothing}
 use Rattle.fm_law_sound.proofs.CallsLeft.{arguments_count}
 use Rattle.fm_types.specs.ArrayRows.{multi_array_row, new_array_row, new_references_row}
 use Rattle.fm_types.specs.CallRows.{constructed, constructor_called, initialised, instance_call_row, is_constructor, is_initializer, is_type, names_own_or_above, special_call_row, static_call_row}
-use Rattle.fm_types.specs.Named.{argument_words, class_of_method, on_method, on_type, result_of, result_words}
+use Rattle.fm_types.specs.Named.{argument_words, class_of_method, on_method, on_type, result_of, result_words, this_class}
 use Rattle.fm_types.specs.Rows.{row_after}
 use Rattle.fm_types.specs.States.{is_uninit, replaced, stack_slots, taken, TypeState, worked}
 use Rattle.fm_types.specs.Typed.{state_at}
@@ -257,17 +257,17 @@ module _ (facts : Facts) (x : TypedMethod) (j : ℕ) (news : ℕ → Option Type
       (cond-some_else (is_initializer o m) (worked o (argument_words o m) (result_words o m) s) after gives).1) is there
 
   abbrev own_words : ℕ → List Slot
-  own_words m = argument_words o m ++ slot.Ref (type_of_class (class_of_method o x.number)) ∷ []
+  own_words m = argument_words o m ++ slot.Ref (type_of_class (this_class o x.number)) ∷ []
 
   abbrev other_special : ℕ → TypeRef → Option TypeState
   other_special m named =
-      cond (is_initializer o m) None (cond (names_own_or_above o (class_of_method o x.number) named) (worked o (own_words m) (result_words o m) s) None)
+      cond (is_initializer o m) None (cond (names_own_or_above o (this_class o x.number) named) (worked o (own_words m) (result_words o m) s) None)
 
   other-gives : (m : ℕ) (named : TypeRef) → has_reference_result o m ≡ true → (b : Bool) → is_constructor o m ≡ b
       → cond b (constructor_called o x.number news m named s) (other_special m named) ≡ Some after → GivesObject s after
   other-gives m named has true constructor gives = absurd (false≢true (sym (ap refers (constructors m constructor)) ∙ has))
   other-gives m named has false constructor gives =
-      let above = names_own_or_above o (class_of_method o x.number) named in
+      let above = names_own_or_above o (this_class o x.number) named in
       let row = worked o (own_words m) (result_words o m) s in
       result-gives o m (own_words m) s after has (cond-some_then above row after (cond-some_else (is_initializer o m) (cond above row None) after gives).1).1
 

@@ -19,7 +19,7 @@ use Rattle.fm_types.proofs.StateOrder.{Fitting}
 use Rattle.fm_types.proofs.Zips.{zip-refl}
 use Rattle.fm_types.specs.CallRows.{is_constructor}
 use Rattle.fm_types.specs.Fits.{AreTree, fits}
-use Rattle.fm_types.specs.Named.{class_of_method, parameters_of}
+use Rattle.fm_types.specs.Named.{parameters_of, this_class}
 use Rattle.fm_types.specs.States.{local_at, local_slots}
 use Rattle.fm_types.specs.Typed.{entry_slots, entry_state, receiver_slots}
 use Rattle.fm_types.specs.declared.slots.Slot.{Slot}
@@ -137,7 +137,7 @@ module _ (numbers : ℕ → ℕ) where
 
   receiver_same : (o : Outline) (method : ℕ) → Same (receiver_slots o method)
   receiver_same o method = by_flags (is_static (method_at o.classes method).method.flags) (is_constructor o method) where
-    by_flags : (s c : Bool) → Same (cond s [] (cond c (slot.UninitThis ∷ []) (slot.Ref (type_of_class (class_of_method o method)) ∷ [])))
+    by_flags : (s c : Bool) → Same (cond s [] (cond c (slot.UninitThis ∷ []) (slot.Ref (type_of_class (this_class o method)) ∷ [])))
     by_flags true c = refl
     by_flags false true = refl
     by_flags false false = refl

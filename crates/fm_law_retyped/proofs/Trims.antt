@@ -25,7 +25,7 @@ use Rattle.fm_types.proofs.StateOrder.{Fitting}
 use Rattle.fm_types.proofs.Zips.{zip-refl}
 use Rattle.fm_types.specs.CallRows.{is_constructor}
 use Rattle.fm_types.specs.Fits.{AreTree, fits}
-use Rattle.fm_types.specs.Named.{class_of_method, parameters_of}
+use Rattle.fm_types.specs.Named.{parameters_of, this_class}
 use Rattle.fm_types.specs.Rows.{row_after}
 use Rattle.fm_types.specs.States.{is_long, local_slots, state_fits, TypeState}
 use Rattle.fm_types.specs.Typed.{after_item, caught_type, entry_slots, entry_state, FitsAt, FitsHandler, handler_state, IsTypingOf, made_at, MeetsItem, receiver_slots, state_at, use_by}
@@ -159,7 +159,7 @@ tops_stay (suc n) before same =
 
 receiver_stays : (o : Outline) (method : ℕ) → trimmed (receiver_slots o method) ≡ receiver_slots o method
 receiver_stays o method = by_flags (is_static (method_at o.classes method).method.flags) (is_constructor o method) where
-  by_flags : (s c : Bool) → let slots = cond s [] (cond c (slot.UninitThis ∷ []) (slot.Ref (type_of_class (class_of_method o method)) ∷ [])) in
+  by_flags : (s c : Bool) → let slots = cond s [] (cond c (slot.UninitThis ∷ []) (slot.Ref (type_of_class (this_class o method)) ∷ [])) in
       trimmed slots ≡ slots
   by_flags true c = refl
   by_flags false true = refl

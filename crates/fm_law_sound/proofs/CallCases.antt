@@ -15,7 +15,7 @@ use Rattle.fm_code.specs.AccessFlags.{is_static}
 use Rattle.fm_code.specs.declared.instructions.Insn.{Insn}
 use Rattle.fm_code.specs.declared.instructions.Insn.TheVariants as insn
 use Rattle.fm_types.specs.CallRows.{constructor_called, has_name, instance_call_row, is_constructor, is_initializer, names_own_or_above, special_call_row, static_call_row}
-use Rattle.fm_types.specs.Named.{argument_words, class_of_method, result_words}
+use Rattle.fm_types.specs.Named.{argument_words, class_of_method, result_words, this_class}
 use Rattle.fm_types.specs.Rows.{row_after}
 use Rattle.fm_types.specs.States.{is_reference, is_whole, stack_slots, TypeState, worked}
 use Rattle.fm_types.specs.Typed.{made_at, use_by, use_in}
@@ -63,8 +63,8 @@ constructor_no_start name is = ap (λ n. bytes_eq n (codes "<clinit>")) ((bytes_
 module _ (o : Outline) (s : TypeState) (named : ℕ) where
   special_names : (method : ℕ) (news : ℕ → Option TypeRef) (t : TypeRef) (b : Bool) (after : TypeState) → is_constructor o named ≡ b
       → cond b (constructor_called o method news named t s) (cond (is_initializer o named) None
-      (cond (names_own_or_above o (class_of_method o method) t)
-      (worked o (argument_words o named ++ slot.Ref (type_of_class (class_of_method o method)) ∷ []) (result_words o named) s) None)) ≡ Some after
+      (cond (names_own_or_above o (this_class o method) t)
+      (worked o (argument_words o named ++ slot.Ref (type_of_class (this_class o method)) ∷ []) (result_words o named) s) None)) ≡ Some after
       → has_name o named (codes "<clinit>") ≡ false
   special_names method news t true after is row = constructor_no_start (method_at o.classes named).method.name is
   special_names method news t false after is row =

@@ -14,7 +14,7 @@ use Rattle.fm_code.specs.declared.instructions.Insn.{Insn}
 use Rattle.fm_code.specs.declared.instructions.Insn.TheVariants as insn
 use Rattle.fm_types.specs.CallRows.{constructed, constructor_called, initialised, instance_call_row, is_constructor, is_initializer, is_type, names_own_or_above, names_own_or_parent, special_call_row, static_call_row}
 use Rattle.fm_types.specs.Named as typed
-use Rattle.fm_types.specs.Named.{argument_words, class_of_method, parameters_of, result_of, result_words}
+use Rattle.fm_types.specs.Named.{argument_words, class_of_method, parameters_of, result_of, result_words, this_class}
 use Rattle.fm_types.specs.Rows.{row_after}
 use Rattle.fm_types.specs.States.{is_uninit, is_uninit_this, local_slots, stack_slots, taken, TypeState, worked}
 use Rattle.fm_types.specs.declared.slots.Slot.{Slot}
@@ -86,7 +86,7 @@ module _ (Local Word : Slot → Value → Type 0) (o : Outline) (method : ℕ) (
 
   abbrev pub OwnIsMarked : Type 0
   OwnIsMarked =
-      IsMarked Local is_uninit_this (type_of_class (class_of_method o method)) × IsMarked Word is_uninit_this (type_of_class (class_of_method o method))
+      IsMarked Local is_uninit_this (type_of_class (this_class o method)) × IsMarked Word is_uninit_this (type_of_class (this_class o method))
 
   module _ (made : MadeIsMarked) (own : OwnIsMarked) where
     -- a copy of an object becomes one of its class
@@ -106,7 +106,7 @@ module _ (Local Word : Slot → Value → Type 0) (o : Outline) (method : ℕ) (
           in_stack = slots_replaced Word (is_uninit item) (slot.Ref named) marked.1 s.stack words h.in_stack;
         })
     constructed_left named slot.UninitThis s after locals words row h =
-        let t : TypeRef = type_of_class (class_of_method o method) in
+        let t : TypeRef = type_of_class (this_class o method) in
         let parts = cond-some_then (names_own_or_parent o (class_of_method o method) named) (Some (record (initialised is_uninit_this t s) { built = true })) after row in
         subst (λ (t : TypeState). AreAs Local Word t locals words) (same_Some _ after parts.1)
         (record {
@@ -183,16 +183,16 @@ module _ (Local Word : Slot → Value → Type 0) (o : Outline) (method : ℕ) (
 
       special_cases : (t : TypeRef) (b : Bool) (after : TypeState) → is_constructor o named ≡ b → Left (words_of_arguments o named + 1)
           → cond b (constructor_called o method news named t s) (cond (is_initializer o named) None
-          (cond (names_own_or_above o (class_of_method o method) t)
-          (worked o (argument_words o named ++ slot.Ref (type_of_class (class_of_method o method)) ∷ []) (result_words o named) s) None)) ≡ Some after
+          (cond (names_own_or_above o (this_class o method) t)
+          (worked o (argument_words o named ++ slot.Ref (type_of_class (this_class o method)) ∷ []) (result_words o named) s) None)) ≡ Some after
           → Goes after
       special_cases t true after is in_stack row = constructor_left t after is in_stack row
       special_cases t false after is in_stack row =
-          let receiver : Slot = slot.Ref (type_of_class (class_of_method o method)) in
+          let receiver : Slot = slot.Ref (type_of_class (this_class o method)) in
           let wanted : List Slot = argument_words o named ++ receiver ∷ [] in
-          let first = cond-some_else (is_initializer o named) (cond (names_own_or_above o (class_of_method o method) t)
+          let first = cond-some_else (is_initializer o named) (cond (names_own_or_above o (this_class o method) t)
           (worked o wanted (result_words o named) s) None) after row in
-          let second = cond-some_then (names_own_or_above o (class_of_method o method) t) (worked o wanted (result_words o named) s) after first.1 in
+          let second = cond-some_then (names_own_or_above o (this_class o method) t) (worked o wanted (result_words o named) s) after first.1 in
           worked_returned wanted (words_of_arguments o named + 1) after second.1 (with_receiver receiver) in_stack
 
       special_left : (u : Use) (after : TypeState) → method_in u ≡ Some named → Left (words_of_arguments o named + 1)

@@ -16,7 +16,7 @@ use Rattle.fm_types.proofs.ObjectOrder.{argument_words-whole}
 use Rattle.fm_types.proofs.StateOrder.{whole-append}
 use Rattle.fm_types.proofs.Zips.{zip-append, zip-drop}
 use Rattle.fm_types.specs.CallRows.{constructed, constructor_called, instance_call_row, is_constructor, is_initializer, names_own_or_above, special_call_row, static_call_row}
-use Rattle.fm_types.specs.Named.{argument_words, class_of_method, parameters_of, result_words}
+use Rattle.fm_types.specs.Named.{argument_words, parameters_of, result_words, this_class}
 use Rattle.fm_types.specs.Rows.{row_after}
 use Rattle.fm_types.specs.States.{is_reference, is_whole, local_slots, taken, TypeState, worked}
 use Rattle.fm_types.specs.Typed.{entry_slots, entry_state, IsTypingOf, use_by}
@@ -219,17 +219,17 @@ module _ (o : Outline) (s : TypeState) (stack : List Value) (in_stack : HaveKind
 
   special_cases : (method : ℕ) (news : ℕ → Option TypeRef) (t : TypeRef) (b : Bool) (after : TypeState)
       → cond b (constructor_called o method news named t s) (cond (is_initializer o named) None
-      (cond (names_own_or_above o (class_of_method o method) t)
-      (worked o (argument_words o named ++ slot.Ref (type_of_class (class_of_method o method)) ∷ []) (result_words o named) s) None)) ≡ Some after
+      (cond (names_own_or_above o (this_class o method) t)
+      (worked o (argument_words o named ++ slot.Ref (type_of_class (this_class o method)) ∷ []) (result_words o named) s) None)) ≡ Some after
       → Takes o named (words_of_arguments o named + 1) false stack
   special_cases method news t true after row =
       let found = option_and_then-some (receiver_state method news t) (taken o (argument_words o named) s.stack) after row in
       receiver_takes method news t found.0 after found.1 found.2
   special_cases method news t false after row =
-      let own : Slot = slot.Ref (type_of_class (class_of_method o method)) in
-      let first = cond-some_else (is_initializer o named) (cond (names_own_or_above o (class_of_method o method) t)
+      let own : Slot = slot.Ref (type_of_class (this_class o method)) in
+      let first = cond-some_else (is_initializer o named) (cond (names_own_or_above o (this_class o method) t)
       (worked o (argument_words o named ++ own ∷ []) (result_words o named) s) None) after row in
-      let second = cond-some_then (names_own_or_above o (class_of_method o method) t)
+      let second = cond-some_then (names_own_or_above o (this_class o method) t)
       (worked o (argument_words o named ++ own ∷ []) (result_words o named) s) after first.1 in
       worked_takes (own ∷ []) (result_words o named) (words_of_arguments o named + 1) false after refl (own, refl, refl) (with_receiver own) second.1
 
@@ -280,7 +280,7 @@ entry_kinds o named target words no_receiver stack same_descriptor static takes 
     let parameters : HaveKinds (takes.receiver ++ flat_map local_slots (parameters_of o target)) (reverse (take words stack)) =
     subst (λ d. HaveKinds (takes.receiver ++ flat_map local_slots (parameter_kinds o.classes d)) (reverse (take words stack))) (sym same_descriptor) has in
     received (is_static (method_at o.classes target).method.flags) (is_constructor o target) takes.receiver (flat_map local_slots (parameters_of o target))
-    (type_of_class (class_of_method o target)) (reverse (take words stack))
+    (type_of_class (this_class o target)) (reverse (take words stack))
     (subst (λ b. IsReceiver b takes.receiver) (sym static) takes.is_receiver) parameters where
       one_reversed : (b : Bool) (receiver : List Slot) → IsReceiver b receiver → reverse receiver ≡ receiver
       one_reversed true receiver is = ap reverse is ∙ sym is

@@ -5,7 +5,7 @@ use Rattle.std.proofs.lemmas.Bool.{false≢true}
 use Rattle.std.proofs.lemmas.Slice.Eq.{bytes_eq-Decides}
 use Rattle.fm_code.specs.AccessFlags.{is_static}
 use Rattle.fm_types.specs.CallRows.{has_name, is_constructor}
-use Rattle.fm_types.specs.Named.{class_of_method}
+use Rattle.fm_types.specs.Named.{class_of_method, this_class}
 use Rattle.fm_types.specs.States.{local_slots}
 use Rattle.fm_types.specs.declared.slots.Slot.{Slot}
 use Rattle.fm_types.specs.declared.slots.Slot.TheVariants as slot
@@ -56,7 +56,7 @@ module _ (p : Program) (ready : CallsAreResolved p) (class method : ℕ) (is : s
         code_is = coded.1;
         starts = ap (start_by method) (ap (start_of p.outline.classes) found.owner ∙ is) ∙ eq-eqb method method refl;
         no_arguments = no_slots (is_static (method_at p.outline.classes method).method.flags) (is_constructor p.outline method)
-            (slot.Ref (type_of_class (class_of_method p.outline method))) (method_at p.outline.classes method).method.descriptor found.flags found.descriptor_is;
+            (slot.Ref (type_of_class (this_class p.outline method))) (method_at p.outline.classes method).method.descriptor found.flags found.descriptor_is;
       }
 
 pub starts_are_methods : (p : Program) → CallsAreResolved p → (classes : List ℕ) → AllByRecursion (StartsClass p) (start_methods p.outline classes)

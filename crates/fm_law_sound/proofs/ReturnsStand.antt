@@ -9,7 +9,7 @@ use Rattle.fm_code.specs.declared.code_array.Code.{Code}
 use Rattle.fm_code.specs.declared.instructions.Insn.{Insn}
 use Rattle.fm_code.specs.declared.instructions.Insn.TheVariants as insn
 use Rattle.fm_types.specs.Fits.{AreTree}
-use Rattle.fm_types.specs.Named.{class_of_method, result_words}
+use Rattle.fm_types.specs.Named.{result_words, this_class}
 use Rattle.fm_types.specs.Rows.{row_after}
 use Rattle.fm_types.specs.States.{is_uninit, is_uninit_this, stack_slots, TypeState}
 use Rattle.fm_types.specs.Typed.{IsTypingOf, made_at, use_by}
@@ -55,7 +55,7 @@ module _ (o : Outline) (nothing_given : ConstructorsGiveNothing o) (s : TypeStat
       → method_in u ≡ Some named → HaveKinds (drop count s.stack) words → row_after o method item news u i s ≡ Some after
       → FrameHasKinds after locals (result ++ words)
   call_kinds i method item count news u after takes names in_stack row =
-      let are = call_left LocalHasKind HasKind o method news (λ item t made. uninit_marked item t) (this_marked (type_of_class (class_of_method o method)))
+      let are = call_left LocalHasKind HasKind o method news (λ item t made. uninit_marked item t) (this_marked (type_of_class (this_class o method)))
       nothing_given s named locals words result in_locals has i item count u after takes names in_stack row in
       record { in_locals = are.in_locals; in_stack = are.in_stack }
 

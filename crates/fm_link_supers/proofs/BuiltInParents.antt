@@ -1,20 +1,21 @@
 -- The built-in classes have the same superclasses and interfaces in each program, but for the classes that complete them, and none leads into a cycle.
-use Rattle.std.proofs.Common.{◌≡◌, refl, sym, ◌∙◌, ap, ℕ, zero, suc, ◌+◌, ◌<◌, ◌≤◌, ◌&&◌, not, Bool, true, false, cond, List, [], ◌∷◌, ◌++◌, length, map, nat_eq, replicate, Option, Some, None, is_none, is_some, arith, length-append}
+use Rattle.std.proofs.Common.{◌≡◌, refl, sym, ◌∙◌, ap, ℕ, zero, suc, ◌+◌, ◌-◌, ◌<◌, ◌≤◌, ◌⊎◌, inl, inr, ◌&&◌, not, Bool, true, false, cond, List, [], ◌∷◌, ◌++◌, length, map, get_or, nat_eq, replicate, Option, Some, None, is_none, is_some, unwrap_or, arith, length-append}
 use Rattle.std.specs.List.{cons_option, filter_map, flat_map, list_any, position_from}
 use Rattle.std.specs.Str.{bytes_eq}
 use Rattle.std.specs.Cmp.Lexicographic.{same_text}
-use Rattle.std.proofs.lemmas.Bool.{false≢true}
+use Rattle.std.proofs.lemmas.Bool.{cases_lt, false≢true}
+use Rattle.std.proofs.lemmas.List.{get_or-append-add}
 use Rattle.std.proofs.lemmas.Option.{none-some}
 use Rattle.fm_code.specs.AccessFlags.{is_interface}
 use Rattle.fm_code.specs.declared.class_file.ClassDef.{ClassDef}
 use Rattle.fm_link_supers.proofs.InterfaceLemmas.{any_ends, any_within, goes_deep_later, listed_within}
 use Rattle.fm_link_supers.proofs.NamedParentLemmas.{number_given}
 use Rattle.fm_world.proofs.Acyclic.{none_passes, none_passes_after}
-use Rattle.fm_world.proofs.Completions.{class_same, completing, count_is, fails_at, goes_up_ends, IsBelow, number_first, number_same, parent_completed, parent_plain, table_below}
+use Rattle.fm_world.proofs.Completions.{class_same, completing, count_is, fails_at, goes_up_ends, IsBelow, number_first, number_same, parent_completed, parent_plain, self_built_in, table_below}
 use Rattle.fm_world.specs.BuiltIns.{built_in, object_name}
 use Rattle.fm_world.specs.Causes.{built_in_named, goes_deep, goes_up, is_there_and, own_name, Refusal, refused_if}
-use Rattle.fm_world.specs.Chains.{class_at, completion_of, given_number, listed_interfaces, parent_of}
-use Rattle.fm_world.specs.Declarations.{declared_from}
+use Rattle.fm_world.specs.Chains.{class_at, completion_of, given_number, listed_interfaces, parent_of, self_of}
+use Rattle.fm_world.specs.Declarations.{declared_from, no_class}
 use Rattle.fm_world.specs.Descriptors.{class_number}
 use Rattle.fm_world.specs.Linking.{refused_built_ins}
 use Rattle.fm_world.specs.Lookups.{is_interface_at, object_number}
@@ -208,3 +209,37 @@ not_completed given none k within =
 -- what is asked of the classes that complete built-in ones
 pub are_completed : (given : List ClassDef) → refused_built_ins given ≡ [] → AreCompleted (classes_of given)
 are_completed given none class completing within is = absurd (none-some completing (sym (not_completed given none class within) ∙ is))
+
+-- ---- whose objects methods have as their own
+
+no_name : class_number built_in [] ≡ None
+unfolding built_in
+no_name = refl
+
+none_found : (o : Option ℕ) → is_some o ≡ false → o ≡ None
+none_found None e = refl
+none_found (Some k) e = absurd (false≢true (sym e))
+
+-- no class of a file has the name of a built-in one
+file_apart : (n j : ℕ) (given : List ClassDef) → flat_map built_in_named given ≡ [] → class_number built_in (get_or (declared_from n given) j no_class).name ≡ None
+file_apart n j [] none = no_name
+file_apart n zero (c ∷ given) none =
+    none_found (class_number built_in (own_name c)) (first_part (is_some (class_number built_in (own_name c))) _ (flat_map built_in_named given) none).0
+file_apart n (suc j) (c ∷ given) none =
+    file_apart (n + 1) j given (first_part (is_some (class_number built_in (own_name c))) _ (flat_map built_in_named given) none).1
+
+-- the methods of each class have its objects
+pub self_is_own : (given : List ClassDef) → refused_built_ins given ≡ [] → (class : ℕ) → self_of (classes_of given) class ≡ class
+unfolding refused_built_ins classes_of
+self_is_own given none class = by_place (cases_lt class (length built_in)) where
+  more : List DeclaredClass
+  more = declared_from 0 given
+
+  by_place : (class < length built_in) ⊎ (length built_in ≤ class) → self_of (built_in ++ more) class ≡ class
+  by_place (inl within) = self_built_in more class within
+  by_place (inr past) =
+      let j : ℕ = class - length built_in in
+      let is : class ≡ length built_in + j = omega (arith, past) in
+      let there : class_at (built_in ++ more) class ≡ get_or more j no_class =
+      ap (λ i. get_or (built_in ++ more) i no_class) is ∙ get_or-append-add built_in more j no_class in
+      ap (λ (c : DeclaredClass). unwrap_or (class_number built_in c.name) class) there ∙ ap (λ o. unwrap_or o class) (file_apart 0 j given none)

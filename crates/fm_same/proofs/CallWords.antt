@@ -15,7 +15,7 @@ use Rattle.fm_code.specs.declared.instructions.Insn.TheVariants as insn
 use Rattle.fm_conn.specs.Pairs.{IsEnd}
 use Rattle.fm_conn.specs.declared.ends.End2.TheVariants as end
 use Rattle.fm_types.specs.CallRows.{constructed, constructor_called, instance_call_row, is_constructor, is_initializer, names_own_or_above, special_call_row, static_call_row}
-use Rattle.fm_types.specs.Named.{argument_words, class_of_method, parameters_of, result_words}
+use Rattle.fm_types.specs.Named.{argument_words, parameters_of, result_words, this_class}
 use Rattle.fm_types.specs.Rows.{row_after}
 use Rattle.fm_types.specs.States.{is_reference, is_whole, local_slots, stack_slots, taken, TypeState, worked}
 use Rattle.fm_types.specs.Typed.{entry_slots, receiver_slots}
@@ -237,13 +237,13 @@ module _ (o : Outline) (method item : ℕ) (news : ℕ → Option TypeRef) (m : 
 
   special_by : (constructor : Bool) (named : TypeRef)
       → cond constructor (constructor_called o method news m.0 named s) (cond (is_initializer o m.0) None
-      (cond (names_own_or_above o (class_of_method o method) named)
-      (worked o (argument_words o m.0 ++ slot.Ref (type_of_class (class_of_method o method)) ∷ []) (result_words o m.0) s) None)) ≡ Some after
+      (cond (names_own_or_above o (this_class o method) named)
+      (worked o (argument_words o m.0 ++ slot.Ref (type_of_class (this_class o method)) ∷ []) (result_words o m.0) s) None)) ≡ Some after
       → TakesCall o m.0 true s.stack
   special_by true named row = constructor_takes o method news m.0 named s after row whole
   special_by false named row =
-      worked_instance o m.0 (type_of_class (class_of_method o method)) (result_words o m.0) s after
-      (tested (names_own_or_above o (class_of_method o method) named) _ after (untested (is_initializer o m.0) _ after row)) whole
+      worked_instance o m.0 (type_of_class (this_class o method)) (result_words o m.0) s after
+      (tested (names_own_or_above o (this_class o method) named) _ after (untested (is_initializer o m.0) _ after row)) whole
 
   special_takes : special_call_row o method news (resolved.OfMethod m t) s ≡ Some after → TakesCall o m.0 true s.stack
   unfolding special_call_row
@@ -297,7 +297,7 @@ entry_alike o method target static same flags =
     (zip-append IsAlike (argument_words o method) (stack_slots (parameters_of o target)) (receiver_shape (not static)) (reverse (receiver_slots o target))
     (subst (λ kinds. AllZip IsAlike (argument_words o method) (stack_slots kinds)) (sym same) (alike_same (argument_words o method)))
     (subst (λ b. AllZip IsAlike (receiver_shape (not b)) (reverse (receiver_slots o target))) flags
-    (receiver_alike (is_static (method_at o.classes target).method.flags) (is_constructor o target) (type_of_class (class_of_method o target)))))
+    (receiver_alike (is_static (method_at o.classes target).method.flags) (is_constructor o target) (type_of_class (this_class o target)))))
 
 reverse_twice : (xs : Slots) → reverse (reverse xs) ≡ xs
 reverse_twice [] = refl

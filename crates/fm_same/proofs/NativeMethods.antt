@@ -16,7 +16,7 @@ use Rattle.fm_conn.specs.Pairs.{IsEnd}
 use Rattle.fm_conn.specs.Rows as pairs
 use Rattle.fm_conn.specs.declared.ends.End2.TheVariants as end
 use Rattle.fm_types.specs.CallRows.{is_constructor}
-use Rattle.fm_types.specs.Named.{class_of_method, parameters_of}
+use Rattle.fm_types.specs.Named.{parameters_of, this_class}
 use Rattle.fm_types.specs.States.{is_reference, local_slots}
 use Rattle.fm_types.specs.Typed.{receiver_slots}
 use Rattle.fm_types.specs.declared.slots.Slot as slots
@@ -154,7 +154,7 @@ module _ (o : Outline) (given : List DeclaredClass) (classes : o.classes ≡ bui
 
   receiver_end : is_static declared.flags ≡ false → IsEnd o target (end.Parameter 0)
   receiver_end instance =
-      receiver_at (is_static declared.flags) (is_constructor o target) (type_of_class (class_of_method o target)) (flat_map local_slots (parameters_of o target))
+      receiver_at (is_static declared.flags) (is_constructor o target) (type_of_class (this_class o target)) (flat_map local_slots (parameters_of o target))
       instance
 
   result_end : names_text (result_type declared.descriptor).base ≡ true → IsEnd o target end.Return
@@ -173,7 +173,7 @@ module _ (o : Outline) (given : List DeclaredClass) (classes : o.classes ≡ bui
   message_end instance is =
       subst (λ (kinds : List Kind). IsSomeAnd (slice_get (receiver_slots o target ++ flat_map local_slots kinds) 1) (λ s. is_reference s ≡ true))
       (sym (text_parameter is))
-      (second_at (is_static declared.flags) (is_constructor o target) (type_of_class (class_of_method o target)) (record { dims = 0; base = of_class 1 }) instance)
+      (second_at (is_static declared.flags) (is_constructor o target) (type_of_class (this_class o target)) (record { dims = 0; base = of_class 1 }) instance)
 
   both_ends : answers_text declared ≡ true → IsEnd o target end.Return × IsEnd o target (end.Parameter 0)
   both_ends h =

@@ -30,7 +30,7 @@ use Rattle.fm_types.proofs.RowOrder.{rows-keep_whole}
 use Rattle.fm_types.proofs.StateOrder.{shape_of, Stands, under-parts}
 use Rattle.fm_types.specs.ArrayRows.{multi_array_row, new_array_row, new_references_row}
 use Rattle.fm_types.specs.CallRows.{constructed, constructor_called, initialised, instance_call_row, is_constructor, is_initializer, is_type, names_own_or_above, special_call_row, static_call_row}
-use Rattle.fm_types.specs.Named.{argument_words, class_of_method, on_method, on_type, result_of, result_words}
+use Rattle.fm_types.specs.Named.{argument_words, class_of_method, on_method, on_type, result_of, result_words, this_class}
 use Rattle.fm_types.specs.Rows.{row_after}
 use Rattle.fm_types.specs.States.{is_reference, is_uninit, is_whole, stack_slots, state_fits, taken, TypeState, worked}
 use Rattle.fm_types.specs.Typed.{after_item, FitsAt, IsTypingOf, made_at, state_at, use_by}
@@ -272,16 +272,16 @@ module _ (facts : Facts) (x : TypedMethod) (item : ℕ) (news : ℕ → Option T
 
   other_special : (m : ℕ) (named : TypeRef) → has_reference_result x.program.outline m ≡ true → (b : Bool) → is_constructor x.program.outline m ≡ b
       → cond b (constructor_called x.program.outline x.number news m named s) (cond (is_initializer x.program.outline m) None
-      (cond (names_own_or_above x.program.outline (class_of_method x.program.outline x.number) named)
-      (worked x.program.outline (argument_words x.program.outline m ++ slot.Ref (type_of_class (class_of_method x.program.outline x.number)) ∷ [])
+      (cond (names_own_or_above x.program.outline (this_class x.program.outline x.number) named)
+      (worked x.program.outline (argument_words x.program.outline m ++ slot.Ref (type_of_class (this_class x.program.outline x.number)) ∷ [])
       (result_words x.program.outline m) s) None)) ≡ Some after
       → heads after.stack ≡ true
   other_special m named has true constructor gives =
       absurd (false≢true (sym (result-some x.program.outline m (constructors m constructor)) ∙ has))
   other_special m named has false constructor gives =
-      worked-heads x.program.outline (argument_words x.program.outline m ++ slot.Ref (type_of_class (class_of_method x.program.outline x.number)) ∷ [])
+      worked-heads x.program.outline (argument_words x.program.outline m ++ slot.Ref (type_of_class (this_class x.program.outline x.number)) ∷ [])
       (result_words x.program.outline m) s after (result-heads x.program.outline m has)
-      (tested (names_own_or_above x.program.outline (class_of_method x.program.outline x.number) named) _ after
+      (tested (names_own_or_above x.program.outline (this_class x.program.outline x.number) named) _ after
       (untested (is_initializer x.program.outline m) _ after gives))
 
   factory-heads : (u : Use) → receives_new facts x (call_with x call.Special u) ≡ true → special_call_row x.program.outline x.number news u s ≡ Some after
@@ -291,8 +291,8 @@ module _ (facts : Facts) (x : TypedMethod) (item : ℕ) (news : ℕ → Option T
       method-heads facts x call.Special after u
       (λ m named. cond (is_constructor x.program.outline m) (constructor_called x.program.outline x.number news m named s)
       (cond (is_initializer x.program.outline m) None
-      (cond (names_own_or_above x.program.outline (class_of_method x.program.outline x.number) named)
-      (worked x.program.outline (argument_words x.program.outline m ++ slot.Ref (type_of_class (class_of_method x.program.outline x.number)) ∷ [])
+      (cond (names_own_or_above x.program.outline (this_class x.program.outline x.number) named)
+      (worked x.program.outline (argument_words x.program.outline m ++ slot.Ref (type_of_class (this_class x.program.outline x.number)) ∷ [])
       (result_words x.program.outline m) s) None)))
       (λ m named has gives. other_special m named has (is_constructor x.program.outline m) refl gives) is there
 

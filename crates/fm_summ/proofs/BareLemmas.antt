@@ -10,7 +10,7 @@ use Rattle.fm_code.proofs.EdgesLemmas.{Contains-from_map, Contains-map}
 use Rattle.fm_code.specs.AccessFlags.{is_static}
 use Rattle.fm_code.specs.declared.code_array.Code.{Code}
 use Rattle.fm_types.specs.CallRows.{is_constructor}
-use Rattle.fm_types.specs.Named.{class_of_method, parameters_of, result_of}
+use Rattle.fm_types.specs.Named.{parameters_of, result_of, this_class}
 use Rattle.fm_types.specs.States.{is_reference, local_slots}
 use Rattle.fm_types.specs.Typed.{entry_slots}
 use Rattle.fm_types.specs.declared.slots.Slot.{Slot}
@@ -204,7 +204,7 @@ linked_entry (Some row) a b linked =
 -- ---- which are ends
 
 abbrev object_slots : Outline → ℕ → List Slot
-object_slots o method = slot.Ref (type_of_class (class_of_method o method)) ∷ []
+object_slots o method = slot.Ref (type_of_class (this_class o method)) ∷ []
 
 -- the receiver of a method that isn't static
 abbrev receiver : Outline → ℕ → List Slot

@@ -11,7 +11,7 @@ use Rattle.fm_types.proofs.StateOrder.{IsShaped, IsStackUnder, IsUnder, shape_of
 use Rattle.fm_types.proofs.Zips.{Follows, follows-if, follows-then, zip-map}
 use Rattle.fm_types.specs.CallRows.{constructed, constructor_called, initialised, is_type, names_own_or_parent, returned_by, same_reg}
 use Rattle.fm_types.specs.Fits.{AreTree, fits}
-use Rattle.fm_types.specs.Named.{argument_words, class_of_method}
+use Rattle.fm_types.specs.Named.{argument_words, class_of_method, this_class}
 use Rattle.fm_types.specs.States.{is_uninit, is_uninit_this, is_whole, replaced, stack_slots, taken, TypeState, worked}
 use Rattle.fm_types.specs.declared.slots.Slot.{Slot}
 use Rattle.fm_types.specs.declared.slots.Slot.TheVariants as slot
@@ -112,10 +112,10 @@ receiver-under o tree method news named x slot.UninitThis s t f h =
     let P : Slot → Type 0 = λ receiver. Follows (IsUnder o) (constructed o method news named receiver s)
     (constructed o method news named slot.UninitThis t) in
     subst P (sym (same_this o x f))
-    (follows-if (IsUnder o) (names_own_or_parent o own named) (names_own_or_parent o own named) _ _ (λ e. e)
+    (follows-if (IsUnder o) (names_own_or_parent o (class_of_method o method) named) (names_own_or_parent o (class_of_method o method) named) _ _ (λ e. e)
     (λ e. built (initialised-under o tree is_uninit_this (this_mark o) (type_of_class own) s t (h refl)))) where
       own : ℕ
-      own = class_of_method o method
+      own = this_class o method
 
       built : IsUnder o (initialised is_uninit_this (type_of_class own) s) (initialised is_uninit_this (type_of_class own) t)
           → IsUnder o (record (initialised is_uninit_this (type_of_class own) s) { built = true })

@@ -21,7 +21,7 @@ use Rattle.fm_types.proofs.ObjectOrder.{stack_slots-whole}
 use Rattle.fm_types.specs.ArrayRows.{array_load_row, array_store_row, length_row, multi_array_row, new_array_row, new_references_row}
 use Rattle.fm_types.specs.CallRows.{constructor_called, instance_call_row, is_constructor, is_initializer, names_own_or_above, return_row, returned_by, same_reg, special_call_row, static_call_row}
 use Rattle.fm_types.specs.Moves.{Moves}
-use Rattle.fm_types.specs.Named.{argument_words, class_of_method, field_words, object_slot, on_field, on_method, on_type, parameters_of, result_of, result_words, throwable_type}
+use Rattle.fm_types.specs.Named.{argument_words, field_words, object_slot, on_field, on_method, on_type, parameters_of, result_of, result_words, this_class, throwable_type}
 use Rattle.fm_types.specs.NumberRows.{constant_row, convert_row, increment_row, load_row, move_row, number_slots, store_row}
 use Rattle.fm_types.specs.ObjectRows.{cast_row, get_field_row, get_static_row, is_a_row, new_row, put_field_row, put_static_row, takes_field, throw_row}
 use Rattle.fm_types.specs.Rows.{row_after}
@@ -355,7 +355,7 @@ module _ (o : Outline) (method : ℕ) (u : Use) (i : Insn) (A : ℕ → Row → 
   calls_special : (index : ℕ) → i ≡ insn.Special index → (v : Use) → A (called_words o v) (λ item news s. special_call_row o method news v s)
   unfolding special_call_row
   calls_special index is v =
-      let own : ℕ = class_of_method o method in
+      let own : ℕ = this_class o method in
       let own_words : ℕ → List Slot = λ m. argument_words o m ++ slot.Ref (type_of_class own) ∷ [] in
       by_method v
       (λ m t item news s. cond (is_constructor o m) (constructor_called o method news m t s)

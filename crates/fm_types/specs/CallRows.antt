@@ -6,11 +6,11 @@ use Rattle.fm_base.specs.declared.kinds.Kind.TheVariants as kind
 use Rattle.fm_base.specs.declared.kinds.TypeRef.{TypeRef}
 use Rattle.fm_code.specs.declared.operations.Reg.{Reg}
 use Rattle.fm_code.specs.declared.operations.Reg.TheVariants as reg
-use Rattle.fm_types.specs.Named.{argument_words, class_of_method, on_method, result_of, result_words}
+use Rattle.fm_types.specs.Named.{argument_words, class_of_method, on_method, result_of, result_words, this_class}
 use Rattle.fm_types.specs.States.{is_uninit, is_uninit_this, replaced, stack_slots, taken, TypeState, worked}
 use Rattle.fm_types.specs.declared.slots.Slot.{Slot}
 use Rattle.fm_types.specs.declared.slots.Slot.TheVariants as slot
-use Rattle.fm_world.specs.Chains.{chain_of, is_among, parent_of, same_type}
+use Rattle.fm_world.specs.Chains.{chain_of, is_among, parent_of, same_type, self_of}
 use Rattle.fm_world.specs.Lookups.{constructor_name}
 use Rattle.fm_world.specs.Members.{method_at}
 use Rattle.fm_world.specs.Numbers.{type_of_class}
@@ -61,12 +61,12 @@ abbrev pub is_class : ℕ → Option ℕ → Bool
 is_class c None = false
 is_class c (Some d) = c == d
 
--- the type is that of the class or of its superclass
+-- the type is that of the objects of the class's methods, or of its superclass
 abbrev pub names_own_or_parent : Outline → ℕ → TypeRef → Bool
 names_own_or_parent o own named = by_class (class_of_type named) where
   by_class : Option ℕ → Bool
   by_class None = false
-  by_class (Some c) = (c == own) || is_class c (parent_of o.classes own)
+  by_class (Some c) = (c == self_of o.classes own) || is_class c (parent_of o.classes own)
 
 -- the receiver is the object of a `new` of exactly the class that is named, or a constructor's own object, with its class or the superclass named
 abbrev pub constructed : Outline → ℕ → (ℕ → Option TypeRef) → TypeRef → Slot → TypeState → Option TypeState
@@ -78,7 +78,7 @@ constructed o method news named (slot.Ref t) s = None
 constructed o method news named (slot.Uninit item) s = if is_type named (news item) then Some (initialised (is_uninit item) named s) else None
 constructed o method news named slot.UninitThis s =
     let own = class_of_method o method in
-    if names_own_or_parent o own named then Some (record (initialised is_uninit_this (type_of_class own) s) { built = true }) else None
+    if names_own_or_parent o own named then Some (record (initialised is_uninit_this (type_of_class (this_class o method)) s) { built = true }) else None
 
 -- a constructor takes its arguments and the object under them
 abbrev pub constructor_called : Outline → ℕ → (ℕ → Option TypeRef) → ℕ → TypeRef → TypeState → Option TypeState
@@ -96,11 +96,11 @@ names_own_or_above o own named = by_class (class_of_type named) where
   by_class None = false
   by_class (Some c) = is_among c (chain_of o.classes own)
 
--- beside constructors, methods of the own class and its superclasses, of an object that fits the own class
+-- beside constructors, methods of the class of the method's own objects and its superclasses, of an object that fits that class
 unfoldable pub special_call_row : Outline → ℕ → (ℕ → Option TypeRef) → Use → TypeState → Option TypeState
 special_call_row o method news u s = on_method o u called where
   own : ℕ
-  own = class_of_method o method
+  own = this_class o method
 
   called : ℕ → TypeRef → Option TypeState
   called m named =

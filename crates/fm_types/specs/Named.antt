@@ -6,6 +6,7 @@ use Rattle.fm_types.specs.Fits.{object_of}
 use Rattle.fm_types.specs.States.{stack_slots, TypeState}
 use Rattle.fm_types.specs.declared.slots.Slot.{Slot}
 use Rattle.fm_types.specs.declared.slots.Slot.TheVariants as slot
+use Rattle.fm_world.specs.Chains.{self_of}
 use Rattle.fm_world.specs.Descriptors.{class_number, parameter_kinds, result_kind}
 use Rattle.fm_world.specs.Members.{field_at, field_kind, method_at}
 use Rattle.fm_world.specs.Numbers.{type_of_class}
@@ -65,6 +66,10 @@ on_method o resolved.Unused follows = None
 -- the class that declares a method
 abbrev pub class_of_method : Outline → ℕ → ℕ
 class_of_method o method = (method_at o.classes method).class
+
+-- the class whose objects it has as its own (JVMS 4.10.1.6)
+abbrev pub this_class : Outline → ℕ → ℕ
+this_class o method = self_of o.classes (class_of_method o method)
 
 -- the words of a field's value, of a method's arguments without the receiver, and of its result, as they are on the stack
 abbrev pub field_words : Outline → ℕ → List Slot

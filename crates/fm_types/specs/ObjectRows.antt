@@ -6,7 +6,7 @@ use Rattle.fm_base.specs.declared.kinds.Base.TheVariants as base
 use Rattle.fm_base.specs.declared.kinds.TypeRef.{TypeRef}
 use Rattle.fm_code.specs.AccessFlags.{is_abstract, is_interface}
 use Rattle.fm_types.specs.Fits.{fits, fits_type}
-use Rattle.fm_types.specs.Named.{class_of_method, field_words, object_slot, on_field, on_type, throwable_type}
+use Rattle.fm_types.specs.Named.{class_of_method, field_words, object_slot, on_field, on_type, this_class, throwable_type}
 use Rattle.fm_types.specs.States.{int_word, is_uninit, pushed, replaced, TypeState, worked, worked_below}
 use Rattle.fm_types.specs.declared.slots.Slot.{Slot}
 use Rattle.fm_types.specs.declared.slots.Slot.TheVariants as slot
@@ -52,8 +52,7 @@ abbrev pub takes_field : Outline → ℕ → ℕ → TypeRef → Slot → Option
 takes_field o method field named receiver = if passes receiver then Some [] else None where
   passes : Slot → Bool
   passes slot.UninitThis =
-      let own = class_of_method o method in
-      ((field_at o.classes field).class == own) && fits_type o.classes (type_of_class own) named
+      ((field_at o.classes field).class == class_of_method o method) && fits_type o.classes (type_of_class (this_class o method)) named
   passes s = fits o s (slot.Ref named)
 
 -- a value that fits the field is taken, and the receiver under it (JVMS 6.5, putfield)

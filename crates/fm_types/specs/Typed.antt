@@ -11,7 +11,7 @@ use Rattle.fm_code.specs.declared.instructions.Insn.{Insn}
 use Rattle.fm_code.specs.declared.instructions.Insn.TheVariants as insn
 use Rattle.fm_types.specs.CallRows.{is_constructor}
 use Rattle.fm_types.specs.Fits.{fits_type}
-use Rattle.fm_types.specs.Named.{class_of_method, parameters_of, throwable_type}
+use Rattle.fm_types.specs.Named.{class_of_method, parameters_of, this_class, throwable_type}
 use Rattle.fm_types.specs.Rows.{row_after}
 use Rattle.fm_types.specs.States.{is_whole, local_slots, state_fits, TypeState}
 use Rattle.fm_types.specs.declared.slots.Slot.{Slot}
@@ -55,7 +55,7 @@ abbrev pub receiver_slots : Outline → ℕ → List Slot
 receiver_slots o method =
     if is_static (method_at o.classes method).method.flags then [] else
     if is_constructor o method then slot.UninitThis ∷ [] else
-    slot.Ref (type_of_class (class_of_method o method)) ∷ []
+    slot.Ref (type_of_class (this_class o method)) ∷ []
 
 -- the receiver and the parameters are in the first locals
 abbrev pub entry_slots : Outline → ℕ → List Slot

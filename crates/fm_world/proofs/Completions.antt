@@ -1,6 +1,6 @@
 -- Built-in classes have the same superclasses in each program, but for the classes that complete them: each of these comes right after the one that it
 -- completes.
-use Rattle.std.proofs.Common.{◌≡◌, refl, sym, ◌∙◌, ap, subst, ℕ, zero, suc, ◌+◌, ◌<◌, ◌≤◌, ◌⊎◌, inl, inr, ◌||◌, ◌&&◌, not, Bool, true, false, cond, List, [], ◌∷◌, ◌++◌, length, map, reverse, nat_eq, nat_lt, get_or, replicate, Option, Some, None, is_none, is_some, option_and_then, position, arith, zero-add, length-append}
+use Rattle.std.proofs.Common.{◌≡◌, refl, sym, ◌∙◌, ap, subst, ℕ, zero, suc, ◌+◌, ◌<◌, ◌≤◌, ◌⊎◌, inl, inr, ◌||◌, ◌&&◌, not, Bool, true, false, cond, List, [], ◌∷◌, ◌++◌, length, map, reverse, nat_eq, nat_lt, get_or, replicate, Option, Some, None, is_none, is_some, option_and_then, position, unwrap_or, arith, zero-add, length-append}
 use Rattle.std.specs.Prelude.{option_to_list}
 use Rattle.std.specs.List.{flat_map, list_any, position_from}
 use Rattle.std.specs.Option.{option_or}
@@ -16,7 +16,7 @@ use Rattle.std.proofs.lemmas.Option.{none-some}
 use Rattle.fm_base.specs.declared.kinds.Kind.{Kind}
 use Rattle.fm_world.specs.BuiltIns.{built_in}
 use Rattle.fm_world.specs.Causes.{goes_up}
-use Rattle.fm_world.specs.Chains.{chain_of, class_at, completion_of, is_among, parent_of, upwards}
+use Rattle.fm_world.specs.Chains.{chain_of, class_at, completion_of, is_among, parent_of, self_of, upwards}
 use Rattle.fm_world.specs.Declarations.{no_class}
 use Rattle.fm_world.specs.Descriptors.{class_number}
 use Rattle.fm_world.specs.Members.{kinds_of, own_kinds}
@@ -98,8 +98,18 @@ inside_table : map (λ k. list_any is_past_table (chain_of built_in k)) (numbers
 unfolding built_in chain_of
 inside_table = refl
 
+selves_table : map (self_of built_in) (numbers_below 28) ≡ map (λ k. k) (numbers_below 28)
+unfolding built_in
+selves_table = refl
+
 before_past : (k : ℕ) → is_past_table k ≡ false → k < length built_in
 before_past k h = ltb-true k (length built_in) (not-false (nat_lt k (length built_in)) h)
+
+-- a built-in class completes no other one
+pub self_built_in : (more : List DeclaredClass) (k : ℕ) → k < length built_in → self_of (built_in ++ more) k ≡ k
+self_built_in more k within =
+    ap (λ (c : DeclaredClass). unwrap_or (class_number built_in c.name) k) (class_same built_in more k within)
+    ∙ same_at (self_of built_in) (λ i. i) 0 28 selves_table k (omega (arith, within, count_is))
 
 -- ---- one step up
 

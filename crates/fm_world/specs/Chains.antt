@@ -1,14 +1,14 @@
 -- Superclasses and superinterfaces of a class in a list of classes (JVMS 5.3.5), and which type is below which at run time (JVMS 6.5.checkcast).
 -- A class goes by its number in the list; names are looked up in the list. One more than the number of classes bounds each walk, so
 -- that it ends where chains lead into a cycle; a linked program has none.
-use Rattle.std.specs.Prelude.{ℕ, zero, suc, ◌==◌, ◌||◌, ◌&&◌, not, Bool, true, false, List, [], ◌∷◌, length, drop, filter, Option, Some, None, is_some, is_none, option_and_then, position, nat_eq, nat_lt, if◌then◌else◌}
+use Rattle.std.specs.Prelude.{ℕ, zero, suc, ◌==◌, ◌||◌, ◌&&◌, not, Bool, true, false, List, [], ◌∷◌, length, drop, filter, Option, Some, None, is_some, is_none, option_and_then, position, unwrap_or, nat_eq, nat_lt, if◌then◌else◌}
 use Rattle.std.specs.List.{slice_index_or, flat_map, filter_map, list_any}
 use Rattle.std.specs.Option.{option_or}
 use Rattle.std.specs.Str.{bytes_eq}
 use Rattle.fm_base.specs.declared.kinds.Base.{Base}
 use Rattle.fm_base.specs.declared.kinds.Base.TheVariants as base
 use Rattle.fm_base.specs.declared.kinds.TypeRef.{TypeRef}
-use Rattle.fm_world.specs.BuiltIns.{object_name, cloneable_name, serializable_name}
+use Rattle.fm_world.specs.BuiltIns.{built_in, object_name, cloneable_name, serializable_name}
 use Rattle.fm_world.specs.Declarations.{no_class}
 use Rattle.fm_world.specs.declared.declarations.DeclaredClass.{DeclaredClass}
 use Rattle.fm_world.specs.Descriptors.{class_number}
@@ -53,6 +53,10 @@ superclass_in classes c = option_and_then (λ name. option_or (completion_of cla
 -- the superclass of a class
 abbrev pub parent_of : List DeclaredClass → ℕ → Option ℕ
 parent_of classes class = superclass_in classes (class_at classes class)
+
+-- the class whose objects the methods of a class have as their own: the built-in class that it completes, and else the class itself
+abbrev pub self_of : List DeclaredClass → ℕ → ℕ
+self_of classes class = unwrap_or (class_number built_in (class_at classes class).name) class
 
 -- a class and its superclasses upwards, of at most a given number of classes
 abbrev pub upwards : ℕ → List DeclaredClass → Option ℕ → List ℕ

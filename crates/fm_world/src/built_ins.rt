@@ -2,6 +2,7 @@
 
 ghost use Rattle.std.specs.Prelude.{◌≡◌, map};
 ghost use Rattle.fm_world.specs.BuiltIns.{built_in};
+ghost use Rattle.fm_world.specs.Descriptors.{class_number};
 ghost use Rattle.fm_world.specs.inner.BuiltInTable.{class_of_row};
 
 use crate::built_in_methods::{
@@ -46,6 +47,19 @@ pub fn built_in_classes() -> &'static [BuiltInClass]
     ensures { map class_of_row result.now ≡ built_in }
 {
     &CLASSES
+}
+
+/// The number of the built-in class of that name, where there is one. Takes no memory.
+pub fn built_in_class(name: &[u8]) -> Option<u32>
+    ensures { result ≡ class_number built_in name.now }
+{
+    let classes = built_in_classes();
+    for (place, class) in classes.iter().enumerate() {
+        if class.name.as_bytes() == name {
+            return Some(place as u32);
+        }
+    }
+    None
 }
 
 // Public, static and final; the flags of a class and of an interface (JVMS 4.1, 4.5).

@@ -5,7 +5,7 @@ ghost use Rattle.std.specs.List.{list_any, range_with_len, slice_index_or};
 ghost use Rattle.std.specs.Option.{option_map};
 ghost use Rattle.std.specs.Str.{bytes_eq};
 ghost use Rattle.fm_code.specs.AccessFlags.{has_flag};
-ghost use Rattle.fm_world.specs.Chains.{array_supers, chain_of, class_at, interfaces_of, is_above_arrays, is_among, is_base_above_arrays, is_sub, is_sub_base, is_subclass, first_found, superclasses_of};
+ghost use Rattle.fm_world.specs.Chains.{array_supers, chain_of, class_at, interfaces_of, is_above_arrays, is_among, is_base_above_arrays, is_sub, is_sub_base, is_subclass, first_found, self_of, superclasses_of};
 ghost use Rattle.fm_world.specs.Lookups.{constructor_name, object_number, own_instance, searches_above, select, special_target};
 ghost use Rattle.fm_world.specs.Numbers.{type_number};
 ghost use Rattle.fm_base.specs.declared.ids.TypeId.{TypeId};
@@ -18,6 +18,7 @@ ghost use Rattle.fm_world.specs.inner.Marks.{selected_of, selected_of_arrays};
 ghost use Rattle.fm_world.specs.inner.Tables.{program_in, AreInterfaces, AreTables, IsLinear};
 
 use crate::ACC_SUPER;
+use crate::built_ins::built_in_class;
 use crate::calls::{Call, CallKind};
 use crate::found_methods::{mark, marked_methods};
 use crate::known_targets::{KnownTargets, TargetList};
@@ -233,6 +234,18 @@ impl Program {
         ensures { result.now ≡ class_info self.now.outline c.0 }
     {
         &self.parts.classes.as_slice()[c.0 as usize]
+    }
+
+    /// The class on whose objects the methods of a class are called: the built-in one that it completes,
+    /// and else itself. Takes no memory.
+    pub fn self_of(&self, c: ClassId) -> ClassId
+        requires { c.0 < length self.now.outline.classes }
+        ensures { result.0 ≡ self_of self.now.outline.classes c.0 }
+    {
+        match built_in_class(self.class(c).name.as_slice()) {
+            Some(number) => ClassId(number),
+            None => c,
+        }
     }
 
     /// The method of this number. Takes no memory.
