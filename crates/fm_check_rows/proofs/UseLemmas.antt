@@ -15,7 +15,7 @@ use Rattle.fm_world.specs.BuiltIns.{built_in}
 use Rattle.fm_world.specs.Chains.{class_at, first_found}
 use Rattle.fm_world.specs.Declarations.{no_field, no_method}
 use Rattle.fm_world.specs.Descriptors.{class_number}
-use Rattle.fm_world.specs.Lookups.{any_flags, class_searched, constructor_name, field_path, method_path, resolved_field, resolved_method}
+use Rattle.fm_world.specs.Lookups.{any_flags, class_searched, constructor_name, constructor_path, field_path, method_path, resolved_field, resolved_method}
 use Rattle.fm_world.specs.Members.{field_among, fields_from, fields_of, first_field, first_method, method_among, methods_from, methods_of, own_field, own_method, owned_fields, owned_methods}
 use Rattle.fm_world.specs.Numbers.{text_number, text_units}
 use Rattle.fm_world.specs.Programs.{class_uses, field_use, method_use, Outline, outline_of, program_of, resolved_at, type_number_at, uses_of, with_number}
@@ -120,12 +120,12 @@ resolved_method-within classes m n found = by_name (bytes_eq m.name constructor_
       then_within (λ class. method_among classes any_flags m.name m.descriptor (path_of class)) (length (methods_of classes))
       (λ class k f. method_within classes m.name m.descriptor (path_of class) k f) o n e
 
-  by_name : (b : Bool) → cond b (option_and_then (λ class. method_among classes any_flags m.name m.descriptor (class ∷ []))
+  by_name : (b : Bool) → cond b (option_and_then (λ class. method_among classes any_flags m.name m.descriptor (constructor_path classes class))
       (class_number classes m.class))
       (option_and_then (λ class. method_among classes any_flags m.name m.descriptor (method_path classes class)) (class_searched classes m.class))
       ≡ Some n
       → n < length (methods_of classes)
-  by_name true e = by_path (λ class. class ∷ []) (class_number classes m.class) e
+  by_name true e = by_path (constructor_path classes) (class_number classes m.class) e
   by_name false e = by_path (method_path classes) (class_searched classes m.class) e
 
 -- ---- uses

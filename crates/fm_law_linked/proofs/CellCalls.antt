@@ -18,7 +18,6 @@ use Rattle.fm_code.specs.declared.code_array.Code.{Code}
 use Rattle.fm_code.specs.declared.instructions.Insn.TheVariants as insn
 use Rattle.fm_check_program.proofs.Trees.{no_built_in_refused}
 use Rattle.fm_world.proofs.Completions.{count_is}
-use Rattle.fm_link_supers.proofs.BuiltInParents.{self_is_own}
 use Rattle.fm_link_supers.proofs.HierarchyLemmas.{interfaces_only, superinterfaces_only}
 use Rattle.fm_link_supers.proofs.ParentRefusals.{tree_object_is_class}
 use Rattle.fm_law_linked.proofs.Calls.{call_there, IsCall}
@@ -26,21 +25,22 @@ use Rattle.fm_law_linked.proofs.CellTypes.{above_built_in, above_seen}
 use Rattle.fm_law_linked.proofs.FieldOwners.{binary_found, found_among}
 use Rattle.fm_law_linked.proofs.GivenFiles.{no_method_refused}
 use Rattle.fm_law_linked.proofs.InterfaceCalls.{binary_type, type_named}
-use Rattle.fm_law_linked.proofs.InterfaceSets.{low_interfaces, low_supers, marker_bare}
-use Rattle.fm_law_linked.proofs.Messages.{below_of}
-use Rattle.fm_law_linked.proofs.MethodOwners.{class_fits, first, implemented_reached, IsMethodOf, IsNamedMethod, IsReceiver, method_of, named_method, object_top, path_cases, Reached, receiver, selects, sound, tree, up_reached}
+use Rattle.fm_law_linked.proofs.InterfaceSets.{low_supers, marker_bare, object_interfaces}
+use Rattle.fm_law_linked.proofs.Messages.{below_inside, below_of}
+use Rattle.fm_law_linked.proofs.MethodOwners.{apart, class_fits, first, implemented_reached, IsMethodOf, IsNamedMethod, IsReceiver, method_of, named_method, new, object_top, path_cases, Reached, receiver, selects, self_reached, sound, tree, up_reached}
 use Rattle.fm_law_linked.proofs.NamedMethods.{virtual_of_class}
 use Rattle.fm_law_linked.proofs.Numbers.{owner_there}
+use Rattle.fm_law_linked.proofs.Selves.{self_twice, selves_there}
 use Rattle.fm_law_linked.proofs.SpecialCalls.{member_class, number_named}
 use Rattle.fm_law_sound.proofs.FoundMethods.{own_method_found}
 use Rattle.fm_law_sound.specs.Resolved.{IsNamed}
-use Rattle.fm_types.proofs.ClassTree.{among_own, object-within}
+use Rattle.fm_types.proofs.ClassTree.{among_own, among-trans, object-within}
 use Rattle.fm_types.specs.CallRows.{is_constructor, is_initializer, names_own_or_above}
 use Rattle.fm_types.specs.Fits.{fits_type, is_seen_as_object, object_of}
-use Rattle.fm_types.specs.Named.{class_of_method, this_class}
+use Rattle.fm_types.specs.Named.{this_class}
 use Rattle.fm_law_no_fault.specs.CellsResolved.{CallsFit, IsMet, Selects}
 use Rattle.fm_world.specs.BuiltIns.{built_in}
-use Rattle.fm_world.specs.Chains.{chain_of, class_at, first_found, interfaces_of, is_above_arrays, is_among, is_sub, is_sub_base, superclasses_of, superinterfaces_of}
+use Rattle.fm_world.specs.Chains.{chain_of, class_at, first_found, interfaces_of, is_above_arrays, is_among, is_sub, is_sub_base, self_of, superclasses_of, superinterfaces_of}
 use Rattle.fm_world.specs.Descriptors.{class_number, class_type, of_class, type_in, type_with}
 use Rattle.fm_world.specs.Linking.{refusals}
 use Rattle.fm_world.specs.Lookups.{any_flags, constructor_name, is_interface_at, method_path, object_number, own_instance, searches_above, select, special_target}
@@ -90,54 +90,66 @@ module _ (given : List ClassDef) (main : List ℕ) (spelled : AllByRecursion Has
     unfolding outline_of
     where_named = named_method given main spelled clean call.at.member method call.at.found
 
-  -- a method has objects of the class that declares it as its own
-  this_is : (method : ℕ) → this_class o method ≡ class_of_method o method
-  unfolding outline_of
-  this_is method = self_is_own given (no_built_in_refused given main clean) (method_at (classes_of given) method).class
-
   -- ---- invokespecial
 
   among_drop : (x : ℕ) (xs : List ℕ) → is_among x (drop 1 xs) ≡ true → is_among x xs ≡ true
   among_drop x [] among = among
   among_drop x (y ∷ ys) among = or_right (nat_eq x y) (is_among x ys) among
 
-  -- what is called is of the own class, of one above it or of an interface of it, where the method that is named is
-  special_reached : (own method owner : ℕ) (named : Option ℕ) → (method_at classes method).class ≡ owner → Reached given own owner
-      → fits_type classes (type_of_class own) (type_of_class (method_at classes (special_target classes own named method)).class) ≡ true
+  -- what is called is of the class of the own objects, of one above it or of an interface of it, where the method that is named is
+  special_reached : (own method owner : ℕ) (named : Option ℕ) → (method_at classes method).class ≡ owner → Reached given (self_of classes own) owner
+      → fits_type classes (type_of_class (self_of classes own)) (type_of_class (self_of classes (method_at classes (special_target classes own named method)).class)) ≡ true
   unfolding special_target
   special_reached own method owner named owner_is reached =
       by_search (searches_above (classes_of given) own named (method_at (classes_of given) method).method.name) where
-        itself : fits_type (classes_of given) (type_of_class own) (type_of_class (method_at (classes_of given) method).class) ≡ true
-        itself =
-            ap (λ k. fits_type (classes_of given) (type_of_class own) (type_of_class k)) owner_is ∙ class_fits given main spelled clean own owner reached
+        this : ℕ
+        this = self_of (classes_of given) own
+
+        Fits : ℕ → Type 0
+        Fits class = fits_type (classes_of given) (type_of_class this) (type_of_class (self_of (classes_of given) class)) ≡ true
+
+        -- a class that is reached from that of the own objects
+        from_this : (class : ℕ) → Reached given this class → Fits class
+        from_this class there =
+            class_fits given main spelled clean this (self_of (classes_of given) class)
+            (self_reached given main spelled clean this class (self_twice given (new given main spelled clean) (apart given main spelled clean) own) there)
+
+        itself : Fits (method_at (classes_of given) method).class
+        itself = subst Fits (sym owner_is) (from_this owner reached)
 
         find : ℕ → Option ℕ
         find = own_instance (classes_of given) method
 
         by_found : (o : Option ℕ) → first_found find (superclasses_of (classes_of given) own) ≡ o
-            → fits_type (classes_of given) (type_of_class own) (type_of_class (method_at (classes_of given) (unwrap_or o method)).class) ≡ true
+            → Fits (method_at (classes_of given) (unwrap_or o method)).class
         by_found None e = itself
         by_found (Some target) e =
             let path = found_among find (superclasses_of (classes_of given) own) target e in
             let m = (method_at (classes_of given) method).method in
             let found = own_method_found (classes_of given) is_instance m.name m.descriptor path.0 target path.1.1 in
-            ap (λ k. fits_type (classes_of given) (type_of_class own) (type_of_class k)) found.owner
-            ∙ class_fits given main spelled clean own path.0 (inl (among_drop path.0 (chain_of (classes_of given) own) path.1.0))
+            subst Fits (sym found.owner)
+            (from_this path.0
+            (inl (among-trans (classes_of given) (tree given main spelled clean) this own path.0
+            (selves_there given (new given main spelled clean) (apart given main spelled clean) own)
+            (among_drop path.0 (chain_of (classes_of given) own) path.1.0))))
 
         by_search : (b : Bool)
-            → fits_type (classes_of given) (type_of_class own) (type_of_class (method_at (classes_of given)
-            (cond b (unwrap_or (first_found find (superclasses_of (classes_of given) own)) method) method)).class) ≡ true
+            → Fits (method_at (classes_of given) (cond b (unwrap_or (first_found find (superclasses_of (classes_of given) own)) method) method)).class
         by_search true = by_found (first_found find (superclasses_of (classes_of given) own)) refl
         by_search false = itself
 
   special_fits : (method index : ℕ) (m : MethodId) (t : TypeId) (named : TypeRef) → IsNamed (program_of given main) method (insn.Special index) (resolved.OfMethod m t)
-      → slice_get (outline_of given main).types t.0 ≡ Some named → names_own_or_above (outline_of given main) (class_of_method (outline_of given main) method) named ≡ true
-      → fits_type (classes_of given) (type_of_class (method_at (classes_of given) method).class)
-      (type_of_class (method_at (classes_of given) (special_target (classes_of given) (method_at (classes_of given) method).class (class_of_type named) m.0)).class) ≡ true
+      → slice_get (outline_of given main).types t.0 ≡ Some named → names_own_or_above (outline_of given main) (this_class (outline_of given main) method) named ≡ true
+      → fits_type (classes_of given) (type_of_class (self_of (classes_of given) (method_at (classes_of given) method).class))
+      (type_of_class (self_of (classes_of given)
+      (method_at (classes_of given) (special_target (classes_of given) (method_at (classes_of given) method).class (class_of_type named) m.0)).class)) ≡ true
   unfolding outline_of
   special_fits method index m t named x at above = by_class_of (class_of_type named) refl above where
     own : ℕ
     own = (method_at (classes_of given) method).class
+
+    this : ℕ
+    this = self_of (classes_of given) own
 
     call : IsCall given (outline_of given main) x.code own index m.0 t.0 false
     call =
@@ -148,17 +160,19 @@ module _ (given : List ClassDef) (main : List ℕ) (spelled : AllByRecursion Has
 
     is_above : Option ℕ → Bool
     is_above None = false
-    is_above (Some c) = is_among c (chain_of (classes_of given) own)
+    is_above (Some c) = is_among c (chain_of (classes_of given) this)
 
     by_class_of : (found : Option ℕ) → class_of_type named ≡ found → is_above found ≡ true
-        → fits_type (classes_of given) (type_of_class own)
-        (type_of_class (method_at (classes_of given) (special_target (classes_of given) own (class_of_type named) m.0)).class) ≡ true
+        → fits_type (classes_of given) (type_of_class this)
+        (type_of_class (self_of (classes_of given) (method_at (classes_of given) (special_target (classes_of given) own (class_of_type named) m.0)).class)) ≡ true
     by_class_of None e up = absurd (false≢true up)
     by_class_of (Some c) e up =
         let searched = it.of_class c (number_is x.code own index m.0 t.0 false call named at c e) in
         let owner_is = (method_of (classes_of given) any_flags call.at.member.name call.at.member.descriptor it.owner m.0 it.own).at in
         special_reached own m.0 it.owner (class_of_type named) (ap (λ (n : OwnedMethod). n.class) owner_is)
-        (up_reached given main spelled clean own it.searched it.owner (owner_there given method) (ap (λ k. is_among k (chain_of (classes_of given) own)) searched ∙ up) it.path)
+        (up_reached given main spelled clean this it.searched it.owner
+        (below_inside (classes_of given) this own (selves_there given (new given main spelled clean) (apart given main spelled clean) own) (owner_there given method))
+        (ap (λ k. is_among k (chain_of (classes_of given) this)) searched ∙ up) it.path)
 
   -- a constructor is called itself
   constructor_itself : (own method : ℕ) (named : Option ℕ) → bytes_eq (method_at classes method).method.name constructor_name ≡ true
@@ -171,8 +185,8 @@ module _ (given : List ClassDef) (main : List ℕ) (spelled : AllByRecursion Has
 
   constructed_class : (method index : ℕ) (m : MethodId) (t : TypeId) (named : TypeRef) → IsNamed (program_of given main) method (insn.Special index) (resolved.OfMethod m t)
       → slice_get (outline_of given main).types t.0 ≡ Some named → bytes_eq (method_at (classes_of given) m.0).method.name constructor_name ≡ true
-      → class_of_type named
-      ≡ Some (method_at (classes_of given) (special_target (classes_of given) (method_at (classes_of given) method).class (class_of_type named) m.0)).class
+      → class_of_type named ≡ Some (self_of (classes_of given)
+      (method_at (classes_of given) (special_target (classes_of given) (method_at (classes_of given) method).class (class_of_type named) m.0)).class)
   unfolding outline_of
   constructed_class method index m t named x at constructor =
       let own = (method_at (classes_of given) method).class in
@@ -180,9 +194,9 @@ module _ (given : List ClassDef) (main : List ℕ) (spelled : AllByRecursion Has
       let it = where_named x.code own index m.0 t.0 false call named at in
       let found = own_method_found (classes_of given) any_flags call.at.member.name call.at.member.descriptor it.owner m.0 it.own in
       let number = it.exact (ap (λ n. bytes_eq n constructor_name) (sym found.name_is) ∙ constructor) in
-      ap class_of_type (type_is x.code own index m.0 t.0 false call named at it.owner number)
-      ∙ ap Some (sym found.owner)
-      ∙ ap (λ n. Some (method_at (classes_of given) n).class) (sym (constructor_itself own m.0 (class_of_type named) constructor))
+      ap class_of_type (type_is x.code own index m.0 t.0 false call named at (self_of (classes_of given) it.owner) number)
+      ∙ ap (λ k. Some (self_of (classes_of given) k)) (sym found.owner)
+      ∙ ap (λ n. Some (self_of (classes_of given) (method_at (classes_of given) n).class)) (sym (constructor_itself own m.0 (class_of_type named) constructor))
 
   -- ---- invokevirtual and invokeinterface
 
@@ -226,9 +240,6 @@ module _ (given : List ClassDef) (main : List ℕ) (spelled : AllByRecursion Has
     some : 0 < length (classes_of given)
     some = let inside_tree = object-within (classes_of given) (tree given main spelled clean) in omega (arith, inside_tree)
 
-    zero_low : 0 < length built_in
-    zero_low = let count = count_is in omega (arith, count)
-
     by_seen : (is_interface_at (classes_of given) n ≡ true) ⊎ ((n == object_of (classes_of given)) ≡ true) → is_among owner (chain_of (classes_of given) 0) ≡ true
     by_seen (inl interface) =
         path_cases given main spelled clean n owner interface among (is_among owner (chain_of (classes_of given) 0) ≡ true)
@@ -238,7 +249,7 @@ module _ (given : List ClassDef) (main : List ℕ) (spelled : AllByRecursion Has
         (λ object. ap (λ k. is_among k (chain_of (classes_of given) 0)) object ∙ among_own (classes_of given) 0 some)
     by_seen (inr object) =
         let is = eqb-true n (object_of (classes_of given)) object ∙ first given main spelled clean in
-        ⊎_elim (λ here. here) (λ there. absurd (marker_bare given owner place (low_interfaces given (no_built_in_refused given main clean) (sound given main spelled clean) 0 owner zero_low there)
+        ⊎_elim (λ here. here) (λ there. absurd (marker_bare given owner place (object_interfaces given (sound given main spelled clean) owner there)
         (interfaces_only (classes_of given) (sound given main spelled clean) 0 owner there) inside))
         (among_either owner (chain_of (classes_of given) 0) (interfaces_of (classes_of given) 0)
         (sym (ap (λ b. is_among owner (cond b (0 ∷ (superinterfaces_of (classes_of given) 0 ++ option_to_list (object_number (classes_of given))))
@@ -316,7 +327,7 @@ module _ (given : List ClassDef) (main : List ℕ) (spelled : AllByRecursion Has
       record {
         target = found.target;
         selected = ap (λ c. select (classes_of given) c method) r.is ∙ found.selected;
-        receives = ap (λ class. fits_type (classes_of given) of (type_of_class class)) (this_is found.target) ∙ found.receives;
+        receives = found.receives;
       }
 
   met : (of : TypeRef) → IsMet (outline_of given main) of → IsReceiver given of
@@ -343,19 +354,7 @@ calls_fit given main spelled supported clean =
           let it = where_named given main spelled clean x.code caller index m.0 t.0 false call named at in
           selected_by given main spelled clean supported x.code caller index m.0 t.0 call of plain r it
           (interface_reached given main spelled clean x.code caller index m.0 t.0 false call named of at sub r it);
-      special = λ method index m t named x at ordinary above.
-          let this = this_is given main spelled clean method in
-          let target = special_target (classes_of given) (method_at (classes_of given) method).class (class_of_type named) m.0 in
-          ap (λ class. fits_type (classes_of given) (type_of_class class) (type_of_class (this_class (outline_of given main) target))) this
-          ∙ ap (λ class. fits_type (classes_of given) (type_of_class (method_at (classes_of given) method).class) (type_of_class class))
-          (this_is given main spelled clean target)
-          ∙ special_fits given main spelled clean method index m t named x at
-          (ap (λ class. names_own_or_above (outline_of given main) class named) (sym this) ∙ above);
-      constructors = λ method index m t named x at constructor.
-          constructed_class given main spelled clean method index m t named x at constructor
-          ∙ ap Some (sym (this_is given main spelled clean
-          (special_target (classes_of given) (method_at (classes_of given) method).class (class_of_type named) m.0)));
-      selves = λ class.
-          ap (λ n. is_among class (chain_of (classes_of given) n)) (self_is_own given (no_built_in_refused given main clean) class)
-          ∙ among_own (classes_of given) class (let inside = object-within (classes_of given) (tree given main spelled clean) in omega (arith, inside));
+      special = λ method index m t named x at ordinary above. special_fits given main spelled clean method index m t named x at above;
+      constructors = λ method index m t named x at constructor. constructed_class given main spelled clean method index m t named x at constructor;
+      selves = selves_there given (new given main spelled clean) (apart given main spelled clean);
     }

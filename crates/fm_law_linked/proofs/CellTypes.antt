@@ -10,6 +10,7 @@ use Rattle.std.proofs.lemmas.List.FromFn.{get_or-map-range_with_len}
 use Rattle.std.proofs.lemmas.List.Quantifiers.{position-Some}
 use Rattle.std.proofs.lemmas.Option.{none-some, same_Some}
 use Rattle.std.proofs.lemmas.Slice.Eq.{bytes_eq-Decides}
+use Rattle.fm_code.specs.FreeEntries.{free_class}
 use Rattle.fm_base.proofs.TestFacts.{same-nat_eq}
 use Rattle.fm_base.specs.declared.kinds.Base.{Base}
 use Rattle.fm_base.specs.declared.kinds.Base.TheVariants as base
@@ -26,9 +27,10 @@ use Rattle.fm_frames.specs.NativeRows.{text_kind, text_type}
 use Rattle.fm_frames.specs.Runnable.{IsRunnable}
 use Rattle.fm_frames.specs.Sights.{has_hidden_field}
 use Rattle.fm_world.proofs.Completions.{count_is, from_file}
+use Rattle.fm_link_supers.proofs.BuiltInParents.{named_completes}
 use Rattle.fm_link_supers.proofs.Downwards.{among_head}
 use Rattle.fm_link_supers.proofs.HierarchyLemmas.{interfaces_only}
-use Rattle.fm_link_supers.proofs.ParentRefusals.{are_sound, if_true, length-declared, name_within, nil_left, none_of, not_refused, past_none, refused_not, superclass_used}
+use Rattle.fm_link_supers.proofs.ParentRefusals.{are_sound, if_true, length-declared, name_within, nil_left, none_of, not_refused, past_none, superclass_used}
 use Rattle.fm_link_supers.specs.inner.Hierarchy.{AreSound}
 use Rattle.fm_law_linked.proofs.Constants.{text_constants}
 use Rattle.fm_law_linked.proofs.GivenFiles.{class_of_file, none_used}
@@ -39,7 +41,7 @@ use Rattle.fm_types.proofs.Order.{below_objects-fits, level-fits}
 use Rattle.fm_types.specs.Fits.{AreTree, depth_with, fits_type, is_object_base, is_seen_as_object, object_of}
 use Rattle.fm_types.specs.Named.{built_in_type}
 use Rattle.fm_world.specs.BuiltIns.{built_in, cloneable_name, object_name, sealed_names, serializable_name, string_name}
-use Rattle.fm_world.specs.Causes.{bad_parent_at, bad_parents, bad_superclass, BuiltIn, built_in_named, is_bad_superclass, own_name, refused}
+use Rattle.fm_world.specs.Causes.{bad_parent_at, bad_parents, bad_superclass, may_be_completed, is_bad_superclass, own_name}
 use Rattle.fm_world.specs.Chains.{array_supers, chain_of, class_at, completion_of, interfaces_of, is_above_arrays, is_among, is_base_above_arrays, is_sub, is_sub_base, parent_of, upwards}
 use Rattle.fm_world.specs.Declarations.{declared_from, declared_of, name_at, no_class}
 use Rattle.fm_world.specs.Descriptors.{class_number}
@@ -111,13 +113,25 @@ super_there name is =
     (or_cases (bytes_eq name cloneable_name) (bytes_eq name serializable_name || false) rest))
     (or_cases (bytes_eq name object_name) (bytes_eq name cloneable_name || (bytes_eq name serializable_name || false)) is)
 
+-- no file completes them
+super_alone : (name : List ℕ) → list_any (bytes_eq name) array_supers ≡ true → may_be_completed name ≡ false
+super_alone name is = ap not (or_right (bytes_eq name free_class) (list_any (bytes_eq name) array_supers) is)
+
+file_alone : (given : List ClassDef) → refused_built_ins given ≡ [] → (j : ℕ) (c : ClassDef) → slice_get given j ≡ Some c
+    → list_any (bytes_eq (own_name c)) array_supers ≡ true → ⊥
+file_alone given none j c at is = by_number (class_number built_in (own_name c)) refl where
+  by_number : (o : Option ℕ) → class_number built_in (own_name c) ≡ o → ⊥
+  by_number None e = false≢true (sym (ap is_some e) ∙ super_there (own_name c) is)
+  by_number (Some k) e =
+      let same = (bytes_eq-Decides (class_at built_in k).name (own_name c)).0
+      (position-Some (λ (d : DeclaredClass). bytes_eq d.name (own_name c)) built_in k no_class e).1 in
+      let may = (and_parts (may_be_completed (class_at built_in k).name) _ (named_completes given none j c at k e)).0 in
+      false≢true (sym (super_alone (own_name c) is) ∙ sym (ap may_be_completed same) ∙ may)
+
 pub above_built_in : (given : List ClassDef) → refused_built_ins given ≡ [] → (class : ℕ) → is_above_arrays (classes_of given) class ≡ true → class < 28
-unfolding refused_built_ins
 above_built_in given none class =
     by_class given (λ c. list_any (bytes_eq c.name) array_supers ≡ true → class < 28) class (λ within is. within)
-    (λ j n c at is. absurd (false≢true
-    (sym (refused_not (is_some (class_number built_in (own_name c))) (refused BuiltIn c (own_name c)) (none_of built_in_named given j c none at))
-    ∙ super_there (own_name c) is)))
+    (λ j n c at is. absurd (file_alone given none j c at is))
     (λ is. absurd (false≢true is))
 
 one_of : (a b : Bool) → (a && not b) ≡ false → a ≡ true → b ≡ true

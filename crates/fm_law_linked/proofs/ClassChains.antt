@@ -10,17 +10,18 @@ use Rattle.fm_code.specs.Spells.{HasSpelling}
 use Rattle.fm_code.specs.declared.class_file.ClassDef.{ClassDef}
 use Rattle.fm_code.specs.declared.constant_pool.Entry.{Entry}
 use Rattle.fm_code.specs.declared.constant_pool.Entry.TheVariants as entry
-use Rattle.fm_link_supers.proofs.BuiltInParents.{not_completed}
+use Rattle.fm_link_supers.proofs.BuiltInParents.{completed_parent, table_parent}
 use Rattle.fm_link_supers.proofs.Downwards.{among_head}
 use Rattle.fm_link_supers.proofs.ParentRefusals.{tree_object, length-declared, past_none, name_within, nil_left, none_of, spelled_at, not_refused, if_true, refused_not, superclass_used, some_entries}
 use Rattle.fm_code.specs.Names.{object}
 use Rattle.fm_law_linked.proofs.GivenFiles.{class_of_file, none_used}
+use Rattle.fm_law_no_fault.proofs.BelowClasses.{parent_among}
 use Rattle.fm_types.specs.Fits.{AreTree, object_of}
-use Rattle.fm_world.proofs.Completions.{count_is, IsBelow, parent_plain, table_below}
+use Rattle.fm_world.proofs.Completions.{count_is}
 use Rattle.fm_world.proofs.Displays.{parent_of-within}
 use Rattle.fm_world.specs.BuiltIns.{built_in}
 use Rattle.fm_world.specs.Causes.{bad_parent_at, bad_parents, bad_superclass, is_array_name, is_bad_superclass, missing_at, missing_classes, MissingClass, missing, refused, refused_if, refused_where}
-use Rattle.fm_world.specs.Chains.{chain_of, is_among, parent_of, superclass_in}
+use Rattle.fm_world.specs.Chains.{chain_of, class_at, completion_of, is_among, parent_of, superclass_in}
 use Rattle.fm_world.specs.Declarations.{declared_from, name_at}
 use Rattle.fm_world.specs.Descriptors.{class_in, class_number, class_type, field_type, typed}
 use Rattle.fm_world.specs.Linking.{refused_built_ins, refused_missing_classes, refused_parents}
@@ -47,13 +48,8 @@ second_true : (a b : Bool) → a ≡ false → (a || b) ≡ true → b ≡ true
 second_true false b e h = h
 second_true true b e h = absurd (false≢true (sym e))
 
--- where no file completes it, the superclass of a built-in class is that of the table
-table_parent : (given : List ClassDef) → refused_built_ins given ≡ [] → (k : ℕ) → k < length built_in → parent_of (classes_of given) k ≡ parent_of built_in k
-unfolding classes_of
-table_parent given apart k within = parent_plain (declared_from 0 given) k within (not_completed given apart k within)
-
 built_in_parent : (given : List ClassDef) → refused_built_ins given ≡ [] → (k : ℕ) → k < length built_in → nat_eq k 0 ≡ false → HasParent (classes_of given) k
-built_in_parent given apart k within other = by_parent (parent_of built_in k) refl where
+built_in_parent given apart k within other = by_completion (completion_of (classes_of given) (class_at (classes_of given) k)) refl where
   inside : k < 28
   inside = let count = count_is in omega (arith, within, count)
 
@@ -62,15 +58,21 @@ built_in_parent given apart k within other = by_parent (parent_of built_in k) re
       second_true (nat_eq k 0) (is_some (parent_of built_in k)) other
       (sym (get_or-map-range_with_len some_parent 0 28 k k true inside (zero-add k)) ∙ ap (λ row. get_or row k true) parents_table ∙ get_or-replicate 28 k true true inside)
 
-  by_parent : (p : Option ℕ) → parent_of built_in k ≡ p → HasParent (classes_of given) k
-  by_parent None e = absurd (false≢true (sym (ap is_some e) ∙ found))
-  by_parent (Some p) e = record { parent = p; parent_is = table_parent given apart k within ∙ e }
+  by_parent : completion_of (classes_of given) (class_at (classes_of given) k) ≡ None → (p : Option ℕ) → parent_of built_in k ≡ p → HasParent (classes_of given) k
+  by_parent plain None e = absurd (false≢true (sym (ap is_some e) ∙ found))
+  by_parent plain (Some p) e = record { parent = p; parent_is = table_parent given k within plain ∙ e }
 
--- the superclass of a built-in class is built in
-pub built_in_above : (given : List ClassDef) → refused_built_ins given ≡ [] → (class parent : ℕ) → class < length built_in
-    → parent_of (classes_of given) class ≡ Some parent → parent < length built_in
-built_in_above given apart class parent within is =
-    subst (IsBelow (length built_in)) (sym (table_parent given apart class within) ∙ is) (table_below (declared_from 0 given) class within)
+  by_completion : (o : Option ℕ) → completion_of (classes_of given) (class_at (classes_of given) k) ≡ o → HasParent (classes_of given) k
+  by_completion (Some f) is = record { parent = f; parent_is = completed_parent given apart k f within is }
+  by_completion None is = by_parent is (parent_of built_in k) refl
+
+-- what completes a class is right above it
+pub completed_above : (given : List ClassDef) → refused_built_ins given ≡ [] → (class f : ℕ) → class < length built_in
+    → completion_of (classes_of given) (class_at (classes_of given) class) ≡ Some f → is_among f (chain_of (classes_of given) class) ≡ true
+unfolding classes_of
+completed_above given apart class f within is =
+    parent_among (classes_of given) (let many = length-append built_in (declared_from 0 given) in omega (arith, many, count_is)) class f
+    (completed_parent given apart class f within is)
 
 -- ---- classes of files
 

@@ -19,7 +19,7 @@ use Rattle.fm_code.specs.Spells.{HasSpelling}
 use Rattle.fm_code.specs.declared.class_file.ClassDef.{ClassDef}
 use Rattle.fm_code.specs.declared.class_file.Member.{Member}
 use Rattle.fm_code.specs.declared.constant_pool.Entry.{Entry}
-use Rattle.fm_world.proofs.Completions.{count_is}
+use Rattle.fm_world.proofs.Completions.{count_is, interface-declared}
 use Rattle.fm_link_supers.proofs.Downwards.{among_head}
 use Rattle.fm_link_supers.proofs.HierarchyLemmas.{superinterfaces_only}
 use Rattle.fm_link_supers.proofs.ParentRefusals.{tree_object, length-declared, past_none, spelled_at}
@@ -151,7 +151,7 @@ HasStatics j c = is_interface c.flags ≡ true → j < length c.fields → is_st
 file_statics : (c : ClassDef) (n j : ℕ) → HasSpelling c → HasStatics j (declared_of n c)
 file_statics c n j spelled is inside =
     all_inside (λ (f : DeclaredField). is_static f.flags ≡ true) (map (declared_field c.pool.entries) c.fields) j no_field
-    (static_members (is_interface c.flags) c.pool.entries c.fields is spelled.1.fields) inside
+    (static_members (is_interface c.flags) c.pool.entries c.fields (sym (interface-declared c) ∙ is) spelled.1.fields) inside
 
 interface_statics : (given : List ClassDef) → AllByRecursion HasSpelling given → (class j : ℕ) → HasStatics j (class_at (classes_of given) class)
 unfolding classes_of

@@ -13,7 +13,8 @@ use Rattle.fm_world.specs.Linking.{refusals, refused_built_ins, refused_duplicat
 use Rattle.fm_world.specs.Programs.{classes_of}
 use Rattle.fm_world.specs.Uses.{is_used, pool_indices, uses_in_order}
 use Rattle.fm_world.specs.declared.declarations.DeclaredClass.{DeclaredClass}
-use Rattle.fm_link_supers.proofs.ParentRefusals.{none_at, declared_at, nil_left, nil_right, among_filter}
+use Rattle.fm_link_supers.proofs.BuiltInParents.{declared_at}
+use Rattle.fm_link_supers.proofs.ParentRefusals.{none_at, nil_left, nil_right, among_filter}
 
 -- ---- lists without refusals
 

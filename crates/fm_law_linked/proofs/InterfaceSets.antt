@@ -1,30 +1,33 @@
 -- Superinterfaces of classes: those of a superclass and of a superinterface are ones of the class
--- itself, and built-in classes have only built-in ones, which declare no method.
+-- itself; built-in classes have built-in ones, which declare no method, and those that classes of files bring that complete them.
 use Rattle.std.proofs.Common.{◌≡◌, refl, sym, ◌∙◌, ap, ℕ, zero, suc, ◌<◌, ◌≤◌, ◌⊎◌, inl, inr, ◌&&◌, Bool, true, false, List, [], ◌∷◌, ◌++◌, length, map, replicate, nat_eq, nat_lt, Option, Some, None, is_none, arith, ⊎_elim}
 use Rattle.std.specs.List.{cons_option, filter_map, flat_map, list_any}
 use Rattle.std.proofs.lemmas.Bool.{cases_lt, eqb-true, false≢true, lt-ltb, or_cases, or_parts, or_right}
 use Rattle.std.proofs.lemmas.List.{get_or_append_left}
 use Rattle.fm_code.specs.AccessFlags.{is_interface}
 use Rattle.fm_code.specs.declared.class_file.ClassDef.{ClassDef}
-use Rattle.fm_world.proofs.Completions.{count_is, number_first}
+use Rattle.fm_world.proofs.Completions.{above_built_in, among_completed, count_is, IsAdded, number_first}
+use Rattle.fm_link_supers.proofs.BuiltInParents.{are_completed}
 use Rattle.fm_link_supers.proofs.Distinct.{among_distinct}
+use Rattle.fm_link_supers.proofs.ParentRefusals.{tree_top}
 use Rattle.fm_link_supers.proofs.InterfaceLemmas.{superinterfaces_past}
 use Rattle.fm_link_supers.specs.inner.Hierarchy.{AreSound}
 use Rattle.fm_law_linked.proofs.CellTypes.{built_in_at, table_false}
 use Rattle.fm_law_linked.proofs.FieldOwners.{among_each}
-use Rattle.fm_law_linked.proofs.SelectedMethods.{built_in_chain}
-use Rattle.fm_types.proofs.ClassTree.{among-trans, interface-within}
+use Rattle.fm_law_linked.proofs.ClassChains.{completed_above}
+use Rattle.fm_types.proofs.ClassTree.{among_one, among-trans, interface-within}
 use Rattle.fm_types.specs.Fits.{AreTree}
 use Rattle.fm_world.proofs.Acyclic.{superinterfaces_of-listed}
 use Rattle.fm_world.proofs.Displays.{class_number-within}
 use Rattle.fm_world.specs.BuiltIns.{built_in}
-use Rattle.fm_world.specs.Chains.{chain_of, class_at, interfaces_of, interfaces_within, is_among, listed_interfaces, superinterfaces_of}
+use Rattle.fm_world.specs.Chains.{chain_of, class_at, completion_of, interfaces_of, interfaces_within, is_among, listed_interfaces, superinterfaces_of, upwards}
 use Rattle.fm_world.specs.Declarations.{declared_from, no_class}
 use Rattle.fm_world.specs.Descriptors.{class_number}
 use Rattle.fm_world.specs.Linking.{refused_built_ins}
 use Rattle.fm_world.specs.Lookups.{is_interface_at}
 use Rattle.fm_world.specs.Programs.{classes_of}
 use Rattle.fm_world.specs.declared.declarations.DeclaredClass.{DeclaredClass}
+use Rattle.fm_world.specs.inner.Completions.{AreCompleted}
 use Rattle.fm_world.specs.inner.Tables.{numbers_below}
 use Rattle.fm_link_refusals.proofs.Among.{in_flat}
 
@@ -152,9 +155,53 @@ pub low_supers : (given : List ClassDef) (class x : ℕ) → class < length buil
 unfolding superinterfaces_of
 low_supers given class x within among = low_within given (suc (length (classes_of given))) class x within among
 
--- a built-in class has only built-in interfaces
+-- an interface of a class that a file completes
+pub record IsBrought (given : List ClassDef) (class x : ℕ) : Type 0 where
+  pub above : ℕ
+  pub completing : ℕ
+  pub within : above < length built_in
+  pub up : is_among above (chain_of (classes_of given) class) ≡ true
+  pub is : completion_of (classes_of given) (class_at (classes_of given) above) ≡ Some completing
+  pub there : is_among x (interfaces_of (classes_of given) above) ≡ true
+
+-- a built-in class has built-in interfaces, and those that what completes its superclasses brings
 pub low_interfaces : (given : List ClassDef) → refused_built_ins given ≡ [] → AreSound (classes_of given) → (class x : ℕ) → class < length built_in
-    → is_among x (interfaces_of (classes_of given) class) ≡ true → x < length built_in
-low_interfaces given apart sound class x within among =
-    let found = from_interfaces (classes_of given) sound class x among in
-    low_supers given found.0 x (built_in_chain given apart class found.0 within found.1.0) found.1.1
+    → is_among x (interfaces_of (classes_of given) class) ≡ true → (x < length built_in) ⊎ IsBrought given class x
+unfolding classes_of
+low_interfaces given apart sound class x within among = by_place (above_built_in more completed class found.0 within found.1.0) where
+  more : List DeclaredClass
+  more = declared_from 0 given
+
+  completed : AreCompleted (built_in ++ declared_from 0 given)
+  completed = are_completed given apart
+
+  found : (above : ℕ) × ((is_among above (chain_of (classes_of given) class) ≡ true) × (is_among x (superinterfaces_of (classes_of given) above) ≡ true))
+  found = from_interfaces (classes_of given) sound class x among
+
+  by_place : (found.0 < length built_in) ⊎ IsAdded more completed (chain_of built_in class) found.0 → (x < length built_in) ⊎ IsBrought given class x
+  by_place (inl low) = inl (low_supers given found.0 x low found.1.1)
+  by_place (inr added) = inr (record {
+    above = added.class;
+    completing = found.0;
+    within = added.within;
+    up = among_completed more completed class added.class within added.among;
+    is = added.is;
+    there = in_interfaces (classes_of given) sound added.class found.0 x (completed_above given apart added.class found.0 added.within added.is) found.1.1;
+  })
+
+nothing_up : (n : ℕ) (classes : List DeclaredClass) → upwards n classes None ≡ []
+nothing_up zero classes = refl
+nothing_up (suc n) classes = refl
+
+-- Object has no superclass, and so only built-in interfaces
+object_chain : (given : List ClassDef) → chain_of (classes_of given) 0 ≡ 0 ∷ []
+unfolding chain_of
+object_chain given =
+    let classes = classes_of given in
+    ap (λ o. 0 ∷ upwards (length classes) classes o) (tree_top given) ∙ ap (λ xs. 0 ∷ xs) (nothing_up (length classes) classes)
+
+pub object_interfaces : (given : List ClassDef) → AreSound (classes_of given) → (x : ℕ) → is_among x (interfaces_of (classes_of given) 0) ≡ true → x < length built_in
+object_interfaces given sound x among =
+    let found = from_interfaces (classes_of given) sound 0 x among in
+    let same : found.0 ≡ 0 = among_one found.0 0 (sym (ap (is_among found.0) (object_chain given)) ∙ found.1.0) in
+    low_supers given 0 x (omega (arith, count_is)) (ap (λ k. is_among x (superinterfaces_of (classes_of given) k)) (sym same) ∙ found.1.1)

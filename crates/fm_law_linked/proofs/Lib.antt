@@ -15,6 +15,7 @@ pub mod Steps
 pub mod Constructors
 pub mod SpecialCalls
 pub mod SelectedMethods
+pub mod Selves
 pub mod ConcreteCodes
 pub mod MadeTypes
 pub mod Making

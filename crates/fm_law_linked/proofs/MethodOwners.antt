@@ -3,7 +3,7 @@
 use Rattle.std.proofs.Common.{◌≡◌, refl, sym, ◌∙◌, ap, subst, ℕ, ◌+◌, ◌-◌, ◌<◌, ◌≤◌, ◌⊎◌, inl, inr, ◌==◌, ◌&&◌, not, cond, Bool, true, false, List, [], ◌∷◌, ◌++◌, length, map, nat_eq, get_or, slice_get, position, codes, Option, Some, None, is_some, option_and_then, option_map, option_to_list, unwrap_or, zero-add, arith, ⊎_elim}
 use Rattle.std.specs.List.{AllByRecursion, flat_map}
 use Rattle.std.specs.Str.{bytes_eq}
-use Rattle.std.proofs.lemmas.Bool.{cases_lt, eqb-true, false≢true, or_cases, or_left}
+use Rattle.std.proofs.lemmas.Bool.{cases_lt, eq-eqb, eqb-true, false≢true, or_cases, or_left}
 use Rattle.std.proofs.lemmas.List.Folds.{list_any_at}
 use Rattle.std.proofs.lemmas.List.Quantifiers.{position-Some}
 use Rattle.std.proofs.lemmas.Option.{none-some, same_Some}
@@ -19,10 +19,10 @@ use Rattle.fm_code.specs.declared.class_file.ClassDef.{ClassDef}
 use Rattle.fm_code.specs.declared.class_file.Member.{Member}
 use Rattle.fm_code.specs.declared.constant_pool.Entry.{Entry}
 use Rattle.fm_check_program.proofs.Trees.{no_built_in_refused, no_parent_refused, tree_of}
-use Rattle.fm_world.proofs.Completions.{count_is}
-use Rattle.fm_link_supers.proofs.Downwards.{among_head, among_left}
+use Rattle.fm_world.proofs.Completions.{concrete-declared, count_is, interface-declared}
+use Rattle.fm_link_supers.proofs.Downwards.{among_head, among_later, among_left, among_right}
 use Rattle.fm_link_supers.proofs.HierarchyLemmas.{interfaces_only}
-use Rattle.fm_link_supers.proofs.ParentRefusals.{are_sound, nil_left, nil_right, none_at, past_none, refused_not, tree_object}
+use Rattle.fm_link_supers.proofs.ParentRefusals.{are_sound, nil_left, nil_right, none_at, past_none, refused_not, tree_interfaces, tree_object}
 use Rattle.fm_link_supers.specs.inner.Hierarchy.{AreSound}
 use Rattle.fm_link_refusals.proofs.Among.{among_either}
 use Rattle.fm_link_refusals.proofs.LeftOver.{left_over_parts}
@@ -33,8 +33,10 @@ use Rattle.fm_law_linked.proofs.ClassChains.{below_object}
 use Rattle.fm_law_linked.proofs.FieldOwners.{all_inside, binary_found, found_among}
 use Rattle.fm_law_linked.proofs.GivenFiles.{class_of_file, none_implemented, none_missing}
 use Rattle.fm_law_linked.proofs.InterfaceCalls.{binary_type}
-use Rattle.fm_law_linked.proofs.InterfaceSets.{in_interfaces, interfaces_above, interfaces_up, low_interfaces, marker_bare}
-use Rattle.fm_law_linked.proofs.SelectedMethods.{files_counted, methods_at, OfClass, own_abstract, owned}
+use Rattle.fm_law_linked.proofs.InterfaceSets.{in_interfaces, interfaces_above, interfaces_up, IsBrought, low_interfaces, marker_bare}
+use Rattle.fm_law_linked.proofs.SelectedMethods.{completed_left, files_counted, methods_at, OfClass, own_abstract, owned}
+use Rattle.fm_law_linked.proofs.Selves.{completing_above, completing_self, interface_self, named_self, no_duplicate_refused, objects_self, self_above}
+use Rattle.fm_link_supers.proofs.BuiltInParents.{completed_by, plain_completion, self_has_objects}
 use Rattle.fm_law_linked.proofs.SpecialCalls.{file_implemented}
 use Rattle.fm_law_sound.proofs.FoundMethods.{own_method_found}
 use Rattle.fm_law_sound.proofs.MadeObjects.{IsPlain}
@@ -43,18 +45,18 @@ use Rattle.fm_types.proofs.Order.{below_objects-fits, level-fits}
 use Rattle.fm_types.specs.Fits.{AreTree, fits_type, object_of}
 use Rattle.fm_world.specs.BuiltIns.{built_in}
 use Rattle.fm_world.specs.Causes.{abstract_call, abstract_methods, declared_name, is_left_over, left_over, method_text, NotImplemented, refused}
-use Rattle.fm_world.specs.Chains.{chain_of, class_at, first_found, interfaces_of, is_among, superinterfaces_of}
+use Rattle.fm_world.specs.Chains.{chain_of, class_at, completing_of, first_found, interfaces_of, is_among, parent_of, self_of, superinterfaces_of}
 use Rattle.fm_world.specs.Declarations.{declared_method, declared_of, no_method}
 use Rattle.fm_world.specs.Descriptors.{class_number, class_type}
-use Rattle.fm_world.specs.Linking.{refusals, refused_built_ins, refused_parents}
-use Rattle.fm_world.specs.Lookups.{any_flags, class_searched, constructor_name, is_abstract_method, is_interface_at, is_selectable, method_path, object_number, resolved_method, select}
+use Rattle.fm_world.specs.Linking.{refusals, refused_built_ins, refused_duplicates, refused_parents}
+use Rattle.fm_world.specs.Lookups.{any_flags, class_searched, constructor_name, constructor_path, is_abstract_method, is_interface_at, is_selectable, method_path, object_number, resolved_method, select}
 use Rattle.fm_world.specs.Members.{first_method, method_among, method_at, methods_from, methods_of, own_method, OwnedMethod}
 use Rattle.fm_world.specs.Numbers.{type_of_class}
 use Rattle.fm_world.specs.Programs.{class_of_type, classes_of, IsTypeIn}
 use Rattle.fm_world.specs.Uses.{class_items}
 use Rattle.fm_world.specs.declared.declarations.DeclaredClass.{DeclaredClass}
 use Rattle.fm_world.specs.declared.declarations.DeclaredMethod.{DeclaredMethod}
-use Rattle.fm_law_no_fault.proofs.BelowClasses.{class_type as type_of_its_class}
+use Rattle.fm_law_no_fault.proofs.BelowClasses.{class_type as type_of_its_class, parent_among}
 
 -- ---- lists
 
@@ -152,7 +154,7 @@ interface_bare given supported class place is inside = by_place (cases_lt class 
       let same : class_at (classes_of given) class ≡ declared_of declared.number c = ap (class_at (classes_of given)) at ∙ declared.declared in
       subst (HasBare place) (sym same)
       (λ its there. all_inside IsBare (map (declared_method c.pool.entries) c.methods) place no_method
-      (bare_members (is_interface c.flags) c.pool.entries c.methods its (AllByRecursion-at IsSupported given k c supported e).methods) there)
+      (bare_members (is_interface c.flags) c.pool.entries c.methods (sym (interface-declared c) ∙ its) (AllByRecursion-at IsSupported given k c supported e).methods) there)
       is inside
 
   by_place : (class < length built_in) ⊎ (length built_in ≤ class) → IsBare (get_or (class_at (classes_of given) class).methods place no_method)
@@ -203,13 +205,13 @@ pub record IsNamedMethod (given : List ClassDef) (member : MemberName) (method :
   pub own : own_method (classes_of given) any_flags member.name member.descriptor owner ≡ Some method
   pub of_class : (class : ℕ) → class_number (classes_of given) member.class ≡ Some class → searched ≡ class
   pub of_array : class_number (classes_of given) member.class ≡ None → searched ≡ 0
-  pub exact : bytes_eq member.name constructor_name ≡ true → class_number (classes_of given) member.class ≡ Some owner
+  pub exact : bytes_eq member.name constructor_name ≡ true → class_number (classes_of given) member.class ≡ Some (self_of (classes_of given) owner)
 
 -- a method that is selected for the objects of a type
 pub record IsSelected (given : List ClassDef) (of : TypeRef) (class method : ℕ) : Type 0 where
   pub target : ℕ
   pub selected : select (classes_of given) class method ≡ Some target
-  pub receives : fits_type (classes_of given) of (type_of_class (method_at (classes_of given) target).class) ≡ true
+  pub receives : fits_type (classes_of given) of (type_of_class (self_of (classes_of given) (method_at (classes_of given) target).class)) ≡ true
 
 module _ (given : List ClassDef) (main : List ℕ) (spelled : AllByRecursion HasSpelling given) (clean : refusals given main ≡ []) where
   abbrev classes : List DeclaredClass
@@ -217,6 +219,9 @@ module _ (given : List ClassDef) (main : List ℕ) (spelled : AllByRecursion Has
 
   pub apart : refused_built_ins given ≡ []
   apart = no_built_in_refused given main clean
+
+  pub new : refused_duplicates given ≡ []
+  new = no_duplicate_refused given main clean
 
   pub no_bad : refused_parents given ≡ []
   no_bad = no_parent_refused given main clean
@@ -323,26 +328,47 @@ module _ (given : List ClassDef) (main : List ℕ) (spelled : AllByRecursion Has
     by_sort true = among_head k (superinterfaces_of classes k ++ option_to_list (object_number classes))
     by_sort false = among_left k (chain_of classes k) (interfaces_of classes k) (among_own classes k (omega (arith, object-within classes tree)))
 
+  -- what completes a class is on its path
+  completing_path : (k above : ℕ) → is_among above (completing_of (classes_of given) k) ≡ true → is_among above (method_path (classes_of given) k) ≡ true
+  completing_path k above among = by_sort (is_interface_at classes k) refl where
+    parent : parent_of (classes_of given) k ≡ Some above
+    parent = completing_above given new apart k above among
+
+    by_sort : (b : Bool) → is_interface_at classes k ≡ b → is_among above (path_by b k) ≡ true
+    by_sort true e =
+        let object = same_Some above 0 (sym parent ∙ tree_interfaces given spelled apart no_bad k e) in
+        among_later above k (superinterfaces_of classes k ++ option_to_list (object_number classes))
+        (among_right above (superinterfaces_of classes k) (option_to_list (object_number classes))
+        (ap (λ x. is_among above (option_to_list x)) (tree_object given) ∙ or_left (nat_eq above 0) false (eq-eqb above 0 object)))
+    by_sort false e =
+        among_left above (chain_of classes k) (interfaces_of classes k)
+        (parent_among classes (omega (arith, object-within classes tree)) k above parent)
+
   pub named_method : (member : MemberName) (method : ℕ) → resolved_method (classes_of given) member ≡ Some method → IsNamedMethod given member method
   unfolding resolved_method
   named_method member method is = by_name (bytes_eq member.name constructor_name) refl is where
     find : ℕ → Option ℕ
     find = own_method (classes_of given) any_flags member.name member.descriptor
 
-    by_number : (o : Option ℕ) → class_number (classes_of given) member.class ≡ o → option_and_then (λ class. first_found find (class ∷ [])) o ≡ Some method
+    by_number : (o : Option ℕ) → class_number (classes_of given) member.class ≡ o → option_and_then (λ class. first_found find (constructor_path (classes_of given) class)) o ≡ Some method
         → IsNamedMethod given member method
     by_number None f h = absurd (none-some method h)
     by_number (Some k) f h =
-        let found = found_among find (k ∷ []) method h in
-        let same = among_one found.0 k found.1.0 in
+        let found = found_among find (constructor_path (classes_of given) k) method h in
+        let which = or_cases (nat_eq found.0 k) (is_among found.0 (completing_of (classes_of given) k)) found.1.0 in
+        let self : self_of (classes_of given) found.0 ≡ k =
+        ⊎_elim (λ same. ap (self_of (classes_of given)) (eqb-true found.0 k same) ∙ named_self given new apart member.class k f)
+        (λ above. completing_self given new apart member.class k found.0 f above) which in
         record {
           searched = k;
-          owner = k;
-          path = own_path k;
-          own = sym (ap find same) ∙ found.1.1;
+          owner = found.0;
+          path =
+              ⊎_elim (λ same. ap (λ n. is_among n (method_path (classes_of given) k)) (eqb-true found.0 k same) ∙ own_path k)
+              (λ above. completing_path k found.0 above) which;
+          own = found.1.1;
           of_class = λ class g. same_Some k class (sym f ∙ g);
           of_array = λ g. absurd (none-some k (sym g ∙ f));
-          exact = λ named. f;
+          exact = λ named. f ∙ ap (λ n. Some n) (sym self);
         }
 
     by_searched : bytes_eq member.name constructor_name ≡ false → (o : Option ℕ) → class_searched (classes_of given) member.class ≡ o
@@ -361,7 +387,7 @@ module _ (given : List ClassDef) (main : List ℕ) (spelled : AllByRecursion Has
         }
 
     by_name : (b : Bool) → bytes_eq member.name constructor_name ≡ b
-        → cond b (option_and_then (λ class. first_found find (class ∷ [])) (class_number (classes_of given) member.class))
+        → cond b (option_and_then (λ class. first_found find (constructor_path (classes_of given) class)) (class_number (classes_of given) member.class))
         (option_and_then (λ class. first_found find (method_path (classes_of given) class)) (class_searched (classes_of given) member.class)) ≡ Some method
         → IsNamedMethod given member method
     by_name true e h = by_number (class_number (classes_of given) member.class) refl h
@@ -383,6 +409,29 @@ module _ (given : List ClassDef) (main : List ℕ) (spelled : AllByRecursion Has
         found_some (own_method (classes_of given) is_selectable m.name m.descriptor) (chain_of (classes_of given) class) owner among
         (own_passes (classes_of given) is_selectable owner method own (ap (λ s. not s && not (is_private m.flags)) static ∙ ap not e))
 
+  -- what is selected for objects of a superclass, or another method, is selected
+  select_up : (class above method : ℕ) → is_among above (chain_of classes class) ≡ true → is_some (select classes above method) ≡ true
+      → is_some (select classes class method) ≡ true
+  unfolding select
+  select_up class above method up = by_private (is_private m.flags) where
+    m : DeclaredMethod
+    m = (method_at (classes_of given) method).method
+
+    find : ℕ → Option ℕ
+    find = own_method (classes_of given) is_selectable m.name m.descriptor
+
+    by_found : (o : Option ℕ) → first_found find (chain_of (classes_of given) above) ≡ o → is_some o ≡ true
+        → is_some (first_found find (chain_of (classes_of given) class)) ≡ true
+    by_found None e some = absurd (false≢true some)
+    by_found (Some target) e some =
+        let path = found_among find (chain_of (classes_of given) above) target e in
+        found_some find (chain_of (classes_of given) class) path.0 (among-trans (classes_of given) tree class above path.0 up path.1.0) (ap is_some path.1.1)
+
+    by_private : (b : Bool) → is_some (cond b (Some method) (first_found find (chain_of (classes_of given) above))) ≡ true
+        → is_some (cond b (Some method) (first_found find (chain_of (classes_of given) class))) ≡ true
+    by_private true some = refl
+    by_private false some = by_found (first_found find (chain_of (classes_of given) above)) refl some
+
   implemented_some : AllByRecursion IsSupported given → (name descriptor : List ℕ) (class owner method : ℕ) → own_method classes any_flags name descriptor owner ≡ Some method
       → class < length classes → (length built_in ≤ class → IsPlain classes class)
       → bytes_eq (method_at classes method).method.name (codes "<clinit>") ≡ false
@@ -400,41 +449,71 @@ module _ (given : List ClassDef) (main : List ℕ) (spelled : AllByRecursion Has
         (λ named. absurd (false≢true (sym plain ∙ (bytes_eq-Decides (method_at (classes_of given) method).method.name (codes "<clinit>")).1 named)))
         (subst IsBare (sym (ap (λ (n : OwnedMethod). n.method) own.at)) (interface_bare given supported owner own.place is own.inside))
 
+    of_completed : IsBrought given class owner → is_some (select (classes_of given) class method) ≡ true
+    of_completed b =
+        let by = completed_by given apart b.above b.completing b.within b.is in
+        let plain = plain_completion (class_at built_in b.above) by.file by.completes_it in
+        select_up class b.above method b.up
+        (not_left (classes_of given) b.above method
+        (left_interface (classes_of given) by.file b.above owner method plain.1 plain.0
+        (completed_left given apart (none_implemented given main clean) b.above b.completing b.within b.is) b.there
+        (own_abstract (classes_of given) any_flags name descriptor owner method found abstract_here)))
+
     of_file : (j : ℕ) → class ≡ length built_in + j → (o : Option ClassDef) → slice_get given j ≡ o → is_some (select (classes_of given) class method) ≡ true
     of_file j at None e = absurd (let end = past_none given j e in let l = files_counted given in omega (arith, at, end, l, within))
     of_file j at (Some c) e =
         let declared = class_of_file given j c e in
         let here : class_at (classes_of given) class ≡ declared_of declared.number c = ap (class_at (classes_of given)) at ∙ declared.declared in
         let its = objects (omega (arith, at)) in
-        let left = nil_left (left_over (classes_of given) c class) (flat_map (abstract_call (classes_of given) c class) (class_items c))
-        (ap (λ k. left_over (classes_of given) c k ++ flat_map (abstract_call (classes_of given) c k) (class_items c)) at
+        let left = ap (left_over (classes_of given) c) (sym (self_has_objects given class its.0))
+        ∙ nil_left (left_over (classes_of given) c (self_of (classes_of given) class)) (flat_map (abstract_call (classes_of given) c class) (class_items c))
+        (ap (λ k. left_over (classes_of given) c (self_of (classes_of given) k) ++ flat_map (abstract_call (classes_of given) c k) (class_items c)) at
         ∙ file_implemented given j c (none_implemented given main clean) e) in
+        let concrete = concrete-declared c (sym (ap (λ (d : DeclaredClass). is_abstract d.flags) here) ∙ its.0) in
         not_left (classes_of given) class method
-        (left_interface (classes_of given) c class owner method (sym (ap (λ (d : DeclaredClass). is_abstract d.flags) here) ∙ its.0)
-        (sym (ap (λ (d : DeclaredClass). is_interface d.flags) here) ∙ its.1) left there
+        (left_interface (classes_of given) c class owner method concrete.0
+        (sym (interface-declared c) ∙ sym (ap (λ (d : DeclaredClass). is_interface d.flags) here) ∙ its.1) left there
         (own_abstract (classes_of given) any_flags name descriptor owner method found abstract_here))
 
     by_place : (class < length built_in) ⊎ (length built_in ≤ class) → is_some (select (classes_of given) class method) ≡ true
-    by_place (inl low) = absurd (marker_bare given owner own.place (low_interfaces given apart sound class owner low there) is own.inside)
+    by_place (inl low) =
+        ⊎_elim (λ built. absurd (marker_bare given owner own.place built is own.inside)) (λ brought. of_completed brought)
+        (low_interfaces given apart sound class owner low there)
     by_place (inr later) = of_file (class - length built_in) (omega (arith, later)) (slice_get given (class - length built_in)) refl
 
+  -- what is reached is completed by what is reached
+  pub self_reached : (class owner : ℕ) → self_of (classes_of given) class ≡ class → Reached given class owner → Reached given class (self_of (classes_of given) owner)
+  self_reached class owner own (inl among) = inl (self_above given new apart class owner own among)
+  self_reached class owner own (inr there) =
+      inr (ap (λ k. is_among k (interfaces_of (classes_of given) class)) (interface_self given new apart owner (interfaces_only (classes_of given) sound class owner there))
+      ∙ there)
+
+  -- a method is selected of a class whose methods have objects that fit
   target_fits : (of : TypeRef) (r : IsReceiver given of) (owner method target : ℕ) → IsMethodOf classes owner method → Reached given r.class owner
-      → select classes r.class method ≡ Some target → fits_type classes of (type_of_class (method_at classes target).class) ≡ true
+      → select classes r.class method ≡ Some target → fits_type classes of (type_of_class (self_of classes (method_at classes target).class)) ≡ true
   unfolding select
   target_fits of r owner method target own reached is = by_private (is_private m.flags) is where
     m : DeclaredMethod
     m = (method_at (classes_of given) method).method
 
+    completes_none : self_of (classes_of given) r.class ≡ r.class
+    completes_none = objects_self given new apart r.class (λ past. (r.objects past).0)
+
+    self : ℕ → ℕ
+    self = self_of (classes_of given)
+
     by_private : (b : Bool)
         → cond b (Some method) (method_among (classes_of given) is_selectable m.name m.descriptor (chain_of (classes_of given) r.class)) ≡ Some target
-        → fits_type (classes_of given) of (type_of_class (method_at (classes_of given) target).class) ≡ true
+        → fits_type (classes_of given) of (type_of_class (self_of (classes_of given) (method_at (classes_of given) target).class)) ≡ true
     by_private true h =
-        ap (λ n. fits_type (classes_of given) of (type_of_class (method_at (classes_of given) n).class)) (sym (same_Some method target h))
-        ∙ ap (λ (n : OwnedMethod). fits_type (classes_of given) of (type_of_class n.class)) own.at ∙ r.fits owner reached
+        ap (λ n. fits_type (classes_of given) of (type_of_class (self (method_at (classes_of given) n).class))) (sym (same_Some method target h))
+        ∙ ap (λ (n : OwnedMethod). fits_type (classes_of given) of (type_of_class (self n.class))) own.at
+        ∙ r.fits (self owner) (self_reached r.class owner completes_none reached)
     by_private false h =
         let path = found_among (own_method (classes_of given) is_selectable m.name m.descriptor) (chain_of (classes_of given) r.class) target h in
         let found = own_method_found (classes_of given) is_selectable m.name m.descriptor path.0 target path.1.1 in
-        ap (λ k. fits_type (classes_of given) of (type_of_class k)) found.owner ∙ r.fits path.0 (inl path.1.0)
+        ap (λ k. fits_type (classes_of given) of (type_of_class (self k))) found.owner
+        ∙ r.fits (self path.0) (self_reached r.class path.0 completes_none (inl path.1.0))
 
   pub selects : AllByRecursion IsSupported given → (of : TypeRef) (r : IsReceiver given of) (name descriptor : List ℕ) (owner method : ℕ)
       → own_method (classes_of given) any_flags name descriptor owner ≡ Some method → is_static (method_at (classes_of given) method).method.flags ≡ false

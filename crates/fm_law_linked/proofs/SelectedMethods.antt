@@ -1,8 +1,9 @@
 -- No abstract method is selected for an object: each one that is left over is refused (JVMS 5.4.5).
-use Rattle.std.proofs.Common.{◌≡◌, refl, sym, ◌∙◌, ap, subst, ℕ, zero, suc, ◌+◌, ◌-◌, ◌<◌, ◌≤◌, ◌⊎◌, inl, inr, ◌&&◌, not, Bool, true, false, cond, List, [], ◌∷◌, ◌++◌, length, map, nat_eq, slice_get, get_or, take, position, Option, Some, None, option_map, unwrap_or, length-append, zero-add, arith}
-use Rattle.std.specs.List.{AllByRecursion, flat_map}
+use Rattle.std.proofs.Common.{◌≡◌, refl, sym, ◌∙◌, ap, subst, ℕ, zero, suc, ◌+◌, ◌-◌, ◌<◌, ◌≤◌, ◌⊎◌, inl, inr, ◌&&◌, not, Bool, true, false, cond, List, [], ◌∷◌, ◌++◌, length, map, slice_get, get_or, take, position, Option, Some, None, option_map, unwrap_or, length-append, zero-add, arith}
+use Rattle.std.specs.Prelude.{option_to_list}
+use Rattle.std.specs.List.{AllByRecursion, flat_map, list_any}
 use Rattle.std.specs.Str.{bytes_eq}
-use Rattle.std.proofs.lemmas.Bool.{and_parts, cases_lt, eqb-true, false≢true, not-true, or_cases}
+use Rattle.std.proofs.lemmas.Bool.{and_parts, cases_lt, false≢true, not-true, or_parts}
 use Rattle.std.proofs.lemmas.List.{get_or-append-add, get_or-map, get_or_append_left, length-map}
 use Rattle.std.proofs.lemmas.List.Quantifiers.{position-Some}
 use Rattle.std.proofs.lemmas.List.Sums.{sum_by-cons}
@@ -14,14 +15,17 @@ use Rattle.fm_code.specs.Spells.{HasSpelling}
 use Rattle.fm_code.specs.declared.class_file.ClassDef.{ClassDef}
 use Rattle.fm_code.specs.declared.class_file.Member.{Member}
 use Rattle.fm_code.specs.declared.constant_pool.Entry.{Entry}
-use Rattle.fm_world.proofs.Completions.{count_is, IsBelow}
+use Rattle.fm_world.proofs.Completions.{all_inside, before_past, chain_completed, completing, concrete-declared, count_is, interface-declared, is_past_table, with_completions}
+use Rattle.fm_link_members.proofs.NearestLemmas.{first_found-cons}
+use Rattle.fm_link_members.specs.inner.NearestSteps.{or_else}
+use Rattle.fm_link_supers.proofs.BuiltInParents.{are_completed, completed_by, plain_completion, self_has_objects, self_of_completion}
 use Rattle.fm_link_supers.proofs.Downwards.{among_head, among_right}
 use Rattle.fm_link_supers.proofs.ParentRefusals.{tree_object, length-declared, nil_left, none_at, past_none, refused_not}
 use Rattle.fm_link_refusals.proofs.LeftOver.{left_over_parts}
 use Rattle.fm_link_refusals.proofs.Sections.{no_owned}
 use Rattle.fm_link_refusals.specs.inner.Abstracts.{left_over_by, left_over_of}
 use Rattle.fm_link_refusals.specs.inner.LeftOver.{is_open}
-use Rattle.fm_law_linked.proofs.ClassChains.{built_in_above}
+use Rattle.fm_law_linked.proofs.ClassChains.{completed_above}
 use Rattle.fm_law_linked.proofs.FieldOwners.{found_among}
 use Rattle.fm_law_linked.proofs.GivenFiles.{class_of_file}
 use Rattle.fm_law_linked.proofs.Numbers.{owner_there}
@@ -35,13 +39,14 @@ use Rattle.fm_types.proofs.ClassTree.{among_one, chain_past_end}
 use Rattle.fm_types.specs.Fits.{object_of}
 use Rattle.fm_world.specs.BuiltIns.{built_in}
 use Rattle.fm_world.specs.Causes.{abstract_call, abstract_from, abstract_methods, declared_name, is_left_over, left_over, method_text, NotImplemented, refused}
-use Rattle.fm_world.specs.Chains.{chain_of, class_at, interfaces_of, is_among, parent_of, upwards}
+use Rattle.fm_world.specs.Chains.{chain_of, class_at, completion_of, first_found, interfaces_of, is_among, parent_of, self_of, upwards}
 use Rattle.fm_world.specs.Declarations.{declared_from, declared_method, declared_of, no_method}
 use Rattle.fm_world.specs.Linking.{refused_built_ins, refused_not_implemented}
 use Rattle.fm_world.specs.Lookups.{is_abstract_method, is_selectable, select}
 use Rattle.fm_world.specs.Members.{first_method, method_among, method_at, methods_from, methods_of, own_method, owned_methods, OwnedMethod}
 use Rattle.fm_world.specs.Programs.{class_of_type, classes_of, outline_of}
 use Rattle.fm_world.specs.Uses.{class_items}
+use Rattle.fm_world.specs.inner.Completions.{AreCompleted}
 use Rattle.fm_world.specs.declared.declarations.DeclaredClass.{DeclaredClass}
 use Rattle.fm_world.specs.declared.declarations.DeclaredMethod.{DeclaredMethod}
 
@@ -141,31 +146,6 @@ built_in_concrete given method =
     (each_built_in (methods_of built_in) table_concrete) (files_past (length built_in) 0 given (omega arith))))
     (λ within. refl) method
 
--- ---- chains of built-in classes
-
-within_count : (classes : List DeclaredClass) (n : ℕ) → ((k p : ℕ) → k < n → parent_of classes k ≡ Some p → p < n) → (bound : ℕ) (o : Option ℕ) → IsBelow n o
-    → (above : ℕ) → is_among above (upwards bound classes o) ≡ true → above < n
-within_count classes n step zero o below above among = absurd (false≢true among)
-within_count classes n step (suc bound) None below above among = absurd (false≢true among)
-within_count classes n step (suc bound) (Some k) below above among =
-    by_first (within_count classes n step bound (parent_of classes k) (by_parent (parent_of classes k) refl) above)
-    (or_cases (nat_eq above k) (is_among above (upwards bound classes (parent_of classes k))) among) where
-      by_parent : (o : Option ℕ) → parent_of classes k ≡ o → IsBelow n o
-      by_parent None e = tt
-      by_parent (Some p) e = step k p below e
-
-      by_first : (is_among above (upwards bound classes (parent_of classes k)) ≡ true → above < n)
-          → (nat_eq above k ≡ true) ⊎ (is_among above (upwards bound classes (parent_of classes k)) ≡ true) → above < n
-      by_first later (inl same) = let is = eqb-true above k same in omega (arith, is, below)
-      by_first later (inr rest) = later rest
-
--- above a built-in class are only built-in classes
-pub built_in_chain : (given : List ClassDef) → refused_built_ins given ≡ [] → (class above : ℕ) → class < length built_in → is_among above (chain_of (classes_of given) class) ≡ true
-    → above < length built_in
-unfolding chain_of classes_of
-built_in_chain given apart class above within among =
-    within_count (classes_of given) (length built_in) (built_in_above given apart) (suc (length (classes_of given))) (Some class) within above among
-
 -- ---- methods of files
 
 pub files_counted : (given : List ClassDef) → length (classes_of given) ≡ length built_in + length given
@@ -199,6 +179,102 @@ found_itself classes name descriptor class above target found is =
     ∙ ap (λ n. method_among classes is_selectable n m.descriptor (chain_of classes class)) found.name_is
     ∙ ap (λ d. method_among classes is_selectable name d (chain_of classes class)) found.descriptor_is ∙ is
 
+-- ---- objects of built-in classes
+
+-- the second of a list
+second_found : (find : ℕ → Option ℕ) (k f : ℕ) (rest : List ℕ) (target : ℕ) → find k ≡ None → find f ≡ Some target → first_found find (k ∷ f ∷ rest) ≡ Some target
+second_found find k f rest target none some =
+    first_found-cons find k (f ∷ rest) ∙ ap (λ o. or_else o (first_found find (f ∷ rest))) none
+    ∙ first_found-cons find f rest ∙ ap (λ o. or_else o (first_found find rest)) some
+
+module _ (given : List ClassDef) (apart : refused_built_ins given ≡ []) (none_refused : refused_not_implemented given ≡ []) where
+  -- of the objects of a class that a file completes no abstract method is left over
+  pub completed_left : (class f : ℕ) (within : class < length built_in)
+      (is : completion_of (classes_of given) (class_at (classes_of given) class) ≡ Some f)
+      → left_over (classes_of given) (completed_by given apart class f within is).file class ≡ []
+  completed_left class f within is =
+      let classes = classes_of given in
+      let by = completed_by given apart class f within is in
+      ap (left_over classes by.file) (sym (ap (self_of classes) (sym by.is) ∙ self_of_completion given apart class f within is))
+      ∙ nil_left (left_over classes by.file (self_of classes (length built_in + by.place)))
+      (flat_map (abstract_call classes by.file (length built_in + by.place)) (class_items by.file))
+      (file_implemented given by.place by.file none_refused by.at)
+
+  module _ (name descriptor : List ℕ) where
+    abbrev find : ℕ → Option ℕ
+    find = own_method (classes_of given) is_selectable name descriptor
+
+    abbrev first : List DeclaredClass
+    first = declared_from 0 given
+
+    completed : AreCompleted (built_in ++ declared_from 0 given)
+    unfolding classes_of
+    completed = are_completed given apart
+
+    -- what is found in the class that completes another one, where that one has none
+    at_completion : (class f target : ℕ) → class < length built_in → completion_of (classes_of given) (class_at (classes_of given) class) ≡ Some f
+        → find class ≡ None → find f ≡ Some target → is_abstract_method (classes_of given) target ≡ false
+    unfolding classes_of chain_of
+    at_completion class f target within is none some = by_flag (is_abstract_method classes target) refl where
+      classes : List DeclaredClass
+      classes = classes_of given
+
+      found : method_among (classes_of given) is_selectable name descriptor (chain_of (classes_of given) class) ≡ Some target
+      found =
+          let rest = with_completions first completed (upwards (length built_in) built_in (parent_of built_in class)) in
+          ap (first_found find) (chain_completed first completed class within)
+          ∙ ap (λ o. first_found find ((class ∷ option_to_list o) ++ rest)) is ∙ second_found find class f rest target none some
+
+      by_flag : (b : Bool) → is_abstract_method classes target ≡ b → is_abstract_method classes target ≡ false
+      by_flag false e = e
+      by_flag true e =
+          let by = completed_by given apart class f within is in
+          let plain = plain_completion (class_at built_in class) by.file by.completes_it in
+          let kept = left_none classes by.file class f target plain.1 plain.0 (completed_left class f within is) (completed_above given apart class f within is)
+          (own_abstract classes is_selectable name descriptor f target some e) in
+          sym (ap (is_open classes) (found_itself classes name descriptor class f target (own_method_found classes is_selectable name descriptor f target some) found))
+          ∙ kept
+
+    along : (xs : List ℕ) → list_any is_past_table xs ≡ false → (target : ℕ) → first_found find (with_completions first completed xs) ≡ Some target
+        → is_abstract_method (classes_of given) target ≡ false
+    unfolding classes_of
+    along [] inside target is = absurd (none-some target is)
+    along (class ∷ xs) inside target is =
+        let parts = or_parts (is_past_table class) (list_any is_past_table xs) inside in
+        by_own (before_past class parts.0) (along xs parts.1 target) (find class) refl
+        (sym (first_found-cons find class (option_to_list (completing first class) ++ rest)) ∙ is) where
+          rest : List ℕ
+          rest = with_completions first completed xs
+
+          by_file : class < length built_in → find class ≡ None → (first_found find rest ≡ Some target → is_abstract_method (classes_of given) target ≡ false)
+              → (f : ℕ) → completing first class ≡ Some f → (o : Option ℕ) → find f ≡ o → or_else o (first_found find rest) ≡ Some target
+              → is_abstract_method (classes_of given) target ≡ false
+          by_file within none later f e None there h = later h
+          by_file within none later f e (Some t) there h = at_completion class f target within e none (there ∙ h)
+
+          by_completion : class < length built_in → find class ≡ None → (first_found find rest ≡ Some target → is_abstract_method (classes_of given) target ≡ false)
+              → (o : Option ℕ) → completing first class ≡ o → first_found find (option_to_list o ++ rest) ≡ Some target
+              → is_abstract_method (classes_of given) target ≡ false
+          by_completion within none later None e h = later h
+          by_completion within none later (Some f) e h = by_file within none later f e (find f) refl (sym (first_found-cons find f rest) ∙ h)
+
+          by_own : class < length built_in → (first_found find rest ≡ Some target → is_abstract_method (classes_of given) target ≡ false)
+              → (o : Option ℕ) → find class ≡ o → or_else o (first_found find (option_to_list (completing first class) ++ rest)) ≡ Some target
+              → is_abstract_method (classes_of given) target ≡ false
+          by_own within later None none h = by_completion within none later (completing first class) refl h
+          by_own within later (Some t) there h =
+              let found = own_method_found (classes_of given) is_selectable name descriptor class target (there ∙ h) in
+              built_in_concrete given target (let owner = found.owner in omega (arith, owner, within))
+
+    -- what is found for objects of a built-in class isn't abstract
+    pub low_concrete : (class target : ℕ) → class < length built_in
+        → method_among (classes_of given) is_selectable name descriptor (chain_of (classes_of given) class) ≡ Some target
+        → is_abstract_method (classes_of given) target ≡ false
+    unfolding classes_of
+    low_concrete class target within is =
+        along (chain_of built_in class) (all_inside class within) target
+        (sym (ap (first_found find) (chain_completed first completed class within)) ∙ is)
+
 -- what is found for objects of a class, of a file or built in, isn't abstract
 found_concrete : (given : List ClassDef) → refused_built_ins given ≡ [] → refused_not_implemented given ≡ [] → (name descriptor : List ℕ) (class above target : ℕ)
     → (length built_in ≤ class → IsPlain (classes_of given) class)
@@ -231,18 +307,18 @@ found_concrete given apart none_refused name descriptor class above target objec
           let declared = class_of_file given j c e in
           let here : class_at classes class ≡ declared_of declared.number c = ap (class_at classes) place ∙ declared.declared in
           let its = objects (omega (arith, place)) in
-          let left = nil_left (left_over classes c class) (flat_map (abstract_call classes c class) (class_items c))
-          (ap (λ k. left_over classes c k ++ flat_map (abstract_call classes c k) (class_items c)) place
+          let left = ap (left_over classes c) (sym (self_has_objects given class its.0))
+          ∙ nil_left (left_over classes c (self_of classes class)) (flat_map (abstract_call classes c class) (class_items c))
+          (ap (λ k. left_over classes c (self_of classes k) ++ flat_map (abstract_call classes c k) (class_items c)) place
           ∙ file_implemented given j c none_refused e) in
-          let kept = left_none classes c class above target (sym (ap (λ (d : DeclaredClass). is_abstract d.flags) here) ∙ its.0)
-          (sym (ap (λ (d : DeclaredClass). is_interface d.flags) here) ∙ its.1) left among
+          let concrete = concrete-declared c (sym (ap (λ (d : DeclaredClass). is_abstract d.flags) here) ∙ its.0) in
+          let kept = left_none classes c class above target concrete.0
+          (sym (interface-declared c) ∙ sym (ap (λ (d : DeclaredClass). is_interface d.flags) here) ∙ its.1) left among
           (own_abstract classes is_selectable name descriptor above target own abstract) in
           sym (ap (is_open classes) (found_itself classes name descriptor class above target found is)) ∙ kept
 
       by_place : is_abstract_method classes target ≡ true → (class < length built_in) ⊎ (length built_in ≤ class) → is_abstract_method classes target ≡ false
-      by_place abstract (inl low) =
-          built_in_concrete given target
-          (let inside = built_in_chain given apart class above low among in let its = found.owner in omega (arith, inside, its))
+      by_place abstract (inl low) = low_concrete given apart none_refused name descriptor class target low is
       by_place abstract (inr later) = of_file (class - length built_in) (omega (arith, later)) abstract (slice_get given (class - length built_in)) refl
 
       by_flag : (b : Bool) → is_abstract_method classes target ≡ b → is_abstract_method classes target ≡ false

@@ -25,6 +25,7 @@ use Rattle.fm_types.specs.Named.{class_of_method}
 use Rattle.fm_world.proofs.Told.{special_target-unnamed}
 use Rattle.fm_world.specs.BuiltIns.{built_in}
 use Rattle.fm_world.specs.Causes.{abstract_call, calls_abstract, each_from, left_over, method_text, not_implemented, NotImplemented, Refusal, refused, refused_where}
+use Rattle.fm_world.specs.Chains.{self_of}
 use Rattle.fm_world.specs.Descriptors.{class_number}
 use Rattle.fm_world.specs.Linking.{refused_methods, refused_not_implemented}
 use Rattle.fm_world.specs.Lookups.{is_abstract_method, special_target}
@@ -118,7 +119,7 @@ special_there given main spelled none_missing none method index m t named x at =
       × (is_abstract_method classes (special_target classes caller (class_number classes call.at.member.class) m.0) ≡ false)
   right =
       let found = item_there call.file call.member x.code x.item (insn.Special index) call.among call.code_is x.insn_is in
-      let all = nil_right (left_over classes call.file (length built_in + call.place))
+      let all = nil_right (left_over classes call.file (self_of classes (length built_in + call.place)))
       (flat_map (abstract_call classes call.file (length built_in + call.place)) (class_items call.file))
       (file_implemented given call.place call.file none call.file_is) in
       call_right classes call.file caller index found.item call.at.member m.0

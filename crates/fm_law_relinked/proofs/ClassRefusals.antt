@@ -1,6 +1,7 @@
 -- A changed class is refused for what the old one is refused for.
-use Rattle.std.proofs.Common.{◌≡◌, refl, sym, ◌∙◌, ap, ℕ, zero, suc, ◌+◌, ◌<◌, ◌≤◌, ◌==◌, ◌||◌, ◌⊎◌, inl, inr, Bool, true, false, cond, List, [], ◌∷◌, ◌++◌, length, length-append, map, Option, Some, None, is_none, is_some, unwrap_or, arith}
+use Rattle.std.proofs.Common.{◌≡◌, refl, sym, ◌∙◌, ap, ℕ, zero, suc, ◌+◌, ◌<◌, ◌≤◌, ◌==◌, ◌||◌, ◌⊎◌, inl, inr, Bool, true, false, cond, List, [], ◌∷◌, ◌++◌, length, length-append, map, Option, Some, None, is_none, is_some, unwrap_or, arith, ◌&&◌, not}
 use Rattle.std.specs.List.{AllByRecursion, cons_option, filter, filter_map, flat_map, list_any, range_with_len}
+use Rattle.std.specs.Str.{bytes_eq}
 use Rattle.std.proofs.lemmas.Bool.{cases_eq}
 use Rattle.std.proofs.lemmas.Grind.{flat_map-append}
 use Rattle.std.proofs.lemmas.List.{append-nil}
@@ -28,8 +29,9 @@ use Rattle.fm_link_refusals.proofs.ParentNames.{parents_all, unused}
 use Rattle.fm_link_refusals.proofs.UsedIndices.{flat_map-kept}
 use Rattle.fm_link_refusals.proofs.WantedMembers.{fields_all, is_wrong_method, method_refusals, methods_all, no_field_refused, no_method_refused, unwanted}
 use Rattle.fm_world.specs.BuiltIns.{built_in}
-use Rattle.fm_world.specs.Causes.{abstract_call, abstract_methods, bad_interface, bad_parent_at, bad_parents, bad_superclass, BadParent, built_in_named, BuiltIn, calls_abstract, Cause, declared_name, differs, field_flags, field_text, is_bad_interface, is_bad_superclass, is_left_over, is_not_as_wanted, is_there_and, left_over, method_flags, method_text, missing, missing_at, missing_classes, missing_field_at, missing_fields, missing_in, missing_method_at, missing_methods, MissingClass, MissingField, MissingMethod, names_wrong_sort, not_implemented, NotImplemented, Refusal, refused, refused_if, refused_where, static_field_wanted, static_method_wanted, wanted_at}
-use Rattle.fm_world.specs.Chains.{chain_of, interfaces_of, is_among}
+use Rattle.fm_world.specs.Causes.{abstract_call, abstract_methods, bad_interface, bad_parent_at, bad_parents, bad_superclass, BadParent, built_in_named, BuiltIn, calls_abstract, Cause, declared_name, differs, field_flags, field_text, is_bad_interface, is_bad_superclass, is_left_over, is_not_as_wanted, is_there_and, left_over, method_flags, method_text, missing, missing_at, missing_classes, missing_field_at, missing_fields, missing_in, missing_method_at, missing_methods, MissingClass, MissingField, MissingMethod, names_wrong_sort, not_implemented, NotImplemented, Refusal, refused, refused_if, refused_where, static_field_wanted, static_method_wanted, wanted_at, may_be_completed, may_have_fields, same_name}
+use Rattle.fm_world.specs.Chains.{chain_of, interfaces_of, is_among, class_at, self_of}
+use Rattle.fm_world.specs.Members.{is_instance}
 use Rattle.fm_world.specs.Declarations.{name_at, text_at}
 use Rattle.fm_world.specs.Descriptors.{class_in, class_number, class_type, types_in}
 use Rattle.fm_world.specs.Lookups.{is_interface_at, resolved_field, resolved_method}
@@ -106,11 +108,16 @@ module _ (plans : Plans) (first : ℕ) (c : ClassDef) (bytes : List ℕ) (spells
   told : (cause : Cause) (name : List ℕ) → refused cause new name ≡ refused cause c name
   told cause name = λ k. record { cause = cause; name = name; user = name_is plans first c bytes spells k }
 
-  -- it has the name of a built-in class
+  -- it has the name of a built-in class, which it completes where the old one did
   pub built_in_same : built_in_named new ≡ built_in_named c
   built_in_same =
       let name = name_is plans first c bytes spells in
-      λ k. refused_if (is_some (class_number built_in (name k))) (record { cause = BuiltIn; name = name k; user = name k })
+      let super = name_same c.pool.entries more spells.pool.entries c.super_class (superclass_within plans first c bytes spells) in
+      λ k. refused_where (λ class. refused_if (not (may_be_completed (class_at built_in class).name
+      && ((not (is_interface c.flags) && not (is_abstract c.flags))
+      && (same_name (class_at built_in class).superclass (super k)
+      && (may_have_fields (class_at built_in class) || not (list_any (λ (f : Member). is_instance f.flags) c.fields))))))
+      (record { cause = BuiltIn; name = name k; user = name k })) (class_number built_in (name k))
 
   module _ (classes : List DeclaredClass) where
     -- ---- classes that aren't there
@@ -314,4 +321,4 @@ module _ (plans : Plans) (first : ℕ) (c : ClassDef) (bytes : List ℕ) (spells
         ∙ sym (specials_listed classes c caller (class_items c))
 
     pub implemented_same : (class : ℕ) → not_implemented classes new class ≡ not_implemented classes c class
-    implemented_same class = λ k. left_over_same class k ++ calls_same class k
+    implemented_same class = λ k. left_over_same (self_of classes class) k ++ calls_same class k

@@ -1,5 +1,6 @@
 -- A changed class declares what the old one does, and names the same types and texts in the same order.
-use Rattle.std.proofs.Common.{◌≡◌, refl, sym, ◌∙◌, ap, ℕ, ◌+◌, ◌<◌, Bool, true, false, cond, not, List, [], ◌∷◌, ◌++◌, length, length-append, map, nat_eq, Option, Some, None, IsSome, IsSomeAnd, option_and_then, unwrap_or, arith}
+use Rattle.std.proofs.Common.{◌≡◌, refl, sym, ◌∙◌, ap, ℕ, ◌+◌, ◌<◌, Bool, true, false, cond, not, List, [], ◌∷◌, ◌++◌, length, length-append, map, nat_eq, Option, Some, None, IsSome, IsSomeAnd, option_and_then, unwrap_or, arith, is_some}
+use Rattle.std.specs.Prelude.{bit_or}
 use Rattle.std.specs.List.{AllByRecursion, cons_option, filter, filter_map, range_with_len}
 use Rattle.std.proofs.lemmas.Bool.{eqb-true, false≢true}
 use Rattle.std.proofs.lemmas.List.{append-nil}
@@ -20,6 +21,7 @@ use Rattle.fm_code.specs.Members.{FieldAttrIsValid, FieldIsValid, MethodIsValid,
 use Rattle.fm_code.specs.Names.{is_binary_name, is_method_name, is_unqualified, IsFieldDescriptor, IsMethodDescriptor}
 use Rattle.fm_code.specs.Operands.{OperandIsValid}
 use Rattle.fm_code.specs.Spells.{Spells}
+use Rattle.fm_code.specs.declared.access_flags.TheConstants.{ACC_ABSTRACT}
 use Rattle.fm_code.specs.declared.class_file.ClassDef.{ClassDef}
 use Rattle.fm_code.specs.declared.class_file.Member.{Member}
 use Rattle.fm_code.specs.declared.class_file.MemberAttr.{MemberAttr}
@@ -35,7 +37,8 @@ use Rattle.fm_types.proofs.LeastJoins.{same_type-refl}
 use Rattle.fm_world.specs.Causes.{own_name}
 use Rattle.fm_world.specs.Chains.{same_type}
 use Rattle.fm_world.specs.Declarations.{declared_field, declared_method, declared_of, first_constant, name_at, text_at}
-use Rattle.fm_world.specs.Descriptors.{class_type, type_in}
+use Rattle.fm_world.specs.Descriptors.{class_type, type_in, class_number}
+use Rattle.fm_world.specs.BuiltIns.{built_in}
 use Rattle.fm_world.specs.Numbers.{text_units}
 use Rattle.fm_world.specs.Uses.{array_of, class_items, is_used, made_array, named_type, uses_in_order}
 use Rattle.fm_world.specs.declared.declarations.DeclaredClass.{DeclaredClass}
@@ -148,7 +151,7 @@ module _ (plans : Plans) (first : ℕ) (c : ClassDef) (bytes : List ℕ) (spells
         name = name_is k;
         superclass = name_same entries more_entries valid c.super_class superclass_within k;
         interfaces = names_same entries more_entries valid c.interfaces spells.interfaces k;
-        flags = c.flags;
+        flags = cond (is_some (class_number built_in (name_is k))) (bit_or c.flags ACC_ABSTRACT) c.flags;
         hidden = false;
         fields = fields_same entries more_entries valid (is_interface c.flags) c.fields spells.fields k;
         methods = methods_same entries more_entries valid (is_interface c.flags) (free_index c) plans first c.methods spells.methods k;

@@ -1,5 +1,5 @@
 -- What the tables of members return is what names are resolved to, and which method is called.
-use Rattle.std.proofs.Common.{◌≡◌, refl, sym, ◌∙◌, ap, subst, ℕ, ◌<◌, ◌==◌, ◌&&◌, not, Bool, true, false, cond, List, [], ◌∷◌, ◌++◌, length, map, drop, get_or, nat_eq, Option, Some, None, option_and_then, option_to_list, unwrap_or, slice_get, arith, zero-add}
+use Rattle.std.proofs.Common.{◌≡◌, refl, sym, ◌∙◌, ap, subst, ℕ, ◌<◌, ◌==◌, ◌&&◌, not, Bool, true, false, cond, List, [], ◌∷◌, ◌++◌, length, map, filter, drop, get_or, nat_eq, Option, Some, None, option_and_then, option_to_list, unwrap_or, slice_get, arith, zero-add}
 use Rattle.std.proofs.Math.ListN.{get_or-map}
 use Rattle.std.specs.Str.{bytes_eq}
 use Rattle.std.proofs.lemmas.Bool.{false≢true}
@@ -11,15 +11,15 @@ use Rattle.fm_code.specs.AccessFlags.{has_flag, is_private}
 use Rattle.fm_code.specs.ConstantPool.{MemberName}
 use Rattle.fm_world.proofs.Displays.{class_number-within, parent_of-within}
 use Rattle.fm_world.specs.BuiltIns.{object_name}
-use Rattle.fm_world.specs.Chains.{chain_of, class_at, first_found, interfaces_of, is_among, parent_of, superclasses_of, superinterfaces_of}
+use Rattle.fm_world.specs.Chains.{chain_of, class_at, completing_of, first_found, interfaces_of, is_among, parent_of, superclasses_of, superinterfaces_of}
 use Rattle.fm_world.specs.Declarations.{no_method}
 use Rattle.fm_world.specs.Descriptors.{class_number, class_type}
-use Rattle.fm_world.specs.Lookups.{any_flags, class_searched, constructor_name, field_path, is_interface_at, is_selectable, method_path, object_number, own_instance, resolved_field, resolved_method, searches_above, select, special_target}
+use Rattle.fm_world.specs.Lookups.{any_flags, class_searched, constructor_name, constructor_path, field_path, is_interface_at, is_selectable, method_path, object_number, own_instance, resolved_field, resolved_method, searches_above, select, special_target}
 use Rattle.fm_world.specs.Members.{field_among, fields_of, is_instance, method_among, method_at, methods_of, own_field, own_method}
 use Rattle.fm_world.specs.declared.TheConstants.{ACC_SUPER}
 use Rattle.fm_world.specs.declared.declarations.DeclaredClass.{DeclaredClass}
 use Rattle.fm_world.specs.inner.Layers.{HasRoom}
-use Rattle.fm_world.specs.inner.Tables.{chain_from}
+use Rattle.fm_world.specs.inner.Tables.{chain_from, numbers_below}
 use Rattle.fm_link_supers.proofs.ParentTables.{list_in-row}
 use Rattle.fm_link_members.proofs.FoundLemmas.{first_found-append, first_found-distinct, first_found-none, first_found-same, first_found-without, interfaces_listed, or_else-None, own_in-is, row_of_own}
 use Rattle.fm_link_members.proofs.NearestLemmas.{first_found-cons}
@@ -33,8 +33,8 @@ use Rattle.fm_link_members.specs.declared.lookups.Fields.{Fields}
 use Rattle.fm_link_members.specs.declared.lookups.Methods.{Methods}
 use Rattle.fm_link_members.specs.declared.members.MemberRow.{MemberRow}
 use Rattle.fm_link_members.specs.declared.members.Nearest.{Nearest}
-use Rattle.fm_link_members.specs.inner.FoundMembers.{above_in, field_found_in, field_in, first_along, interface_method_in, is_constructor_in, is_marked, method_found_in, method_in, own_method_in, searches_in, selected_in, special_in}
-use Rattle.fm_link_supers.specs.inner.Hierarchy.{distinct_path, is_superclass_in, IsHierarchy}
+use Rattle.fm_link_members.specs.inner.FoundMembers.{above_in, constructor_in, field_found_in, field_in, first_along, interface_method_in, is_constructor_in, is_marked, method_found_in, method_in, own_method_in, searches_in, selected_in, special_in}
+use Rattle.fm_link_supers.specs.inner.Hierarchy.{completing_in, distinct_path, is_superclass_in, IsHierarchy}
 use Rattle.fm_link_supers.specs.inner.ListTables.{list_in}
 use Rattle.fm_link_members.specs.inner.MemberRows.{field_alike, method_alike, no_row, row_alike, Owned}
 use Rattle.fm_link_members.specs.inner.MemberTables.{has_key, nearest_in, number_of_key, own_by, signature_of, start_in, AreFields, AreMethods, AreNearest, IsStart}
@@ -155,6 +155,36 @@ own_method_in-is texts classes m h are is name descriptor signature n d there_n 
     (are.nearest.room signature (position-Some (has_key name descriptor) m.members.rows.items signature no_row found).0)
     ∙ method_by_signature texts classes m are any_flags name descriptor signature n d there_n there_d found class
 
+-- what is found in one class, where it is there
+first_of_option : (f g : ℕ → Option ℕ) → ((x : ℕ) → g x ≡ f x) → (o : Option ℕ) → option_and_then g o ≡ first_found f (option_to_list o)
+first_of_option f g same None = refl
+first_of_option f g same (Some x) = same x ∙ sym (first_found-cons f x [] ∙ or_else-None (f x))
+
+completing-is : (classes : List DeclaredClass) (h : Hierarchy) → IsHierarchy classes h → (class : ℕ) → class < length classes
+    → option_to_list (completing_in h class) ≡ completing_of classes class
+completing-is classes h is class within =
+    ap (λ xs. option_to_list (option_and_then (named_in h.classes.now) (get_or xs class None))) is.parents
+    ∙ ap (λ cs. option_to_list (option_and_then (named_in cs) (get_or parents class None))) is.classes_are
+    ∙ ap (λ o. option_to_list (option_and_then (named_in classes) o))
+    (get_or-map-range_with_len (parent_of classes) 0 (length classes) class class None within (zero-add class))
+    ∙ by_parent (parent_of classes class) where
+      parents : List (Option ℕ)
+      parents = map (parent_of classes) (numbers_below (length classes))
+
+      named : List DeclaredClass → ℕ → Bool
+      named cs above = bytes_eq (class_at cs above).name (class_at cs class).name
+
+      named_in : List DeclaredClass → ℕ → Option ℕ
+      named_in cs above = cond (named cs above) (Some above) None
+
+      by_test : (p : ℕ) (b : Bool) → option_to_list (cond b (Some p) None) ≡ cond b (p ∷ []) []
+      by_test p true = refl
+      by_test p false = refl
+
+      by_parent : (o : Option ℕ) → option_to_list (option_and_then (named_in classes) o) ≡ filter (named classes) (option_to_list o)
+      by_parent None = refl
+      by_parent (Some p) = by_test p (named classes p)
+
 method_in-is : (texts : List (List ℕ)) (classes : List DeclaredClass) (m : Methods) (h : Hierarchy) → AreMethods texts classes m
     → IsHierarchy classes h → (name descriptor signature : ℕ) (n d : List ℕ) → slice_get texts name ≡ Some n
     → slice_get texts descriptor ≡ Some d → signature_of m.members.rows.items name descriptor ≡ Some signature → (class : ℕ) → class < length classes
@@ -192,10 +222,6 @@ method_in-is texts classes m h are is name descriptor signature n d there_n ther
           (ap (λ t. cond t (superinterfaces_of classes class) (interfaces_of classes class)) test ∙ sym is_list) (are.starts class signature within))
           ∙ first_found-same find f list by_name
 
-      of_object : (o : Option ℕ) → option_and_then (own_method_in m signature) o ≡ first_found f (option_to_list o)
-      of_object None = refl
-      of_object (Some x) = own x ∙ sym (first_found-cons f x [] ∙ or_else-None (f x))
-
       by_test : (b : Bool) → is_interface_at classes class ≡ b → by_interface_in b
           ≡ method_among classes any_flags n d
           (cond b (class ∷ (superinterfaces_of classes class ++ option_to_list (object_number classes)))
@@ -205,7 +231,7 @@ method_in-is texts classes m h are is name descriptor signature n d there_n ther
           (option_and_then (own_method_in m signature) h.object))) (own class)
           ∙ ap (or_else (f class)) (ap (λ o. or_else o (option_and_then (own_method_in m signature) h.object))
           (along true e (list_in h.above.items class) (superinterfaces_of classes class) (interfaces_listed classes h.above.items is.above class) refl)
-          ∙ ap (or_else (first_found f (superinterfaces_of classes class))) (of_object h.object
+          ∙ ap (or_else (first_found f (superinterfaces_of classes class))) (first_of_option f (own_method_in m signature) own h.object
           ∙ ap (λ o. first_found f (option_to_list o)) is.object)
           ∙ sym (first_found-append f (superinterfaces_of classes class) (option_to_list (object_number classes))))
           ∙ sym (first_found-cons f class (superinterfaces_of classes class ++ option_to_list (object_number classes)))
@@ -240,11 +266,11 @@ method_found-is texts classes m h named searched name descriptor member are is n
 
       answer : ℕ → Option ℕ
       answer signature =
-          cond (name == m.constructor) (option_and_then (own_method_in m signature) named)
+          cond (name == m.constructor) (option_and_then (constructor_in m h signature) named)
           (option_and_then (λ class. method_in m h class signature) searched)
 
       alone : ℕ → Option ℕ
-      alone c = first_found f (c ∷ [])
+      alone c = first_found f (constructor_path classes c)
 
       along : ℕ → Option ℕ
       along c = first_found f (method_path classes c)
@@ -268,16 +294,19 @@ method_found-is texts classes m h named searched name descriptor member are is n
       no_class_has g fails (Some x) = sym (fails x)
 
       none_by : signature_of rows name descriptor ≡ None → (b : Bool) → None ≡ goal_by b
-      none_by e true = no_class_has alone (λ x. first_found-none f (x ∷ []) (λ y among. none e y)) (class_number classes member.class)
+      none_by e true = no_class_has alone (λ x. first_found-none f (constructor_path classes x) (λ y among. none e y)) (class_number classes member.class)
       none_by e false = no_class_has along (λ x. first_found-none f (method_path classes x) (λ y among. none e y))
           (class_searched classes member.class)
 
-      by_named : (s : ℕ) → signature_of rows name descriptor ≡ Some s → (o : Option ℕ)
-          → option_and_then (own_method_in m s) o ≡ option_and_then alone o
-      by_named s e None = refl
-      by_named s e (Some c) =
-          own_method_in-is texts classes m h are is name descriptor s member.name member.descriptor there_n there_d e c
-          ∙ sym (first_found-cons f c [] ∙ or_else-None (f c))
+      by_named : (s : ℕ) → signature_of rows name descriptor ≡ Some s → (o : Option ℕ) → o ≡ class_number classes member.class
+          → option_and_then (constructor_in m h s) o ≡ option_and_then alone o
+      by_named s e None is_it = refl
+      by_named s e (Some c) is_it =
+          let own = own_method_in-is texts classes m h are is name descriptor s member.name member.descriptor there_n there_d e in
+          let within = class_number-within classes member.class c (sym is_it) in
+          ap (λ o. or_else o (option_and_then (own_method_in m s) (completing_in h c))) (own c)
+          ∙ ap (or_else (f c)) (first_of_option f (own_method_in m s) own (completing_in h c) ∙ ap (first_found f) (completing-is classes h is c within))
+          ∙ sym (first_found-cons f c (completing_of classes c))
 
       by_searched : (s : ℕ) → signature_of rows name descriptor ≡ Some s → (o : Option ℕ) → o ≡ class_searched classes member.class
           → option_and_then (λ class. method_in m h class s) o ≡ option_and_then along o
@@ -287,8 +316,8 @@ method_found-is texts classes m h named searched name descriptor member are is n
           (searched-within classes member.class c (sym is_it))
 
       by_test : (s : ℕ) → signature_of rows name descriptor ≡ Some s → (b : Bool)
-          → cond b (option_and_then (own_method_in m s) named) (option_and_then (λ class. method_in m h class s) searched) ≡ goal_by b
-      by_test s e true = by_named s e named ∙ ap (option_and_then alone) named_is
+          → cond b (option_and_then (constructor_in m h s) named) (option_and_then (λ class. method_in m h class s) searched) ≡ goal_by b
+      by_test s e true = by_named s e named named_is ∙ ap (option_and_then alone) named_is
       by_test s e false = by_searched s e searched searched_is ∙ ap (option_and_then along) searched_is
 
       by_key : (o : Option ℕ) → signature_of rows name descriptor ≡ o → option_and_then answer o ≡ goal_by (bytes_eq member.name constructor_name)

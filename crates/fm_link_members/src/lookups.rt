@@ -6,7 +6,7 @@ ghost use Rattle.fm_code.specs.ConstantPool.{MemberName};
 ghost use Rattle.fm_link_supers.specs.inner.Hierarchy.{IsHierarchy};
 ghost use Rattle.fm_link_members.specs.inner.MemberRows.{AreFieldRows, AreMethodRows};
 ghost use Rattle.fm_link_members.specs.inner.MemberTables.{flags_of, own_in, AreDistinct, AreFields, AreMethods, AreSignatures, MarksInterfaces};
-ghost use Rattle.fm_link_members.specs.inner.FoundMembers.{above_in, field_found_in, field_in, first_along, interface_method_in, is_constructor_in, is_marked, method_above_in, method_found_in, method_in, own_static_in, searches_in, selected_in, special_in, static_among_in};
+ghost use Rattle.fm_link_members.specs.inner.FoundMembers.{above_in, constructor_in, field_found_in, field_in, first_along, interface_method_in, is_constructor_in, is_marked, method_above_in, method_found_in, method_in, own_static_in, searches_in, selected_in, special_in, static_among_in};
 ghost use Rattle.fm_link_members.specs.inner.NearestSteps.{is_signed};
 ghost use Rattle.fm_world.specs.Chains.{chain_of, class_at, first_found};
 ghost use Rattle.fm_world.specs.Descriptors.{class_number};
@@ -303,9 +303,22 @@ impl Methods {
     {
         let signature = self.signatures.number(name, descriptor)?;
         if name == self.constructor {
-            self.nearest.own(&self.members, named?, signature)
+            self.own_constructor(hierarchy, named?, signature)
         } else {
             self.method(hierarchy, searched?, signature)
+        }
+    }
+
+    // The constructor of a signature of a class, or of the class that completes it.
+    fn own_constructor(&self, hierarchy: &Hierarchy, class: u32, signature: u32) -> Option<u32>
+        ensures { result ≡ constructor_in self.now hierarchy.now signature class }
+    {
+        match self.nearest.own(&self.members, class, signature) {
+            Some(method) => Some(method),
+            None => {
+                let completing = hierarchy.completing(class)?;
+                self.nearest.own(&self.members, completing, signature)
+            }
         }
     }
 

@@ -10,6 +10,7 @@ ghost use Rattle.fm_world.specs.BuiltIns.{built_in};
 ghost use Rattle.fm_world.specs.Declarations.{
   constant_at,
   declared_field,
+  declared_flags,
   declared_method,
   declared_of,
   first_constant,
@@ -21,10 +22,10 @@ ghost use Rattle.fm_world.specs.inner.BuiltInTable.{class_of_row, field_of_row, 
 
 use crate::given::GivenFile;
 use fm_base::{NoMemory, Seq};
-use fm_code::{ACC_STATIC, Entry, Member, MemberAttr, has_flag};
+use fm_code::{ACC_ABSTRACT, ACC_STATIC, Entry, Member, MemberAttr, has_flag};
 use fm_world::{
     BuiltInClass, BuiltInField, BuiltInMethod, Constant, DeclaredClass, DeclaredField,
-    DeclaredMethod, Shared, built_in_classes,
+    DeclaredMethod, Shared, built_in_class, built_in_classes,
 };
 use std::alloc::Global;
 
@@ -171,12 +172,22 @@ fn declared_class(
         name: shared_name(alloc, shared, file, file.class.this_class)?,
         superclass,
         interfaces: Seq::new(interfaces),
-        flags: file.class.flags,
+        flags: declared_flags(file),
         hidden: false,
         fields: Seq::new(declared_fields(alloc, shared, file)?),
         methods: Seq::new(declared_methods(alloc, shared, file)?),
         file: Some(file.number),
     })
+}
+
+// The flags of a given class; one that completes a built-in class has no objects of its own.
+fn declared_flags(file: &GivenFile) -> u16
+    ensures { result ≡ declared_flags file.now.class.now }
+{
+    if built_in_class(file.name()).is_some() {
+        return file.class.flags | ACC_ABSTRACT;
+    }
+    file.class.flags
 }
 
 /// The text of a number, shared; the empty one where there is no number.

@@ -13,7 +13,7 @@ use Rattle.fm_link_members.specs.inner.MemberRows.{method_alike, Owned}
 use Rattle.fm_world.specs.Causes.{NotImplemented, calls_abstract, is_there_and, method_text, refused, refused_if, refused_where}
 use Rattle.fm_world.specs.Chains.{first_found}
 use Rattle.fm_world.specs.Descriptors.{class_number}
-use Rattle.fm_world.specs.Lookups.{any_flags, class_searched, constructor_name, is_abstract_method, method_path, resolved_method, special_target}
+use Rattle.fm_world.specs.Lookups.{any_flags, class_searched, constructor_name, constructor_path, is_abstract_method, method_path, resolved_method, special_target}
 use Rattle.fm_world.specs.Members.{method_among, methods_of, own_method}
 use Rattle.fm_world.specs.Uses.{named_member, pool_indices}
 use Rattle.fm_world.specs.declared.declarations.DeclaredClass.{DeclaredClass}
@@ -103,10 +103,10 @@ resolved_within classes m k found = by_name (bytes_eq m.name constructor_name) f
     no_value e = cc
   in_path path_of (Some class) e = among (path_of class) e
 
-  by_name : (b : Bool) → cond b (option_and_then (λ class. method_among classes any_flags m.name m.descriptor (class ∷ []))
+  by_name : (b : Bool) → cond b (option_and_then (λ class. method_among classes any_flags m.name m.descriptor (constructor_path classes class))
       (class_number classes m.class))
       (option_and_then (λ class. method_among classes any_flags m.name m.descriptor (method_path classes class)) (class_searched classes m.class))
       ≡ Some k
       → k < length (methods_of classes)
-  by_name true e = in_path (λ class. class ∷ []) (class_number classes m.class) e
+  by_name true e = in_path (constructor_path classes) (class_number classes m.class) e
   by_name false e = in_path (method_path classes) (class_searched classes m.class) e

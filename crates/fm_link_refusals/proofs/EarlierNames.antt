@@ -1,5 +1,5 @@
 -- The names of the files so far, as a loop keeps them.
-use Rattle.std.proofs.Common.{◌≡◌, refl, sym, ◌∙◌, ap, ℕ, ◌+◌, ◌<◌, Bool, true, false, cond, ◌||◌, List, [], ◌∷◌, ◌++◌, length, drop, get_or, Bor, Option, Some, is_some, slice_get, ◌⊎◌, inl, inr}
+use Rattle.std.proofs.Common.{◌≡◌, refl, sym, ◌∙◌, ap, ℕ, ◌+◌, ◌<◌, Bool, true, false, cond, ◌||◌, List, [], ◌∷◌, ◌++◌, length, drop, get_or, Bor, Option, Some, None, is_some, not, slice_get, ◌⊎◌, inl, inr}
 use Rattle.std.specs.BTreeMap.{BTreeMap, get_by, is_at, UpdatesBy}
 use Rattle.std.proofs.lemmas.Map.Text.{btree_map_updates_str}
 use Rattle.std.specs.Cmp.Lexicographic.{slice_cmp}
@@ -12,7 +12,9 @@ use Rattle.fm_base.proofs.TestFacts.{same_or_other, bytes_eq-other}
 use Rattle.fm_code.specs.declared.class_file.ClassDef.{ClassDef}
 use Rattle.fm_world.specs.BuiltIns.{built_in}
 use Rattle.fm_world.specs.Descriptors.{class_number}
-use Rattle.fm_world.specs.Causes.{BuiltIn, Refusal, Duplicate, built_in_named, duplicates, own_name, refused, refused_if}
+use Rattle.fm_world.specs.Causes.{BuiltIn, Refusal, Duplicate, built_in_named, completes, duplicates, own_name, refused, refused_if, refused_where}
+use Rattle.fm_world.specs.Chains.{class_at}
+use Rattle.fm_link_refusals.specs.inner.Completions.{is_built_in, leaves}
 use Rattle.fm_world.specs.Linking.{refused_duplicates}
 use Rattle.fm_link_refusals.specs.Refused.{refusal_as}
 use Rattle.fm_link_refusals.specs.declared.error.LinkBad.{LinkBad}
@@ -92,16 +94,24 @@ earlier-more given i c m n name e within is own absent updates = record { earlie
 
 -- ---- names of built-in classes
 
-pub built_in_here : (c : ClassDef) (name : List ℕ) (bad : LinkBad) → name ≡ own_name c → is_some (class_number built_in name) ≡ true → bad.name
+-- what is refused of a file for its name
+named_by : (c : ClassDef) (found : Option ℕ) → refused_where (λ class. refused_if (not (completes (class_at built_in class) c)) (refused BuiltIn c (own_name c))) found
+    ≡ refused_if (leaves c found) (refused BuiltIn c (own_name c))
+named_by c None = refl
+named_by c (Some class) = refl
+
+pub built_in_here : (c : ClassDef) (name : List ℕ) (bad : LinkBad) → name ≡ own_name c → is_built_in name c ≡ true → bad.name
     ≡ name → bad.user ≡ name
     → slice_get (built_in_named c) 0 ≡ Some (refusal_as BuiltIn bad)
 built_in_here c name bad own there named used =
     let same : refused BuiltIn c (own_name c) ≡ refusal_as BuiltIn bad =
     ap (λ n. let r : Refusal = record { cause = BuiltIn; name = n; user = own_name c } in r) (sym own ∙ sym named)
     ∙ ap (λ n. let r : Refusal = record { cause = BuiltIn; name = bad.name; user = n } in r) (sym own ∙ sym used) in
-    ap (λ b. slice_get (refused_if b (refused BuiltIn c (own_name c))) 0) (ap (λ n. is_some (class_number built_in n)) (sym own) ∙ there)
+    ap (λ refusals. slice_get refusals 0) (named_by c (class_number built_in (own_name c)))
+    ∙ ap (λ b. slice_get (refused_if b (refused BuiltIn c (own_name c))) 0) (ap (λ n. is_built_in n c) (sym own) ∙ there)
     ∙ ap (λ r. Some r) same
 
-pub built_in_other : (c : ClassDef) (name : List ℕ) → name ≡ own_name c → is_some (class_number built_in name) ≡ false → built_in_named c ≡ []
+pub built_in_other : (c : ClassDef) (name : List ℕ) → name ≡ own_name c → is_built_in name c ≡ false → built_in_named c ≡ []
 built_in_other c name own absent =
-    ap (λ b. refused_if b (refused BuiltIn c (own_name c))) (ap (λ n. is_some (class_number built_in n)) (sym own) ∙ absent)
+    named_by c (class_number built_in (own_name c))
+    ∙ ap (λ b. refused_if b (refused BuiltIn c (own_name c))) (ap (λ n. is_built_in n c) (sym own) ∙ absent)

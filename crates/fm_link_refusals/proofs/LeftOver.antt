@@ -1,10 +1,11 @@
 -- Abstract methods that are left over, one after the other.
-use Rattle.std.proofs.Common.{◌≡◌, refl, sym, ◌∙◌, ap, subst, ℕ, suc, ◌+◌, ◌-◌, ◌<◌, ◌≤◌, ◌||◌, Bool, true, false, cond, List, [], ◌∷◌, ◌++◌, length, drop, map, get_or, Option, append_assoc, length-append, arith}
+use Rattle.std.proofs.Common.{◌≡◌, refl, sym, ◌∙◌, ap, subst, ℕ, suc, ◌+◌, ◌-◌, ◌<◌, ◌≤◌, ◌||◌, Bool, true, false, cond, List, [], ◌∷◌, ◌++◌, length, drop, map, get_or, Option, Some, None, unwrap_or, append_assoc, length-append, arith}
 use Rattle.std.specs.List.{filter, flat_map, range_with_len}
 use Rattle.std.proofs.lemmas.Grind.{flat_map-append}
 use Rattle.std.proofs.lemmas.List.{get_or_default, length-map}
 use Rattle.fm_base.proofs.ListFacts.{drop_here}
 use Rattle.fm_base.specs.declared.characters.TheConstants.{DOT}
+use Rattle.fm_world.proofs.Displays.{class_number-within}
 use Rattle.fm_world.specs.BuiltIns.{built_in}
 use Rattle.fm_world.specs.Declarations.{declared_from}
 use Rattle.fm_world.specs.Programs.{classes_of}
@@ -13,7 +14,8 @@ use Rattle.fm_code.specs.declared.class_file.ClassDef.{ClassDef}
 use Rattle.std.proofs.Math.ListN.{drop_of_length-le}
 use Rattle.fm_link_names.specs.declared.given.GivenFile.{GivenFile}
 use Rattle.fm_world.specs.Causes.{NotImplemented, abstract_methods, declared_name, each_from, is_left_over, left_over, method_text, refused, Refusal}
-use Rattle.fm_world.specs.Chains.{chain_of, interfaces_of}
+use Rattle.fm_world.specs.Chains.{chain_of, class_at, interfaces_of, self_of}
+use Rattle.fm_world.specs.Descriptors.{class_number}
 use Rattle.fm_world.specs.declared.declarations.DeclaredClass.{DeclaredClass}
 use Rattle.fm_link_supers.proofs.ParentRefusals.{length-declared}
 use Rattle.fm_link_refusals.proofs.FirstRefusals.{first-append}
@@ -130,6 +132,17 @@ class_within files i class number within =
     let declared = length-declared 0 (given_in files) in
     let long = length-map files class_in in
     omega (arith, all, declared, long, number, within)
+
+-- the class whose objects the methods of a class have is one of the classes
+pub self_within : (given : List ClassDef) (class : ℕ) → class < length (classes_of given) → self_of (classes_of given) class < length (classes_of given)
+unfolding classes_of
+self_within given class within = by_number (class_number built_in (class_at (classes_of given) class).name) refl where
+  by_number : (o : Option ℕ) → class_number built_in (class_at (classes_of given) class).name ≡ o → unwrap_or o class < length (classes_of given)
+  by_number None is = within
+  by_number (Some number) is =
+      let low = class_number-within built_in (class_at (classes_of given) class).name number is in
+      let all = length-append built_in (declared_from 0 given) in
+      omega (arith, low, all)
 
 -- ---- names of declared methods
 

@@ -1,6 +1,5 @@
 pub mod FirstRefusals
 pub mod EarlierNames
-pub mod Positions
 pub mod FileNames
 pub mod MissingNames
 pub mod UsedIndices

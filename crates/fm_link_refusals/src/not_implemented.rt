@@ -12,7 +12,7 @@ ghost use Rattle.fm_link_refusals.specs.inner.LeftOver.{IsLeftOver};
 ghost use Rattle.fm_link_refusals.specs.inner.Linking.{IsLinking};
 ghost use Rattle.fm_world.specs.BuiltIns.{built_in};
 ghost use Rattle.fm_world.specs.Causes.{declared_name, is_left_over, left_over, method_text, not_implemented, own_name};
-ghost use Rattle.fm_world.specs.Chains.{class_at};
+ghost use Rattle.fm_world.specs.Chains.{class_at, self_of};
 ghost use Rattle.fm_world.specs.Linking.{refused_not_implemented};
 ghost use Rattle.fm_world.specs.Lookups.{is_abstract_method};
 ghost use Rattle.fm_world.specs.Members.{methods_of};
@@ -27,8 +27,8 @@ use fm_base::{Name, NoMemory};
 use fm_code::{ACC_ABSTRACT, ACC_INTERFACE, has_flag};
 use fm_link_members::row_at;
 use fm_link_names::{GivenFile, number_of};
-use fm_link_supers::list_at;
-use fm_world::{DeclaredClass, built_in_classes};
+use fm_link_supers::{class_name, list_at};
+use fm_world::{DeclaredClass, built_in_class, built_in_classes};
 use std::alloc::Global;
 
 /// Refuses the first abstract method that is left over, or is called by itself: by file, first those left
@@ -71,11 +71,23 @@ fn refuse_in_class(
 ) -> Result<(), LinkFail>
     requires { IsNumbered (texts_in linking.texts.now) file.now }
     ensures { (classes : List DeclaredClass) → IsLinking classes linking.entry
-        → class < length classes → IsLeftOver classes linking.entry.methods.now found.now
+        → class < length classes → self_of classes class < length classes
+        → IsLeftOver classes linking.entry.methods.now found.now
         → Refuses (not_implemented classes (class_in file.now) class) result }
 {
-    refuse_left_over(alloc, linking, found, file, class)?;
+    let own = self_of(linking.hierarchy.classes, class);
+    refuse_left_over(alloc, linking, found, file, own)?;
     refuse_calls(alloc, linking, file, class)
+}
+
+// The class whose objects have the methods of a class: the built-in one that it completes, and else itself.
+fn self_of(classes: &[DeclaredClass], class: u32) -> u32
+    ensures { result ≡ self_of classes.now class }
+{
+    match built_in_class(class_name(classes, class)) {
+        Some(number) => number,
+        None => class,
+    }
 }
 
 // Refuses the first abstract method of a class that has objects for which none is selected, or an
@@ -219,14 +231,4 @@ fn bad_declared(
         name: Name::new(name),
         user: Name::new(user),
     })
-}
-
-// The name of a class; past the last one, none.
-fn class_name(classes: &[DeclaredClass], class: u32) -> &[u8]
-    ensures { result.now ≡ (class_at classes.now class).name }
-{
-    match classes.get(class as usize) {
-        Some(class) => class.name.as_slice(),
-        None => &[],
-    }
 }

@@ -241,8 +241,8 @@ fn is_sealed(name: &[u8]) -> bool
     is_one_of(&SEALED, name)
 }
 
-// Whether the name is among these.
-fn is_one_of(names: &[&str], name: &[u8]) -> bool
+/// Whether the name is among these.
+pub(crate) fn is_one_of(names: &[&str], name: &[u8]) -> bool
     ensures { result ≡ list_any (λ other. bytes_eq name.now other.now) names.now }
 {
     for other in names {

@@ -15,11 +15,13 @@ use Rattle.fm_code.specs.declared.class_file.ClassDef.{ClassDef}
 use Rattle.fm_code.specs.declared.code_array.Item.{Item}
 use Rattle.fm_code.specs.declared.constant_pool.Entry.{Entry}
 use Rattle.fm_code.specs.declared.constant_pool.Entry.TheVariants as entry
-use Rattle.fm_link_supers.proofs.BuiltInParents.{are_completed, built_in_fit, is_other_than_object, IsFit, object_is_class, object_number_is, object_parent_is}
+use Rattle.fm_link_supers.proofs.BuiltInParents.{are_completed, built_in_fit, declared_at, is_other_than_object, IsFit, object_is_class, object_number_is, object_parent_is}
+pub use Rattle.fm_link_supers.proofs.BuiltInParents.{nil_left, nil_right, none_of}
 use Rattle.fm_link_supers.proofs.Downwards.{among_head, among_left}
 use Rattle.fm_link_supers.proofs.InterfaceLemmas.{any_ends, listed_past}
 use Rattle.fm_link_supers.proofs.ParentTables.{parent_past}
 use Rattle.fm_link_supers.specs.inner.Hierarchy.{AreSound}
+use Rattle.fm_world.proofs.Completions.{interface-declared}
 use Rattle.fm_world.proofs.Displays.{is_among_at}
 use Rattle.fm_world.specs.BuiltIns.{built_in, object_name}
 use Rattle.fm_world.specs.Causes.{bad_parent_at, bad_parents, bad_superclass, goes_deep, goes_up, is_bad_interface, is_bad_superclass, is_there_and, Refusal, refused_if}
@@ -34,19 +36,6 @@ use Rattle.fm_world.specs.Uses.{caught_by, class_items, is_used, values_of, pool
 use Rattle.fm_world.specs.declared.declarations.DeclaredClass.{DeclaredClass}
 
 -- ---- lists without refusals
-
-pub nil_left : {X : Type 0} (xs ys : List X) → xs ++ ys ≡ [] → xs ≡ []
-nil_left [] ys e = refl
-nil_left (x ∷ xs) ys e = absurd (omega (arith, ap length e))
-
-pub nil_right : {X : Type 0} (xs ys : List X) → xs ++ ys ≡ [] → ys ≡ []
-nil_right [] ys e = e
-nil_right (x ∷ xs) ys e = absurd (omega (arith, ap length e))
-
-pub none_of : {X : Type 0} (f : X → List Refusal) (xs : List X) (j : ℕ) (x : X) → flat_map f xs ≡ [] → slice_get xs j ≡ Some x → f x ≡ []
-none_of f [] j x none at = absurd (none-some x at)
-none_of f (y ∷ ys) zero x none at = sym (ap f (same_Some y x at)) ∙ nil_left (f y) (flat_map f ys) none
-none_of f (y ∷ ys) (suc j) x none at = none_of f ys j x (nil_right (f y) (flat_map f ys) none) at
 
 pub none_at : (f : ℕ → List Refusal) (xs : List ℕ) (i : ℕ) → flat_map f xs ≡ [] → is_among i xs ≡ true → f i ≡ []
 none_at f [] i none among = absurd (false≢true among)
@@ -217,6 +206,7 @@ file_fit classes c k m spelled none object is =
       parent = ap (is_there_and (is_interface_at classes)) parent ∙ (or_parts _ _ ends).1;
       marker =
           ap (λ (d : DeclaredClass). is_interface d.flags && is_other_than_object (parent_of classes k)) is
+          ∙ ap (λ b. b && is_other_than_object (parent_of classes k)) (interface-declared c)
           ∙ ap (λ o. is_interface c.flags && is_other_than_object o) parent
           ∙ object_alone classes there.name object (is_interface c.flags) (bytes_eq there.name object_name) refl (or_parts _ _ not_sealed).1;
     }
@@ -235,15 +225,6 @@ past_fit classes k past =
       parent = ap (is_there_and (is_interface_at classes)) parent;
       marker = ap (λ (d : DeclaredClass). is_interface d.flags && is_other_than_object (parent_of classes k)) (get_or_past classes k no_class past);
     }
-
-pub record IsDeclared (classes : List DeclaredClass) (j : ℕ) (c : ClassDef) : Type 0 where
-  pub number : ℕ
-  pub declared : get_or classes j no_class ≡ declared_of number c
-
-pub declared_at : (n : ℕ) (given : List ClassDef) (j : ℕ) (c : ClassDef) → slice_get given j ≡ Some c → IsDeclared (declared_from n given) j c
-declared_at n [] j c at = absurd (none-some c at)
-declared_at n (d ∷ given) zero c at = record { number = n; declared = ap (declared_of n) (same_Some d c at) }
-declared_at n (d ∷ given) (suc j) c at = let later = declared_at (n + 1) given j c at in record { number = later.number; declared = later.declared }
 
 pub length-declared : (n : ℕ) (given : List ClassDef) → length (declared_from n given) ≡ length given
 length-declared n [] = refl

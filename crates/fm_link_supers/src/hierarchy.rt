@@ -1,10 +1,10 @@
 // The superclasses and superinterfaces of all classes (JVMS 5.3.5).
 
 ghost use Rattle.std.specs.Prelude.{◌≡◌, ◌<◌, IfOk, List, length};
-ghost use Rattle.fm_link_supers.specs.inner.Hierarchy.{is_superclass_in, AreAncestors, AreSound, IsHierarchy};
+ghost use Rattle.fm_link_supers.specs.inner.Hierarchy.{completing_in, is_superclass_in, AreAncestors, AreSound, IsHierarchy};
 ghost use Rattle.fm_link_supers.specs.inner.ListTables.{list_in};
 ghost use Rattle.fm_link_supers.specs.inner.NamedParents.{NamesClasses};
-ghost use Rattle.fm_world.specs.Chains.{is_among, superclasses_of};
+ghost use Rattle.fm_world.specs.Chains.{class_at, is_among, superclasses_of};
 ghost use Rattle.fm_world.specs.Lookups.{is_interface_at};
 ghost use Rattle.fm_world.specs.declared.declarations.DeclaredClass.{DeclaredClass};
 
@@ -14,7 +14,7 @@ use crate::lists::list_at;
 use crate::parent_tables::{listed_interfaces, parents_of};
 use fm_base::NoMemory;
 use fm_code::{ACC_INTERFACE, has_flag};
-use fm_link_names::{ClassNumbers, GivenFile};
+use fm_link_names::{ClassNumbers, GivenFile, at};
 use fm_world::DeclaredClass;
 use std::alloc::Global;
 
@@ -110,6 +110,18 @@ impl Hierarchy<'_> {
         list_at(self.chains.as_slice(), class)
     }
 
+    /// The class that completes a class: its superclass, where that has its name.
+    pub fn completing(&self, class: u32) -> Option<u32>
+        ensures { result ≡ completing_in self.now class }
+    {
+        let above = at(self.parents.as_slice(), class)?;
+        if class_name(self.classes, above) == class_name(self.classes, class) {
+            Some(above)
+        } else {
+            None
+        }
+    }
+
     /// Whether the second class is a superclass of the first, at once: it is in the chain of the
     /// first one as far from the end as its own chain is long.
     pub fn is_superclass(&self, class: u32, other: u32) -> bool
@@ -126,6 +138,16 @@ impl Hierarchy<'_> {
             Some(above) => *above == other,
             None => false,
         }
+    }
+}
+
+/// The name of the class of that number; past the last one it is empty.
+pub fn class_name(classes: &[DeclaredClass], class: u32) -> &[u8]
+    ensures { result.now ≡ (class_at classes.now class).name }
+{
+    match classes.get(class as usize) {
+        Some(class) => class.name.as_slice(),
+        None => &[],
     }
 }
 

@@ -1,23 +1,27 @@
 -- Built-in classes have the same superclasses in each program, but for the classes that complete them: each of these comes right after the one that it
 -- completes.
-use Rattle.std.proofs.Common.{◌≡◌, refl, sym, ◌∙◌, ap, subst, ℕ, zero, suc, ◌+◌, ◌<◌, ◌≤◌, ◌⊎◌, inl, inr, ◌||◌, ◌&&◌, not, Bool, true, false, cond, List, [], ◌∷◌, ◌++◌, length, map, reverse, nat_eq, nat_lt, get_or, replicate, Option, Some, None, is_none, is_some, option_and_then, position, unwrap_or, arith, zero-add, length-append}
-use Rattle.std.specs.Prelude.{option_to_list}
+use Rattle.std.proofs.Common.{◌≡◌, refl, sym, ◌∙◌, ap, subst, ℕ, zero, suc, ◌+◌, ◌<◌, ◌≤◌, ◌⊎◌, inl, inr, ◌||◌, ◌&&◌, ◌==◌, not, Bool, true, false, cond, List, [], ◌∷◌, ◌++◌, length, map, reverse, nat_eq, nat_lt, get_or, replicate, Option, Some, None, is_none, is_some, option_and_then, position, unwrap_or, arith, zero-add, length-append, ⊎_elim}
+use Rattle.std.specs.Prelude.{bit_or, option_to_list}
 use Rattle.std.specs.List.{flat_map, list_any, position_from}
 use Rattle.std.specs.Option.{option_or}
 use Rattle.std.specs.Str.{bytes_eq}
-use Rattle.std.proofs.lemmas.Bool.{and_parts, false≢true, ltb-true, not-false, or_cases, or_left, or_parts, or_right}
+use Rattle.std.proofs.lemmas.Bool.{and_parts, eq-eqb, eqb-true, false≢true, ltb-true, not-false, or_cases, or_left, or_parts, or_right}
 use Rattle.std.proofs.lemmas.Iterator.Adapters.{position_from-zero}
 use Rattle.std.proofs.lemmas.Grind.{flat_map-append}
 use Rattle.std.proofs.lemmas.List.{get_or-replicate, get_or_append_left, reverse-append}
 use Rattle.std.proofs.lemmas.List.Folds.{list_any-append}
 use Rattle.std.proofs.lemmas.List.FromFn.{get_or-map-range_with_len}
 use Rattle.std.proofs.lemmas.List.Quantifiers.{position-Some}
+use Rattle.std.proofs.lemmas.Nat.{and_or_apart, and_or_self}
 use Rattle.std.proofs.lemmas.Option.{none-some}
+use Rattle.fm_code.specs.AccessFlags.{is_abstract, is_interface}
+use Rattle.fm_code.specs.declared.access_flags.TheConstants.{ACC_ABSTRACT, ACC_INTERFACE}
+use Rattle.fm_code.specs.declared.class_file.ClassDef.{ClassDef}
 use Rattle.fm_base.specs.declared.kinds.Kind.{Kind}
 use Rattle.fm_world.specs.BuiltIns.{built_in}
-use Rattle.fm_world.specs.Causes.{goes_up}
+use Rattle.fm_world.specs.Causes.{goes_up, own_name}
 use Rattle.fm_world.specs.Chains.{chain_of, class_at, completion_of, is_among, parent_of, self_of, upwards}
-use Rattle.fm_world.specs.Declarations.{no_class}
+use Rattle.fm_world.specs.Declarations.{declared_flags, no_class}
 use Rattle.fm_world.specs.Descriptors.{class_number}
 use Rattle.fm_world.specs.Members.{kinds_of, own_kinds}
 use Rattle.fm_world.specs.declared.declarations.DeclaredClass.{DeclaredClass}
@@ -91,25 +95,51 @@ chains_table : map (λ k. upwards 14 built_in (Some k)) (numbers_below 28) ≡ m
 unfolding built_in chain_of
 chains_table = refl
 
-abbrev is_past_table : ℕ → Bool
+abbrev pub is_past_table : ℕ → Bool
 is_past_table k = not (nat_lt k (length built_in))
 
 inside_table : map (λ k. list_any is_past_table (chain_of built_in k)) (numbers_below 28) ≡ replicate 28 false
 unfolding built_in chain_of
 inside_table = refl
 
-selves_table : map (self_of built_in) (numbers_below 28) ≡ map (λ k. k) (numbers_below 28)
+numbers_table : map (λ k. class_number built_in (class_at built_in k).name) (numbers_below 28) ≡ map (λ k. Some k) (numbers_below 28)
 unfolding built_in
-selves_table = refl
+numbers_table = refl
 
-before_past : (k : ℕ) → is_past_table k ≡ false → k < length built_in
+pub before_past : (k : ℕ) → is_past_table k ≡ false → k < length built_in
 before_past k h = ltb-true k (length built_in) (not-false (nat_lt k (length built_in)) h)
+
+-- above a class of the table alone are classes of the table
+pub all_inside : (k : ℕ) → k < length built_in → list_any is_past_table (chain_of built_in k) ≡ false
+all_inside k within = fails_at (λ i. list_any is_past_table (chain_of built_in i)) 28 inside_table k (omega (arith, within, count_is))
+
+-- a built-in class is found by its name
+pub named_itself : (k : ℕ) → k < length built_in → class_number built_in (class_at built_in k).name ≡ Some k
+named_itself k within =
+    same_at (λ i. class_number built_in (class_at built_in i).name) (λ i. Some i) None 28 numbers_table k (omega (arith, within, count_is))
 
 -- a built-in class completes no other one
 pub self_built_in : (more : List DeclaredClass) (k : ℕ) → k < length built_in → self_of (built_in ++ more) k ≡ k
 self_built_in more k within =
     ap (λ (c : DeclaredClass). unwrap_or (class_number built_in c.name) k) (class_same built_in more k within)
-    ∙ same_at (self_of built_in) (λ i. i) 0 28 selves_table k (omega (arith, within, count_is))
+    ∙ ap (λ found. unwrap_or found k) (named_itself k within)
+
+-- ---- flags of what completes them
+
+-- an interface is as its file says
+pub interface-declared : (c : ClassDef) → is_interface (declared_flags c) ≡ is_interface c.flags
+interface-declared c = by_name (is_some (class_number built_in (own_name c))) where
+  by_name : (b : Bool) → is_interface (cond b (bit_or c.flags ACC_ABSTRACT) c.flags) ≡ is_interface c.flags
+  by_name true = ap (λ n. not (n == 0)) (and_or_apart ACC_INTERFACE c.flags ACC_ABSTRACT refl)
+  by_name false = refl
+
+-- a class that has objects is so in its file, and completes none
+pub concrete-declared : (c : ClassDef) → is_abstract (declared_flags c) ≡ false
+    → (is_abstract c.flags ≡ false) × (is_none (class_number built_in (own_name c)) ≡ true)
+concrete-declared c = by_number (class_number built_in (own_name c)) where
+  by_number : (o : Option ℕ) → is_abstract (cond (is_some o) (bit_or c.flags ACC_ABSTRACT) c.flags) ≡ false → (is_abstract c.flags ≡ false) × (is_none o ≡ true)
+  by_number None h = (h, refl)
+  by_number (Some k) h = absurd (false≢true (sym h ∙ ap (λ n. not (n == 0)) (and_or_self ACC_ABSTRACT c.flags)))
 
 -- ---- one step up
 
@@ -268,6 +298,46 @@ module _ (more : List DeclaredClass) where
     pub among_completed : (k x : ℕ) → k < length built_in → is_among x (chain_of built_in k) ≡ true → is_among x (chain_of classes k) ≡ true
     among_completed k x within h = ap (is_among x) (chain_completed k within) ∙ among_more x (chain_of built_in k) h
 
+    -- what is above a built-in class and isn't built in completes one that is
+    pub record IsAdded (chain : List ℕ) (x : ℕ) : Type 0 where
+      pub class : ℕ
+      pub within : class < length built_in
+      pub among : is_among class chain ≡ true
+      pub is : completing class ≡ Some x
+
+    above_cases : (x : ℕ) (xs : List ℕ) → list_any is_past_table xs ≡ false → is_among x (with_completions xs) ≡ true → (x < length built_in) ⊎ IsAdded xs x
+    above_cases x [] inside h = absurd (false≢true h)
+    above_cases x (k ∷ xs) inside h =
+        let parts = or_parts (is_past_table k) (list_any is_past_table xs) inside in
+        by_head (before_past k parts.0) (above_cases x xs parts.1) (or_cases (nat_eq x k) (is_among x (option_to_list (completing k) ++ with_completions xs)) h) where
+          more_added : (x < length built_in) ⊎ IsAdded xs x → (x < length built_in) ⊎ IsAdded (k ∷ xs) x
+          more_added (inl low) = inl low
+          more_added (inr added) =
+              inr (record { class = added.class; within = added.within; among = or_right (nat_eq added.class k) (is_among added.class xs) added.among; is = added.is })
+
+          by_completion : k < length built_in → (o : Option ℕ) → completing k ≡ o → is_among x (option_to_list o) ≡ true → (x < length built_in) ⊎ IsAdded (k ∷ xs) x
+          by_completion within None e there = absurd (false≢true there)
+          by_completion within (Some f) e there =
+              ⊎_elim
+              (λ same. inr (record {
+                class = k;
+                within = within;
+                among = or_left (nat_eq k k) (is_among k xs) (eq-eqb k k refl);
+                is = e ∙ ap (λ n. Some n) (sym (eqb-true x f same));
+              }))
+              (λ none. absurd (false≢true none)) (or_cases (nat_eq x f) false there)
+
+          by_head : k < length built_in → (is_among x (with_completions xs) ≡ true → (x < length built_in) ⊎ IsAdded xs x)
+              → (nat_eq x k ≡ true) ⊎ (is_among x (option_to_list (completing k) ++ with_completions xs) ≡ true) → (x < length built_in) ⊎ IsAdded (k ∷ xs) x
+          by_head within later (inl same) = inl (let is = eqb-true x k same in omega (arith, is, within))
+          by_head within later (inr there) =
+              ⊎_elim (λ here. by_completion within (completing k) refl here) (λ rest. more_added (later rest))
+              (or_cases (is_among x (option_to_list (completing k))) (is_among x (with_completions xs))
+              (sym (list_any-append (nat_eq x) (option_to_list (completing k)) (with_completions xs)) ∙ there))
+
+    pub above_built_in : (k x : ℕ) → k < length built_in → is_among x (chain_of classes k) ≡ true → (x < length built_in) ⊎ IsAdded (chain_of built_in k) x
+    above_built_in k x within h = above_cases x (chain_of built_in k) (all_inside k within) (sym (ap (is_among x) (chain_completed k within)) ∙ h)
+
     -- a test that what completes them fails: none of the chain passes it where none of the table's does
     none_more : (test : ℕ → Bool) → ((k f : ℕ) → k < length built_in → completing k ≡ Some f → test f ≡ false) → (xs : List ℕ)
         → list_any is_past_table xs ≡ false → list_any test xs ≡ false → list_any test (with_completions xs) ≡ false
@@ -287,7 +357,7 @@ module _ (more : List DeclaredClass) where
         → list_any test (chain_of built_in k) ≡ false → list_any test (chain_of classes k) ≡ false
     none_completed test fails k within none =
         ap (list_any test) (chain_completed k within)
-        ∙ none_more test fails (chain_of built_in k) (fails_at (λ i. list_any is_past_table (chain_of built_in i)) 28 inside_table k (omega (arith, within, count_is))) none
+        ∙ none_more test fails (chain_of built_in k) (all_inside k within) none
 
     -- ---- fields
 
@@ -316,4 +386,4 @@ module _ (more : List DeclaredClass) where
     unfolding kinds_of
     kinds_completed k within plain =
         ap (λ chain. flat_map own (reverse chain)) (chain_completed k within)
-        ∙ kinds_more (chain_of built_in k) (fails_at (λ i. list_any is_past_table (chain_of built_in i)) 28 inside_table k (omega (arith, within, count_is))) plain
+        ∙ kinds_more (chain_of built_in k) (all_inside k within) plain

@@ -7,9 +7,9 @@ use Rattle.fm_world.specs.Descriptors.{class_number}
 use Rattle.fm_world.specs.BuiltIns.{built_in, built_in_methods, built_in_rows, free_me_row, throwable_row}
 use Rattle.fm_world.specs.Causes.{BuiltIn, Duplicate, BadParent, MissingClass, MissingField, NotImplemented, NoMain}
 use Rattle.fm_world.specs.Chains.{chain_of, distinct, superinterfaces_of, interfaces_of, is_sub}
-use Rattle.fm_world.specs.Example.{array_types, call_of_k, call_of_to_string, call_on_array, castable, not_castable, example, example_main, example_upper, first_method, main_uses, refusal, with_completion, with_cycle, with_interfaces, with_private, with_static_field}
+use Rattle.fm_world.specs.Example.{array_types, call_of_k, call_of_to_string, call_on_array, castable, not_castable, example, example_main, example_upper, first_method, main_uses, refusal, with_completion, with_cycle, with_interfaces, with_private, with_static_field, with_free_me}
 use Rattle.fm_world.specs.Linking.{refused_duplicates, refused_built_ins, refused_missing_classes, refused_parents, refused_fields, refused_methods, refused_not_implemented, refused_main, refusals}
-use Rattle.fm_world.specs.Lookups.{resolved_field, resolved_method, select, special_target}
+use Rattle.fm_world.specs.Lookups.{constructor_path, resolved_field, resolved_method, select, special_target}
 use Rattle.fm_world.specs.Members.{fields_of, kinds_of, methods_of, size_of, slot_of}
 use Rattle.fm_world.specs.Numbers.{types_of, texts_of}
 use Rattle.fm_world.specs.Programs.{classes_of, outline_of, uses_of, codes_of, program_of, targets}
@@ -131,8 +131,16 @@ pub added : select (classes_of with_completion) 2 built_in_methods ≡ Some buil
 unfolding built_in classes_of chain_of methods_of select
 added = refl
 
-pub refused : slice_get (refusals with_completion (codes "M")) 0
-    ≡ Some (refusal BuiltIn (codes "java/lang/StringBuilder") (codes "java/lang/StringBuilder"))
+pub constructors_are : constructor_path (classes_of with_completion) 2 ≡ 2 ∷ 28 ∷ []
+unfolding built_in classes_of
+constructors_are = refl
+
+pub completion_accepted : refusals with_completion (codes "M") ≡ refusal NoMain (codes "M") (codes "M") ∷ []
+unfolding refusals refused_duplicates refused_built_ins refused_missing_classes refused_parents refused_fields refused_methods refused_not_implemented refused_main select special_target built_in classes_of chain_of superinterfaces_of interfaces_of methods_of fields_of resolved_field resolved_method used_indices
+completion_accepted = refl
+
+pub refused : slice_get (refusals with_free_me (codes "M")) 0
+    ≡ Some (refusal BuiltIn (codes "FreeMe") (codes "FreeMe"))
 unfolding refusals refused_duplicates refused_built_ins refused_missing_classes refused_parents refused_fields refused_methods refused_not_implemented refused_main select special_target built_in classes_of chain_of superinterfaces_of interfaces_of methods_of fields_of resolved_field resolved_method used_indices
 refused = refl
 

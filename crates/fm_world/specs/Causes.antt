@@ -5,7 +5,8 @@ use Rattle.std.specs.List.{flat_map, filter_map, list_any}
 use Rattle.std.specs.Str.{bytes_eq}
 use Rattle.fm_base.specs.declared.characters.TheConstants.{DOT, LEFT_BRACKET}
 use Rattle.fm_code.specs.AccessFlags.{is_static, is_interface, is_abstract}
-use Rattle.fm_code.specs.ConstantPool.{entry_at, MemberName}
+use Rattle.fm_code.specs.ConstantPool.{class_name_at, entry_at, MemberName}
+use Rattle.fm_code.specs.FreeEntries.{free_class}
 use Rattle.fm_code.specs.Names.{FieldType}
 use Rattle.fm_code.specs.declared.constant_pool.Entry.{Entry}
 use Rattle.fm_code.specs.declared.constant_pool.Entry.TheVariants as entry
@@ -15,13 +16,13 @@ use Rattle.fm_code.specs.declared.code_array.Item.{Item}
 use Rattle.fm_code.specs.declared.instructions.Insn.{Insn}
 use Rattle.fm_code.specs.declared.instructions.Insn.TheVariants as insn
 use Rattle.fm_world.specs.BuiltIns.{built_in, object_name, sealed_names}
-use Rattle.fm_world.specs.Chains.{class_at, chain_of, interfaces_of, listed_interfaces, parent_of, is_among, given_number}
+use Rattle.fm_world.specs.Chains.{array_supers, class_at, chain_of, interfaces_of, listed_interfaces, parent_of, is_among, given_number, self_of}
 use Rattle.fm_world.specs.Declarations.{name_at, text_at}
 use Rattle.fm_world.specs.declared.declarations.DeclaredClass.{DeclaredClass}
 use Rattle.fm_world.specs.declared.declarations.DeclaredMethod.{DeclaredMethod}
 use Rattle.fm_world.specs.Descriptors.{class_in, class_number, class_type, types_in}
 use Rattle.fm_world.specs.Lookups.{is_interface_at, is_abstract_method, resolved_field, resolved_method, select, special_target}
-use Rattle.fm_world.specs.Members.{field_at, method_at, first_method}
+use Rattle.fm_world.specs.Members.{field_at, is_instance, method_at, first_method}
 use Rattle.fm_world.specs.Programs.{main_of}
 use Rattle.fm_code.specs.Operands.{pool_index}
 use Rattle.fm_world.specs.Uses.{class_items, named_class, named_member, uses_in_order}
@@ -78,9 +79,32 @@ duplicates earlier [] = []
 duplicates earlier (c ∷ given) =
     refused_if (list_any (bytes_eq (own_name c)) earlier) (refused Duplicate c (own_name c)) ++ duplicates (own_name c ∷ earlier) given
 
--- a file that has the name of a built-in class
+-- a file may complete the built-in class of this name: each but FreeMe and those that arrays are below
+abbrev pub may_be_completed : List ℕ → Bool
+may_be_completed name = not (list_any (bytes_eq name) (free_class ∷ array_supers))
+
+-- two classes name the same superclass, or both none
+abbrev pub same_name : Option (List ℕ) → Option (List ℕ) → Bool
+same_name None None = true
+same_name (Some name) (Some other) = bytes_eq name other
+same_name name other = false
+
+-- the file of a class that has another superclass than Object, as throwables below Throwable, may have instance fields
+abbrev pub may_have_fields : DeclaredClass → Bool
+may_have_fields b = not (same_name b.superclass (Some object_name))
+
+-- the file completes the built-in class: it has its superclass, is neither an interface nor abstract, and has no instance field where it may have none
+abbrev pub completes : DeclaredClass → ClassDef → Bool
+completes b c =
+    may_be_completed b.name
+    && ((not (is_interface c.flags) && not (is_abstract c.flags))
+    && (same_name b.superclass (class_name_at c.pool.entries c.super_class)
+    && (may_have_fields b || not (list_any (λ f. is_instance f.flags) c.fields))))
+
+-- a file that has the name of a built-in class, and doesn't complete it
 abbrev pub built_in_named : ClassDef → List Refusal
-built_in_named c = refused_if (is_some (class_number built_in (own_name c))) (refused BuiltIn c (own_name c))
+built_in_named c =
+    refused_where (λ class. refused_if (not (completes (class_at built_in class) c)) (refused BuiltIn c (own_name c))) (class_number built_in (own_name c))
 
 -- ---- classes that aren't there (JVMS 5.3, 5.4.3.1)
 
@@ -286,9 +310,9 @@ abstract_call classes c caller item = of_insn item.insn where
   of_insn (insn.Special index) = refused_where of_member (named_member c.pool.entries index)
   of_insn i = []
 
--- the refusals of a file for methods without code: those left over in it, and then those that it calls
+-- the refusals of a file for methods without code: those left over in objects that have it, and then those that it calls
 abbrev pub not_implemented : List DeclaredClass → ClassDef → ℕ → List Refusal
-not_implemented classes c class = left_over classes c class ++ flat_map (abstract_call classes c class) (class_items c)
+not_implemented classes c class = left_over classes c (self_of classes class) ++ flat_map (abstract_call classes c class) (class_items c)
 
 -- the files by the numbers of their classes
 abbrev pub each_from : ℕ → (ClassDef → ℕ → List Refusal) → List ClassDef → List Refusal

@@ -1,7 +1,7 @@
 -- Superclasses and superinterfaces of a class in a list of classes (JVMS 5.3.5), and which type is below which at run time (JVMS 6.5.checkcast).
 -- A class goes by its number in the list; names are looked up in the list. One more than the number of classes bounds each walk, so
 -- that it ends where chains lead into a cycle; a linked program has none.
-use Rattle.std.specs.Prelude.{ℕ, zero, suc, ◌==◌, ◌||◌, ◌&&◌, not, Bool, true, false, List, [], ◌∷◌, length, drop, filter, Option, Some, None, is_some, is_none, option_and_then, position, unwrap_or, nat_eq, nat_lt, if◌then◌else◌}
+use Rattle.std.specs.Prelude.{ℕ, zero, suc, ◌==◌, ◌||◌, ◌&&◌, not, Bool, true, false, List, [], ◌∷◌, length, drop, filter, Option, Some, None, is_some, is_none, option_and_then, option_to_list, position, unwrap_or, nat_eq, nat_lt, if◌then◌else◌}
 use Rattle.std.specs.List.{slice_index_or, flat_map, filter_map, list_any}
 use Rattle.std.specs.Option.{option_or}
 use Rattle.std.specs.Str.{bytes_eq}
@@ -53,6 +53,11 @@ superclass_in classes c = option_and_then (λ name. option_or (completion_of cla
 -- the superclass of a class
 abbrev pub parent_of : List DeclaredClass → ℕ → Option ℕ
 parent_of classes class = superclass_in classes (class_at classes class)
+
+-- the class that completes a class: its superclass, where that has its name
+abbrev pub completing_of : List DeclaredClass → ℕ → List ℕ
+completing_of classes class =
+    filter (λ above. bytes_eq (class_at classes above).name (class_at classes class).name) (option_to_list (parent_of classes class))
 
 -- the class whose objects the methods of a class have as their own: the built-in class that it completes, and else the class itself
 abbrev pub self_of : List DeclaredClass → ℕ → ℕ

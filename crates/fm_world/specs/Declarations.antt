@@ -1,8 +1,10 @@
 -- What a class declares, built in or given, as records of the code: all of it but code (JVMS 4.1, 4.5, 4.6). A class goes by the names that it
 -- names, and a built-in method by the number of its row.
-use Rattle.std.specs.Prelude.{ℕ, ◌+◌, false, List, [], ◌∷◌, map, Option, Some, None, unwrap_or, if◌then◌else◌}
+use Rattle.std.specs.Prelude.{ℕ, ◌+◌, false, List, [], ◌∷◌, map, Option, Some, None, is_some, unwrap_or, bit_or, if◌then◌else◌}
 use Rattle.fm_code.specs.AccessFlags.{is_static}
 use Rattle.fm_code.specs.ConstantPool.{entry_at, utf8_at, class_name_at}
+use Rattle.fm_world.specs.BuiltIns.{built_in}
+use Rattle.fm_world.specs.Descriptors.{class_number}
 use Rattle.fm_world.specs.declared.declarations.Constant.{Constant}
 use Rattle.fm_world.specs.declared.declarations.Constant.TheVariants as constant
 use Rattle.fm_world.specs.declared.declarations.DeclaredClass.{DeclaredClass}
@@ -10,6 +12,7 @@ use Rattle.fm_world.specs.declared.declarations.DeclaredField.{DeclaredField}
 use Rattle.fm_world.specs.declared.declarations.DeclaredMethod.{DeclaredMethod}
 use Rattle.fm_code.specs.declared.constant_pool.Entry.{Entry}
 use Rattle.fm_code.specs.declared.constant_pool.Entry.TheVariants as entry
+use Rattle.fm_code.specs.declared.access_flags.TheConstants.{ACC_ABSTRACT}
 use Rattle.fm_code.specs.declared.class_file.ClassDef.{ClassDef}
 use Rattle.fm_code.specs.declared.class_file.Member.{Member}
 use Rattle.fm_code.specs.declared.class_file.MemberAttr.{MemberAttr}
@@ -67,13 +70,18 @@ declared_field entries m = record {
 abbrev pub declared_method : List Entry → Member → DeclaredMethod
 declared_method entries m = record { name = text_at entries m.name; descriptor = text_at entries m.descriptor; flags = m.flags; row = None }
 
+-- the flags of a file's class; what completes a built-in class has no objects: these are of the class that it completes
+abbrev pub declared_flags : ClassDef → ℕ
+declared_flags c =
+    if is_some (class_number built_in (name_at c.pool.entries c.this_class)) then bit_or c.flags ACC_ABSTRACT else c.flags
+
 -- the class of a file; super_class 0 names none
 abbrev pub declared_of : ℕ → ClassDef → DeclaredClass
 declared_of file c = record {
   name = name_at c.pool.entries c.this_class;
   superclass = class_name_at c.pool.entries c.super_class;
   interfaces = map (name_at c.pool.entries) c.interfaces;
-  flags = c.flags;
+  flags = declared_flags c;
   hidden = false;
   fields = map (declared_field c.pool.entries) c.fields;
   methods = map (declared_method c.pool.entries) c.methods;

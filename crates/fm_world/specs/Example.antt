@@ -228,11 +228,15 @@ with_private =
     declaring (codes "P") (codes "java/lang/Object") (1 ∷ []) ∷ declaring (codes "Q") (codes "P") (2 ∷ [])
     ∷ declaring (codes "R") (codes "Q") [] ∷ []
 
--- ---- a file with the name of a built-in class
+-- ---- files with the names of built-in classes
 
--- it has StringBuilder's name and superclass, and declares a public k()V
+-- one that completes StringBuilder: it has its name and superclass, and declares a public k()V
 abbrev pub with_completion : List ClassDef
 with_completion = declaring (codes "java/lang/StringBuilder") (codes "java/lang/Object") (1 ∷ []) ∷ []
+
+-- FreeMe can't be completed
+abbrev pub with_free_me : List ClassDef
+with_free_me = declaring (codes "FreeMe") (codes "java/lang/Object") (1 ∷ []) ∷ []
 
 -- a refusal
 abbrev pub refusal : Cause → List ℕ → List ℕ → Refusal

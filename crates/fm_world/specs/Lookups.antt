@@ -6,7 +6,7 @@ use Rattle.fm_code.specs.AccessFlags.{has_flag, is_private, is_static, is_interf
 use Rattle.fm_code.specs.ConstantPool.{MemberName}
 use Rattle.fm_code.specs.Names.{FieldType}
 use Rattle.fm_world.specs.BuiltIns.{object_name}
-use Rattle.fm_world.specs.Chains.{class_at, chain_of, superclasses_of, superinterfaces_of, interfaces_of, is_among, first_found}
+use Rattle.fm_world.specs.Chains.{class_at, chain_of, completing_of, superclasses_of, superinterfaces_of, interfaces_of, is_among, first_found}
 use Rattle.fm_world.specs.declared.declarations.DeclaredClass.{DeclaredClass}
 use Rattle.fm_world.specs.Descriptors.{class_number, class_type}
 use Rattle.fm_world.specs.Members.{field_among, method_among, own_method, method_at, is_instance}
@@ -54,11 +54,15 @@ method_path classes class =
     if is_interface_at classes class then class ∷ (superinterfaces_of classes class ++ option_to_list (object_number classes))
     else chain_of classes class ++ interfaces_of classes class
 
--- the method that a pool entry names: a constructor is looked for in the named class alone
+-- where a constructor is looked for: in the named class, and in what completes it
+abbrev pub constructor_path : List DeclaredClass → ℕ → List ℕ
+constructor_path classes class = class ∷ completing_of classes class
+
+-- the method that a pool entry names
 unfoldable pub resolved_method : List DeclaredClass → MemberName → Option ℕ
 resolved_method classes m =
     if bytes_eq m.name constructor_name
-    then option_and_then (λ class. method_among classes any_flags m.name m.descriptor (class ∷ [])) (class_number classes m.class)
+    then option_and_then (λ class. method_among classes any_flags m.name m.descriptor (constructor_path classes class)) (class_number classes m.class)
     else option_and_then (λ class. method_among classes any_flags m.name m.descriptor (method_path classes class)) (class_searched classes m.class)
 
 -- ---- the method that is called

@@ -14,9 +14,9 @@ ghost use Rattle.fm_world.specs.Rows.{hidden_kinds, row_of};
 ghost use Rattle.fm_world.specs.Causes.{BuiltIn, Duplicate, BadParent, MissingClass, MissingField, NotImplemented, NoMain, Refusal};
 ghost use Rattle.fm_world.specs.Chains.{is_sub, chain_of, distinct, listed_interfaces, superinterfaces_of};
 ghost use Rattle.fm_world.specs.Descriptors.{class_number};
-ghost use Rattle.fm_world.specs.Example.{array_types, call_of_k, call_of_to_string, call_on_array, castable, not_castable, example, example_main, example_upper, first_method, main_uses, refusal, with_completion, with_cycle, with_interfaces, with_private, with_static_field};
+ghost use Rattle.fm_world.specs.Example.{array_types, call_of_k, call_of_to_string, call_on_array, castable, not_castable, example, example_main, example_upper, first_method, main_uses, refusal, with_completion, with_cycle, with_free_me, with_interfaces, with_private, with_static_field};
 ghost use Rattle.fm_world.specs.Linking.{refusals, IsLinked};
-ghost use Rattle.fm_world.specs.Lookups.{select, special_target};
+ghost use Rattle.fm_world.specs.Lookups.{constructor_path, select, special_target};
 ghost use Rattle.fm_world.specs.Members.{kinds_of, methods_of, size_of, slot_of};
 ghost use Rattle.fm_world.specs.Programs.{Program, classes_of, program_of, targets};
 
@@ -44,8 +44,9 @@ pub fn law_built_in()
 
 /// The definitions at interfaces and at private methods: superinterfaces come in listed order, each
 /// once; an abstract method of one is missed; a private method isn't selected for another one, but for
-/// itself, and a special call finds it. And at a file with the name of a built-in class: it is right
-/// above that class, whose objects have its methods, and is refused.
+/// itself, and a special call finds it. And at files with the names of built-in classes: one that
+/// completes StringBuilder is right above it, whose objects have its methods, and whose name leads to
+/// its constructors; FreeMe has no such file.
 pub fn law_lookup_examples()
     ensures interfaces { superinterfaces_of (classes_of with_interfaces) 30
         ≡ 29 ∷ 26 ∷ 28 ∷ [] }
@@ -59,8 +60,11 @@ pub fn law_lookup_examples()
         ≡ built_in_methods + 1 }
     ensures completed { chain_of (classes_of with_completion) 2 ≡ 2 ∷ 28 ∷ 0 ∷ [] }
     ensures added { select (classes_of with_completion) 2 built_in_methods ≡ Some built_in_methods }
-    ensures refused { slice_get (refusals with_completion (codes "M")) 0 ≡ Some (refusal BuiltIn
-        (codes "java/lang/StringBuilder") (codes "java/lang/StringBuilder")) }
+    ensures constructors { constructor_path (classes_of with_completion) 2 ≡ 2 ∷ 28 ∷ [] }
+    ensures accepted { refusals with_completion (codes "M")
+        ≡ refusal NoMain (codes "M") (codes "M") ∷ [] }
+    ensures refused { slice_get (refusals with_free_me (codes "M")) 0 ≡ Some (refusal BuiltIn
+        (codes "FreeMe") (codes "FreeMe")) }
 {}
 
 /// The definitions at three classes that are written out by hand, M, A and B below A: nothing of them

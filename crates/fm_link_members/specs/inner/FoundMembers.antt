@@ -12,7 +12,7 @@ use Rattle.fm_link_members.specs.declared.lookups.Methods.{Methods}
 use Rattle.fm_link_members.specs.declared.members.MemberRow.{MemberRow}
 use Rattle.fm_link_members.specs.declared.members.Nearest.{Nearest}
 use Rattle.fm_link_members.specs.declared.search_starts.SearchStarts.{SearchStarts}
-use Rattle.fm_link_supers.specs.inner.Hierarchy.{is_superclass_in}
+use Rattle.fm_link_supers.specs.inner.Hierarchy.{completing_in, is_superclass_in}
 use Rattle.fm_link_supers.specs.inner.ListTables.{list_in}
 use Rattle.fm_link_members.specs.inner.MemberRows.{section_of}
 use Rattle.fm_link_members.specs.inner.MemberTables.{first_from, flags_of, nearest_in, number_of_key, own_in, start_in}
@@ -40,6 +40,11 @@ own_method_in m signature class = own_in m.nearest m.members.rows.items signatur
 -- the first method of the signature that an interface of the list declares, from the noted place of the class on
 abbrev pub interface_method_in : Methods → ℕ → List ℕ → ℕ → Option ℕ
 interface_method_in m class list signature = first_along m.nearest m.members.rows.items m.starts class list signature
+
+-- the constructor of a signature of a class, or else of the class that completes it
+abbrev pub constructor_in : Methods → Hierarchy → ℕ → ℕ → Option ℕ
+constructor_in m h signature class =
+    or_else (own_method_in m signature class) (option_and_then (own_method_in m signature) (completing_in h class))
 
 -- the method of a class's superinterfaces; of those of an interface, or of Object
 abbrev pub method_above_in : Methods → Hierarchy → ℕ → ℕ → Option ℕ
@@ -80,12 +85,12 @@ abbrev pub field_found_in : Fields → Hierarchy → Option ℕ → ℕ → ℕ 
 field_found_in f h class name descriptor =
     option_and_then (λ c. option_and_then (field_in f h c) (number_of_key f.signatures.numbers name descriptor)) class
 
--- the method of a name and a descriptor: a constructor of the named class alone, another one from the class that is searched on
+-- the method of a name and a descriptor: a constructor of the named class or of what completes it, another one from the class that is searched on
 abbrev pub method_found_in : Methods → Hierarchy → Option ℕ → Option ℕ → ℕ → ℕ → Option ℕ
 method_found_in m h named searched name descriptor =
     option_and_then (λ signature.
-    if name == m.constructor then option_and_then (own_method_in m signature) named else option_and_then (λ class. method_in m h class signature)
-    searched)
+    if name == m.constructor then option_and_then (constructor_in m h signature) named
+    else option_and_then (λ class. method_in m h class signature) searched)
     (number_of_key m.signatures.numbers name descriptor)
 
 -- the method itself where it is private, and else the nearest one of its signature that can override

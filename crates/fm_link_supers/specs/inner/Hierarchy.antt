@@ -1,8 +1,10 @@
 -- What the tables of superclasses and superinterfaces say of the classes.
-use Rattle.std.specs.Prelude.{◌≡◌, ℕ, ◌-◌, ◌<◌, ◌&&◌, Bool, true, false, List, length, map, nat_eq, nat_lt, Option, None, Some, slice_get, take}
+use Rattle.std.specs.Prelude.{◌≡◌, ℕ, ◌-◌, ◌<◌, ◌&&◌, Bool, true, false, List, length, map, nat_eq, nat_lt, Option, None, Some, option_and_then, slice_get, take, if◌then◌else◌}
+use Rattle.std.specs.List.{slice_index_or}
+use Rattle.std.specs.Str.{bytes_eq}
 use Rattle.fm_world.specs.Acyclic.{IsAcyclic}
 use Rattle.fm_world.specs.Causes.{goes_deep}
-use Rattle.fm_world.specs.Chains.{chain_of, distinct, interfaces_of, is_among, listed_interfaces, parent_of, superinterfaces_of}
+use Rattle.fm_world.specs.Chains.{chain_of, class_at, distinct, interfaces_of, is_among, listed_interfaces, parent_of, superinterfaces_of}
 use Rattle.fm_world.specs.Lookups.{field_path, object_number}
 use Rattle.fm_world.specs.declared.declarations.DeclaredClass.{DeclaredClass}
 use Rattle.fm_world.specs.inner.Tables.{AreInterfaces, IsLinear, numbers_below}
@@ -49,6 +51,12 @@ distinct_path classes class = distinct nat_eq (field_path classes class)
 -- the second class is in the chain of the first one as far from its end as its own chain is long
 abbrev pub is_superclass_in : Hierarchy → ℕ → ℕ → Bool
 is_superclass_in h class other = stands_above (list_in h.chains.items class) (length (list_in h.chains.items other)) other
+
+-- the superclass, where it has the class's name
+abbrev pub completing_in : Hierarchy → ℕ → Option ℕ
+completing_in h class = option_and_then named_alike (slice_index_or h.parents.items class None) where
+  named_alike : ℕ → Option ℕ
+  named_alike above = if bytes_eq (class_at h.classes.now above).name (class_at h.classes.now class).name then Some above else None
 
 -- the tables of classes of which none is refused
 pub record IsHierarchy (classes : List DeclaredClass) (h : Hierarchy) : Type 0 where

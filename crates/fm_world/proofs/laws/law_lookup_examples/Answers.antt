@@ -1,4 +1,4 @@
-use Rattle.fm_world.proofs.Example.{added, completed, interfaces_are, itself, not_implemented, passed_over, refused, special}
+use Rattle.fm_world.proofs.Example.{added, completed, completion_accepted, constructors_are, interfaces_are, itself, not_implemented, passed_over, refused, special}
 use Rattle.fm_world.proofs.laws.law_lookup_examples.Goals as goal
 
 pub returns-clause-interfaces : goal.returns-clause-interfaces
@@ -21,6 +21,12 @@ returns-clause-completed c = completed
 
 pub returns-clause-added : goal.returns-clause-added
 returns-clause-added c = added
+
+pub returns-clause-constructors : goal.returns-clause-constructors
+returns-clause-constructors c = constructors_are
+
+pub returns-clause-accepted : goal.returns-clause-accepted
+returns-clause-accepted c = completion_accepted
 
 pub returns-clause-refused : goal.returns-clause-refused
 returns-clause-refused c = refused
