@@ -57,9 +57,10 @@ class Programs:
         return status, printed, reported.decode(errors="replace").removesuffix("\n")
 
     def free(self, out, main, files):
-        """Has freeme write class files to a folder: its status and its lines."""
-        status, printed, _ = self.call("freeme", "--out", out, "--main", main, *files)
-        return status, printed.decode(errors="replace").removesuffix("\n").split("\n")
+        """Has freeme write class files to a folder: its status and its lines, of a refusal the one on standard error."""
+        status, printed, reported = self.call("freeme", "--out", out, "--main", main, *files)
+        lines = reported if status else printed
+        return status, lines.decode(errors="replace").removesuffix("\n").split("\n")
 
 
 def sections(expect):

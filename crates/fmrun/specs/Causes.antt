@@ -14,7 +14,7 @@ use Rattle.fm_load.specs.Causes.{FailsARead, HasTooMany, IsMissing, IsKnownLong,
 use Rattle.fm_load.specs.ClassRefusal.{class_refusal_line, class_refusal_status}
 use Rattle.fm_load.specs.Given.{AreChecked, AreMany, IsLong, IsNotLinked, IsNotTyped, IsRefusedFile, IsUnread, IsUntouched}
 use Rattle.fm_load.specs.LinkRefusal.{link_line}
-use Rattle.fm_load.specs.Refusal.{check_line, long_line, many_arguments_line, many_line}
+use Rattle.fm_load.specs.Refusal.{IsRefusedBy, check_line, long_line, many_arguments_line, many_line}
 use Rattle.fm_load.specs.Taking.{AllTaken}
 use Rattle.fm_load.specs.declared.class_refusal.ClassRefusal.{ClassRefusal}
 use Rattle.fm_law_cells_made.specs.MostHeld.{all_most_held}
@@ -56,11 +56,6 @@ AskFor words P = (job : FmrunJob) × (Asks words job × P job)
 -- for one that has no more arguments than may be, so that its files are read
 abbrev pub AskToRead : List Bytes → (FmrunJob → Type 0) → Type 0
 AskToRead words P = AskFor words (λ job. (length (job_arguments job) ≤ MAX_ARGUMENTS) × P job)
-
--- nothing was printed, and the line of a refusal is the one piece that the report got
-pub record IsRefusedBy (line : List ℕ) (before after report report' : Output) : Type 0 where
-  pub silent : after ≡ before
-  pub told : report' ≡ with_piece line report
 
 -- ---- 64
 

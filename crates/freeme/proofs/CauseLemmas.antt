@@ -9,7 +9,7 @@ use Rattle.fm_cli.specs.Line.{Tells}
 use Rattle.fm_cli.specs.Outside.{HasNoFileFault}
 use Rattle.fm_cli.specs.Status.{ComesExactly}
 use Rattle.fm_cli.specs.declared.command_refusal.CommandRefusal.TheVariants as refusal
-use Rattle.fm_cli.proofs.LineLemmas.{instead_for_file, instead_for_words, told_among, is_put, put_fails, told_of_file, told_of_words, comes_of_file, comes_of_words}
+use Rattle.fm_cli.proofs.LineLemmas.{instead_for_file, instead_for_words, told_among, is_put, told_of_file, told_of_words, comes_of_file, comes_of_words}
 use Rattle.fm_cli.proofs.OutsideLemmas.{no_fault_where_same, known_such}
 use Rattle.fm_cli.specs.declared.status.TheConstants.{DONE, WORDS, READ, MALFORMED, VERSION, LIMIT, UNSUPPORTED, LINK, CHECK, WRITE, OUT_OF_MEMORY}
 use Rattle.fm_code.specs.declared.class_file.ClassDef.{ClassDef}
@@ -26,21 +26,22 @@ use Rattle.fm_world.specs.Linking.{refusals}
 use Rattle.fm_world.specs.Programs.{program_of}
 use Rattle.fm_load.specs.ClassRefusal.{class_refusal_status}
 use Rattle.fm_load.specs.Given.{AreGiven, AreMany, IsUntouched, AreNotLinked, IsNotLinked, given_program}
-use Rattle.freeme.specs.Causes.{AskFor, AskForGiven, BecomesAs, IsKnownAs, cause_status, SaysWords, SaysRead, SaysRefused, SaysLimit, SaysLink, SaysCheck, SaysNotFreed, SaysDone, SaysUnwritten, SaysWrite, SaysMemory, LacksLine, IsForWords, IsForRead, IsForBytes, IsForLimit, IsForLink, IsForCheck, IsForRewrite, IsForDone, IsForWrite, IsForMemory, IsFaultless, KeepsContents, ChangesOnly}
+use Rattle.freeme.specs.Causes.{AskFor, AskForGiven, BecomesAs, IsKnownAs, cause_status, SaysWords, SaysRead, SaysRefused, SaysLimit, SaysLink, SaysCheck, SaysNotFreed, SaysDone, SaysUnwritten, SaysWrite, SaysMemory, LacksLine, IsForWords, IsForRead, IsForBytes, IsForLimit, IsForLink, IsForCheck, IsForRewrite, IsForDone, IsForText, IsForWrite, IsForMemory, IsFaultless, IsSilent, KeepsContents, ChangesOnly, before_writes}
 use Rattle.fm_load.specs.Causes.{FailsARead, FailsAWrite, IsMissing, HasTooMany, IsKnownLong, IsKnownRefused, IsKnownUnlinked, IsKnownUntyped}
 use Rattle.fm_load.specs.LinkRefusal.{cause_line}
 use Rattle.fm_cli_requests.specs.FreemeRequest.{FreemeJob, Asks, AskNoJob, AskNothing, AskOnlyForText}
 use Rattle.fm_cli_requests.specs.ProgramText.{AskForNoText}
 use Rattle.freeme.specs.Jobs.{given_of, main_name}
 use Rattle.fm_load.specs.Taking.{total_bytes, IsTooLong, IsRefused}
-use Rattle.freeme.specs.TopCall.{IsFirstCause, StaysWithin, IsBroken, ComesTo, ComesOfJob, ComesOf, Outcome, outcome_line, outcome_status}
+use Rattle.freeme.specs.TopCall.{IsFirstCause, StaysWithin, IsBroken, ComesTo, ComesOfJob, ComesOf, IsTold, Outcome}
 use Rattle.freeme.specs.Refusal.{rewrite_status}
 use Rattle.freeme.specs.declared.refusal.FreeRefusal.TheVariants as free_refusal
 use Rattle.freeme.specs.declared.status.TheConstants.{CALLS_FREE, POOL_FULL, METHOD_TOO_LONG}
 use Rattle.fm_load.specs.declared.refusal.JobRefusal.TheVariants as job_refusal
-use Rattle.fm_load.specs.Refusal.{many_line}
+use Rattle.fm_load.specs.Refusal.{IsRefusedBy, many_line}
 use Rattle.fm_cli.specs.CommandRefusal.{memory_line}
 use Rattle.freeme.proofs.JobLemmas.{reads_within}
+use Rattle.freeme.proofs.ToldLemmas.{IsLinePut, both_kept, line_faultless, line_put, outcome_line, outcome_status, own_sink, own_tells, put_failed, told_silent, untold}
 use Rattle.fm_load.proofs.ReadLemmas.{reads_none}
 use Rattle.fm_cli_requests.proofs.FreemeRequestLemmas.{asks_one}
 use Rattle.fm_load.proofs.GivenLemmas.{Behind, behind_once, given_passes}
@@ -69,28 +70,28 @@ not_write (fail.PoolFull class indices) is = omega arith
 not_write (fail.MethodTooLong method bytes) is = omega arith
 not_write fail.NoMemory is = omega arith
 
-module _ (words : List Bytes) (old new : Disk) (before after : Output) where
+module _ (words : List Bytes) (old new : Disk) (before after report report' : Output) where
   -- 0
-  done_said : (o : Outcome) → ComesOfJob words old new o → outcome_status o ≡ DONE → after ≡ with_piece (outcome_line o) before → SaysDone words old new before after
-  done_said (Ok lines) j is line = record { job = j.job; asked = j.asked; lines = string_bytes lines; done = j.comes; line = line }
+  done_said : (o : Outcome) → ComesOfJob words old new o → outcome_status o ≡ DONE → IsLinePut o before after report report' → SaysDone words old new before after report report'
+  done_said (Ok lines) j is line = record { job = j.job; asked = j.asked; lines = string_bytes lines; done = j.comes; line = line.0; unreported = line.1 }
   done_said (Err (free_refusal.Job (job_refusal.Class file r))) j is line = absurd (let c = class_status r in let low = c.low in let high = c.high in omega arith)
   done_said (Err (free_refusal.Job (job_refusal.Shared refusal.Words))) j is line = absurd (omega arith)
   done_said (Err (free_refusal.Rewrite cause name)) j is line = absurd (let r = rewrite_bounds cause in let low = r.0 in let high = r.1 in omega arith)
   done_said o j is line = absurd (omega arith)
 
   -- 65
-  read_said : (o : Outcome) → ComesOfJob words old new o → outcome_status o ≡ READ → after ≡ with_piece (outcome_line o) before → SaysRead words old new before after
-  read_said (Err (free_refusal.Job (job_refusal.Shared (refusal.Read file)))) j is line = record { job = j.job; asked = j.asked; file = file.now; unread = j.comes; line = line }
+  read_said : (o : Outcome) → ComesOfJob words old new o → outcome_status o ≡ READ → IsLinePut o before after report report' → SaysRead words old new before after report report'
+  read_said (Err (free_refusal.Job (job_refusal.Shared (refusal.Read file)))) j is line = record { job = j.job; asked = j.asked; file = file.now; unread = j.comes; refused = line }
   read_said (Err (free_refusal.Job (job_refusal.Class file r))) j is line = absurd (let c = class_status r in let low = c.low in let high = c.high in omega arith)
   read_said (Err (free_refusal.Rewrite cause name)) j is line = absurd (let r = rewrite_bounds cause in let low = r.0 in let high = r.1 in omega arith)
   read_said o j is line = absurd (omega arith)
 
   -- 70
-  cause_said : (o : Outcome) (j : ComesOfJob words old new o) (cause : Option Refusal) → IsNotLinked (given_of j.job) cause old new → after ≡ with_piece (cause_line cause) before → SaysLink words old new before after
+  cause_said : (o : Outcome) (j : ComesOfJob words old new o) (cause : Option Refusal) → IsNotLinked (given_of j.job) cause old new → IsRefusedBy (cause_line cause) before after report report' → SaysLink words old new before after report report'
   cause_said o j None unlinked line = absurd unlinked.refused
-  cause_said o j (Some cause) unlinked line = record { job = j.job; asked = j.asked; cause = cause; unlinked = unlinked; line = line }
+  cause_said o j (Some cause) unlinked line = record { job = j.job; asked = j.asked; cause = cause; unlinked = unlinked; refused = line }
 
-  link_said : (o : Outcome) → ComesOfJob words old new o → outcome_status o ≡ LINK → after ≡ with_piece (outcome_line o) before → SaysLink words old new before after
+  link_said : (o : Outcome) → ComesOfJob words old new o → outcome_status o ≡ LINK → IsLinePut o before after report report' → SaysLink words old new before after report report'
   link_said (Err (free_refusal.Job (job_refusal.Link fail))) j is line = cause_said (Err (free_refusal.Job (job_refusal.Link fail))) j (refusal_of fail) j.comes line
   link_said (Err (free_refusal.Job (job_refusal.Class file r))) j is line = absurd (let c = class_status r in let low = c.low in let high = c.high in omega arith)
   link_said (Err (free_refusal.Job (job_refusal.Shared refusal.Words))) j is line = absurd (omega arith)
@@ -98,43 +99,43 @@ module _ (words : List Bytes) (old new : Disk) (before after : Output) where
   link_said o j is line = absurd (omega arith)
 
   -- 71
-  check_said : (o : Outcome) → ComesOfJob words old new o → outcome_status o ≡ CHECK → after ≡ with_piece (outcome_line o) before → SaysCheck words old new before after
-  check_said (Err (free_refusal.Job (job_refusal.Check name))) j is line = record { job = j.job; asked = j.asked; name = name; untyped = j.comes; line = line }
+  check_said : (o : Outcome) → ComesOfJob words old new o → outcome_status o ≡ CHECK → IsLinePut o before after report report' → SaysCheck words old new before after report report'
+  check_said (Err (free_refusal.Job (job_refusal.Check name))) j is line = record { job = j.job; asked = j.asked; name = name; untyped = j.comes; refused = line }
   check_said (Err (free_refusal.Job (job_refusal.Class file r))) j is line = absurd (let c = class_status r in let low = c.low in let high = c.high in omega arith)
   check_said (Err (free_refusal.Job (job_refusal.Shared refusal.Words))) j is line = absurd (omega arith)
   check_said (Err (free_refusal.Rewrite cause name)) j is line = absurd (let r = rewrite_bounds cause in let low = r.0 in let high = r.1 in omega arith)
   check_said o j is line = absurd (omega arith)
 
   -- 72, 73 and 74
-  not_freed_said : (status : ℕ) → 72 ≤ status → status ≤ 74 → (o : Outcome) → ComesOfJob words old new o → outcome_status o ≡ status → after ≡ with_piece (outcome_line o) before → SaysNotFreed status words old new before after
-  not_freed_said status low high (Err (free_refusal.Rewrite cause name)) j is line = record { job = j.job; asked = j.asked; cause = cause; status_is = is; name = name; refused = j.comes; line = line }
+  not_freed_said : (status : ℕ) → 72 ≤ status → status ≤ 74 → (o : Outcome) → ComesOfJob words old new o → outcome_status o ≡ status → IsLinePut o before after report report' → SaysNotFreed status words old new before after report report'
+  not_freed_said status low high (Err (free_refusal.Rewrite cause name)) j is line = record { job = j.job; asked = j.asked; cause = cause; status_is = is; name = name; not_freed = j.comes; refused = line }
   not_freed_said status low high (Err (free_refusal.Job (job_refusal.Class file r))) j is line = absurd (let c = class_status r in let most = c.high in omega arith)
   not_freed_said status low high (Err (free_refusal.Job (job_refusal.Shared refusal.Words))) j is line = absurd (omega arith)
   not_freed_said status low high o j is line = absurd (omega arith)
 
   -- 66, 67 and 69
-  bytes_said : (status : ℕ) → 66 ≤ status → status ≤ 69 → status ≢ LIMIT → (o : Outcome) → ComesOfJob words old new o → outcome_status o ≡ status → after ≡ with_piece (outcome_line o) before → SaysRefused status words old new before after
+  bytes_said : (status : ℕ) → 66 ≤ status → status ≤ 69 → status ≢ LIMIT → (o : Outcome) → ComesOfJob words old new o → outcome_status o ≡ status → IsLinePut o before after report report' → SaysRefused status words old new before after report report'
   bytes_said status low high other (Err (free_refusal.Job (job_refusal.TooManyFiles count))) j is line = absurd (other (sym is))
   bytes_said status low high other (Err (free_refusal.Job (job_refusal.TooLong file))) j is line = absurd (other (sym is))
   bytes_said status low high other (Err (free_refusal.Job (job_refusal.TooManyArguments count))) j is line = absurd j.comes
-  bytes_said status low high other (Err (free_refusal.Job (job_refusal.Class file r))) j is line = record { job = j.job; asked = j.asked; file = file.now; refusal = r; status_is = is; refused = j.comes; line = line }
+  bytes_said status low high other (Err (free_refusal.Job (job_refusal.Class file r))) j is line = record { job = j.job; asked = j.asked; file = file.now; refusal = r; status_is = is; unaccepted = j.comes; refused = line }
   bytes_said status low high other (Err (free_refusal.Job (job_refusal.Shared refusal.Words))) j is line = absurd (omega arith)
   bytes_said status low high other (Err (free_refusal.Rewrite cause name)) j is line = absurd (let r = rewrite_bounds cause in let from = r.0 in omega arith)
   bytes_said status low high other o j is line = absurd (omega arith)
 
   -- 68
-  limit_said : (o : Outcome) → ComesOfJob words old new o → outcome_status o ≡ LIMIT → after ≡ with_piece (outcome_line o) before → SaysLimit words old new before after
-  limit_said (Err (free_refusal.Job (job_refusal.TooManyFiles count))) j is line = let Many : ℕ → Type 0 = λ n. AreMany j.job.files n old new × (after ≡ with_piece (many_line n) before) in let own = subst Many j.comes.count_is (j.comes, line) in inl (record { job = j.job; asked = j.asked; many = own.0; line = own.1 })
+  limit_said : (o : Outcome) → ComesOfJob words old new o → outcome_status o ≡ LIMIT → IsLinePut o before after report report' → SaysLimit words old new before after report report'
+  limit_said (Err (free_refusal.Job (job_refusal.TooManyFiles count))) j is line = let Many : ℕ → Type 0 = λ n. AreMany j.job.files n old new × IsRefusedBy (many_line n) before after report report' in let own = subst Many j.comes.count_is (j.comes, line) in inl (record { job = j.job; asked = j.asked; many = own.0; refused = own.1 })
   limit_said (Err (free_refusal.Job (job_refusal.TooManyArguments count))) j is line = absurd j.comes
-  limit_said (Err (free_refusal.Job (job_refusal.TooLong file))) j is line = inr (inl (record { job = j.job; asked = j.asked; file = file.now; long = j.comes; line = line }))
-  limit_said (Err (free_refusal.Job (job_refusal.Class file r))) j is line = inr (inr (record { job = j.job; asked = j.asked; file = file.now; refusal = r; status_is = is; refused = j.comes; line = line }))
+  limit_said (Err (free_refusal.Job (job_refusal.TooLong file))) j is line = inr (inl (record { job = j.job; asked = j.asked; file = file.now; long = j.comes; refused = line }))
+  limit_said (Err (free_refusal.Job (job_refusal.Class file r))) j is line = inr (inr (record { job = j.job; asked = j.asked; file = file.now; refusal = r; status_is = is; unaccepted = j.comes; refused = line }))
   limit_said (Err (free_refusal.Job (job_refusal.Shared refusal.Words))) j is line = absurd (omega arith)
   limit_said (Err (free_refusal.Rewrite cause name)) j is line = absurd (let r = rewrite_bounds cause in let low = r.0 in let high = r.1 in omega arith)
   limit_said o j is line = absurd (omega arith)
 
   -- 75, where the line is put
-  unwritten_said : (o : Outcome) → ComesOfJob words old new o → outcome_status o ≡ WRITE → after ≡ with_piece (outcome_line o) before → SaysUnwritten words old new before after
-  unwritten_said (Err (free_refusal.Job (job_refusal.Write name))) j is line = record { job = j.job; asked = j.asked; name = string_bytes name; unwritten = j.comes; line = line }
+  unwritten_said : (o : Outcome) → ComesOfJob words old new o → outcome_status o ≡ WRITE → IsLinePut o before after report report' → SaysUnwritten words old new before after report report'
+  unwritten_said (Err (free_refusal.Job (job_refusal.Write name))) j is line = record { job = j.job; asked = j.asked; name = string_bytes name; unwritten = j.comes; refused = line }
   unwritten_said (Err (free_refusal.Job (job_refusal.Class file r))) j is line = absurd (let c = class_status r in let low = c.low in let high = c.high in omega arith)
   unwritten_said (Err (free_refusal.Job (job_refusal.Shared refusal.Words))) j is line = absurd (omega arith)
   unwritten_said (Err (free_refusal.Rewrite cause name)) j is line = absurd (not_write cause is)
@@ -148,14 +149,14 @@ module _ (words : List Bytes) (old new : Disk) (before after : Output) where
   stopped o j is = absurd (omega arith)
 
   -- the line of memory
-  memory_line_is : (o : Outcome) → outcome_status o ≡ OUT_OF_MEMORY → outcome_line o ≡ memory_line
-  memory_line_is (Err (free_refusal.Job (job_refusal.Shared refusal.OutOfMemory))) is = refl
-  memory_line_is (Err (free_refusal.Job (job_refusal.Class file r))) is = absurd (let c = class_status r in let low = c.low in let high = c.high in omega arith)
-  memory_line_is (Err (free_refusal.Rewrite fail.NoMemory name)) is = refl
-  memory_line_is (Err (free_refusal.Rewrite (fail.CallsFree method offset) name)) is = absurd (omega arith)
-  memory_line_is (Err (free_refusal.Rewrite (fail.PoolFull class indices) name)) is = absurd (omega arith)
-  memory_line_is (Err (free_refusal.Rewrite (fail.MethodTooLong method bytes) name)) is = absurd (omega arith)
-  memory_line_is o is = absurd (omega arith)
+  memory_said : (o : Outcome) → outcome_status o ≡ OUT_OF_MEMORY → IsLinePut o before after report report' → IsRefusedBy memory_line before after report report'
+  memory_said (Err (free_refusal.Job (job_refusal.Shared refusal.OutOfMemory))) is line = line
+  memory_said (Err (free_refusal.Job (job_refusal.Class file r))) is line = absurd (let c = class_status r in let low = c.low in let high = c.high in omega arith)
+  memory_said (Err (free_refusal.Rewrite fail.NoMemory name)) is line = line
+  memory_said (Err (free_refusal.Rewrite (fail.CallsFree method offset) name)) is line = absurd (omega arith)
+  memory_said (Err (free_refusal.Rewrite (fail.PoolFull class indices) name)) is line = absurd (omega arith)
+  memory_said (Err (free_refusal.Rewrite (fail.MethodTooLong method bytes) name)) is line = absurd (omega arith)
+  memory_said o is line = absurd (omega arith)
 
 -- ---- what fails and what is kept
 
@@ -356,12 +357,9 @@ not_for_words job old new (Err (free_refusal.Job (job_refusal.Class file r))) co
 not_for_words job old new (Err (free_refusal.Rewrite cause name)) comes is = let r = rewrite_bounds cause in let low = r.0 in omega arith
 not_for_words job old new o comes is = omega arith
 
--- the statuses at which nothing failed, and those at which contents are kept
+-- the statuses at which nothing failed
 abbrev pub faultless_statuses : List ℕ
 faultless_statuses = DONE ∷ WORDS ∷ MALFORMED ∷ VERSION ∷ LIMIT ∷ UNSUPPORTED ∷ LINK ∷ CHECK ∷ CALLS_FREE ∷ POOL_FULL ∷ METHOD_TOO_LONG ∷ []
-
-abbrev keeping_statuses : List ℕ
-keeping_statuses = WORDS ∷ READ ∷ MALFORMED ∷ VERSION ∷ LIMIT ∷ UNSUPPORTED ∷ LINK ∷ CHECK ∷ CALLS_FREE ∷ POOL_FULL ∷ METHOD_TOO_LONG ∷ []
 
 module _ (words : List Bytes) (old new : Disk) (o : Outcome) (comes : ComesOf words old new o) where
   -- the job that was asked for comes out so, or memory was lacking before
@@ -438,23 +436,40 @@ module _ (words : List Bytes) (old new : Disk) (o : Outcome) (comes : ComesOf wo
 
 -- ---- the clauses
 
-module _ {words : List Bytes} {old new : Disk} {before after : Output} {result : ℕ} (o : Outcome) (comes : ComesOf words old new o) (tells : Tells (outcome_line o) (outcome_status o) before after result) where
+pub is_for_text : (words : List Bytes) (old new : Disk) (before after report report' : Output) (result : ℕ) → AskForNoText words
+    → IsForText words old new before after report report' result
+is_for_text words old new before after report report' result none asked asks = absurd (none asked asks)
+
+module _ {words : List Bytes} {old new : Disk} (before after report report' : Output) (result : ℕ) (o : Outcome) (comes : ComesOf words old new o) (tells : IsTold o before after report report' result) where
+  -- the sink of the lines, before and after
+  abbrev from : Output
+  from = own_sink o before report
+
+  abbrev to : Output
+  to = own_sink o after report'
+
+  own : Tells (outcome_line o) (outcome_status o) from to result
+  own = own_tells before after report report' result o tells
+
+  put_so : to ≡ with_piece (outcome_line o) from → IsLinePut o before after report report'
+  put_so = line_put before after report report' result o tells
+
   -- what the line of a job says, at a status that isn't for words
-  of_job_alone : {Said : Type 0} (status : ℕ) → status ≢ WORDS → status ≢ OUT_OF_MEMORY → (ComesOfJob words old new o → outcome_status o ≡ status → after ≡ with_piece (outcome_line o) before → Said)
-      → outcome_status o ≡ status → after ≡ with_piece (outcome_line o) before → Said
-  of_job_alone status unlike_words memory said is line = said (job_of_status words old new o status comes is unlike_words memory) is line
+  of_job_alone : {Said : Type 0} (status : ℕ) → status ≢ WORDS → status ≢ OUT_OF_MEMORY → (ComesOfJob words old new o → outcome_status o ≡ status → IsLinePut o before after report report' → Said)
+      → outcome_status o ≡ status → to ≡ with_piece (outcome_line o) from → Said
+  of_job_alone status unlike_words memory said is put = said (job_of_status words old new o status comes is unlike_words memory) is (put_so put)
 
   -- a status of the job's files comes exactly with what it says
-  of_files : {Said Cause : Type 0} (status : ℕ) → status ≢ WORDS → status ≢ WRITE → status ≢ OUT_OF_MEMORY → (ComesOfJob words old new o → outcome_status o ≡ status → after ≡ with_piece (outcome_line o) before → Said)
+  of_files : {Said Cause : Type 0} (status : ℕ) → status ≢ WORDS → status ≢ WRITE → status ≢ OUT_OF_MEMORY → (ComesOfJob words old new o → outcome_status o ≡ status → IsLinePut o before after report report' → Said)
       → (Cause → Contains (status ∷ instead_for_file) (outcome_status o)) → ComesExactly status instead_for_file result Said Cause
   of_files status unlike_words write memory said decides =
-      comes_of_file (outcome_line o) (outcome_status o) before after result tells status write memory (of_job_alone status unlike_words memory said) decides
+      comes_of_file (outcome_line o) (outcome_status o) from to result own status write memory (of_job_alone status unlike_words memory said) decides
 
-  pub is_for_words : AskForNoText words → IsForWords words old new before after result
-  is_for_words no_text = comes_of_words (outcome_line o) (outcome_status o) before after result tells WORDS (λ e. omega arith) (λ e. omega arith) (words_said comes) (λ unasked. nothing_decides unasked comes) where
-    words_said : ComesOf words old new o → outcome_status o ≡ WORDS → after ≡ with_piece (outcome_line o) before → SaysWords words old new before after
+  pub is_for_words : AskForNoText words → IsForWords words old new before after report report' result
+  is_for_words no_text = comes_of_words (outcome_line o) (outcome_status o) from to result own WORDS (λ e. omega arith) (λ e. omega arith) (λ is put. words_said comes is (put_so put)) (λ unasked. nothing_decides unasked comes) where
+    words_said : ComesOf words old new o → outcome_status o ≡ WORDS → IsLinePut o before after report report' → SaysWords words old new before after report report'
     words_said (inl j) is line = absurd (not_for_words j.job old new o j.comes is)
-    words_said (inr (inl nothing)) is line = record { unasked = record { no_text = no_text; no_job = nothing.unasked }; kept = nothing.kept; line = let P : Outcome → Type 0 = λ x. after ≡ with_piece (outcome_line x) before in subst P nothing.refused line }
+    words_said (inr (inl nothing)) is line = record { unasked = record { no_text = no_text; no_job = nothing.unasked }; kept = nothing.kept; refused = let P : Outcome → Type 0 = λ x. IsLinePut x before after report report' in subst P nothing.refused line }
     words_said (inr (inr lacking)) is line = absurd (let other = sym is ∙ ap outcome_status lacking.refused in omega arith)
 
     nothing_decides : AskNothing words → ComesOf words old new o → Contains (WORDS ∷ instead_for_words) (outcome_status o)
@@ -462,86 +477,93 @@ module _ {words : List Bytes} {old new : Disk} {before after : Output} {result :
     nothing_decides unasked (inr (inl nothing)) = (0, omega arith, sym (ap outcome_status nothing.refused))
     nothing_decides unasked (inr (inr lacking)) = (2, omega arith, sym (ap outcome_status lacking.refused))
 
-  pub is_for_read : IsForRead words old new before after result
-  is_for_read = comes_of_words (outcome_line o) (outcome_status o) before after result tells READ (λ e. omega arith) (λ e. omega arith)
-      (of_job_alone READ (λ e. omega arith) (λ e. omega arith) (read_said words old new before after o))
+  pub is_for_read : IsForRead words old new before after report report' result
+  is_for_read = comes_of_words (outcome_line o) (outcome_status o) from to result own READ (λ e. omega arith) (λ e. omega arith)
+      (of_job_alone READ (λ e. omega arith) (λ e. omega arith) (read_said words old new before after report report' o))
       (λ cause. ⊎_elim (λ (fault : FailsARead old new). fault_decides words old new o comes fault) (λ (missing : AskForGiven words (IsMissing old)). missing_decides words old new o comes missing) cause)
 
-  pub is_for_bytes : (status : ℕ) → 66 ≤ status → status ≤ 69 → status ≢ LIMIT → IsForBytes status words old new before after result
+  pub is_for_bytes : (status : ℕ) → 66 ≤ status → status ≤ 69 → status ≢ LIMIT → IsForBytes status words old new before after report report' result
   is_for_bytes status low high other =
-      of_files status (λ e. omega arith) (λ e. omega arith) (λ e. omega arith) (bytes_said words old new before after status low high other o) (bytes_decide words old new o comes status)
+      of_files status (λ e. omega arith) (λ e. omega arith) (λ e. omega arith) (bytes_said words old new before after report report' status low high other o) (bytes_decide words old new o comes status)
 
-  pub is_for_limit : IsForLimit words old new before after result
+  pub is_for_limit : IsForLimit words old new before after report report' result
   is_for_limit = record {
     only = λ is.
-        let put = is_put (outcome_line o) (outcome_status o) before after result tells LIMIT (λ e. omega arith) (λ e. omega arith) is in
-        of_job_alone LIMIT (λ e. omega arith) (λ e. omega arith) (limit_said words old new before after o) put.0 put.1;
-    many = λ cause. told_of_words (outcome_line o) (outcome_status o) before after result tells LIMIT (many_decide words old new o comes cause);
-    long = λ cause. told_of_file (outcome_line o) (outcome_status o) before after result tells LIMIT (long_decides words old new o comes cause);
-    bytes = λ cause. told_of_file (outcome_line o) (outcome_status o) before after result tells LIMIT (bytes_decide words old new o comes LIMIT cause);
+        let put = is_put (outcome_line o) (outcome_status o) from to result own LIMIT (λ e. omega arith) (λ e. omega arith) is in
+        of_job_alone LIMIT (λ e. omega arith) (λ e. omega arith) (limit_said words old new before after report report' o) put.0 put.1;
+    many = λ cause. told_of_words (outcome_line o) (outcome_status o) from to result own LIMIT (many_decide words old new o comes cause);
+    long = λ cause. told_of_file (outcome_line o) (outcome_status o) from to result own LIMIT (long_decides words old new o comes cause);
+    bytes = λ cause. told_of_file (outcome_line o) (outcome_status o) from to result own LIMIT (bytes_decide words old new o comes LIMIT cause);
   }
 
-  pub is_for_link : IsForLink words old new before after result
-  is_for_link = of_files LINK (λ e. omega arith) (λ e. omega arith) (λ e. omega arith) (link_said words old new before after o) (unlinked_decides words old new o comes)
+  pub is_for_link : IsForLink words old new before after report report' result
+  is_for_link = of_files LINK (λ e. omega arith) (λ e. omega arith) (λ e. omega arith) (link_said words old new before after report report' o) (unlinked_decides words old new o comes)
 
-  pub is_for_check : IsForCheck words old new before after result
-  is_for_check = of_files CHECK (λ e. omega arith) (λ e. omega arith) (λ e. omega arith) (check_said words old new before after o) (untyped_decides words old new o comes)
+  pub is_for_check : IsForCheck words old new before after report report' result
+  is_for_check = of_files CHECK (λ e. omega arith) (λ e. omega arith) (λ e. omega arith) (check_said words old new before after report report' o) (untyped_decides words old new o comes)
 
-  pub is_for_rewrite : (status : ℕ) → 72 ≤ status → status ≤ 74 → IsForRewrite status words old new before after result
+  pub is_for_rewrite : (status : ℕ) → 72 ≤ status → status ≤ 74 → IsForRewrite status words old new before after report report' result
   is_for_rewrite status low high =
-      of_files status (λ e. omega arith) (λ e. omega arith) (λ e. omega arith) (not_freed_said words old new before after status low high o) (rewriting_decides words old new o comes status)
+      of_files status (λ e. omega arith) (λ e. omega arith) (λ e. omega arith) (not_freed_said words old new before after report report' status low high o) (rewriting_decides words old new o comes status)
 
-  pub is_for_done : IsForDone words old new before after result
+  pub is_for_done : IsForDone words old new before after report report' result
   is_for_done =
-      of_files DONE (λ e. omega arith) (λ e. omega arith) (λ e. omega arith) (λ j is line. inl (done_said words old new before after o j is line)) (rewriting_decides words old new o comes DONE)
+      of_files DONE (λ e. omega arith) (λ e. omega arith) (λ e. omega arith) (λ j is line. inl (done_said words old new before after report report' o j is line)) (rewriting_decides words old new o comes DONE)
 
-  pub is_for_write : IsForWrite words old new before after result
+  pub is_for_write : IsForWrite words old new before after report report' result
   is_for_write = record {
-    only = only tells;
-    put = put_fails (outcome_line o) (outcome_status o) before after result tells;
-    write = λ cause. told_among (outcome_line o) (outcome_status o) before after result tells instead_for_words (write_decides words old new o comes cause) (0, omega arith, refl) (1, omega arith, refl);
+    only = only own;
+    put = put_failed before after report report' result o tells;
+    write = λ cause. told_among (outcome_line o) (outcome_status o) from to result own instead_for_words (write_decides words old new o comes cause) (0, omega arith, refl) (1, omega arith, refl);
   } where
-    only : Tells (outcome_line o) (outcome_status o) before after result → result ≡ WRITE → SaysWrite words old new before after
-    only (inl own) is =
-        let same : outcome_status o ≡ WRITE = sym own.0 ∙ is in
-        inr (inl (unwritten_said words old new before after o (job_of_status words old new o WRITE comes same (λ e. omega arith) (λ e. omega arith)) same own.1))
-    only (inr (inl failed)) is = inl (record { outcome = o; comes = comes; fails = failed.1 })
+    only : Tells (outcome_line o) (outcome_status o) from to result → result ≡ WRITE → SaysWrite words old new before after report report'
+    only (inl put) is =
+        let same : outcome_status o ≡ WRITE = sym put.0 ∙ is in
+        inr (inl (unwritten_said words old new before after report report' o (job_of_status words old new o WRITE comes same (λ e. omega arith) (λ e. omega arith)) same (put_so put.1)))
+    only (inr (inl failed)) is = inl (record { outcome = o; comes = comes; fails = untold before after report report' result o tells failed.1 })
     only (inr (inr lacking)) is = absurd (let e = lacking.0 in omega arith)
 
-  pub is_for_memory : IsForMemory words old new before after result
-  is_for_memory is = go tells where
+  pub is_for_memory : IsForMemory words old new before after report report' result
+  is_for_memory is = go own where
     own_line : ComesOf words old new o → outcome_status o ≡ OUT_OF_MEMORY → IsUntouched old new ⊎ AskFor words (λ job. IsBroken job old new)
-    own_line (inl j) same = stopped words old new before after o j same
+    own_line (inl j) same = stopped words old new before after report report' o j same
     own_line (inr (inl nothing)) same = absurd (let other = sym same ∙ ap outcome_status nothing.refused in omega arith)
     own_line (inr (inr lacking)) same = inl (record { faultless = no_fault_where_same old new lacking.kept; kept = ap (λ (d : Disk). d.contents) lacking.kept; unwritten = ap (λ (d : Disk). d.writes) lacking.kept })
 
-    go : Tells (outcome_line o) (outcome_status o) before after result → SaysMemory words old new before after ⊎ (LacksLine words old new before after ⊎ AskOnlyForText words)
-    go (inl own) =
-        let same : outcome_status o ≡ OUT_OF_MEMORY = sym own.0 ∙ is in
-        inl (record { stopped = own_line comes same; line = own.1 ∙ ap (λ (line : List ℕ). with_piece line before) (memory_line_is words old new before after o same) })
+    go : Tells (outcome_line o) (outcome_status o) from to result → SaysMemory words old new before after report report' ⊎ (LacksLine words old new before after report report' ⊎ AskOnlyForText words)
+    go (inl put) =
+        let same : outcome_status o ≡ OUT_OF_MEMORY = sym put.0 ∙ is in
+        inl (record { stopped = own_line comes same; refused = memory_said words old new before after report report' o same (put_so put.1) })
     go (inr (inl failed)) = absurd (let e = failed.0 in omega arith)
-    go (inr (inr lacking)) = inr (inl (record { outcome = o; comes = comes; silent = lacking.1 }))
+    go (inr (inr lacking)) =
+        let kept = both_kept before after report report' result o tells lacking.1 in inr (inl (record { outcome = o; comes = comes; silent = kept.0; unreported = kept.1 }))
 
   -- where the line is put no put failed
-  own_line_put : (status : ℕ) → status ≢ WRITE → status ≢ OUT_OF_MEMORY → result ≡ status → (outcome_status o ≡ status) × (after.faults ≡ before.faults)
+  own_line_put : (status : ℕ) → status ≢ WRITE → status ≢ OUT_OF_MEMORY → result ≡ status → (outcome_status o ≡ status) × ((after.faults ≡ before.faults) × (report'.faults ≡ report.faults))
   own_line_put status write memory is =
-      let put = is_put (outcome_line o) (outcome_status o) before after result tells status write memory is in (put.0, ap (λ (x : Output). x.faults) put.1)
+      let put = is_put (outcome_line o) (outcome_status o) from to result own status write memory is in (put.0, line_faultless before after report report' o (put_so put.1))
 
-  pub is_faultless : IsFaultless old new before after result
+  pub is_faultless : IsFaultless old new before after report report' result
   is_faultless among_these =
       let unlike : (s : ℕ) → list_any (λ y. eqb y s) faultless_statuses ≡ false → result ≢ s = λ s none. unlike_elements s faultless_statuses none result among_these in
-      let own = own_line_put result (unlike WRITE refl) (unlike OUT_OF_MEMORY refl) refl in (
+      let line = own_line_put result (unlike WRITE refl) (unlike OUT_OF_MEMORY refl) refl in (
         ⊎_elim (λ (none : HasNoFileFault old new). none)
-            (λ (rest : _). ⊎_elim (λ (p : _). absurd (unlike READ refl (sym own.0 ∙ p.0))) (λ (p : _). absurd (unlike WRITE refl (sym own.0 ∙ p.0))) rest)
+            (λ (rest : _). ⊎_elim (λ (p : _). absurd (unlike READ refl (sym line.0 ∙ p.0))) (λ (p : _). absurd (unlike WRITE refl (sym line.0 ∙ p.0))) rest)
             (fails_so words old new o comes),
-        own.1,
+        line.1.0,
+        line.1.1,
       )
 
   pub keeps_contents : KeepsContents old new result
   keeps_contents among_these =
-      let unlike : (s : ℕ) → list_any (λ y. eqb y s) keeping_statuses ≡ false → result ≢ s = λ s none. unlike_elements s keeping_statuses none result among_these in
-      let own = own_line_put result (unlike WRITE refl) (unlike OUT_OF_MEMORY refl) refl in
-      keeps words old new o comes (λ e. unlike DONE refl (sym own.0 ∙ e)) (λ e. unlike WRITE refl (sym own.0 ∙ e)) (λ e. unlike OUT_OF_MEMORY refl (sym own.0 ∙ e))
+      let unlike : (s : ℕ) → list_any (λ y. eqb y s) before_writes ≡ false → result ≢ s = λ s none. unlike_elements s before_writes none result among_these in
+      let line = own_line_put result (unlike WRITE refl) (unlike OUT_OF_MEMORY refl) refl in
+      keeps words old new o comes (λ e. unlike DONE refl (sym line.0 ∙ e)) (λ e. unlike WRITE refl (sym line.0 ∙ e)) (λ e. unlike OUT_OF_MEMORY refl (sym line.0 ∙ e))
+
+  pub is_silent : IsSilent before after result
+  is_silent among_these =
+      let unlike : (s : ℕ) → list_any (λ y. eqb y s) before_writes ≡ false → result ≢ s = λ s none. unlike_elements s before_writes none result among_these in
+      told_silent before after report report' result o tells (unlike DONE refl) (unlike WRITE refl) (unlike OUT_OF_MEMORY refl)
 
   pub changes_only : ChangesOnly words old new
   changes_only = record { asked = λ job asked. stays job asked comes; unasked = λ none. unchanged none comes } where

@@ -1,5 +1,5 @@
 -- A job is done where nothing is against it and nothing fails: each other status says what can't be then.
-use Rattle.std.proofs.Common.{◌≡◌, ◌≢◌, ◌≤◌, ◌⊎◌, ℕ, inl, inr, ⊎_elim, List, [], ◌∷◌, Contains, Some, IsSome, length, map, refl, sym, ap, ◌∙◌, subst, arith}
+use Rattle.std.proofs.Common.{◌≡◌, ◌≢◌, ◌≤◌, ◌⊎◌, ℕ, inl, inr, ⊎_elim, List, [], ◌∷◌, Contains, Some, IsSome, Ok, Err, length, map, refl, sym, ap, ◌∙◌, subst, arith}
 use Rattle.std.specs.List.{AllByRecursion, slice_get}
 use Rattle.std.specs.Option.{option_map}
 use Rattle.std.proofs.lemmas.List.Elements.{Contains-append_right, Contains-get_or}
@@ -26,7 +26,7 @@ use Rattle.freeme.proofs.WrittenLemmas.{names_same}
 use Rattle.freeme.specs.Causes.{AskFor, BecomesAs, IsForDone, IsForRead, IsForWrite, IsKnownAs, SaysRead, SaysWrite, cause_status}
 use Rattle.freeme.specs.Complete.{CanBeDone, IsComplete, NothingFails}
 use Rattle.freeme.specs.Jobs.{given_of, main_name}
-use Rattle.freeme.specs.TopCall.{IsUnwritten}
+use Rattle.freeme.specs.TopCall.{IsUntold, IsUnwritten, Outcome}
 use Rattle.freeme.specs.Writing.{IsFileOf, class_text, file_name, written_name}
 
 -- ---- lists
@@ -76,14 +76,14 @@ files_named folder = map-map class_text (file_name folder)
 
 -- ---- a job that nothing is against
 
-module _ {words : List Bytes} {old new : Disk} {before after : Output} (job : FreemeJob) (classes : List ClassDef) (asked : Asks words job) (can : CanBeDone job old.contents classes) (none : NothingFails job classes old new before after) where
+module _ {words : List Bytes} {old new : Disk} {before after report report' : Output} (job : FreemeJob) (classes : List ClassDef) (asked : Asks words job) (can : CanBeDone job old.contents classes) (none : NothingFails job classes old new before after report report') where
   -- it is known to be done
   known_as_done : AskFor words (IsKnownAs DONE old)
   known_as_done =
       let free : BecomesAs DONE classes (main_name job) (first_call (program_of classes (main_name job))) = subst (BecomesAs DONE classes (main_name job)) (sym can.no_call) (λ facts exact least. ap cause_status (can.no_cause facts exact least)) in
       (job, (asked, record { known = can.known; classes = classes; checked = can.checked; becomes = free }))
 
-  not_read : ¬ SaysRead words old new before after
+  not_read : ¬ SaysRead words old new before after report report'
   not_read said =
       let P : FreemeJob → Type 0 = λ k. IsUnread k.files said.file old new in
       let unread = subst P (asks_one words said.job job said.asked asked) said.unread in
@@ -128,8 +128,12 @@ module _ {words : List Bytes} {old new : Disk} {before after : Output} (job : Fr
     not_unwritten : ⊥
     not_unwritten = one_sort Kept (given_of job) old.contents can.known classes given can.checked.linked.source unwritten.freed.checked.linked.source none.writes fails_here
 
-  not_write : ¬ SaysWrite words old new before after
-  not_write (inl unput) = let rose = unput.fails.fault in let kept = none.puts in omega arith
+  not_untold : (o : Outcome) → ¬ IsUntold o before after report report'
+  not_untold (Ok lines) fails = let rose = fails.0.fault in let kept = none.puts in omega arith
+  not_untold (Err refusal) fails = let rose = fails.0.fault in let kept = none.reports in omega arith
+
+  not_write : ¬ SaysWrite words old new before after report report'
+  not_write (inl unput) = not_untold unput.outcome unput.fails
   not_write (inr (inl said)) =
       let P : FreemeJob → Type 0 = λ k. IsUnwritten k said.name old new in
       not_unwritten said.name (subst P (asks_one words said.job job said.asked asked) said.unwritten)
@@ -137,8 +141,9 @@ module _ {words : List Bytes} {old new : Disk} {before after : Output} (job : Fr
 
 -- ---- the clause
 
-pub is_complete : (words : List Bytes) (old new : Disk) (before after : Output) (result : ℕ) → IsForDone words old new before after result
-    → IsForRead words old new before after result → IsForWrite words old new before after result → IsComplete words old new before after result
-is_complete words old new before after result done read write job classes asked can none =
+pub is_complete : (words : List Bytes) (old new : Disk) (before after report report' : Output) (result : ℕ) → IsForDone words old new before after report report' result
+    → IsForRead words old new before after report report' result → IsForWrite words old new before after report report' result
+    → IsComplete words old new before after report report' result
+is_complete words old new before after report report' result done read write job classes asked can none =
     done_or_memory result (λ is. not_read job classes asked can none (read.only is)) (λ is. not_write job classes asked can none (write.only is))
     (done.there (known_as_done job classes asked can none))

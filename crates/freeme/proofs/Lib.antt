@@ -9,4 +9,5 @@ pub mod WriteLemmas
 pub mod WrittenLemmas
 pub mod TakenAgain
 pub mod TextLemmas
+pub mod ToldLemmas
 pub mod MeaningLemmas

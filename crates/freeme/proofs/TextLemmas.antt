@@ -1,5 +1,5 @@
 -- What each clause says of a call for a text.
-use Rattle.std.proofs.Common.{◌≡◌, ◌≢◌, ◌≤◌, ◌⊎◌, ℕ, inl, inr, List, refl, sym, ap, ◌∙◌, subst, arith}
+use Rattle.std.proofs.Common.{◌≡◌, ◌≢◌, ◌<◌, ◌≤◌, ◌⊎◌, ℕ, inl, inr, List, refl, sym, ap, ◌∙◌, subst, arith}
 use Rattle.fm_base.proofs.ContainsFacts.{unlike_elements}
 use Rattle.fm_files.specs.Files.{Bytes, Disk}
 use Rattle.fm_files.specs.Sink.{Output}
@@ -16,10 +16,10 @@ use Rattle.fm_cli_requests.specs.declared.program_text.ProgramText.{ProgramText}
 use Rattle.fm_load.specs.Causes.{FailsARead, FailsAWrite, IsMissing}
 use Rattle.freeme.proofs.CauseLemmas.{faultless_statuses}
 use Rattle.freeme.proofs.StatusLemmas.{all_statuses}
-use Rattle.freeme.specs.Causes.{AskFor, AskForGiven, ChangesOnly, IsFaultless, IsForBytes, IsForCheck, IsForDone, IsForLimit, IsForLink, IsForMemory, IsForRead, IsForRewrite, IsForText, IsForWords, IsForWrite, IsStatus, KeepsContents}
+use Rattle.freeme.specs.Causes.{AskFor, AskForGiven, ChangesOnly, IsFaultless, IsForBytes, IsForCheck, IsForDone, IsForLimit, IsForLink, IsForMemory, IsForRead, IsForRewrite, IsForText, IsForWords, IsForWrite, IsSilent, IsStatus, KeepsContents, before_writes}
 use Rattle.freeme.specs.TopCall.{IsTextPut, IsTopCall, text_bytes}
 
-module _ (words : List Bytes) (files : Disk) (before after : Output) (result : ℕ) (asked : ProgramText) (asks : AskForText words asked) (tells : Tells (text_bytes asked) DONE before after result) where
+module _ (words : List Bytes) (files : Disk) (before after report : Output) (result : ℕ) (asked : ProgramText) (asks : AskForText words asked) (tells : Tells (text_bytes asked) DONE before after result) where
   no_job : AskNoJob words
   no_job = text_no_job words asked asks
 
@@ -48,34 +48,34 @@ module _ (words : List Bytes) (files : Disk) (before after : Output) (result : �
   no_write : ¬ FailsAWrite files files
   no_write (name, rose) = omega arith
 
-  put : IsTextPut asked files files before after result
-  put = record { kept = refl; tells = tells }
+  put : IsTextPut asked files files before after report report result
+  put = record { kept = refl; unreported = refl; tells = tells }
 
-  pub text_whole : IsTopCall words files files before after result
+  pub text_whole : IsTopCall words files files before after report report result
   text_whole = inl (record { asked = asked; asks = asks; put = put })
 
   pub text_status : IsStatus result
   text_status = told_among (text_bytes asked) DONE before after result tells all_statuses (0, omega arith, refl) (12, omega arith, refl) (13, omega arith, refl)
 
-  pub text_done : IsForDone words files files before after result
+  pub text_done : IsForDone words files files before after report report result
   text_done = record { only = λ is. inr only_text; there = λ cause. absurd (none_for cause) }
 
-  pub text_text : IsForText words files files before after result
-  text_text other also = let P : ProgramText → Type 0 = λ t. IsTextPut t files files before after result in subst P (one_text words asked other asks also) put
+  pub text_text : IsForText words files files before after report report result
+  text_text other also = let P : ProgramText → Type 0 = λ t. IsTextPut t files files before after report report result in subst P (one_text words asked other asks also) put
 
-  pub text_words : IsForWords words files files before after result
+  pub text_words : IsForWords words files files before after report report result
   text_words = never WORDS (λ e. omega arith) (λ e. omega arith) (λ e. omega arith) (λ nothing. nothing.no_text asked asks)
 
-  pub text_read : IsForRead words files files before after result
+  pub text_read : IsForRead words files files before after report report result
   text_read = never READ (λ e. omega arith) (λ e. omega arith) (λ e. omega arith) none where
     none : ¬ (FailsARead files files ⊎ AskForGiven words (IsMissing files))
     none (inl fault) = no_read fault
     none (inr missing) = none_for missing
 
-  pub text_of_bytes : (status : ℕ) → 66 ≤ status → status ≤ 69 → IsForBytes status words files files before after result
+  pub text_of_bytes : (status : ℕ) → 66 ≤ status → status ≤ 69 → IsForBytes status words files files before after report report result
   text_of_bytes status low high = never status (λ e. omega arith) (λ e. omega arith) (λ e. omega arith) none_for
 
-  pub text_limit : IsForLimit words files files before after result
+  pub text_limit : IsForLimit words files files before after report report result
   text_limit = record {
     only = λ is. absurd (apart LIMIT (λ e. omega arith) (λ e. omega arith) (λ e. omega arith) is);
     many = λ cause. absurd (none_for cause);
@@ -83,27 +83,30 @@ module _ (words : List Bytes) (files : Disk) (before after : Output) (result : �
     bytes = λ cause. absurd (none_for cause);
   }
 
-  pub text_link : IsForLink words files files before after result
+  pub text_link : IsForLink words files files before after report report result
   text_link = never LINK (λ e. omega arith) (λ e. omega arith) (λ e. omega arith) none_for
 
-  pub text_check : IsForCheck words files files before after result
+  pub text_check : IsForCheck words files files before after report report result
   text_check = never CHECK (λ e. omega arith) (λ e. omega arith) (λ e. omega arith) none_for
 
-  pub text_rewrite : (status : ℕ) → 72 ≤ status → status ≤ 74 → IsForRewrite status words files files before after result
+  pub text_rewrite : (status : ℕ) → 72 ≤ status → status ≤ 74 → IsForRewrite status words files files before after report report result
   text_rewrite status low high = never status (λ e. omega arith) (λ e. omega arith) (λ e. omega arith) none_for
 
-  pub text_write : IsForWrite words files files before after result
+  pub text_write : IsForWrite words files files before after report report result
   text_write = record {
     only = λ is. inr (inr only_text);
-    put = put_fails (text_bytes asked) DONE before after result tells;
+    put = rose;
     write = λ cause. absurd (no_write cause);
-  }
+  } where
+    rose : (before.faults < after.faults) ⊎ (report.faults < report.faults) → result ≡ WRITE
+    rose (inl output) = put_fails (text_bytes asked) DONE before after result tells output
+    rose (inr reported) = absurd (omega arith)
 
-  pub text_memory : IsForMemory words files files before after result
+  pub text_memory : IsForMemory words files files before after report report result
   text_memory is = inr (inr only_text)
 
-  pub text_faultless : IsFaultless files files before after result
-  text_faultless among = (no_fault_where_same files files refl, go tells) where
+  pub text_faultless : IsFaultless files files before after report report result
+  text_faultless among = (no_fault_where_same files files refl, go tells, refl) where
     go : Tells (text_bytes asked) DONE before after result → after.faults ≡ before.faults
     go (inl own) = ap (λ (o : Output). o.faults) own.1
     go (inr (inl failed)) = absurd (unlike_elements WRITE faultless_statuses refl result among failed.0)
@@ -111,6 +114,13 @@ module _ (words : List Bytes) (files : Disk) (before after : Output) (result : �
 
   pub text_kept : KeepsContents files files result
   text_kept among = (refl, refl)
+
+  pub text_silent : IsSilent before after result
+  text_silent among = go tells where
+    go : Tells (text_bytes asked) DONE before after result → after ≡ before
+    go (inl own) = absurd (unlike_elements DONE before_writes refl result among own.0)
+    go (inr (inl failed)) = absurd (unlike_elements WRITE before_writes refl result among failed.0)
+    go (inr (inr lacking)) = lacking.1
 
   pub text_changes : ChangesOnly words files files
   text_changes = record { asked = λ job has. absurd (no_job job has); unasked = λ none. refl }

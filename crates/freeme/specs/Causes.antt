@@ -1,7 +1,7 @@
 -- When each status comes, and what a call leaves then. All this follows from what a call does as a whole; a caller reads it one by one.
 use Rattle.std.specs.Prelude.{◌≡◌, ℕ, ◌<◌, ◌⊎◌, List, [], ◌∷◌, Contains, length, Option, Some, None, IsSome}
 use Rattle.fm_files.specs.Files.{Bytes, Disk}
-use Rattle.fm_files.specs.Sink.{Output, FailsPut, with_piece}
+use Rattle.fm_files.specs.Sink.{Output, with_piece}
 use Rattle.fm_code.specs.declared.class_file.ClassDef.{ClassDef}
 use Rattle.fm_cli.specs.Outside.{HasNoFileFault}
 use Rattle.fm_cli.specs.CommandRefusal.{words_line, read_line, memory_line}
@@ -17,13 +17,13 @@ use Rattle.fm_world.specs.Causes.{Refusal}
 use Rattle.fm_world.specs.Programs.{program_of}
 use Rattle.fm_load.specs.ClassRefusal.{class_refusal_line, class_refusal_status}
 use Rattle.fm_load.specs.LinkRefusal.{link_line}
-use Rattle.fm_load.specs.Refusal.{check_line, many_line, long_line, write_line}
+use Rattle.fm_load.specs.Refusal.{IsRefusedBy, check_line, many_line, long_line, write_line}
 use Rattle.freeme.specs.Refusal.{rewrite_line, rewrite_status}
 use Rattle.fm_cli_requests.specs.FreemeRequest.{FreemeJob, Asks, AskNoJob, AskNothing, AskOnlyForText}
 use Rattle.fm_cli_requests.specs.ProgramText.{AskForText}
 use Rattle.fm_cli_requests.specs.declared.program_text.ProgramText.{ProgramText}
 use Rattle.freeme.specs.Jobs.{given_of, main_name}
-use Rattle.freeme.specs.TopCall.{StaysWithin, IsDone, IsUnwritten, IsBroken, IsNotFreed, IsTextPut, Outcome, ComesOf, outcome_line}
+use Rattle.freeme.specs.TopCall.{StaysWithin, IsDone, IsUnwritten, IsBroken, IsNotFreed, IsTextPut, IsUntold, Outcome, ComesOf}
 use Rattle.freeme.specs.declared.status.TheConstants.{CALLS_FREE, POOL_FULL, METHOD_TOO_LONG}
 use Rattle.fm_load.specs.Causes.{FailsARead, FailsAWrite, HasTooMany, IsMissing, IsKnownLong, IsKnownRefused, IsKnownUnlinked, IsKnownUntyped}
 use Rattle.fm_load.specs.Given.{Given, IsUntouched, AreMany, IsUnread, IsLong, IsRefusedFile, IsNotLinked, IsNotTyped, AreChecked, given_program}
@@ -44,124 +44,123 @@ AskForGiven words P = AskFor words (λ job. P (given_of job))
 
 -- ---- 64
 
--- the words ask for nothing, the files are as they were, and the sink got one line
-pub record SaysWords (words : List Bytes) (old new : Disk) (before after : Output) : Type 0 where
+-- the words ask for nothing, and the files are as they were
+pub record SaysWords (words : List Bytes) (old new : Disk) (before after report report' : Output) : Type 0 where
   pub unasked : AskNothing words
   pub kept : new ≡ old
-  pub line : after ≡ with_piece words_line before
+  pub refused : IsRefusedBy words_line before after report report'
 
 -- exactly where the words ask for nothing, unless the put fails or memory can't be had
-abbrev pub IsForWords : List Bytes → Disk → Disk → Output → Output → ℕ → Type 0
-IsForWords words old new before after result = ComesExactly WORDS (WRITE ∷ OUT_OF_MEMORY ∷ []) result (SaysWords words old new before after) (AskNothing words)
+abbrev pub IsForWords : List Bytes → Disk → Disk → Output → Output → Output → Output → ℕ → Type 0
+IsForWords words old new before after report report' result = ComesExactly WORDS (WRITE ∷ OUT_OF_MEMORY ∷ []) result (SaysWords words old new before after report report') (AskNothing words)
 
 -- ---- 65
 
--- the read of a file of the job failed, those before it are taken, nothing else failed, no contents changed, and the sink got one line
-pub record SaysRead (words : List Bytes) (old new : Disk) (before after : Output) : Type 0 where
+-- the read of a file of the job failed, those before it are taken, nothing else failed, and no contents changed
+pub record SaysRead (words : List Bytes) (old new : Disk) (before after report report' : Output) : Type 0 where
   pub job : FreemeJob
   pub asked : Asks words job
   pub file : Bytes
   pub unread : IsUnread job.files file old new
-  pub line : after ≡ with_piece (read_line file) before
+  pub refused : IsRefusedBy (read_line file) before after report report'
 
 -- exactly there, unless the put fails or memory can't be had
-abbrev pub IsForRead : List Bytes → Disk → Disk → Output → Output → ℕ → Type 0
-IsForRead words old new before after result =
-    ComesExactly READ (WRITE ∷ OUT_OF_MEMORY ∷ []) result (SaysRead words old new before after) (FailsARead old new ⊎ AskForGiven words (IsMissing old))
+abbrev pub IsForRead : List Bytes → Disk → Disk → Output → Output → Output → Output → ℕ → Type 0
+IsForRead words old new before after report report' result =
+    ComesExactly READ (WRITE ∷ OUT_OF_MEMORY ∷ []) result (SaysRead words old new before after report report') (FailsARead old new ⊎ AskForGiven words (IsMissing old))
 
 -- ---- 66, 67 and 69
 
--- a file of the job is refused by its bytes with this status, where contents are known, those before it are taken, nothing failed, no contents
--- changed, and the sink got one line
-pub record SaysRefused (status : ℕ) (words : List Bytes) (old new : Disk) (before after : Output) : Type 0 where
+-- a file of the job is refused by its bytes with this status, where contents are known, those before it are taken, nothing failed, and no
+-- contents changed
+pub record SaysRefused (status : ℕ) (words : List Bytes) (old new : Disk) (before after report report' : Output) : Type 0 where
   pub job : FreemeJob
   pub asked : Asks words job
   pub file : Bytes
   pub refusal : ClassRefusal
   pub status_is : class_refusal_status refusal ≡ status
-  pub refused : IsRefusedFile job.files file refusal old new
-  pub line : after ≡ with_piece (class_refusal_line file refusal) before
+  pub unaccepted : IsRefusedFile job.files file refusal old new
+  pub refused : IsRefusedBy (class_refusal_line file refusal) before after report report'
 
 -- exactly there, unless a read or the put fails or memory can't be had
-abbrev pub IsForBytes : ℕ → List Bytes → Disk → Disk → Output → Output → ℕ → Type 0
-IsForBytes status words old new before after result =
-    ComesExactly status (READ ∷ WRITE ∷ OUT_OF_MEMORY ∷ []) result (SaysRefused status words old new before after) (AskForGiven words (IsKnownRefused status old))
+abbrev pub IsForBytes : ℕ → List Bytes → Disk → Disk → Output → Output → Output → Output → ℕ → Type 0
+IsForBytes status words old new before after report report' result =
+    ComesExactly status (READ ∷ WRITE ∷ OUT_OF_MEMORY ∷ []) result (SaysRefused status words old new before after report report') (AskForGiven words (IsKnownRefused status old))
 
 -- ---- 68
 
--- there are too many files, the files are as they were, and the sink got one line
-pub record SaysMany (words : List Bytes) (old new : Disk) (before after : Output) : Type 0 where
+-- there are too many files, and they are as they were
+pub record SaysMany (words : List Bytes) (old new : Disk) (before after report report' : Output) : Type 0 where
   pub job : FreemeJob
   pub asked : Asks words job
   pub many : AreMany job.files (length job.files) old new
-  pub line : after ≡ with_piece (many_line (length job.files)) before
+  pub refused : IsRefusedBy (many_line (length job.files)) before after report report'
 
 -- a file of the job is too long, or those up to it are, where contents are known; enough bytes were
--- read to show it; those before it are taken, nothing failed, no contents changed, and the sink got
--- one line
-pub record SaysLong (words : List Bytes) (old new : Disk) (before after : Output) : Type 0 where
+-- read to show it; those before it are taken, nothing failed, and no contents changed
+pub record SaysLong (words : List Bytes) (old new : Disk) (before after report report' : Output) : Type 0 where
   pub job : FreemeJob
   pub asked : Asks words job
   pub file : Bytes
   pub long : IsLong job.files file old new
-  pub line : after ≡ with_piece (long_line file) before
+  pub refused : IsRefusedBy (long_line file) before after report report'
 
 -- there are too many files, or one is too long, or a count of a method is above its limit
-abbrev pub SaysLimit : List Bytes → Disk → Disk → Output → Output → Type 0
-SaysLimit words old new before after =
-    SaysMany words old new before after ⊎ (SaysLong words old new before after ⊎ SaysRefused LIMIT words old new before after)
+abbrev pub SaysLimit : List Bytes → Disk → Disk → Output → Output → Output → Output → Type 0
+SaysLimit words old new before after report report' =
+    SaysMany words old new before after report report' ⊎ (SaysLong words old new before after report report' ⊎ SaysRefused LIMIT words old new before after report report')
 
 -- exactly there, unless a read or the put fails or memory can't be had; of too many files none is read
-pub record IsForLimit (words : List Bytes) (old new : Disk) (before after : Output) (result : ℕ) : Type 0 where
-  pub only : result ≡ LIMIT → SaysLimit words old new before after
+pub record IsForLimit (words : List Bytes) (old new : Disk) (before after report report' : Output) (result : ℕ) : Type 0 where
+  pub only : result ≡ LIMIT → SaysLimit words old new before after report report'
   pub many : AskForGiven words HasTooMany → Contains (LIMIT ∷ WRITE ∷ OUT_OF_MEMORY ∷ []) result
   pub long : AskForGiven words (IsKnownLong old) → Contains (LIMIT ∷ READ ∷ WRITE ∷ OUT_OF_MEMORY ∷ []) result
   pub bytes : AskForGiven words (IsKnownRefused LIMIT old) → Contains (LIMIT ∷ READ ∷ WRITE ∷ OUT_OF_MEMORY ∷ []) result
 
 -- ---- 70
 
--- all files of the job are taken, their classes make no program, nothing failed, no contents changed, and the sink got one line, of the first cause
-pub record SaysLink (words : List Bytes) (old new : Disk) (before after : Output) : Type 0 where
+-- all files of the job are taken, their classes make no program, nothing failed, and no contents changed; the line names the first cause
+pub record SaysLink (words : List Bytes) (old new : Disk) (before after report report' : Output) : Type 0 where
   pub job : FreemeJob
   pub asked : Asks words job
   pub cause : Refusal
   pub unlinked : IsNotLinked (given_of job) (Some cause) old new
-  pub line : after ≡ with_piece (link_line cause) before
+  pub refused : IsRefusedBy (link_line cause) before after report report'
 
 -- exactly there, unless a read or the put fails or memory can't be had
-abbrev pub IsForLink : List Bytes → Disk → Disk → Output → Output → ℕ → Type 0
-IsForLink words old new before after result =
-    ComesExactly LINK (READ ∷ WRITE ∷ OUT_OF_MEMORY ∷ []) result (SaysLink words old new before after) (AskForGiven words (IsKnownUnlinked old))
+abbrev pub IsForLink : List Bytes → Disk → Disk → Output → Output → Output → Output → ℕ → Type 0
+IsForLink words old new before after report report' result =
+    ComesExactly LINK (READ ∷ WRITE ∷ OUT_OF_MEMORY ∷ []) result (SaysLink words old new before after report report') (AskForGiven words (IsKnownUnlinked old))
 
 -- ---- 71
 
--- all files of the job are taken, their classes make a program, a method of it isn't typed, nothing failed, no contents changed, and the sink got one
--- line, of the first such method
-pub record SaysCheck (words : List Bytes) (old new : Disk) (before after : Output) : Type 0 where
+-- all files of the job are taken, their classes make a program, a method of it isn't typed, nothing failed, and no contents changed; the line
+-- names the first such method
+pub record SaysCheck (words : List Bytes) (old new : Disk) (before after report report' : Output) : Type 0 where
   pub job : FreemeJob
   pub asked : Asks words job
   pub name : Bytes
   pub untyped : IsNotTyped (given_of job) name old new
-  pub line : after ≡ with_piece (check_line name) before
+  pub refused : IsRefusedBy (check_line name) before after report report'
 
 -- exactly there, unless a read or the put fails or memory can't be had
-abbrev pub IsForCheck : List Bytes → Disk → Disk → Output → Output → ℕ → Type 0
-IsForCheck words old new before after result =
-    ComesExactly CHECK (READ ∷ WRITE ∷ OUT_OF_MEMORY ∷ []) result (SaysCheck words old new before after) (AskForGiven words (IsKnownUntyped old))
+abbrev pub IsForCheck : List Bytes → Disk → Disk → Output → Output → Output → Output → ℕ → Type 0
+IsForCheck words old new before after report report' result =
+    ComesExactly CHECK (READ ∷ WRITE ∷ OUT_OF_MEMORY ∷ []) result (SaysCheck words old new before after report report') (AskForGiven words (IsKnownUntyped old))
 
 -- ---- 72, 73 and 74
 
 -- all files of the job are taken, their classes make a program, its methods are typed, there is a
--- cause of this status not to rewrite it, of which the line names the first one, nothing failed, no
--- contents changed, and the sink got that line
-pub record SaysNotFreed (status : ℕ) (words : List Bytes) (old new : Disk) (before after : Output) : Type 0 where
+-- cause of this status not to rewrite it, nothing failed, and no contents changed; the line names the
+-- first such cause
+pub record SaysNotFreed (status : ℕ) (words : List Bytes) (old new : Disk) (before after report report' : Output) : Type 0 where
   pub job : FreemeJob
   pub asked : Asks words job
   pub cause : RewriteFail
   pub status_is : rewrite_status cause ≡ status
   pub name : Bytes
-  pub refused : IsNotFreed job cause name old new
-  pub line : after ≡ with_piece (rewrite_line cause name) before
+  pub not_freed : IsNotFreed job cause name old new
+  pub refused : IsRefusedBy (rewrite_line cause name) before after report report'
 
 -- the status of what becomes of classes by their first cause, if there is one
 abbrev pub cause_status : Option RewriteFail → ℕ
@@ -185,89 +184,98 @@ pub record IsKnownAs (status : ℕ) (old : Disk) (job : FreemeJob) : Type 0 wher
   pub becomes : BecomesAs status classes (main_name job) (first_call (given_program (given_of job) classes))
 
 -- exactly there, unless a read or the put fails or memory can't be had
-abbrev pub IsForRewrite : ℕ → List Bytes → Disk → Disk → Output → Output → ℕ → Type 0
-IsForRewrite status words old new before after result =
-    ComesExactly status (READ ∷ WRITE ∷ OUT_OF_MEMORY ∷ []) result (SaysNotFreed status words old new before after) (AskFor words (IsKnownAs status old))
+abbrev pub IsForRewrite : ℕ → List Bytes → Disk → Disk → Output → Output → Output → Output → ℕ → Type 0
+IsForRewrite status words old new before after report report' result =
+    ComesExactly status (READ ∷ WRITE ∷ OUT_OF_MEMORY ∷ []) result (SaysNotFreed status words old new before after report report') (AskFor words (IsKnownAs status old))
 
 -- ---- 0
 
 -- all files of the job are taken, their classes make a program, its methods are typed, its classes are written with what frees their dead objects, nothing
--- failed, every other name is as before, and the sink got the lines of the classes as one piece
-pub record SaysDone (words : List Bytes) (old new : Disk) (before after : Output) : Type 0 where
+-- failed, every other name is as before, the output got the lines of the classes as one piece, and the report is as it was
+pub record SaysDone (words : List Bytes) (old new : Disk) (before after report report' : Output) : Type 0 where
   pub job : FreemeJob
   pub asked : Asks words job
   pub lines : List ℕ
   pub done : IsDone job lines old new
   pub line : after ≡ with_piece lines before
+  pub unreported : report' ≡ report
 
 -- only there, or where the words ask for a text; exactly where there is no cause against it, unless a read, a write or the put fails or memory can't
 -- be had
-abbrev pub IsForDone : List Bytes → Disk → Disk → Output → Output → ℕ → Type 0
-IsForDone words old new before after result =
-    ComesExactly DONE (READ ∷ WRITE ∷ OUT_OF_MEMORY ∷ []) result (SaysDone words old new before after ⊎ AskOnlyForText words) (AskFor words (IsKnownAs DONE old))
+abbrev pub IsForDone : List Bytes → Disk → Disk → Output → Output → Output → Output → ℕ → Type 0
+IsForDone words old new before after report report' result =
+    ComesExactly DONE (READ ∷ WRITE ∷ OUT_OF_MEMORY ∷ []) result (SaysDone words old new before after report report' ⊎ AskOnlyForText words) (AskFor words (IsKnownAs DONE old))
 
 -- ---- 0, for a text
 
 -- where the words ask for a text, it is put, or the put fails, or memory can't be had, and nothing else happens
-abbrev pub IsForText : List Bytes → Disk → Disk → Output → Output → ℕ → Type 0
-IsForText words old new before after result = (asked : ProgramText) → AskForText words asked → IsTextPut asked old new before after result
+abbrev pub IsForText : List Bytes → Disk → Disk → Output → Output → Output → Output → ℕ → Type 0
+IsForText words old new before after report report' result = (asked : ProgramText) → AskForText words asked → IsTextPut asked old new before after report report' result
 
 -- ---- 75
 
--- the first classes of the job are written and the write of the next one failed, and nothing else, and the sink got one line
-pub record SaysUnwritten (words : List Bytes) (old new : Disk) (before after : Output) : Type 0 where
+-- the first classes of the job are written, the write of the next one failed, and nothing else
+pub record SaysUnwritten (words : List Bytes) (old new : Disk) (before after report report' : Output) : Type 0 where
   pub job : FreemeJob
   pub asked : Asks words job
   pub name : Bytes
   pub unwritten : IsUnwritten job name old new
-  pub line : after ≡ with_piece (write_line name) before
+  pub refused : IsRefusedBy (write_line name) before after report report'
 
--- the words came out in some way, and the put of the lines of that failed
-pub record SaysUnput (words : List Bytes) (old new : Disk) (before after : Output) : Type 0 where
+-- the words came out in some way, and the put of the lines of that failed, into the output or, of a refusal, into the report
+pub record SaysUnput (words : List Bytes) (old new : Disk) (before after report report' : Output) : Type 0 where
   pub outcome : Outcome
   pub comes : ComesOf words old new outcome
-  pub fails : FailsPut (outcome_line outcome) before after
+  pub fails : IsUntold outcome before after report report'
 
 -- one of the two, or the words ask for a text
-abbrev pub SaysWrite : List Bytes → Disk → Disk → Output → Output → Type 0
-SaysWrite words old new before after = SaysUnput words old new before after ⊎ (SaysUnwritten words old new before after ⊎ AskOnlyForText words)
+abbrev pub SaysWrite : List Bytes → Disk → Disk → Output → Output → Output → Output → Type 0
+SaysWrite words old new before after report report' = SaysUnput words old new before after report report' ⊎ (SaysUnwritten words old new before after report report' ⊎ AskOnlyForText words)
 
 -- only there; exactly there where a put failed, and where a write failed unless memory for its line can't be had
-pub record IsForWrite (words : List Bytes) (old new : Disk) (before after : Output) (result : ℕ) : Type 0 where
-  pub only : result ≡ WRITE → SaysWrite words old new before after
-  pub put : before.faults < after.faults → result ≡ WRITE
+pub record IsForWrite (words : List Bytes) (old new : Disk) (before after report report' : Output) (result : ℕ) : Type 0 where
+  pub only : result ≡ WRITE → SaysWrite words old new before after report report'
+  pub put : (before.faults < after.faults) ⊎ (report.faults < report'.faults) → result ≡ WRITE
   pub write : FailsAWrite old new → Contains (WRITE ∷ OUT_OF_MEMORY ∷ []) result
 
 -- ---- 76
 
--- memory couldn't be had for the job: nothing failed, the first classes are written, or no contents changed, and the sink got the line of that
-pub record SaysMemory (words : List Bytes) (old new : Disk) (before after : Output) : Type 0 where
+-- memory couldn't be had for the job: nothing failed, and the first classes are written, or no contents changed
+pub record SaysMemory (words : List Bytes) (old new : Disk) (before after report report' : Output) : Type 0 where
   pub stopped : IsUntouched old new ⊎ AskFor words (λ job. IsBroken job old new)
-  pub line : after ≡ with_piece memory_line before
+  pub refused : IsRefusedBy memory_line before after report report'
 
--- the words came out in some way, memory couldn't be had for the lines of that, and the sink is as it was
-pub record LacksLine (words : List Bytes) (old new : Disk) (before after : Output) : Type 0 where
+-- the words came out in some way, memory couldn't be had for the lines of that, and both sinks are as they were
+pub record LacksLine (words : List Bytes) (old new : Disk) (before after report report' : Output) : Type 0 where
   pub outcome : Outcome
   pub comes : ComesOf words old new outcome
   pub silent : after ≡ before
+  pub unreported : report' ≡ report
 
 -- one of the two, or the words ask for a text
-abbrev pub IsForMemory : List Bytes → Disk → Disk → Output → Output → ℕ → Type 0
-IsForMemory words old new before after result =
-    result ≡ OUT_OF_MEMORY → SaysMemory words old new before after ⊎ (LacksLine words old new before after ⊎ AskOnlyForText words)
+abbrev pub IsForMemory : List Bytes → Disk → Disk → Output → Output → Output → Output → ℕ → Type 0
+IsForMemory words old new before after report report' result =
+    result ≡ OUT_OF_MEMORY → SaysMemory words old new before after report report' ⊎ (LacksLine words old new before after report report' ⊎ AskOnlyForText words)
 
 -- ---- what changes
 
 -- at a status that isn't for a fault or for memory, no count of faults rose in this call
-abbrev pub IsFaultless : Disk → Disk → Output → Output → ℕ → Type 0
-IsFaultless old new before after result =
-    Contains (DONE ∷ WORDS ∷ MALFORMED ∷ VERSION ∷ LIMIT ∷ UNSUPPORTED ∷ LINK ∷ CHECK ∷ CALLS_FREE ∷ POOL_FULL ∷ METHOD_TOO_LONG ∷ []) result → HasNoFileFault old new × (after.faults ≡ before.faults)
+abbrev pub IsFaultless : Disk → Disk → Output → Output → Output → Output → ℕ → Type 0
+IsFaultless old new before after report report' result =
+    Contains (DONE ∷ WORDS ∷ MALFORMED ∷ VERSION ∷ LIMIT ∷ UNSUPPORTED ∷ LINK ∷ CHECK ∷ CALLS_FREE ∷ POOL_FULL ∷ METHOD_TOO_LONG ∷ []) result
+    → HasNoFileFault old new × (after.faults ≡ before.faults) × (report'.faults ≡ report.faults)
 
--- a refusal before the first write leaves all contents as they were, and writes nothing
+-- the statuses of refusals before the first write
+abbrev pub before_writes : List ℕ
+before_writes = WORDS ∷ READ ∷ MALFORMED ∷ VERSION ∷ LIMIT ∷ UNSUPPORTED ∷ LINK ∷ CHECK ∷ CALLS_FREE ∷ POOL_FULL ∷ METHOD_TOO_LONG ∷ []
+
+-- such a refusal leaves all contents as they were, and writes nothing
 abbrev pub KeepsContents : Disk → Disk → ℕ → Type 0
-KeepsContents old new result =
-    Contains (WORDS ∷ READ ∷ MALFORMED ∷ VERSION ∷ LIMIT ∷ UNSUPPORTED ∷ LINK ∷ CHECK ∷ CALLS_FREE ∷ POOL_FULL ∷ METHOD_TOO_LONG ∷ []) result
-    → (new.contents ≡ old.contents) × (new.writes ≡ old.writes)
+KeepsContents old new result = Contains before_writes result → (new.contents ≡ old.contents) × (new.writes ≡ old.writes)
+
+-- and it leaves the output as it was: only the report gets something
+abbrev pub IsSilent : Output → Output → ℕ → Type 0
+IsSilent before after result = Contains before_writes result → after ≡ before
 
 -- a job reads only its files and changes no name but those of class files in its folder, and words
 -- that ask for no job leave the files as they were

@@ -26,15 +26,16 @@ pub record CanBeDone (job : FreemeJob) (contents : Contents) (classes : List Cla
   pub no_cause : (facts : Facts) → AreFacts (program_of classes (main_name job)) facts → AreLeastTypings (program_of classes (main_name job)) facts.typing
       → first_cause (full_plans (program_of classes (main_name job)) facts) classes ≡ None
 
--- In this call no read of a file of the job failed, no write of the file of one of these classes, and no put.
+-- In this call no read of a file of the job failed, no write of the file of one of these classes, and no put of the lines or of a refusal's.
 -- Over `SureFiles` and `SureSink` of `fm_files` this always holds: their counts are 0.
-pub record NothingFails (job : FreemeJob) (classes : List ClassDef) (old new : Disk) (before after : Output) : Type 0 where
+pub record NothingFails (job : FreemeJob) (classes : List ClassDef) (old new : Disk) (before after report report' : Output) : Type 0 where
   pub reads : (file : Bytes) → Contains job.files file → new.read_faults file ≤ old.read_faults file
   pub writes : (name : Bytes) → IsFileOf job.folder classes name → new.write_faults name ≤ old.write_faults name
   pub puts : after.faults ≤ before.faults
+  pub reports : report'.faults ≤ report.faults
 
 -- a job that words ask for is done where nothing is against it and nothing fails, or memory can't be had
-abbrev pub IsComplete : List Bytes → Disk → Disk → Output → Output → ℕ → Type 0
-IsComplete words old new before after result =
-    (job : FreemeJob) (classes : List ClassDef) → Asks words job → CanBeDone job old.contents classes → NothingFails job classes old new before after
-    → Contains (DONE ∷ OUT_OF_MEMORY ∷ []) result
+abbrev pub IsComplete : List Bytes → Disk → Disk → Output → Output → Output → Output → ℕ → Type 0
+IsComplete words old new before after report report' result =
+    (job : FreemeJob) (classes : List ClassDef) → Asks words job → CanBeDone job old.contents classes
+    → NothingFails job classes old new before after report report' → Contains (DONE ∷ OUT_OF_MEMORY ∷ []) result

@@ -1,9 +1,9 @@
--- What one call of the program does to the files and to the sink.
+-- What one call of the program does to the files, to its output and to the sink of its report.
 use Rattle.std.specs.declared.alloc.Global.{Global}
 use Rattle.std.specs.Prelude.{◌≡◌, ℕ, ◌⊎◌, List, [], ◌∷◌, Contains, IfSome, Result, Ok, Err, String, string_bytes}
 use Rattle.std.specs.List.{AllByRecursion}
 use Rattle.fm_files.specs.Files.{Bytes, Contents, Disk}
-use Rattle.fm_files.specs.Sink.{Output}
+use Rattle.fm_files.specs.Sink.{Output, FailsPut}
 use Rattle.fm_code.specs.Profile.{Profile}
 use Rattle.fm_code.specs.declared.class_file.ClassDef.{ClassDef}
 use Rattle.fm_place.specs.Safe.{Safe}
@@ -169,40 +169,42 @@ pub record LacksRequest (old new : Disk) (outcome : Outcome) : Type 0 where
 abbrev pub ComesOf : List Bytes → Disk → Disk → Outcome → Type 0
 ComesOf words old new outcome = ComesOfJob words old new outcome ⊎ (ComesOfNothing words old new outcome ⊎ LacksRequest old new outcome)
 
--- the line of an outcome, or its lines
-abbrev pub outcome_line : Outcome → List ℕ
-outcome_line (Ok lines) = string_bytes lines
-outcome_line (Err refusal) = refusal_line refusal
+-- the lines of a job that is done are put into the output as one piece, that of a refusal into the report, and the result is the status of the
+-- outcome; or the put fails, or memory for it can't be had; the other sink is as it was
+abbrev pub IsTold : Outcome → Output → Output → Output → Output → ℕ → Type 0
+IsTold (Ok lines) before after report report' result = Tells (string_bytes lines) DONE before after result × (report' ≡ report)
+IsTold (Err refusal) before after report report' result = Tells (refusal_line refusal) (refusal_status refusal) report report' result × (after ≡ before)
 
--- the status of an outcome
-abbrev pub outcome_status : Outcome → ℕ
-outcome_status (Ok lines) = DONE
-outcome_status (Err refusal) = refusal_status refusal
+-- that put fails, and the other sink is as it was
+abbrev pub IsUntold : Outcome → Output → Output → Output → Output → Type 0
+IsUntold (Ok lines) before after report report' = FailsPut (string_bytes lines) before after × (report' ≡ report)
+IsUntold (Err refusal) before after report report' = FailsPut (refusal_line refusal) report report' × (after ≡ before)
 
--- a call for no text: what the words ask for comes out in some way, and the lines of that are put as one piece, or the put fails, or memory for them
--- can't be had
-pub record IsJobCall (words : List Bytes) (old new : Disk) (before after : Output) (result : ℕ) : Type 0 where
+-- a call for no text: what the words ask for comes out in some way, and that is reported
+pub record IsJobCall (words : List Bytes) (old new : Disk) (before after report report' : Output) (result : ℕ) : Type 0 where
   pub no_text : AskForNoText words
   pub outcome : Outcome
   pub comes : ComesOf words old new outcome
-  pub tells : Tells (outcome_line outcome) (outcome_status outcome) before after result
+  pub tells : IsTold outcome before after report report' result
 
 -- the bytes of a text of the program
 abbrev pub text_bytes : ProgramText → List ℕ
 text_bytes text.Help = HELP.now
 text_bytes text.Version = VERSION_LINE.now
 
--- the text is put as one piece, or the put fails, or memory for it can't be had; the files are as they were
-pub record IsTextPut (asked : ProgramText) (old new : Disk) (before after : Output) (result : ℕ) : Type 0 where
+-- the text is put into the output as one piece, or the put fails, or memory for it can't be had; the files and the report are as they were
+pub record IsTextPut (asked : ProgramText) (old new : Disk) (before after report report' : Output) (result : ℕ) : Type 0 where
   pub kept : new ≡ old
+  pub unreported : report' ≡ report
   pub tells : Tells (text_bytes asked) DONE before after result
 
 -- a call for a text
-pub record IsTextCall (words : List Bytes) (old new : Disk) (before after : Output) (result : ℕ) : Type 0 where
+pub record IsTextCall (words : List Bytes) (old new : Disk) (before after report report' : Output) (result : ℕ) : Type 0 where
   pub asked : ProgramText
   pub asks : AskForText words asked
-  pub put : IsTextPut asked old new before after result
+  pub put : IsTextPut asked old new before after report report' result
 
 -- what a call does, by what the words ask for
-abbrev pub IsTopCall : List Bytes → Disk → Disk → Output → Output → ℕ → Type 0
-IsTopCall words old new before after result = IsTextCall words old new before after result ⊎ IsJobCall words old new before after result
+abbrev pub IsTopCall : List Bytes → Disk → Disk → Output → Output → Output → Output → ℕ → Type 0
+IsTopCall words old new before after report report' result =
+    IsTextCall words old new before after report report' result ⊎ IsJobCall words old new before after report report' result

@@ -4,7 +4,7 @@
 // It links them to one program, checks its methods, finds the sites whose objects die young, and writes
 // each class with a holder for each such site.
 // `freeme_run` is the program over files and sinks of any kind, and carries its theorem; `main` hands it
-// the words of the command line, the files of the system and standard output.
+// the words of the command line, the files of the system, standard output and standard error.
 #![tactic(auto)]
 
 mod freeing;
@@ -29,5 +29,6 @@ fn main(rt: HostRuntime) -> ExitCode {
     };
     let mut files = FolderFiles::new(rt, alloc);
     let mut out = StdSink::new(rt, false);
-    ExitCode::from(freeme_run(alloc, &words, &mut files, &mut out))
+    let mut report = StdSink::new(rt, true);
+    ExitCode::from(freeme_run(alloc, &words, &mut files, &mut out, &mut report))
 }

@@ -70,9 +70,11 @@ struct Call<'a> {
     // The files that lie there, and the number of the read or write that fails, counted together; 0 is none.
     files: Contents<'a>,
     failing: u32,
-    // The number of the put that fails; 0 is none.
+    // The numbers of the puts that fail, into the output and into the report; 0 is none.
     failing_put: u32,
+    failing_report: u32,
     status: u8,
+    // What is put: at status 0 into the output, and else into the report.
     lines: &'a str,
     // Files that lie there then.
     after: Contents<'a>,
@@ -84,6 +86,7 @@ const THREE: Call<'static> = Call {
     files: &[("A.class", A), ("B.class", B), ("M.class", M)],
     failing: 0,
     failing_put: 0,
+    failing_report: 0,
     status: 0,
     lines: "A: 0 sites, 0 frees\nB: 0 sites, 0 frees\nM: 0 sites, 0 frees\n",
     after: &[("d/A.class", A), ("d/B.class", B), ("d/M.class", M)],
@@ -98,19 +101,29 @@ pub fn split_words(alloc: Global, text: &str) -> Result<Vec<String>, NoMemory> {
     Ok(words)
 }
 
-// Whether a call over these files, whose put of that number fails, ends with this status and these lines.
+// Whether a call over these files ends with this status and puts these lines.
 fn ends_with(
     alloc: Global,
     words: &str,
     files: &mut MemFiles,
-    failing_put: u32,
     status: u8,
     lines: &str,
 ) -> Result<bool, NoMemory> {
     let words = split_words(alloc, words)?;
-    let mut out = MemSink::new(alloc, vec![in alloc; failing_put]?);
-    let result = freeme_run(alloc, &words, files, &mut out);
-    Ok(result == status && out.bytes() == lines.as_bytes())
+    let mut out = MemSink::new(alloc, Vec::new(alloc));
+    let mut report = MemSink::new(alloc, Vec::new(alloc));
+    let result = freeme_run(alloc, &words, files, &mut out, &mut report);
+    Ok(result == status && have_got(&out, &report, status, lines))
+}
+
+// Whether the lines were put into the output at status 0, and else into the report, and nothing into the other one.
+fn have_got(out: &MemSink, report: &MemSink, status: u8, lines: &str) -> bool {
+    let (printed, reported) = if status == 0 {
+        (lines, "")
+    } else {
+        ("", lines)
+    };
+    out.bytes() == printed.as_bytes() && report.bytes() == reported.as_bytes()
 }
 
 // Whether that becomes of the call.
@@ -119,15 +132,15 @@ fn ends_so(alloc: Global, call: &Call<'_>) -> Result<bool, NoMemory> {
     for (name, bytes) in call.files {
         files.add(name, bytes)?;
     }
-    let ends = ends_with(
-        alloc,
-        call.words,
-        &mut files,
-        call.failing_put,
-        call.status,
-        call.lines,
-    )?;
-    Ok(ends && lie_there(&files, call.after))
+    let mut out = MemSink::new(alloc, vec![in alloc; call.failing_put]?);
+    let mut report = MemSink::new(alloc, vec![in alloc; call.failing_report]?);
+    let words = split_words(alloc, call.words)?;
+    let result = freeme_run(alloc, &words, &mut files, &mut out, &mut report);
+    Ok(
+        result == call.status
+            && have_got(&out, &report, call.status, call.lines)
+            && lie_there(&files, call.after),
+    )
 }
 
 // Whether these files lie there.
@@ -224,6 +237,26 @@ fn a_failed_put_comes_after_the_writes(rt: HostRuntime) -> Result<(), Fail> {
     Ok(())
 }
 
+// Where all is done nothing is put into the report, and of a refusal nothing into the output.
+#[test]
+fn a_put_fails_only_where_one_is_tried(rt: HostRuntime) -> Result<(), Fail> {
+    let done = Call {
+        failing_report: 1,
+        ..THREE
+    };
+    assert!(rt; ends_so(rt.alloc(), &done)?);
+    let refused = Call {
+        words: "--out d",
+        failing_put: 1,
+        status: 64,
+        lines: "refused: words\n",
+        after: &[],
+        ..THREE
+    };
+    assert!(rt; ends_so(rt.alloc(), &refused)?);
+    Ok(())
+}
+
 #[test]
 fn a_file_that_fails_or_is_missing_ends_the_call(rt: HostRuntime) -> Result<(), Fail> {
     for call in FAILED_READS {
@@ -285,7 +318,7 @@ fn words_of_no_form_are_refused(rt: HostRuntime) -> Result<(), Fail> {
     };
     assert!(rt; ends_so(rt.alloc(), &words)?);
     let put = Call {
-        failing_put: 1,
+        failing_report: 1,
         status: 75,
         lines: "",
         ..words
@@ -313,12 +346,14 @@ fn is_surely_written(alloc: Global) -> Result<bool, NoMemory> {
     let mut files = SureFiles::new(alloc);
     files.add("M.class", bytes.as_slice())?;
     let mut out = SureSink::new(alloc);
+    let mut report = SureSink::new(alloc);
     let words = split_words(alloc, "--out d --main M M.class")?;
-    let status = freeme_run(alloc, &words, &mut files, &mut out);
+    let status = freeme_run(alloc, &words, &mut files, &mut out, &mut report);
     Ok(
         status == 0
             && files.bytes("d/M.class") == Some(bytes.as_slice())
-            && out.bytes() == b"M: 0 sites, 0 frees\n".as_slice(),
+            && out.bytes() == b"M: 0 sites, 0 frees\n".as_slice()
+            && report.bytes().is_empty(),
     )
 }
 

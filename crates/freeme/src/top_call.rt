@@ -1,15 +1,14 @@
 // One call of the program: what it reads and writes, and the lines that report it.
 
-ghost use Rattle.fm_cli.specs.Line.{Tells};
 ghost use Rattle.fm_cli.specs.Words.{texts};
 ghost use Rattle.fm_cli.specs.declared.status.TheConstants.{MALFORMED, UNSUPPORTED, VERSION};
-ghost use Rattle.freeme.specs.Causes.{ChangesOnly, IsFaultless, IsForBytes, IsForCheck, IsForDone, IsForLimit, IsForLink, IsForMemory, IsForRead, IsForRewrite, IsForText, IsForWords, IsForWrite, IsStatus, KeepsContents};
+ghost use Rattle.freeme.specs.Causes.{ChangesOnly, IsFaultless, IsForBytes, IsForCheck, IsForDone, IsForLimit, IsForLink, IsForMemory, IsForRead, IsForRewrite, IsForText, IsForWords, IsForWrite, IsSilent, IsStatus, KeepsContents};
 ghost use Rattle.freeme.specs.Complete.{IsComplete};
 ghost use Rattle.fm_cli_requests.specs.FreemeRequest.{job_of};
 ghost use Rattle.fm_load.specs.Given.{IsMadeAlone};
 ghost use Rattle.freeme.specs.Jobs.{given_of};
 ghost use Rattle.freeme.specs.Meaning.{KeepsMeaning};
-ghost use Rattle.freeme.specs.TopCall.{ComesOf, ComesTo, IsTopCall, StaysWithin, outcome_line, outcome_status};
+ghost use Rattle.freeme.specs.TopCall.{ComesOf, ComesTo, IsTold, IsTopCall, StaysWithin};
 ghost use Rattle.freeme.specs.declared.status.TheConstants.{CALLS_FREE, METHOD_TOO_LONG, POOL_FULL};
 
 use crate::freeing::{class_lines, freed_classes};
@@ -31,59 +30,79 @@ use fm_load::{JobRefusal, given_classes};
 use fm_rewrite::Count;
 use std::alloc::Global;
 
-/// Does what the words of the command line ask for, puts the lines that report it, and returns the
-/// status.
-pub fn freeme_run<F: Files, S: Sink>(
+/// Does what the words of the command line ask for, puts the lines of what is written into the output,
+/// or the line of a refusal into the report, and returns the status.
+pub fn freeme_run<F: Files, O: Sink, R: Sink>(
     alloc: Global,
     words: &[String],
     files: &mut F,
-    out: &mut S,
+    out: &mut O,
+    report: &mut R,
 ) -> u8
     // The whole: what the words ask for, what becomes of it, and the lines that are put.
     ensures whole { IsTopCall (texts words.now)
-        (F.disk files.old) (F.disk files.new) (S.output out.old) (S.output out.new) result }
+        (F.disk files.old) (F.disk files.new) (O.output out.old) (O.output out.new)
+        (R.output report.old) (R.output report.new) result }
 
     // Each status: when it comes, and what it says. There is no other.
     ensures status { IsStatus result }
     ensures done { IsForDone (texts words.now)
-        (F.disk files.old) (F.disk files.new) (S.output out.old) (S.output out.new) result }
+        (F.disk files.old) (F.disk files.new) (O.output out.old) (O.output out.new)
+        (R.output report.old) (R.output report.new) result }
     ensures text { IsForText (texts words.now)
-        (F.disk files.old) (F.disk files.new) (S.output out.old) (S.output out.new) result }
+        (F.disk files.old) (F.disk files.new) (O.output out.old) (O.output out.new)
+        (R.output report.old) (R.output report.new) result }
     ensures words { IsForWords (texts words.now)
-        (F.disk files.old) (F.disk files.new) (S.output out.old) (S.output out.new) result }
+        (F.disk files.old) (F.disk files.new) (O.output out.old) (O.output out.new)
+        (R.output report.old) (R.output report.new) result }
     ensures read { IsForRead (texts words.now)
-        (F.disk files.old) (F.disk files.new) (S.output out.old) (S.output out.new) result }
+        (F.disk files.old) (F.disk files.new) (O.output out.old) (O.output out.new)
+        (R.output report.old) (R.output report.new) result }
     ensures malformed { IsForBytes MALFORMED (texts words.now)
-        (F.disk files.old) (F.disk files.new) (S.output out.old) (S.output out.new) result }
+        (F.disk files.old) (F.disk files.new) (O.output out.old) (O.output out.new)
+        (R.output report.old) (R.output report.new) result }
     ensures version { IsForBytes VERSION (texts words.now)
-        (F.disk files.old) (F.disk files.new) (S.output out.old) (S.output out.new) result }
+        (F.disk files.old) (F.disk files.new) (O.output out.old) (O.output out.new)
+        (R.output report.old) (R.output report.new) result }
     ensures limit { IsForLimit (texts words.now)
-        (F.disk files.old) (F.disk files.new) (S.output out.old) (S.output out.new) result }
+        (F.disk files.old) (F.disk files.new) (O.output out.old) (O.output out.new)
+        (R.output report.old) (R.output report.new) result }
     ensures unsupported { IsForBytes UNSUPPORTED (texts words.now)
-        (F.disk files.old) (F.disk files.new) (S.output out.old) (S.output out.new) result }
+        (F.disk files.old) (F.disk files.new) (O.output out.old) (O.output out.new)
+        (R.output report.old) (R.output report.new) result }
     ensures link { IsForLink (texts words.now)
-        (F.disk files.old) (F.disk files.new) (S.output out.old) (S.output out.new) result }
+        (F.disk files.old) (F.disk files.new) (O.output out.old) (O.output out.new)
+        (R.output report.old) (R.output report.new) result }
     ensures check { IsForCheck (texts words.now)
-        (F.disk files.old) (F.disk files.new) (S.output out.old) (S.output out.new) result }
+        (F.disk files.old) (F.disk files.new) (O.output out.old) (O.output out.new)
+        (R.output report.old) (R.output report.new) result }
     ensures calls_free { IsForRewrite CALLS_FREE (texts words.now)
-        (F.disk files.old) (F.disk files.new) (S.output out.old) (S.output out.new) result }
+        (F.disk files.old) (F.disk files.new) (O.output out.old) (O.output out.new)
+        (R.output report.old) (R.output report.new) result }
     ensures pool_full { IsForRewrite POOL_FULL (texts words.now)
-        (F.disk files.old) (F.disk files.new) (S.output out.old) (S.output out.new) result }
+        (F.disk files.old) (F.disk files.new) (O.output out.old) (O.output out.new)
+        (R.output report.old) (R.output report.new) result }
     ensures method_too_long { IsForRewrite METHOD_TOO_LONG (texts words.now)
-        (F.disk files.old) (F.disk files.new) (S.output out.old) (S.output out.new) result }
+        (F.disk files.old) (F.disk files.new) (O.output out.old) (O.output out.new)
+        (R.output report.old) (R.output report.new) result }
     ensures write { IsForWrite (texts words.now)
-        (F.disk files.old) (F.disk files.new) (S.output out.old) (S.output out.new) result }
+        (F.disk files.old) (F.disk files.new) (O.output out.old) (O.output out.new)
+        (R.output report.old) (R.output report.new) result }
     ensures memory { IsForMemory (texts words.now)
-        (F.disk files.old) (F.disk files.new) (S.output out.old) (S.output out.new) result }
+        (F.disk files.old) (F.disk files.new) (O.output out.old) (O.output out.new)
+        (R.output report.old) (R.output report.new) result }
 
     // Where nothing is against a job and nothing fails, it is done, or memory can't be had.
     ensures complete { IsComplete (texts words.now)
-        (F.disk files.old) (F.disk files.new) (S.output out.old) (S.output out.new) result }
+        (F.disk files.old) (F.disk files.new) (O.output out.old) (O.output out.new)
+        (R.output report.old) (R.output report.new) result }
 
     // What fails and what changes.
     ensures faultless { IsFaultless
-        (F.disk files.old) (F.disk files.new) (S.output out.old) (S.output out.new) result }
+        (F.disk files.old) (F.disk files.new) (O.output out.old) (O.output out.new)
+        (R.output report.old) (R.output report.new) result }
     ensures kept { KeepsContents (F.disk files.old) (F.disk files.new) result }
+    ensures silent { IsSilent (O.output out.old) (O.output out.new) result }
     ensures others { ChangesOnly (texts words.now) (F.disk files.old) (F.disk files.new) }
 
     // Where it is done: the classes written do what the classes read do.
@@ -93,7 +112,7 @@ pub fn freeme_run<F: Files, S: Sink>(
         Some(asked) => put_text(alloc, asked, out),
         None => {
             let outcome = do_words(alloc, words, files);
-            tell(alloc, outcome, out)
+            tell(alloc, outcome, out, report)
         }
     }
 }
@@ -144,15 +163,21 @@ fn do_job<'a, F: Files>(
     Ok(lines)
 }
 
-// Puts the lines of an outcome, and returns its status, or that of the put.
-fn tell<S: Sink>(alloc: Global, outcome: Result<String, FreeRefusal<'_>>, out: &mut S) -> u8
-    ensures { Tells (outcome_line outcome.entry) (outcome_status outcome.entry)
-        (S.output out.old) (S.output out.new) result }
+// Puts the lines of a job that is done into the output, or the line of a refusal into the report, and
+// returns the status, or that of the put.
+fn tell<O: Sink, R: Sink>(
+    alloc: Global,
+    outcome: Result<String, FreeRefusal<'_>>,
+    out: &mut O,
+    report: &mut R,
+) -> u8
+    ensures { IsTold outcome.entry (O.output out.old) (O.output out.new)
+        (R.output report.old) (R.output report.new) result }
 {
     match outcome {
         Ok(lines) => put_line(alloc, out, lines.as_bytes(), status::DONE),
         Err(refusal) => match refusal.line(alloc) {
-            Ok(line) => put_line(alloc, out, line.as_bytes(), refusal.status()),
+            Ok(line) => put_line(alloc, report, line.as_bytes(), refusal.status()),
             Err(NoMemory) => status::OUT_OF_MEMORY,
         },
     }

@@ -218,7 +218,7 @@ fn is_row_answered(alloc: Global, b: &ClassSample<'_>, row: Row) -> Result<bool,
     add(alloc, &mut files, "B.class", b)?;
     add(alloc, &mut files, "C.class", &C)?;
     let words = "--out d --main M M.class R.class A.class B.class C.class";
-    ends_with(alloc, words, &mut files, 0, status, lines)
+    ends_with(alloc, words, &mut files, status, lines)
 }
 
 // The place of the first row that doesn't end so.

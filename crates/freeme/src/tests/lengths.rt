@@ -1,6 +1,6 @@
 // Files of the greatest lengths, and the greatest number of files.
 
-use crate::tests::{A, ends_with, split_words};
+use crate::tests::{A, ends_with, have_got, split_words};
 use crate::top_call::freeme_run;
 use fm_base::NoMemory;
 use fm_files::{MemFiles, MemSink};
@@ -35,7 +35,7 @@ fn is_answered(
         let class = class_of_length(alloc, *length)?;
         files.add(name, class.as_slice())?;
     }
-    ends_with(alloc, words, &mut files, 0, status, line)
+    ends_with(alloc, words, &mut files, status, line)
 }
 
 #[test]
@@ -95,8 +95,9 @@ fn is_count_answered(alloc: Global, count: u32, status: u8, line: &str) -> Resul
     }
     let mut files = MemFiles::new(alloc, Vec::new(alloc));
     let mut out = MemSink::new(alloc, Vec::new(alloc));
-    let result = freeme_run(alloc, &words, &mut files, &mut out);
-    Ok(result == status && out.bytes() == line.as_bytes())
+    let mut report = MemSink::new(alloc, Vec::new(alloc));
+    let result = freeme_run(alloc, &words, &mut files, &mut out, &mut report);
+    Ok(result == status && have_got(&out, &report, status, line))
 }
 
 #[test]

@@ -97,7 +97,7 @@ fn is_found(alloc: Global, sample: &ClassSample, status: u8, line: &str) -> Resu
     let mut files = MemFiles::new(alloc, Vec::new(alloc));
     files.add("M.class", class.as_slice())?;
     let words = "--out d --main \u{1f600} M.class";
-    ends_with(alloc, words, &mut files, 0, status, line)
+    ends_with(alloc, words, &mut files, status, line)
 }
 
 #[test]

@@ -19,7 +19,7 @@ const CASES: [(&str, u8, &str); 6] = [
 // Whether the call ends so, and writes the class exactly where it is done.
 fn is_made(alloc: Global, words: &str, status: u8, lines: &str) -> Result<bool, NoMemory> {
     let mut files = MemFiles::new(alloc, Vec::new(alloc));
-    let ends = ends_with(alloc, words, &mut files, 0, status, lines)?;
+    let ends = ends_with(alloc, words, &mut files, status, lines)?;
     Ok(ends && files.bytes("d/G.class").is_some() == (status == 0))
 }
 

@@ -130,7 +130,7 @@ fn is_answered(alloc: Global, row: &Row) -> Result<bool, NoMemory> {
         files.add(file.name, bytes.as_slice())?;
     }
     let words = words_for(alloc, program)?;
-    let is_told = ends_with(alloc, words.as_str(), &mut files, 0, *status, lines)?;
+    let is_told = ends_with(alloc, words.as_str(), &mut files, *status, lines)?;
     Ok(is_told && are_written(&files, alloc, program.written)?)
 }
 
