@@ -1,10 +1,11 @@
 -- What an item brings on, and what that shows of typings; and that states at which no item waits are the least typing.
-use Rattle.std.proofs.Common.{◌≡◌, ◌≢◌, refl, sym, ◌∙◌, ap, inl, inr, ⊎_elim, ℕ, zero, suc, ◌+◌, ◌<◌, ◌≤◌, ◌==◌, Bool, true, false, List, [], ◌∷◌, ◌++◌, length, reverse, take, get_or, set, replicate, Option, Some, None, is_some, option_and_then, cond, Contains, subst, sum_by, arith, length-append, length-set}
+use Rattle.std.proofs.Common.{◌≡◌, ◌≢◌, refl, sym, ◌∙◌, ap, inl, inr, ⊎_elim, ℕ, zero, suc, ◌+◌, ◌<◌, ◌≤◌, ◌==◌, Bool, true, false, List, [], ◌∷◌, ◌++◌, length, reverse, take, get_or, set, replicate, Option, Some, None, is_some, option_and_then, cond, Contains, subst, count_by, sum_by, arith, length-set}
 use Rattle.std.specs.Prelude.{Any, slice_get}
 use Rattle.std.specs.List.{AllByRecursion, slice_index_or}
 use Rattle.std.specs.Option.{option_map}
 use Rattle.std.proofs.lemmas.Bool.{and_from, and_parts, cases_eq, cases_lt, eqb-true, eq-eqb, false≢true}
 use Rattle.std.proofs.lemmas.List.{append-nil, get_or-set_same, get_or-replicate, get_or-set_other, get_or_past, length-replicate, reverse-reverse}
+use Rattle.std.proofs.lemmas.List.Sums.{sum_by-set}
 use Rattle.std.proofs.lemmas.List.Elements.{All-contains, All-from_recursion, Contains-append_left, Contains-push, Contains-push_cases}
 use Rattle.fm_check_handlers.proofs.HandlerLemmas.{each_handler, handlers_later}
 use Rattle.fm_base.proofs.OptionFacts.{IsSomeAnd-at_some, IsSomeAnd-from_some, option_map-some, same_value, Some-from_some_and}
@@ -14,7 +15,7 @@ use Rattle.fm_check_walk.proofs.RisenLemmas.{alike-then, same_locals}
 use Rattle.fm_check_walk.specs.declared.known_state.SlotPlace.{SlotPlace}
 use Rattle.fm_check_walk.specs.inner.Ranks.{rank_at}
 use Rattle.fm_check_walk.specs.inner.Risen.{IsAlikeBut}
-use Rattle.fm_check_walk.specs.inner.Walks.{Brings, is_marked, IsForced, IsKept, not_begun, Pops, risen_at, Rises, Stands, Untypable, Walked, Went, with_risen, with_state, work_left}
+use Rattle.fm_check_walk.specs.inner.Walks.{Brings, is_marked, IsForced, IsKept, not_begun, Pops, risen_at, Rises, Stands, Untypable, waiting_count, Walked, Went, with_risen, with_state, work_left}
 use Rattle.fm_check.specs.inner.Steps.{BringsAll, BringsOn, falls_off, GoesOver, HasSettled, IsItem, IsLeast, IsMet, IsMetBut, IsNearlyMet, next_items, Takes, Walking}
 use Rattle.fm_check_handlers.specs.inner.Runs.{BringsHandlers}
 use Rattle.fm_check_walk.specs.inner.Tasks.{IsSound, is_within, Task}
@@ -26,7 +27,7 @@ use Rattle.fm_code.specs.declared.code_array.Item.{Item}
 use Rattle.fm_code.specs.declared.instructions.Insn.{Insn}
 use Rattle.fm_flow.proofs.CodeFacts.{items_counted, targets_inside}
 use Rattle.fm_flow.proofs.RisingLemmas.{Contains-take_more}
-use Rattle.fm_flow.proofs.RowFacts.{has-replicate}
+use Rattle.fm_flow.proofs.RowFacts.{has_inside}
 use Rattle.fm_types.proofs.RowOrder.{rows-keep_order, rows-keep_whole}
 use Rattle.fm_types.specs.Rows.{row_after}
 use Rattle.fm_types.specs.States.{state_fits, TypeState}
@@ -258,54 +259,34 @@ met_later t a b j s sound rises met =
 -- an item is taken off the list
 pub Stands-taken : (t : Task) (item : ℕ) (w taken : Walked) → Stands t w → Takes item w taken → Stands t taken
 Stands-taken t item w taken stands takes =
-    let listed : Contains w.waiting item = subst (λ (xs : List ℕ). Contains xs item) (sym takes.waiting) (Contains-push taken.waiting item) in
-    let below = stands.waiting item listed in
-    let marks = stands.one_mark in
-    let inside : item < length w.marks = omega arith in
     let seen : (j : ℕ) → state_at taken.states j ≡ state_at w.states j = λ j. ap (λ (states : List (Option TypeState)). state_at states j) takes.states in
     record {
       one_each = ap length takes.states ∙ stands.one_each;
-      one_mark = ap length takes.marks ∙ length-set w.marks item false ∙ stands.one_mark;
+      one_mark = ap length takes.leaves.marks ∙ length-set w.marks item false ∙ stands.one_mark;
       one_rise = ap length takes.risen ∙ length-set w.risen item (Some []) ∙ stands.one_rise;
       first = seen 0 ∙ stands.first;
       each = λ j s is. stands.each j s (sym (seen j) ∙ is);
-      marked = λ j is.
-          let now : get_or (set w.marks item false) j false ≡ true = sym (ap (λ (xs : List Bool). get_or xs j false) takes.marks) ∙ is in
-          ⊎_elim
-          (λ (same : j ≡ item).
-          absurd (false≢true (sym (get_or-set_same w.marks item false false inside) ∙ ap (λ n. get_or (set w.marks item false) n false) (sym same) ∙ now)))
-          (λ (apart : j ≢ item).
-          let was : is_marked w j ≡ true = sym (get_or-set_other w.marks item j false false apart) ∙ now in
-          ⊎_elim (λ (rest : Contains taken.waiting j). rest) (λ (same : item ≡ j). absurd (apart (sym same)))
-          (Contains-push_cases taken.waiting item j (subst (λ (xs : List ℕ). Contains xs j) takes.waiting (stands.marked j was))))
-          (cases_eq j item);
-      waiting = λ j h.
-          stands.waiting j (subst (λ (xs : List ℕ). Contains xs j) (sym takes.waiting) (Contains-append_left taken.waiting (item ∷ []) j h));
     }
 
 pub taken-inside : (t : Task) (item : ℕ) (w taken : Walked) → Stands t w → Takes item w taken → item < length t.code.items
 taken-inside t item w taken stands takes =
-    stands.waiting item (subst (λ (xs : List ℕ). Contains xs item) (sym takes.waiting) (Contains-push taken.waiting item))
-
-pub waiting_marked : (t : Task) (w : Walked) → Stands t w → (j : ℕ) → Contains w.waiting j → j < length w.marks
-waiting_marked t w stands j h = let below = stands.waiting j h in let one = stands.one_mark in omega arith
+    let marked = has_inside w.marks item takes.leaves.waited in let one = stands.one_mark in omega (arith, marked, one)
 
 -- the item waits no longer, and nothing rose there from here on
 pub takes-popped : (item : ℕ) (w popped taken : Walked) → Pops item w popped → taken ≡ with_risen item (Some []) popped → Takes item w taken
 takes-popped item w popped taken pops is = record {
   states = ap (λ (x : Walked). x.states) is ∙ pops.states;
-  waiting = pops.waiting ∙ ap (λ (x : Walked). x.waiting ++ item ∷ []) (sym is);
-  marks = ap (λ (x : Walked). x.marks) is ∙ pops.marks;
+  leaves = record { waited = pops.leaves.waited; marks = ap (λ (x : Walked). x.marks) is ∙ pops.leaves.marks };
   risen = ap (λ (x : Walked). x.risen) is ∙ ap (λ risen. set risen item (Some [])) pops.risen;
 }
 
 pub popped-rise : (t : Task) (item : ℕ) (w popped : Walked) → Stands t w → Pops item w popped → item < length popped.risen
 popped-rise t item w popped stands pops =
-    let listed : Contains w.waiting item = subst (λ (xs : List ℕ). Contains xs item) (sym pops.waiting) (Contains-push popped.waiting item) in
-    let below = stands.waiting item listed in
+    let marked = has_inside w.marks item pops.leaves.waited in
+    let one_mark = stands.one_mark in
     let one = stands.one_rise in
     let same = ap length pops.risen in
-    omega arith
+    omega (arith, marked, one_mark, one, same)
 
 -- what rose at an item that was taken off the list, and at another one
 taken-rise : (t : Task) (item : ℕ) (w taken : Walked) → Stands t w → Takes item w taken → risen_at taken item ≡ Some []
@@ -327,9 +308,13 @@ taken-met t item w taken walking takes =
 pub work-less : (t : Task) (item : ℕ) (w taken new : Walked) → Takes item w taken → Went t taken new → work_left t new < work_left t w
 work-less t item w taken new takes went =
     let falls = went.falls in
-    let shorter = ap length takes.waiting ∙ length-append taken.waiting (item ∷ []) in
+    let one : Bool → ℕ = λ mark. cond mark 1 0 in
+    let sums : count_by (λ mark. mark) (set w.marks item false) + one (get_or w.marks item false) ≡ waiting_count w + one false =
+    sum_by-set one w.marks item false false (has_inside w.marks item takes.leaves.waited) in
+    let was : one (get_or w.marks item false) ≡ 1 = ap one takes.leaves.waited in
+    let marks : waiting_count taken ≡ count_by (λ mark. mark) (set w.marks item false) = ap (λ (xs : List Bool). count_by (λ mark. mark) xs) takes.leaves.marks in
     let states = ap (λ (xs : List (Option TypeState)). sum_by (rank_at t.program.outline t.code) xs) takes.states in
-    omega (arith, falls, shorter, states)
+    omega (arith, falls, sums, was, marks, states)
 
 -- an item that was nearly met, and whose state then rose
 nearly-tracked : (t : Task) (a b : Walked) (j : ℕ) (few locals : List SlotPlace) (before s : TypeState) → IsSound t → Rises t.program.outline a b
@@ -380,9 +365,9 @@ Walking-more t item w taken new sound walking takes goes = record {
       (λ (apart : j ≢ item).
       let was : state_at w.states j ≡ Some s = ap (λ (states : List (Option TypeState)). state_at states j) (sym takes.states) ∙ sym same.0 ∙ is in
       ⊎_elim (λ (none : risen_at w j ≡ Some []). inl (same.1 ∙ other-rise item j w taken takes apart ∙ none))
-      (λ (waited : Contains w.waiting j).
-      ⊎_elim (λ (rest : Contains taken.waiting j). inr (goes.went.rises.still j rest)) (λ (this : item ≡ j). absurd (apart (sym this)))
-      (Contains-push_cases taken.waiting item j (subst (λ (xs : List ℕ). Contains xs j) takes.waiting waited)))
+      (λ (waited : is_marked w j ≡ true).
+      inr (goes.went.rises.still j
+      (ap (λ (xs : List Bool). get_or xs j false) takes.leaves.marks ∙ get_or-set_other w.marks item j false false apart ∙ waited)))
       (walking.quiet j s was))
       (cases_eq j item))
       (λ waits. inr waits)
@@ -409,8 +394,7 @@ settled_met t w j s settled is =
     (λ (none : risen_at w j ≡ Some []).
     let nearly = settled.walking.closed j s [] is none in
     subst (λ (x : TypeState). IsMet t w.states j x) (sym (alike_none s nearly.before nearly.alike)) nearly.met)
-    (λ (waits : Contains w.waiting j).
-    let none : Contains [] j = subst (λ (xs : List ℕ). Contains xs j) settled.done waits in absurd (let inside = none.1 in omega arith))
+    (λ (waits : is_marked w j ≡ true). absurd (false≢true (sym (settled.done j) ∙ waits)))
     (settled.walking.quiet j s is)
 
 some_fits : (t : Task) (states : List (Option TypeState)) (j : ℕ) (s : TypeState) → FitsAt t.program states j s → (u : TypeState) × (state_at states j ≡ Some u)
@@ -508,9 +492,9 @@ Walking-first t s sound is within =
     let n = length t.code.items in
     let entry = entry_state t.program.outline t.number t.code in
     let put : Walked = record (not_begun n) { states = set (replicate n None) 0 (Some s); risen = set (replicate n None) 0 None } in
-    let none : (j : ℕ) → is_marked put j ≡ true → Contains put.waiting j = λ j marked. absurd (false≢true (sym (has-replicate n j) ∙ marked)) in
-    let waits = with_waiting-waits 0 put none in
     let some = (items_counted t.code sound.rules).0 in
+    let marks = length-replicate n false in
+    let waits = with_waiting-waits 0 put (omega (arith, some, marks)) in
     let size : length (replicate n None) ≡ n = length-replicate {A = Option TypeState} n None in
     let kept : IsKept t 0 s = record { forced = subst (λ (x : TypeState). IsForced t 0 x) (sym is) (entry_forced t sound); within = within } in
     let seen : (j : ℕ) → state_at (with_state 0 None s (not_begun n)).states j ≡ state_at (set (replicate n None) 0 (Some s)) j =
@@ -531,15 +515,12 @@ Walking-first t s sound is within =
         each = λ j u there.
             let found = only j u there in
             subst (λ (k : ℕ). IsKept t k u) (sym found.0) (subst (λ (x : TypeState). IsKept t 0 x) found.1 kept);
-        marked = waits.marked;
-        waiting = λ j h.
-            ⊎_elim (λ (old : Contains [] j). absurd (let inside = old.1 in omega arith)) (λ (same : 0 ≡ j). subst (λ (k : ℕ). k < n) same some) (waits.only j h);
       };
       closed = λ j u locals there known.
           let never : None ≡ Some locals =
           sym (none_risen n j) ∙ ap (λ (xs : List (Option (List SlotPlace))). get_or xs j None) (sym waits.risen) ∙ known in
           absurd cc;
-      quiet = λ j u there. inr (subst (λ (k : ℕ). Contains (with_state 0 None s (not_begun n)).waiting k) (sym (only j u there).0) waits.listed);
+      quiet = λ j u there. inr (subst (λ (k : ℕ). is_marked (with_state 0 None s (not_begun n)) k ≡ true) (sym (only j u there).0) waits.listed);
     }
 
 pub settled-is_least : (t : Task) (w : Walked) → HasSettled t w → IsLeast t w.states

@@ -13,7 +13,7 @@ use Rattle.fm_check_walk.specs.declared.known_state.SlotPlace.TheVariants as pla
 use Rattle.fm_check_walk.specs.declared.risen.Rise.{Rise}
 use Rattle.fm_check_walk.specs.inner.Ranks.{IsBounded, state_rank, rank_at}
 use Rattle.fm_check_walk.specs.inner.Risen.{HasPlace, is_lost, IsAlikeBut, IsCarried, noted, rise_of, slot_at, with_slot}
-use Rattle.fm_check_walk.specs.inner.Walks.{CanCarry, CanCarryOne, Carries, CarriesOne, HasRoom, is_marked, IsForced, IsKept, risen_at, Rises, Stands, Untypable, Walked, Went, with_state}
+use Rattle.fm_check_walk.specs.inner.Walks.{CanCarry, CanCarryOne, Carries, CarriesOne, HasRoom, IsForced, IsKept, risen_at, Rises, Stands, Untypable, Walked, Went, with_state}
 use Rattle.fm_check_walk.specs.inner.Tasks.{IsSound, Task}
 use Rattle.fm_code.proofs.EdgesLemmas.{Contains-from_map, Contains-later}
 use Rattle.fm_types.proofs.LeastJoins.{join-least}
@@ -30,9 +30,9 @@ use Rattle.fm_world.specs.Programs.{Outline}
 
 -- the state that is given is there
 given-there : (item : ℕ) (rose : Option (List SlotPlace)) (new : TypeState) (w : Walked) → item < length w.states
-    → ((j : ℕ) → is_marked w j ≡ true → Contains w.waiting j) → state_at (with_state item rose new w).states item ≡ Some new
-given-there item rose new w inside marked =
-    let waits = with_waiting-waits item (record w { states = set w.states item (Some new); risen = set w.risen item rose }) marked in
+    → item < length w.marks → state_at (with_state item rose new w).states item ≡ Some new
+given-there item rose new w inside marks =
+    let waits = with_waiting-waits item (record w { states = set w.states item (Some new); risen = set w.risen item rose }) marks in
     ap (λ (states : List (Option TypeState)). state_at states item) waits.states ∙ get_or-set_same w.states item (Some new) None inside
 
 -- its state has room
@@ -176,7 +176,8 @@ carried_raised t item most rise state w sound stands can later is bounded unfit 
       subst (λ (xs : List SlotPlace). IsAlikeBut xs new state) same (with_slot-alike state rise.place joined)))
 
   there : state_at now.states item ≡ Some new
-  there = given-there item rose new w (let one = stands.one_each in let below = kept.forced.inside in omega arith) stands.marked
+  there = given-there item rose new w (let one = stands.one_each in let below = kept.forced.inside in omega arith)
+      (let one_mark = stands.one_mark in let below = kept.forced.inside in omega (arith, one_mark, below))
 
 -- ---- what was carried stays
 

@@ -7,3 +7,4 @@ pub mod RisenLemmas
 pub mod Outcomes
 pub mod WalkLemmas
 pub mod CarryLemmas
+pub mod TurnLemmas

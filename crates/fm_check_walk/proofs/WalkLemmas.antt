@@ -1,10 +1,10 @@
 -- Steps of the walk: what a state that is brought to an item shows, and what it leaves.
-use Rattle.std.proofs.Common.{◌≡◌, ◌≢◌, refl, sym, ◌∙◌, ap, inl, inr, ◌⊎◌, ⊎_elim, ℕ, zero, suc, ◌+◌, ◌<◌, ◌≤◌, ◌==◌, ◌&&◌, nat_le, Bool, true, false, List, [], ◌∷◌, ◌++◌, length, get_or, set, Option, Some, None, cond, Contains, subst, sum_by, arith, length-append, length-set}
+use Rattle.std.proofs.Common.{◌≡◌, ◌≢◌, refl, sym, ◌∙◌, ap, inl, inr, ◌⊎◌, ⊎_elim, ℕ, zero, suc, ◌+◌, ◌<◌, ◌≤◌, ◌==◌, ◌&&◌, nat_le, Bool, true, false, List, [], ◌∷◌, ◌++◌, length, get_or, set, Option, Some, None, cond, Contains, subst, sum_by, arith, length-set}
 use Rattle.std.proofs.lemmas.Bool.{and_from, and_parts, cases_eq, eq-eqb, eqb-true, false≢true, le-leb, leb-true}
 use Rattle.std.proofs.lemmas.List.{get_or-map, get_or-set_same, get_or-set_other}
 use Rattle.std.specs.Option.{option_map}
 use Rattle.std.proofs.lemmas.List.Sums.{sum_by-set}
-use Rattle.std.proofs.lemmas.List.Elements.{Contains-append_left, Contains-append_right, Contains-push, Contains-push_cases, length_all_zip}
+use Rattle.std.proofs.lemmas.List.Elements.{Contains-append_left, Contains-append_right, length_all_zip}
 use Rattle.fm_base.proofs.OptionFacts.{IsSomeAnd-from_some, same_value, Some-from_some_and}
 use Rattle.fm_check_walk.proofs.MergingLemmas.{AreLevel, fits-parts, IsStateJoin, join_state-least, join_state-some, state-refl, state-trans}
 use Rattle.fm_check_walk.proofs.RankLemmas.{state-less, state-within}
@@ -12,11 +12,11 @@ use Rattle.fm_check_walk.proofs.RisenLemmas.{alike-more, alike-refl, alike-then}
 use Rattle.fm_check_walk.specs.inner.Merging.{join_state}
 use Rattle.fm_check_walk.specs.inner.Ranks.{IsBoundedState, rank_at, state_rank}
 use Rattle.fm_check_walk.specs.inner.Risen.{IsRisenIn, known_state, noted}
-use Rattle.fm_check_walk.specs.inner.Walks.{Brings, is_marked, IsForced, IsKept, IsTracked, risen_at, Rises, Stands, states_seen, Untypable, Walked, Went, with_state, with_waiting, work_left}
+use Rattle.fm_check_walk.specs.inner.Walks.{Brings, is_marked, IsForced, IsKept, IsTracked, risen_at, Rises, Stands, states_seen, Untypable, Walked, Went, with_state, waiting_count, with_waiting, work_left}
 use Rattle.fm_check_walk.specs.inner.Tasks.{is_within, IsSound, Task}
 use Rattle.fm_code.specs.declared.code_array.Code.{Code}
 use Rattle.fm_flow.proofs.ReachLemmas.{IsFlowPath-more}
-use Rattle.fm_flow.proofs.RowFacts.{has-set_only}
+use Rattle.fm_flow.proofs.RowFacts.{has-set_kept}
 use Rattle.fm_types.proofs.StateOrder.{Fitting}
 use Rattle.fm_types.specs.Fits.{AreTree}
 use Rattle.fm_types.specs.States.{state_fits, TypeState}
@@ -95,47 +95,23 @@ pub record Waits (item : ℕ) (old new : Walked) : Type 0 where
   pub states : new.states ≡ old.states
   pub one_mark : length new.marks ≡ length old.marks
   pub risen : new.risen ≡ old.risen
-  pub listed : Contains new.waiting item
-  pub marked : (j : ℕ) → is_marked new j ≡ true → Contains new.waiting j
-  pub still : (j : ℕ) → Contains old.waiting j → Contains new.waiting j
-  pub only : (j : ℕ) → Contains new.waiting j → Contains old.waiting j ⊎ (item ≡ j)
-  pub longer : length new.waiting ≤ length old.waiting + 1
+  pub listed : is_marked new item ≡ true
+  pub still : (j : ℕ) → is_marked old j ≡ true → is_marked new j ≡ true
+  pub longer : waiting_count new ≤ waiting_count old + 1
 
-waits-marked : (item : ℕ) (w : Walked) → ((j : ℕ) → is_marked w j ≡ true → Contains w.waiting j) → is_marked w item ≡ true → Waits item w w
-waits-marked item w marked is = record {
-  states = refl;
-  one_mark = refl;
-  risen = refl;
-  listed = marked item is;
-  marked = marked;
-  still = λ j h. h;
-  only = λ j h. inl h;
-  longer = omega arith;
-}
-
-waits-pushed : (item : ℕ) (w : Walked) → ((j : ℕ) → is_marked w j ≡ true → Contains w.waiting j)
-    → Waits item w (record w { waiting = w.waiting ++ item ∷ []; marks = set w.marks item true })
-waits-pushed item w marked = record {
+pub with_waiting-waits : (item : ℕ) (w : Walked) → item < length w.marks → Waits item w (with_waiting item w)
+with_waiting-waits item w inside = record {
   states = refl;
   one_mark = length-set w.marks item true;
   risen = refl;
-  listed = Contains-push w.waiting item;
-  marked = λ j is.
-      ⊎_elim
-      (λ (same : j ≡ item). subst (λ (n : ℕ). Contains (w.waiting ++ item ∷ []) n) (sym same) (Contains-push w.waiting item))
-      (λ was. Contains-append_left w.waiting (item ∷ []) j (marked j was))
-      (has-set_only w.marks item j is);
-  still = λ j h. Contains-append_left w.waiting (item ∷ []) j h;
-  only = λ j h. Contains-push_cases w.waiting item j h;
-  longer = let long = length-append w.waiting (item ∷ []) in omega arith;
+  listed = get_or-set_same w.marks item true false inside;
+  still = λ j was. has-set_kept w.marks item j was;
+  longer =
+      let one : Bool → ℕ = λ mark. cond mark 1 0 in
+      let sums : waiting_count (with_waiting item w) + one (get_or w.marks item false) ≡ waiting_count w + one true =
+      sum_by-set one w.marks item true false inside in
+      omega arith;
 }
-
-pub with_waiting-waits : (item : ℕ) (w : Walked) → ((j : ℕ) → is_marked w j ≡ true → Contains w.waiting j) → Waits item w (with_waiting item w)
-with_waiting-waits item w marked = by_mark (is_marked w item) refl where
-  by_mark : (b : Bool) → is_marked w item ≡ b
-      → Waits item w (cond b w (record w { waiting = w.waiting ++ item ∷ []; marks = set w.marks item true }))
-  by_mark true is = waits-marked item w marked is
-  by_mark false is = waits-pushed item w marked
 
 -- what an item's state is where it was looked up
 pub seen_read : (states : List (Option KnownState)) (item : ℕ) (d : Option KnownState) (state : KnownState) → item < length states → d ≡ get_or states item d
@@ -211,11 +187,11 @@ rise_given_at risen item j rose inside =
 
 -- what is given ranks below what was there
 given_less : (t : Task) (item : ℕ) (rose : Option (List SlotPlace)) (new : TypeState) (w : Walked) → item < length w.states
-    → ((j : ℕ) → is_marked w j ≡ true → Contains w.waiting j)
+    → item < length w.marks
     → state_rank t.program.outline new < rank_at t.program.outline t.code (state_at w.states item)
     → work_left t (with_state item rose new w) ≤ work_left t w
-given_less t item rose new w inside marked less =
-    let waits = with_waiting-waits item (record w { states = set w.states item (Some new); risen = set w.risen item rose }) marked in
+given_less t item rose new w inside marks less =
+    let waits = with_waiting-waits item (record w { states = set w.states item (Some new); risen = set w.risen item rose }) marks in
     let longer = waits.longer in
     let sums = sum_by-set (rank_at t.program.outline t.code) w.states item (Some new) None inside in
     let same : sum_by (rank_at t.program.outline t.code) (with_state item rose new w).states
@@ -231,9 +207,11 @@ pub Went-given : (t : Task) (item : ℕ) (rose : Option (List SlotPlace)) (new :
     → Went t w (with_state item rose new w)
 Went-given t item rose new w sound stands kept later above less tracked =
     let put : Walked = record w { states = set w.states item (Some new); risen = set w.risen item rose } in
-    let waits = with_waiting-waits item put stands.marked in
     let one = stands.one_each in
     let below = kept.forced.inside in
+    let one_mark = stands.one_mark in
+    let marks : item < length w.marks = omega (arith, below, one_mark) in
+    let waits = with_waiting-waits item put marks in
     let inside : item < length w.states = omega arith in
     let at = λ (j : ℕ). given_at w.states item j new inside in
     let seen : (j : ℕ) → state_at (with_state item rose new w).states j ≡ state_at (set w.states item (Some new)) j =
@@ -260,9 +238,6 @@ Went-given t item rose new w sound stands kept later above less tracked =
             (λ (other : (j ≢ item) × (state_at (set w.states item (Some new)) j ≡ state_at w.states j)).
             stands.each j s (sym other.1 ∙ sym (seen j) ∙ is))
             (at j);
-        marked = waits.marked;
-        waiting = λ j h.
-            ⊎_elim (λ before. stands.waiting j before) (λ (same : item ≡ j). subst (λ (n : ℕ). n < length t.code.items) same below) (waits.only j h);
       };
       rises = record {
         rises = λ j s is.
@@ -276,7 +251,7 @@ Went-given t item rose new w sound stands kept later above less tracked =
         changed = λ j.
             ⊎_elim
             (λ (this : (j ≡ item) × (state_at (set w.states item (Some new)) j ≡ Some new)).
-            inr (subst (λ (n : ℕ). Contains (with_state item rose new w).waiting n) (sym this.0) waits.listed))
+            inr (subst (λ (n : ℕ). is_marked (with_state item rose new w) n ≡ true) (sym this.0) waits.listed))
             (λ (other : (j ≢ item) × (state_at (set w.states item (Some new)) j ≡ state_at w.states j)).
             inl (seen j ∙ other.1, rise_kept j other.0))
             (at j);
@@ -294,7 +269,7 @@ Went-given t item rose new w sound stands kept later above less tracked =
             tracked-same w j locals s (sym (rise_kept j other.0) ∙ known) (sym other.1 ∙ sym (seen j) ∙ is))
             (at j);
       };
-      falls = given_less t item rose new w inside stands.marked less;
+      falls = given_less t item rose new w inside marks less;
     }
 
 -- and a state that fits it was brought
@@ -304,9 +279,11 @@ Brings-given : (t : Task) (item : ℕ) (rose : Option (List SlotPlace)) (s new :
     → ((locals : List SlotPlace) → rose ≡ Some locals → IsTracked w item locals new)
     → Brings t item s w (with_state item rose new w)
 Brings-given t item rose s new w sound stands kept later above fits less tracked =
-    let waits = with_waiting-waits item (record w { states = set w.states item (Some new); risen = set w.risen item rose }) stands.marked in
     let one = stands.one_each in
     let below = kept.forced.inside in
+    let one_mark = stands.one_mark in
+    let waits = with_waiting-waits item (record w { states = set w.states item (Some new); risen = set w.risen item rose })
+    (omega (arith, below, one_mark)) in
     let inside : item < length w.states = omega arith in
     record {
       went = Went-given t item rose new w sound stands kept later above less tracked;

@@ -8,6 +8,7 @@ mod frames;
 mod known_state;
 mod merging;
 mod risen;
+mod turns;
 mod walk;
 
 pub use checked_method::{CheckedMethod, parameter_slots};

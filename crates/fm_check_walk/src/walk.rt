@@ -1,10 +1,10 @@
 // The walk over the items of a method by a list of work. Each state that is brought to an item is kept,
 // or joined where it doesn't fit the item's own; the item then waits to be gone over, and what rose
-// there is noted.
+// there is noted. Items are gone over in turns, so that what several items bring to one is joined first.
 
-ghost use Rattle.std.specs.Prelude.{◌≡◌, ℕ, ◌<◌, ◌≤◌, None, replicate, IfOk, IfSome, IsNone, MatchBool, OnOk, Some, [], ◌∷◌, Contains, if◌then◌else◌, length, slice_set};
+ghost use Rattle.std.specs.Prelude.{◌≡◌, ◌<◌, ◌≤◌, None, replicate, IfOk, IfSome, IsNone, MatchBool, OnOk, Some, [], ◌∷◌, if◌then◌else◌, length, slice_set};
 ghost use Rattle.std.specs.Option.{option_copied, option_map};
-ghost use Rattle.fm_check_walk.specs.inner.Walks.{Brings, IsForced, Pops, Stands, Untypable, not_begun, risen_at, states_seen, walked, with_risen, with_state, with_waiting};
+ghost use Rattle.fm_check_walk.specs.inner.Walks.{Brings, IsForced, NoneWaits, Pops, Stands, Untypable, not_begun, risen_at, states_seen, walked, with_risen, with_state, with_waiting};
 ghost use Rattle.fm_check_walk.specs.inner.Tasks.{IsSound, is_within, task};
 ghost use Rattle.fm_check_walk.specs.inner.Risen.{HasPlace, known_state, noted, with_slot};
 ghost use Rattle.fm_types.specs.States.{TypeState};
@@ -15,6 +15,7 @@ use crate::checked_method::CheckedMethod;
 use crate::known_state::{KnownState, SlotPlace};
 use crate::merging::{join_state, law_bounded_state, state_fits};
 use crate::risen::{noted, risen_places};
+use crate::turns::Turns;
 use fm_base::{NoMemory, Seq};
 use fm_code::Code;
 use fm_types::{Slot, State};
@@ -26,8 +27,7 @@ use std::mem;
 pub struct Walk {
     /// One for each item; none where none was brought yet.
     pub states: Vec<Option<KnownState>>,
-    waiting: Vec<u32>,
-    is_waiting: Vec<bool>,
+    waiting: Turns,
     // Of each item the places at which something rose since it was gone over; none where more rose.
     risen: Vec<Option<Seq<SlotPlace>>>,
 }
@@ -112,8 +112,7 @@ impl Walk {
     {
         Ok(Walk {
             states: no_states(alloc, items)?,
-            waiting: Vec::new(alloc),
-            is_waiting: vec![in alloc; false; items]?,
+            waiting: Turns::new(alloc, items)?,
             risen: nothing_noted(alloc, items)?,
         })
     }
@@ -123,11 +122,7 @@ impl Walk {
         requires { item < length (walked self.old).marks }
         ensures { OnOk result (walked self.new ≡ with_waiting item (walked self.old)) }
     {
-        if !self.is_waiting[item as usize] {
-            self.is_waiting[item as usize] = true;
-            self.waiting.push(item)?;
-        }
-        Ok(())
+        self.waiting.add(item)
     }
 
     // Notes that this rose at an item.
@@ -201,17 +196,13 @@ impl Walk {
         self.wait(item)
     }
 
-    /// Takes an item that waits, if there is one.
+    /// Takes the next item that waits, if there is one: turn after turn in the order of the items.
     pub fn next(&mut self) -> Option<u32>
-        requires { (j : ℕ) → Contains (walked self.old).waiting j
-            → j < length (walked self.old).marks }
         ensures some { IfSome result (λ item. Pops item (walked self.old) (walked self.new)) }
-        ensures none { IsNone result → (walked self.old).waiting ≡ [] }
+        ensures none { IsNone result → NoneWaits (walked self.old) }
         ensures same { IsNone result → walked self.new ≡ walked self.old }
     {
-        let item = self.waiting.pop()?;
-        self.is_waiting[item as usize] = false;
-        Some(item)
+        self.waiting.take()
     }
 
     /// What rose at an item since it was gone over; from here on nothing did.

@@ -15,15 +15,15 @@ use Rattle.fm_types.specs.Fits.{fits}
 use Rattle.fm_types.specs.States.{state_fits, TypeState}
 use Rattle.fm_types.specs.Typed.{FitsAt, IsTypingOf, MeetsItem, state_at}
 use Rattle.fm_check_handlers.specs.declared.runs.Level.{Level}
-use Rattle.fm_check_walk.specs.inner.Walks.{CanCarry, HasRoom, risen_at, Stands, Walked, Went}
+use Rattle.fm_check_walk.specs.inner.Turns.{Leaves}
+use Rattle.fm_check_walk.specs.inner.Walks.{CanCarry, HasRoom, is_marked, NoneWaits, risen_at, Stands, Walked, Went}
 
 -- ---- the walk
 
--- the item waits no longer, and from here on nothing rose there
+-- the item waited and does no longer, and from here on nothing rose there
 pub record Takes (item : ℕ) (old new : Walked) : Type 0 where
   pub states : new.states ≡ old.states
-  pub waiting : old.waiting ≡ new.waiting ++ item ∷ []
-  pub marks : new.marks ≡ slice_set old.marks item false
+  pub leaves : Leaves item old.marks new.marks
   pub risen : new.risen ≡ slice_set old.risen item (Some [])
 
 -- ---- steps of the walk
@@ -78,7 +78,7 @@ IsMetBut t states rose j =
 pub record Walking (t : Task) (w : Walked) : Type 0 where
   pub stands : Stands t w
   pub closed : (j : ℕ) → IsMetBut t w.states (risen_at w j) j
-  pub quiet : (j : ℕ) (s : TypeState) → state_at w.states j ≡ Some s → (risen_at w j ≡ Some []) ⊎ Contains w.waiting j
+  pub quiet : (j : ℕ) (s : TypeState) → state_at w.states j ≡ Some s → (risen_at w j ≡ Some []) ⊎ (is_marked w j ≡ true)
 
 -- ---- slots that are carried on
 
@@ -116,7 +116,7 @@ pub record GoesOverGuarded (t : Task) (item : ℕ) (given : List Level) (old new
 -- none waits any longer
 pub record HasSettled (t : Task) (w : Walked) : Type 0 where
   pub walking : Walking t w
-  pub done : w.waiting ≡ []
+  pub done : NoneWaits w
 
 -- the states are a typing, and fit those of each typing
 pub record IsLeast (t : Task) (states : List (Option TypeState)) : Type 0 where

@@ -1,10 +1,11 @@
 -- The state of the walk over the items of a method, and what is brought and carried to one of them.
-use Rattle.std.specs.Prelude.{◌≡◌, ℕ, ◌+◌, ◌<◌, ◌≤◌, ◌⊎◌, Bool, true, false, List, [], ◌∷◌, ◌++◌, length, map, replicate, Option, Some, None, IsSomeAnd, All, Contains, slice_set, sum_by, if◌then◌else◌}
+use Rattle.std.specs.Prelude.{◌≡◌, ℕ, ◌+◌, ◌<◌, ◌≤◌, ◌⊎◌, Bool, true, false, List, length, map, replicate, Option, Some, None, IsSomeAnd, All, Contains, slice_set, count_by, sum_by}
 use Rattle.std.specs.List.{slice_index_or}
 use Rattle.std.specs.Option.{option_map}
 use Rattle.fm_check_walk.specs.declared.walk.Walk.{Walk}
 use Rattle.fm_code.specs.Edges.{IsReachable}
 use Rattle.fm_check_walk.specs.inner.Tasks.{is_within, Task}
+use Rattle.fm_check_walk.specs.inner.Turns.{Leaves}
 use Rattle.fm_check_walk.specs.inner.Ranks.{rank_at}
 use Rattle.fm_check_walk.specs.inner.Risen.{IsAlikeBut, known_state, slot_at}
 use Rattle.fm_check_walk.specs.declared.known_state.KnownState.{KnownState}
@@ -40,7 +41,6 @@ pub record IsKept (t : Task) (j : ℕ) (s : TypeState) : Type 0 where
 -- of each item what rose since it was gone over: these places, or more than places
 pub record Walked : Type 0 where
   pub states : List (Option TypeState)
-  pub waiting : List ℕ
   pub marks : List Bool
   pub risen : List (Option (List SlotPlace))
 
@@ -50,20 +50,23 @@ states_seen states = map (option_map known_state) states
 
 -- the walk as definitions speak of it
 abbrev pub walked : Walk → Walked
-walked w = record { states = states_seen w.states.items; waiting = w.waiting.items; marks = w.is_waiting.items; risen = w.risen.items }
+walked w = record { states = states_seen w.states.items; marks = w.waiting; risen = w.risen.items }
 
 -- no item has a state yet
 abbrev pub not_begun : ℕ → Walked
-not_begun items = record { states = replicate items None; waiting = []; marks = replicate items false; risen = replicate items None }
+not_begun items = record { states = replicate items None; marks = replicate items false; risen = replicate items None }
 
--- the item is marked as one that waits
+-- the item waits
 abbrev pub is_marked : Walked → ℕ → Bool
 is_marked w item = slice_index_or w.marks item false
 
--- the item waits
+-- the item is to be gone over
 abbrev pub with_waiting : ℕ → Walked → Walked
-with_waiting item w =
-    if is_marked w item then w else record w { waiting = w.waiting ++ item ∷ []; marks = slice_set w.marks item true }
+with_waiting item w = record w { marks = slice_set w.marks item true }
+
+-- none is
+abbrev pub NoneWaits : Walked → Type 0
+NoneWaits w = (j : ℕ) → is_marked w j ≡ false
 
 -- what rose at an item
 abbrev pub risen_at : Walked → ℕ → Option (List SlotPlace)
@@ -78,26 +81,27 @@ abbrev pub with_state : ℕ → Option (List SlotPlace) → TypeState → Walked
 with_state item rose s w =
     with_waiting item (record w { states = slice_set w.states item (Some s); risen = slice_set w.risen item rose })
 
--- the item waits no longer
+-- the item waited, and does no longer
 pub record Pops (item : ℕ) (old new : Walked) : Type 0 where
   pub states : new.states ≡ old.states
-  pub waiting : old.waiting ≡ new.waiting ++ item ∷ []
-  pub marks : new.marks ≡ slice_set old.marks item false
+  pub leaves : Leaves item old.marks new.marks
   pub risen : new.risen ≡ old.risen
+
+-- how many items wait
+abbrev pub waiting_count : Walked → ℕ
+waiting_count w = count_by (λ mark. mark) w.marks
 
 -- what is left to do: as far as the states may still rise, and the items that wait
 abbrev pub work_left : Task → Walked → ℕ
-work_left t w = sum_by (rank_at t.program.outline t.code) w.states + length w.waiting
+work_left t w = sum_by (rank_at t.program.outline t.code) w.states + waiting_count w
 
--- each state is kept by all typings; a marked item waits
+-- each state is kept by all typings
 pub record Stands (t : Task) (w : Walked) : Type 0 where
   pub one_each : length w.states ≡ length t.code.items
   pub one_mark : length w.marks ≡ length t.code.items
   pub one_rise : length w.risen ≡ length t.code.items
   pub first : state_at w.states 0 ≡ Some (entry_state t.program.outline t.number t.code)
   pub each : (j : ℕ) (s : TypeState) → state_at w.states j ≡ Some s → IsKept t j s
-  pub marked : (j : ℕ) → is_marked w j ≡ true → Contains w.waiting j
-  pub waiting : (j : ℕ) → Contains w.waiting j → j < length t.code.items
 
 -- Where something rose at places of an item, it did at fewer before, and its state was the same but for these.
 pub record IsTracked (old : Walked) (j : ℕ) (places : List SlotPlace) (s : TypeState) : Type 0 where
@@ -111,8 +115,8 @@ pub record IsTracked (old : Walked) (j : ℕ) (places : List SlotPlace) (s : Typ
 -- states only rise, items whose states do wait, and what rose there is noted
 pub record Rises (o : Outline) (old new : Walked) : Type 0 where
   pub rises : (j : ℕ) (s : TypeState) → state_at old.states j ≡ Some s → IsSomeAnd (state_at new.states j) (λ t. state_fits o s t ≡ true)
-  pub changed : (j : ℕ) → ((state_at new.states j ≡ state_at old.states j) × (risen_at new j ≡ risen_at old j)) ⊎ Contains new.waiting j
-  pub still : (j : ℕ) → Contains old.waiting j → Contains new.waiting j
+  pub changed : (j : ℕ) → ((state_at new.states j ≡ state_at old.states j) × (risen_at new j ≡ risen_at old j)) ⊎ (is_marked new j ≡ true)
+  pub still : (j : ℕ) → is_marked old j ≡ true → is_marked new j ≡ true
   pub tracks :
       (j : ℕ) (places : List SlotPlace) (s : TypeState) → risen_at new j ≡ Some places → state_at new.states j ≡ Some s → IsTracked old j places s
 

@@ -2,7 +2,7 @@ use Rattle.std.proofs.Common.{◌∙◌, sym, ap, subst, List, Option, None}
 use Rattle.std.specs.List.{slice_index_or}
 use Rattle.fm_base.proofs.TestFacts.{match_true}
 use Rattle.fm_check_handlers.proofs.GivingLemmas.{guarded-first}
-use Rattle.fm_check.proofs.ItemLemmas.{popped-rise, Stands-taken, taken-inside, taken-met, takes-popped, waiting_marked, Walking-more}
+use Rattle.fm_check.proofs.ItemLemmas.{popped-rise, Stands-taken, taken-inside, taken-met, takes-popped, Walking-more}
 use Rattle.fm_check_walk.specs.declared.known_state.SlotPlace.{SlotPlace}
 use Rattle.fm_check.specs.inner.Steps.{GoesOverGuarded, IsMetBut}
 use Rattle.fm_check_handlers.specs.inner.Runs.{IsGuarded, IsLaid}
@@ -11,9 +11,6 @@ use Rattle.fm_check_walk.specs.inner.Tasks.{task}
 use Rattle.fm_code.specs.declared.code_array.Handler.{Handler}
 use Rattle.fm_types.specs.States.{TypeState}
 use Rattle.fm_check.proofs.steps.run.Goals as goal
-
-pub next-requires : goal.next-requires
-next-requires c = waiting_marked (task c.args.method.now) (walked c.loop-item.walk) c.loop-item.invariant.0.stands
 
 pub take_risen-risen-requires : goal.take_risen-risen-requires
 take_risen-risen-requires c =
