@@ -6,12 +6,11 @@ ghost use Rattle.fm_alu.specs.Conversions.{IsOperandOf};
 ghost use Rattle.fm_fast.specs.Flows.{Flows};
 ghost use Rattle.fm_fast.specs.Operands.{AsksOfConversion, HasInt, HasLong};
 ghost use Rattle.fm_exec.specs.Steps.{seen};
-ghost use Rattle.fm_frames.specs.NumberRows.{compare_effect, convert_effect, int_converted, int_negate_effect, int_op_effect, int_shift_effect, long_negate_effect, long_op_effect, long_shift_effect};
+ghost use Rattle.fm_frames.specs.NumberRows.{convert_effect, int_converted, int_op_effect, int_shift_effect, long_op_effect};
 ghost use Rattle.fm_frames.specs.inner.Doings.{NextFits};
 
-use crate::operands::{give, give_wide, int_operand, int_there, long_operand, long_there};
+use crate::operands::{give, give_wide, int_there, long_there};
 use fm_code::{Conv, Op, Shift};
-use fm_exec::{negated_int, negated_long};
 use fm_frames::{Frames, Value};
 
 /// iadd, isub, imul, idiv, irem, iand, ior and ixor; returns whether it was done, which a division
@@ -52,34 +51,6 @@ pub fn long_op(frames: &mut Frames, op: Op) -> bool
     }
 }
 
-/// ineg; returns whether it was done. Takes no memory.
-#[inline(always)]
-pub fn int_negate(frames: &mut Frames) -> bool
-    requires fits { NextFits frames.old }
-    ensures did { result ≡ true
-        → Flows frames.old frames.new (λ p x. int_negate_effect (seen p x)) }
-    ensures same { result ≡ false → frames.new ≡ frames.old }
-{
-    let Some(a) = int_operand(frames, 0) else {
-        return false;
-    };
-    give(frames, 1, Value::Int(negated_int(a)))
-}
-
-/// lneg; returns whether it was done. Takes no memory.
-#[inline(always)]
-pub fn long_negate(frames: &mut Frames) -> bool
-    requires fits { NextFits frames.old }
-    ensures did { result ≡ true
-        → Flows frames.old frames.new (λ p x. long_negate_effect (seen p x)) }
-    ensures same { result ≡ false → frames.new ≡ frames.old }
-{
-    let Some(a) = long_operand(frames, 1) else {
-        return false;
-    };
-    give_wide(frames, 2, Value::Long(negated_long(a)))
-}
-
 /// ishl, ishr and iushr, whose count is on top; returns whether it was done. Takes no memory.
 #[inline(always)]
 pub fn int_shift(frames: &mut Frames, shift: Shift) -> bool
@@ -93,39 +64,6 @@ pub fn int_shift(frames: &mut Frames, shift: Shift) -> bool
     let a = int_there(frames, 1);
     let n = int_there(frames, 0);
     give(frames, 2, Value::Int(fm_alu::int_shift(shift, a, n)))
-}
-
-/// lshl, lshr and lushr, whose count is on top; returns whether it was done. Takes no memory.
-#[inline(always)]
-pub fn long_shift(frames: &mut Frames, shift: Shift) -> bool
-    requires fits { NextFits frames.old }
-    ensures did { result ≡ true
-        → Flows frames.old frames.new (λ p x. long_shift_effect shift (seen p x)) }
-    ensures same { result ≡ false → frames.new ≡ frames.old }
-{
-    let Some(a) = long_operand(frames, 2) else {
-        return false;
-    };
-    let Some(n) = int_operand(frames, 0) else {
-        return false;
-    };
-    give_wide(frames, 3, Value::Long(fm_alu::long_shift(shift, a, n)))
-}
-
-/// lcmp; returns whether it was done. Takes no memory.
-#[inline(always)]
-pub fn long_compare(frames: &mut Frames) -> bool
-    requires fits { NextFits frames.old }
-    ensures did { result ≡ true → Flows frames.old frames.new (λ p x. compare_effect (seen p x)) }
-    ensures same { result ≡ false → frames.new ≡ frames.old }
-{
-    let Some(a) = long_operand(frames, 3) else {
-        return false;
-    };
-    let Some(b) = long_operand(frames, 1) else {
-        return false;
-    };
-    give(frames, 4, Value::Int(fm_alu::compare(a, b)))
 }
 
 // i2b, i2c and i2s, whose results are ints.

@@ -95,28 +95,6 @@ pub fn local_cell(frames: &Frames, place: u16) -> Cell
     }
 }
 
-/// The int at this place of the stack, counted from the top; none where there is no int.
-#[inline(always)]
-pub fn int_operand(frames: &Frames, place: usize) -> Option<i32>
-    ensures { result ≡ int_in (slice_get (stack_in frames.now) place) }
-{
-    match frames.operand(place) {
-        Some(Value::Int(n)) => Some(n),
-        _ => None,
-    }
-}
-
-/// The long at this place of the stack, counted from the top; none where there is no long.
-#[inline(always)]
-pub fn long_operand(frames: &Frames, place: usize) -> Option<i64>
-    ensures { result ≡ long_in (slice_get (stack_in frames.now) place) }
-{
-    match frames.operand(place) {
-        Some(Value::Long(n)) => Some(n),
-        _ => None,
-    }
-}
-
 /// Puts a word on top of the stack, if there is room for it, and goes on to the next item; returns
 /// whether that was done. Takes no memory.
 #[inline(always)]
