@@ -13,7 +13,7 @@ mod fields;
 mod held;
 mod jumps;
 mod locals;
-mod numbers;
+pub mod numbers;
 mod objects;
 mod shuffles;
 mod throws;
@@ -29,10 +29,6 @@ pub use fields::{get_field, put_field};
 pub use held::{fits_named, give, refuse, type_in};
 pub use jumps::{go_to, holds, if_int, if_null, if_pair, if_same, lookup_switch, table_switch};
 pub use locals::{increment, int_sum, load, store};
-pub use numbers::{
-    convert, int_negate, int_op, int_shift, long_compare, long_negate, long_op, long_shift,
-    negated_int, negated_long,
-};
 pub use objects::class_of_type;
 pub use shuffles::{dup, dup_x1, dup_x2, dup2, dup2_x1, dup2_x2, pop, pop2, swap};
 pub use throws::throw;

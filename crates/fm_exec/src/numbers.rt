@@ -64,9 +64,9 @@ pub fn long_op<M: Memory>(
     }
 }
 
-/// An int with its sign turned; the least one is its own. Takes no memory.
+// An int with its sign turned; the least one is its own. Takes no memory.
 #[inline(always)]
-pub fn negated_int(a: i32) -> i32
+fn negated_int(a: i32) -> i32
     ensures { result ≡ signed 32 (pos 0 -ℤ a) }
 {
     0_i32.wrapping_sub(a)
@@ -86,9 +86,9 @@ pub fn int_negate<M: Memory>(machine: &mut Machine<M>, program: &Program) -> Res
     machine.give(1, Value::Int(negated_int(a)))
 }
 
-/// A long with its sign turned; the least one is its own. Takes no memory.
+// A long with its sign turned; the least one is its own. Takes no memory.
 #[inline(always)]
-pub fn negated_long(a: i64) -> i64
+fn negated_long(a: i64) -> i64
     ensures { result ≡ signed 64 (pos 0 -ℤ a) }
 {
     0_i64.wrapping_sub(a)

@@ -15,6 +15,7 @@ use fm_base::{MethodId, NoMemory};
 use fm_cells::Memory;
 use fm_code::{Elem, Insn};
 use fm_exec as rows;
+use fm_exec::numbers;
 use fm_frames::Machine;
 use fm_world::Program;
 use std::alloc::Global;
@@ -62,10 +63,10 @@ pub(crate) fn frequent<M: Memory>(
         Insn::Inc(place, by) => rows::increment(machine, program, *place, *by),
         Insn::Const(n) => rows::int_constant(machine, program, *n)?,
         Insn::Null => rows::null(machine, program)?,
-        Insn::IntOp(op) => rows::int_op(machine, program, *op)?,
-        Insn::IntShift(shift) => rows::int_shift(machine, program, *shift)?,
-        Insn::LongOp(op) => rows::long_op(machine, program, *op)?,
-        Insn::Convert(to) => rows::convert(machine, program, *to)?,
+        Insn::IntOp(op) => numbers::int_op(machine, program, *op)?,
+        Insn::IntShift(shift) => numbers::int_shift(machine, program, *shift)?,
+        Insn::LongOp(op) => numbers::long_op(machine, program, *op)?,
+        Insn::Convert(to) => numbers::convert(machine, program, *to)?,
         Insn::IfInt(test, target) => rows::if_int(machine, program, *test, *target),
         Insn::IfPair(test, target) => rows::if_pair(machine, program, *test, *target),
         Insn::IfSame(same, target) => rows::if_same(machine, program, *same, *target),
@@ -123,10 +124,10 @@ pub(crate) fn rarer<M: Memory>(
     match insn {
         Insn::Nop => rows::nop(machine, program),
         Insn::LongConst(n) => rows::long_constant(machine, program, *n)?,
-        Insn::IntNeg => rows::int_negate(machine, program)?,
-        Insn::LongNeg => rows::long_negate(machine, program)?,
-        Insn::LongShift(shift) => rows::long_shift(machine, program, *shift)?,
-        Insn::LongCompare => rows::long_compare(machine, program)?,
+        Insn::IntNeg => numbers::int_negate(machine, program)?,
+        Insn::LongNeg => numbers::long_negate(machine, program)?,
+        Insn::LongShift(shift) => numbers::long_shift(machine, program, *shift)?,
+        Insn::LongCompare => numbers::long_compare(machine, program)?,
         Insn::Table(low, others, targets) => {
             rows::table_switch(machine, program, *low, *others, targets.as_slice());
         }
