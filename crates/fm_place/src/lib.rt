@@ -12,7 +12,10 @@ pub mod limits;
 mod plans;
 mod set_bits;
 
+pub use busy_rows::Seen;
 pub use found_sites::{Site, sites};
+pub use groups::Groups;
+pub use holding_rows::Holding;
 pub use laws::{
     law_busy, law_example, law_full, law_holders, law_places, law_plans, law_stack, law_woven,
 };

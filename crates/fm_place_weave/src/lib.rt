@@ -19,5 +19,6 @@ mod woven;
 pub use classes::{FreePool, woven_class};
 pub use error::WeaveFail;
 pub use laws::{law_bytes, law_classes, law_plans};
+pub use pairs::{here, later};
 pub use planned::Planned;
 pub use woven::woven_code;

@@ -22,7 +22,7 @@ pub(crate) fn leading(pairs: &[(u32, u16)], item: usize) -> usize
 
 /// These pairs.
 #[tactic(auto, using(crate::proofs::PairLemmas::locals_here))]
-pub(crate) fn here(pairs: &[(u32, u16)], item: usize) -> &[(u32, u16)]
+pub fn here(pairs: &[(u32, u16)], item: usize) -> &[(u32, u16)]
     ensures is { result.now ≡ here item pairs.now }
     ensures locals { (first : ℕ) → AreLocals first pairs.now → AreLocals first result.now }
 {
@@ -31,7 +31,7 @@ pub(crate) fn here(pairs: &[(u32, u16)], item: usize) -> &[(u32, u16)]
 
 /// The pairs after them.
 #[tactic(auto, using(crate::proofs::PairLemmas::locals_later))]
-pub(crate) fn later(pairs: &[(u32, u16)], item: usize) -> &[(u32, u16)]
+pub fn later(pairs: &[(u32, u16)], item: usize) -> &[(u32, u16)]
     ensures is { result.now ≡ later item pairs.now }
     ensures locals { (first : ℕ) → AreLocals first pairs.now → AreLocals first result.now }
 {
