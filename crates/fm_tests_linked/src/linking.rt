@@ -2,6 +2,7 @@
 
 mod causes;
 mod classes;
+mod completing;
 mod large;
 mod members;
 

@@ -146,8 +146,8 @@ const MEMBERS: [Row; 9] = [
     (&[NO_MAIN_BELOW_A, A_WITH_MAIN], "linked"),
 ];
 
-// The line of a result.
-fn line_of(alloc: Global, answer: Result<Program, LinkFail>) -> Result<String, NoMemory> {
+/// The line of a result.
+pub fn line_of(alloc: Global, answer: Result<Program, LinkFail>) -> Result<String, NoMemory> {
     let (cause, bad) = match answer {
         Ok(_) => return Ok(String::from_str(alloc, "linked")?),
         Err(LinkFail::Duplicate(bad)) => ("duplicate", bad),
