@@ -1,2 +1,3 @@
 pub mod Reading
 pub mod ReadBy
+pub mod Example

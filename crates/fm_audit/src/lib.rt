@@ -4,6 +4,8 @@
 // The definitions are in specs/. A later layer judges by them whether what is inserted is safe.
 #![tactic(auto)]
 
+mod laws;
 mod reading;
 
+pub use laws::law_example;
 pub use reading::{Found, Inserted, read};
