@@ -86,6 +86,11 @@ def refilling():
     return moved(400, 20, True)
 
 
+def climbing():
+    """The same of 300 locals and 300 classes, without the stack."""
+    return moved(300, 300, False)
+
+
 def guarded(items, locals_count, span_of):
     """So many nops with so many locals, under 1,024 entries of the exception table with handlers of their own, each over its span."""
     entries = b""
@@ -110,7 +115,7 @@ def holding():
     return program(1, (ZERO + NEW_INTS + POP) * 1_000 + NOP * 39_000 + RETURN)
 
 
-PROGRAMS = [straight, nops, wide, forgetting, shifting, refilling, covered, nested, holding]
+PROGRAMS = [straight, nops, wide, forgetting, shifting, refilling, climbing, covered, nested, holding]
 
 
 def main():
