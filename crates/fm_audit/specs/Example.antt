@@ -10,10 +10,10 @@ use Rattle.fm_audit.specs.Reading.{Read}
 
 -- ---- an array that is popped, in a method whose own local is 0
 
--- iconst_1, newarray int, pop, return
+-- iconst_2, newarray int, pop, return
 abbrev pub popping : List Item
 popping =
-    item_of 0 (4 ∷ []) (insn.Const (pos 1))
+    item_of 0 (5 ∷ []) (insn.Const (pos 2))
     ∷ item_of 1 (188 ∷ 10 ∷ []) (insn.NewArray elem.Int)
     ∷ item_of 3 (87 ∷ []) insn.Pop
     ∷ item_of 4 (177 ∷ []) (insn.Return None)
@@ -24,7 +24,7 @@ abbrev pub freeing : List Item
 freeing =
     item_of 0 (1 ∷ []) insn.Null
     ∷ item_of 1 (76 ∷ []) (insn.Store reg.Ref 1)
-    ∷ item_of 2 (4 ∷ []) (insn.Const (pos 1))
+    ∷ item_of 2 (5 ∷ []) (insn.Const (pos 2))
     ∷ item_of 3 (188 ∷ 10 ∷ []) (insn.NewArray elem.Int)
     ∷ item_of 5 (89 ∷ []) insn.Dup
     ∷ item_of 6 (76 ∷ []) (insn.Store reg.Ref 1)
@@ -41,7 +41,7 @@ abbrev pub freeing_uncleared : List Item
 freeing_uncleared =
     item_of 0 (1 ∷ []) insn.Null
     ∷ item_of 1 (76 ∷ []) (insn.Store reg.Ref 1)
-    ∷ item_of 2 (4 ∷ []) (insn.Const (pos 1))
+    ∷ item_of 2 (5 ∷ []) (insn.Const (pos 2))
     ∷ item_of 3 (188 ∷ 10 ∷ []) (insn.NewArray elem.Int)
     ∷ item_of 5 (89 ∷ []) insn.Dup
     ∷ item_of 6 (76 ∷ []) (insn.Store reg.Ref 1)

@@ -111,14 +111,16 @@ opposite_opcode opcode =
     if opcode == opcodes.IFNONNULL then Some opcodes.IFNULL else
     None
 
--- the number is this one
-abbrev pub is_some_number : Option ℕ → ℕ → Bool
-is_some_number None n = false
-is_some_number (Some m) n = m == n
+-- the second is the opcode of the opposite test
+abbrev pub is_opposite : ℕ → ℕ → Bool
+is_opposite one other = by_opposite (opposite_opcode one) where
+  by_opposite : Option ℕ → Bool
+  by_opposite None = false
+  by_opposite (Some opposite) = opposite == other
 
 -- an old branch is widened: the first two items are the opposite test and a goto
 abbrev pub is_widened : Item → List Item → Bool
-is_widened item (a ∷ b ∷ items) = is_some_number (opposite_opcode (opcode_of item)) (opcode_of a) && is_goto b.insn
+is_widened item (a ∷ b ∷ items) = is_opposite (opcode_of item) (opcode_of a) && is_goto b.insn
 is_widened item items = false
 
 -- how many items keep an old one

@@ -4,7 +4,7 @@ ghost use Rattle.std.specs.Prelude.{◌≡◌, ◌≢◌, ◌++◌, ◌<◌, ◌
 ghost use Rattle.std.specs.Option.{option_map};
 ghost use Rattle.fm_code.specs.Operands.{opcode_of};
 ghost use Rattle.fm_audit.specs.ReadBy.{pairs_in, read_in};
-ghost use Rattle.fm_audit.specs.Reading.{after_frees, after_nulls, after_taken, calls, found_twice, freed, frees, holder_in, is_dup, is_goto, is_null, is_some_number, is_widened, kept_count, loaded, nulled, nulls, opposite_opcode, pair_if, pairs_of, read, read_from, stored, taken};
+ghost use Rattle.fm_audit.specs.Reading.{after_frees, after_nulls, after_taken, calls, found_twice, freed, frees, holder_in, is_dup, is_goto, is_null, is_opposite, is_widened, kept_count, loaded, nulled, nulls, opposite_opcode, pair_if, pairs_of, read, read_from, stored, taken};
 
 use fm_base::NoMemory;
 use fm_code::opcodes::{GOTO, IFEQ, IFNONNULL, IFNULL};
@@ -188,7 +188,7 @@ fn opcode_of(item: &Item) -> u8
 
 /// Whether two opcodes are those of opposite tests.
 fn is_opposite(one: u8, other: u8) -> bool
-    ensures { result ≡ is_some_number (opposite_opcode one) other }
+    ensures { result ≡ is_opposite one other }
 {
     match opposite_opcode(one) {
         Some(opcode) => opcode == other,
