@@ -1,6 +1,6 @@
 -- The roles of laid items: each new item has one or two of them, by its room.
 use Rattle.std.proofs.Common.{◌≡◌, ℕ, zero, suc, ◌+◌, ◌<◌, ◌≤◌, ◌⊎◌, inl, inr, Bool, true, false, List, [], ◌∷◌, ◌++◌, length, get_or, Option, Some, None, refl, sym, ap, ◌∙◌, arith, append_assoc, length-append}
-use Rattle.std.specs.Prelude.{is_some, slice_get, slice_index}
+use Rattle.std.specs.Prelude.{if◌then◌else◌, is_some, slice_get, slice_index}
 use Rattle.std.proofs.lemmas.Bool.{cases_lt, false≢true}
 use Rattle.std.proofs.lemmas.Option.{none-some, same_Some, slice_get_within}
 use Rattle.fm_base.proofs.ListFacts.{slice_get-append_right}
