@@ -1,6 +1,6 @@
 package java.lang;
 
-/** A sequence of chars. The built-in texts and builders aren't of these yet. */
+/** A sequence of chars. Texts and builders are of these where a program brings what completes them. */
 public interface CharSequence {
     /** Returns the number of chars. */
     int length();

@@ -1,6 +1,6 @@
 package java.util;
 
-/** The natural order, also of texts, which are no Comparable here. */
+/** The natural order, also of texts, which are no Comparable where nothing completes them. */
 final class Natural {
     Natural() {
     }

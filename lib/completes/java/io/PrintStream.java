@@ -1,0 +1,53 @@
+package java.io;
+
+/** What a stream for printing has besides what is built in. */
+public class PrintStream {
+    PrintStream() {
+    }
+
+    public native void print(int value);
+
+    public native void print(long value);
+
+    public native void print(char value);
+
+    public native void print(boolean value);
+
+    public native void print(String value);
+
+    public native void println(int value);
+
+    public native void println(long value);
+
+    public native void println(char value);
+
+    public native void println(boolean value);
+
+    public native void println(String value);
+
+    public native void println();
+
+    /** Prints an object's text, in the time of its {@code toString}. */
+    public void print(Object value) {
+        print(String.valueOf(value));
+    }
+
+    /** Prints chars, in {@code n log n} time. */
+    public void print(char[] value) {
+        print(String.valueOf(value));
+    }
+
+    /** Prints an object's text and ends the line, in the time of its {@code toString}. */
+    public void println(Object value) {
+        println(String.valueOf(value));
+    }
+
+    /** Prints chars and ends the line, in {@code n log n} time. */
+    public void println(char[] value) {
+        println(String.valueOf(value));
+    }
+
+    /** Does nothing: what is printed isn't kept back. */
+    public void flush() {
+    }
+}
