@@ -10,7 +10,7 @@ use Rattle.fm_code.specs.Spells.{HasSpelling}
 use Rattle.fm_code.specs.declared.class_file.ClassDef.{ClassDef}
 use Rattle.fm_code.specs.declared.constant_pool.Entry.{Entry}
 use Rattle.fm_code.specs.declared.constant_pool.Entry.TheVariants as entry
-use Rattle.fm_link_supers.proofs.BuiltInParents.{completed_parent, table_parent}
+use Rattle.fm_link_supers.proofs.BuiltInParents.{completed_parent, second_of, table_parent}
 use Rattle.fm_link_supers.proofs.Downwards.{among_head}
 use Rattle.fm_link_supers.proofs.ParentRefusals.{tree_object, length-declared, past_none, name_within, nil_left, none_of, spelled_at, not_refused, if_true, refused_not, superclass_used, some_entries}
 use Rattle.fm_code.specs.Names.{object}
@@ -44,10 +44,6 @@ parents_table : map some_parent (numbers_below 28) ≡ replicate 28 true
 unfolding built_in
 parents_table = refl
 
-second_true : (a b : Bool) → a ≡ false → (a || b) ≡ true → b ≡ true
-second_true false b e h = h
-second_true true b e h = absurd (false≢true (sym e))
-
 built_in_parent : (given : List ClassDef) → refused_built_ins given ≡ [] → (k : ℕ) → k < length built_in → nat_eq k 0 ≡ false → HasParent (classes_of given) k
 built_in_parent given apart k within other = by_completion (completion_of (classes_of given) (class_at (classes_of given) k)) refl where
   inside : k < 28
@@ -55,7 +51,7 @@ built_in_parent given apart k within other = by_completion (completion_of (class
 
   found : is_some (parent_of built_in k) ≡ true
   found =
-      second_true (nat_eq k 0) (is_some (parent_of built_in k)) other
+      second_of (nat_eq k 0) (is_some (parent_of built_in k)) other
       (sym (get_or-map-range_with_len some_parent 0 28 k k true inside (zero-add k)) ∙ ap (λ row. get_or row k true) parents_table ∙ get_or-replicate 28 k true true inside)
 
   by_parent : completion_of (classes_of given) (class_at (classes_of given) k) ≡ None → (p : Option ℕ) → parent_of built_in k ≡ p → HasParent (classes_of given) k

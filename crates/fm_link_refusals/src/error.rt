@@ -20,7 +20,7 @@ pub enum LinkFail {
     /// An earlier file has a class of the same name.
     #[error("two classes have one name")]
     Duplicate(LinkBad),
-    /// A class has the name of a built-in one.
+    /// A class has the name of a built-in one, and doesn't complete it.
     #[error("a class has the name of a built-in one")]
     BuiltIn(LinkBad),
     /// A class that is named is neither given nor built in.

@@ -213,7 +213,7 @@ second_not : (a b : Bool) → a ≡ true → (a && b) ≡ false → b ≡ false
 second_not true b is none = none
 second_not false b is none = absurd (false≢true is)
 
-second_of : (a b : Bool) → a ≡ false → (a || b) ≡ true → b ≡ true
+pub second_of : (a b : Bool) → a ≡ false → (a || b) ≡ true → b ≡ true
 second_of true b none is = absurd (false≢true (sym none))
 second_of false b none is = is
 

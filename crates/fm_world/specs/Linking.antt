@@ -12,7 +12,7 @@ use Rattle.fm_world.specs.Programs.{Program, classes_of, program_of}
 unfoldable pub refused_duplicates : List ClassDef → List Refusal
 refused_duplicates given = duplicates [] given
 
--- classes with the name of a built-in one
+-- classes with the name of a built-in one that they don't complete
 unfoldable pub refused_built_ins : List ClassDef → List Refusal
 refused_built_ins given = flat_map built_in_named given
 

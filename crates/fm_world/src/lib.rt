@@ -18,6 +18,7 @@ mod parts;
 mod program;
 mod records;
 mod shared;
+mod targets;
 mod types;
 mod uses;
 

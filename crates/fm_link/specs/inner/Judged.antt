@@ -44,8 +44,8 @@ later_refusals given main = class_refusals given ++ member_refusals given main
 
 -- ---- files with numbers
 
--- the files are spelled, none has the name of a built-in class, the texts are theirs, the classes are theirs and the built-in ones, and the rows are
--- those of the classes
+-- the files are spelled, each with the name of a built-in class completes it, the texts are theirs, the classes are theirs and the built-in ones, and the
+-- rows are those of the classes
 pub record IsReady (texts : Texts) (files : List GivenFile) (classes : List DeclaredClass) (constructor : ℕ) (fields methods : Members) : Type 0 where
   pub spelled : AllByRecursion HasSpelling (given_in files)
   pub apart : refused_built_ins (given_in files) ≡ []
