@@ -18,12 +18,12 @@ cause_word NotImplemented = codes "not-implemented"
 cause_word NoMain = codes "no-main"
 
 -- the line of a word, of a name and of the class whose file has it, with its line end
-abbrev pub told_line : List ℕ → List ℕ → List ℕ → List ℕ
-told_line word name user = codes "refused: link " ++ (word ++ (codes " " ++ (printed name ++ (codes " in " ++ (printed user ++ 10 ∷ [])))))
+abbrev pub bad_line : List ℕ → List ℕ → List ℕ → List ℕ
+bad_line word name user = codes "refused: link " ++ (word ++ (codes " " ++ (printed name ++ (codes " in " ++ (printed user ++ 10 ∷ [])))))
 
 -- the line of a refusal
 abbrev pub link_line : Refusal → List ℕ
-link_line r = told_line (cause_word r.cause) r.name r.user
+link_line r = bad_line (cause_word r.cause) r.name r.user
 
 -- the line of a cause; where there is none, it is for want of memory
 abbrev pub cause_line : Option Refusal → List ℕ

@@ -55,4 +55,4 @@ refusal_status (job_refusal.Write name) = WRITE
 -- the output is as it was, and the line of a refusal is the one piece that the report got
 pub record IsRefusedBy (line : List ℕ) (before after report report' : Output) : Type 0 where
   pub silent : after ≡ before
-  pub told : report' ≡ with_piece line report
+  pub reported : report' ≡ with_piece line report

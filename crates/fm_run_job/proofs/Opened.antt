@@ -45,8 +45,8 @@ pub typings_are : (p : Program) (typed : AreTyped p) → sound.AreTyped p (typin
 unfolding states_by typings_of
 typings_are p typed method code is = by_code (code_at p method) refl is where
   by_code : (found : Option Code) (same : code_at p method ≡ found) → found ≡ Some code → IsTyping p method (states_by p typed method found same)
-  by_code None same told = absurd (cc)
-  by_code (Some code) same told = (typed method (subst IsSome (sym same) refl)).1
+  by_code None same reported = absurd (cc)
+  by_code (Some code) same reported = (typed method (subst IsSome (sym same) refl)).1
 
 -- ---- the opening
 
@@ -87,10 +87,10 @@ pub last_after : (p : Program) (b : Budgets) (arguments : List (List ℕ)) (inpu
 last_after p b arguments input last before later runs = ap (after p choice runs.run.count) (opening-silent p b arguments input) ∙ sym runs.run.is
 
 -- what the end of the run names is there
-pub end_told : (p : Program) (b : Budgets) (arguments : List (List ℕ)) (input : List ℕ) → CanRun p → AreTyped p → AreWithin b → ArgumentsFit arguments
+pub end_reported : (p : Program) (b : Budgets) (arguments : List (List ℕ)) (input : List ℕ) → CanRun p → AreTyped p → AreWithin b → ArgumentsFit arguments
     → (last : State) (before later : Output) → RunsTo p choice b.steps (opened_run p b arguments input) last before later
     → IsEndIn p (report_of last).end
-end_told p b arguments input can typed within given last before later runs =
+end_reported p b arguments input can typed within given last before later runs =
     let job = job_of b arguments input in
     let there = ends_there p (typings_of p typed) (typings_are p typed) can last_choice job given b.words (Some b.store) empty_lists within.words runs.run.count in
     subst (λ (m : Moved). IsEndIn p (end_of m.state)) (last_after p b arguments input last before later runs) there

@@ -32,15 +32,15 @@ opened_run p b arguments input =
     (opening p choice (record { arguments = arguments; input = input; depth = b.frames }) (opened b.words (Some b.store) empty_lists)).state
 
 -- the run reached its end, and this is reported: the line of its report, and the status of its end
-pub record IsToldOf (p : Program) (b : Budgets) (arguments : List (List ℕ)) (input : List ℕ) (told : RunReport) (before after : Output) : Type 0 where
+pub record IsReportOf (p : Program) (b : Budgets) (arguments : List (List ℕ)) (input : List ℕ) (reported : RunReport) (before after : Output) : Type 0 where
   pub last : State
   pub runs : RunsTo p choice b.steps (opened_run p b arguments input) last before after
-  pub line_is : string_bytes told.line ≡ report_line p (report_of last)
-  pub status_is : told.status ≡ end_status (report_of last).end
+  pub line_is : string_bytes reported.line ≡ report_line p (report_of last)
+  pub status_is : reported.status ≡ end_status (report_of last).end
 
 -- it reached its end; or the put of what a step prints failed; or memory couldn't be had after its
 -- first steps, which may be none
 abbrev pub ComesOfRun : Program → Budgets → (arguments : List (List ℕ)) → (input : List ℕ) → (before after : Output) → Result RunReport StepFail → Type 0
-ComesOfRun p b arguments input before after (Ok told) = IsToldOf p b arguments input told before after
+ComesOfRun p b arguments input before after (Ok reported) = IsReportOf p b arguments input reported before after
 ComesOfRun p b arguments input before after (Err fail.SinkFailed) = FailsRun p choice b.steps (opened_run p b arguments input) before after
 ComesOfRun p b arguments input before after (Err fail.NoMemory) = BreaksRun p choice b.steps (opened_run p b arguments input) before after

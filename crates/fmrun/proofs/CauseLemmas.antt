@@ -27,12 +27,12 @@ use Rattle.fm_cli.specs.Status.{ComesExactly}
 use Rattle.fm_cli.specs.declared.command_refusal.CommandRefusal.TheVariants as refusal
 use Rattle.fm_cli.specs.declared.status.TheConstants.{DONE, WORDS, READ, LIMIT, LINK, CHECK, WRITE, OUT_OF_MEMORY}
 use Rattle.fm_world.specs.Causes.{Refusal}
-use Rattle.fmrun.proofs.EndStatuses.{among_refusals, job_of_told, kind_of, not_for_words, own_among, refusal_among, run_apart}
-use Rattle.fmrun.proofs.ToldLemmas.{FailsSo, IsLinePut, fails_so, is_among, is_line_put, told_of_file, told_of_words}
+use Rattle.fmrun.proofs.EndStatuses.{among_refusals, job_of_reported, kind_of, not_for_words, own_among, refusal_among, run_apart}
+use Rattle.fmrun.proofs.ReportedLemmas.{FailsSo, IsLinePut, fails_so, is_among, is_line_put, reported_of_file, reported_of_words}
 use Rattle.fmrun.proofs.Verdicts.{JobVerdict, Runs, input_long, input_missing, one_end, passes, passes_input, ready_passes, status_of}
 use Rattle.fmrun.specs.Causes.{AskFor, AskToRead, HasLongInput, HasManyArguments, IsForBytes, IsForCheck, IsForLimit, IsForLink, IsForRead, IsForRun, IsForWords, IsKnownReady, IsKnownRun, LacksInput, MissesFile, SaysCheck, SaysLimit, SaysLink, SaysRead, SaysRefused, SaysRun, SaysWords, refusal_statuses}
 use Rattle.fmrun.specs.Jobs.{given_of, job_arguments}
-use Rattle.fmrun.specs.TopCall.{AreManyArguments, ComesOf, ComesOfJob, ComesTo, HasInput, HasRun, IsTold, Outcome, outcome_status}
+use Rattle.fmrun.specs.TopCall.{AreManyArguments, ComesOf, ComesOfJob, ComesTo, HasInput, HasRun, IsReported, Outcome, outcome_status}
 use Rattle.fmrun.specs.declared.outcome.JobFail.TheVariants as fail
 
 -- ---- what a status says
@@ -44,13 +44,13 @@ module _ (words : List Bytes) (old new : Disk) (before after report report' : Ou
 
   -- 65
   read_said : (o : Outcome) → OfJob o → outcome_status o ≡ READ → IsLinePut o report report' → SaysRead words old new before after report report'
-  read_said (Ok told) j is line = absurd (run_apart j.comes READ (omega arith) (omega arith) is)
+  read_said (Ok reported) j is line = absurd (run_apart j.comes READ (omega arith) (omega arith) is)
   read_said (Err (fail.Refused (job_refusal.Shared (refusal.Read file)))) j is line = record {
     job = j.job;
     asked = j.asked;
     file = file.now;
     unread = j.comes.0.1;
-    refused = record { silent = j.comes.1; told = line };
+    refused = record { silent = j.comes.1; reported = line };
   }
   read_said (Err (fail.Refused (job_refusal.Class file r))) j is line = absurd (let c = class_status r in let low = c.low in let high = c.high in omega arith)
   read_said o j is line = absurd (omega arith)
@@ -64,11 +64,11 @@ module _ (words : List Bytes) (old new : Disk) (before after report report' : Ou
     cause = cause;
     input = input;
     unlinked = unlinked;
-    refused = record { silent = silent; told = line };
+    refused = record { silent = silent; reported = line };
   }
 
   link_said : (o : Outcome) → OfJob o → outcome_status o ≡ LINK → IsLinePut o report report' → SaysLink words old new before after report report'
-  link_said (Ok told) j is line = absurd (run_apart j.comes LINK (omega arith) (omega arith) is)
+  link_said (Ok reported) j is line = absurd (run_apart j.comes LINK (omega arith) (omega arith) is)
   link_said (Err (fail.Refused (job_refusal.Link link))) j is line = cause_said j.job (refusal_of link) j.asked j.comes.0.1.0 j.comes.0.1.1 j.comes.1 line
   link_said (Err (fail.Refused (job_refusal.Class file r))) j is line = absurd (let c = class_status r in let low = c.low in let high = c.high in omega arith)
   link_said (Err (fail.Refused (job_refusal.Shared refusal.Words))) j is line = absurd (omega arith)
@@ -76,14 +76,14 @@ module _ (words : List Bytes) (old new : Disk) (before after report report' : Ou
 
   -- 71
   check_said : (o : Outcome) → OfJob o → outcome_status o ≡ CHECK → IsLinePut o report report' → SaysCheck words old new before after report report'
-  check_said (Ok told) j is line = absurd (run_apart j.comes CHECK (omega arith) (omega arith) is)
+  check_said (Ok reported) j is line = absurd (run_apart j.comes CHECK (omega arith) (omega arith) is)
   check_said (Err (fail.Refused (job_refusal.Check name))) j is line = record {
     job = j.job;
     asked = j.asked;
     name = name;
     input = j.comes.0.1.0;
     untyped = j.comes.0.1.1;
-    refused = record { silent = j.comes.1; told = line };
+    refused = record { silent = j.comes.1; reported = line };
   }
   check_said (Err (fail.Refused (job_refusal.Class file r))) j is line = absurd (let c = class_status r in let low = c.low in let high = c.high in omega arith)
   check_said (Err (fail.Refused (job_refusal.Shared refusal.Words))) j is line = absurd (omega arith)
@@ -91,7 +91,7 @@ module _ (words : List Bytes) (old new : Disk) (before after report report' : Ou
 
   -- 66, 67 and 69
   bytes_said : (status : ℕ) → 66 ≤ status → status ≤ 69 → status ≢ LIMIT → (o : Outcome) → OfJob o → outcome_status o ≡ status → IsLinePut o report report' → SaysRefused status words old new before after report report'
-  bytes_said status low high other (Ok told) j is line = absurd (run_apart j.comes status (omega arith) (omega arith) is)
+  bytes_said status low high other (Ok reported) j is line = absurd (run_apart j.comes status (omega arith) (omega arith) is)
   bytes_said status low high other (Err (fail.Refused (job_refusal.TooManyFiles count))) j is line = absurd (other (sym is))
   bytes_said status low high other (Err (fail.Refused (job_refusal.TooManyArguments count))) j is line = absurd (other (sym is))
   bytes_said status low high other (Err (fail.Refused (job_refusal.TooLong file))) j is line = absurd (other (sym is))
@@ -102,28 +102,28 @@ module _ (words : List Bytes) (old new : Disk) (before after report report' : Ou
     refusal = r;
     status_is = is;
     unaccepted = j.comes.0.1;
-    refused = record { silent = j.comes.1; told = line };
+    refused = record { silent = j.comes.1; reported = line };
   }
   bytes_said status low high other (Err (fail.Refused (job_refusal.Shared refusal.Words))) j is line = absurd (omega arith)
   bytes_said status low high other o j is line = absurd (omega arith)
 
   -- 68
   limit_said : (o : Outcome) → OfJob o → outcome_status o ≡ LIMIT → IsLinePut o report report' → SaysLimit words old new before after report report'
-  limit_said (Ok told) j is line = absurd (run_apart j.comes LIMIT (omega arith) (omega arith) is)
+  limit_said (Ok reported) j is line = absurd (run_apart j.comes LIMIT (omega arith) (omega arith) is)
   limit_said (Err (fail.Refused (job_refusal.TooManyFiles count))) j is line =
       let Many : ℕ → Type 0 = λ n. AreMany j.job.files n old new × (report' ≡ with_piece (many_line n) report) in
       let own = subst Many j.comes.0.count_is (j.comes.0, line) in
-      inl (record { job = j.job; asked = j.asked; many = own.0; refused = record { silent = j.comes.1; told = own.1 } })
+      inl (record { job = j.job; asked = j.asked; many = own.0; refused = record { silent = j.comes.1; reported = own.1 } })
   limit_said (Err (fail.Refused (job_refusal.TooManyArguments count))) j is line =
       let Many : ℕ → Type 0 = λ n. AreManyArguments j.job n old new × (report' ≡ with_piece (many_arguments_line n) report) in
       let own = subst Many j.comes.0.count_is (j.comes.0, line) in
-      inr (inl (record { job = j.job; asked = j.asked; many = own.0; refused = record { silent = j.comes.1; told = own.1 } }))
+      inr (inl (record { job = j.job; asked = j.asked; many = own.0; refused = record { silent = j.comes.1; reported = own.1 } }))
   limit_said (Err (fail.Refused (job_refusal.TooLong file))) j is line = inr (inr (inl (record {
     job = j.job;
     asked = j.asked;
     file = file.now;
     long = j.comes.0.1;
-    refused = record { silent = j.comes.1; told = line };
+    refused = record { silent = j.comes.1; reported = line };
   })))
   limit_said (Err (fail.Refused (job_refusal.Class file r))) j is line = inr (inr (inr (record {
     job = j.job;
@@ -132,7 +132,7 @@ module _ (words : List Bytes) (old new : Disk) (before after report report' : Ou
     refusal = r;
     status_is = is;
     unaccepted = j.comes.0.1;
-    refused = record { silent = j.comes.1; told = line };
+    refused = record { silent = j.comes.1; reported = line };
   })))
   limit_said (Err (fail.Refused (job_refusal.Shared refusal.Words))) j is line = absurd (omega arith)
   limit_said o j is line = absurd (omega arith)
@@ -147,7 +147,7 @@ many_status job old new before after many o comes = go many o comes where
   both (inr arguments) few_arguments few = absurd (let many = arguments.1 in omega arith)
 
   go : HasTooMany (given_of job) ⊎ HasManyArguments job → (o : Outcome) → ComesTo job old new before after o → Contains (LIMIT ∷ instead_for_words) (outcome_status o)
-  go m (Ok told) c = both m c.ready.few c.ready.checked.linked.source.taken.few
+  go m (Ok reported) c = both m c.ready.few c.ready.checked.linked.source.taken.few
   go m (Err fail.Output) c = both m c.ready.few c.ready.checked.linked.source.taken.few
   go m (Err (fail.Refused (job_refusal.Shared refusal.Words))) c = absurd c.0.1
   go m (Err (fail.Refused (job_refusal.Shared (refusal.Read file)))) ((few, inl unread), same) = both m few unread.reaches.few
@@ -244,7 +244,7 @@ module _ {words : List Bytes} {old new : Disk} {before after : Output} (o : Outc
       let found = Some-from_is_some old.contents is.known in
       go (decided DONE job found.0 found.1 asked is.ready.few (ready_passes job old found.0 found.1 is.classes is.input is.ready)) where
         late : (x : Outcome) → Contains instead_for_file (kind_of x) → Contains instead_for_file (outcome_status x)
-        late (Ok told) among = absurd (unlike_elements DONE instead_for_file refl DONE among refl)
+        late (Ok reported) among = absurd (unlike_elements DONE instead_for_file refl DONE among refl)
         late (Err e) among = among
 
         go : Contains (DONE ∷ instead_for_file) (kind_of o) ⊎ (outcome_status o ≡ OUT_OF_MEMORY) → (kind_of o ≡ DONE) ⊎ Contains instead_for_file (outcome_status o)
@@ -257,10 +257,10 @@ not_done r comes is = let bounds = among_refusals (refusal_status r) (refusal_am
 
 -- ---- the clauses
 
-module _ {words : List Bytes} {old new : Disk} {before after : Output} (report report' : Output) (result : ℕ) (o : Outcome) (comes : ComesOf words old new before after o) (tells : IsTold o report report' result) where
+module _ {words : List Bytes} {old new : Disk} {before after : Output} (report report' : Output) (result : ℕ) (o : Outcome) (comes : ComesOf words old new before after o) (reports : IsReported o report report' result) where
   -- the words asked for a job, where the status is neither that of words nor that of memory
   of_job_alone : {Said : Type 0} (status : ℕ) → status ≢ WORDS → status ≢ WRITE → status ≢ OUT_OF_MEMORY → (ComesOfJob words old new before after o → outcome_status o ≡ status → IsLinePut o report report' → Said) → result ≡ status → Said
-  of_job_alone {Said} status unlike_words write memory said is = go comes (is_line_put report report' result o tells status write memory is) where
+  of_job_alone {Said} status unlike_words write memory said is = go comes (is_line_put report report' result o reports status write memory is) where
     go : ComesOf words old new before after o → (outcome_status o ≡ status) × IsLinePut o report report' → Said
     go (inl j) put = said j put.0 put.1
     go (inr (inl nothing)) put = absurd (unlike_words (sym put.0 ∙ ap outcome_status nothing.refused))
@@ -271,20 +271,20 @@ module _ {words : List Bytes} {old new : Disk} {before after : Output} (report r
       → (Cause → Contains (status ∷ instead_for_file) (outcome_status o)) → ComesExactly status instead_for_file result Said Cause
   of_files status unlike_words write memory said decides = record {
     only = of_job_alone status unlike_words write memory said;
-    there = λ cause. told_of_file report report' result o tells status (decides cause);
+    there = λ cause. reported_of_file report report' result o reports status (decides cause);
   }
 
   pub is_for_words : AskForNoText words → IsForWords words old new before after report report' result
   is_for_words no_text = record {
-    only = λ is. let put = is_line_put report report' result o tells WORDS (λ e. omega arith) (λ e. omega arith) is in words_said comes put.0 put.1;
-    there = λ unasked. told_of_words report report' result o tells WORDS (nothing_decides unasked comes);
+    only = λ is. let put = is_line_put report report' result o reports WORDS (λ e. omega arith) (λ e. omega arith) is in words_said comes put.0 put.1;
+    there = λ unasked. reported_of_words report report' result o reports WORDS (nothing_decides unasked comes);
   } where
     words_said : ComesOf words old new before after o → outcome_status o ≡ WORDS → IsLinePut o report report' → SaysWords words old new before after report report'
     words_said (inl j) is line = absurd (not_for_words j.job old new before after o j.comes is)
     words_said (inr (inl nothing)) is line = record {
       unasked = record { no_text = no_text; no_job = nothing.unasked };
       kept = nothing.kept;
-      refused = record { silent = nothing.silent; told = let P : Outcome → Type 0 = λ x. IsLinePut x report report' in subst P nothing.refused line };
+      refused = record { silent = nothing.silent; reported = let P : Outcome → Type 0 = λ x. IsLinePut x report report' in subst P nothing.refused line };
     }
     words_said (inr (inr lacking)) is line = absurd (let other = sym is ∙ ap outcome_status lacking.refused in omega arith)
 
@@ -296,7 +296,7 @@ module _ {words : List Bytes} {old new : Disk} {before after : Output} (report r
   pub is_for_read : IsForRead words old new before after report report' result
   is_for_read = record {
     only = of_job_alone READ (λ e. omega arith) (λ e. omega arith) (λ e. omega arith) (read_said words old new before after report report' o);
-    there = λ cause. is_among report report' result o tells instead_for_file (decides cause) (1, omega arith, refl) (2, omega arith, refl);
+    there = λ cause. is_among report report' result o reports instead_for_file (decides cause) (1, omega arith, refl) (2, omega arith, refl);
   } where
     decides : MissesFile words old new → Contains instead_for_file (outcome_status o)
     decides (inl fault) = fault_decides o comes fault
@@ -309,9 +309,9 @@ module _ {words : List Bytes} {old new : Disk} {before after : Output} (report r
   pub is_for_limit : IsForLimit words old new before after report report' result
   is_for_limit = record {
     only = of_job_alone LIMIT (λ e. omega arith) (λ e. omega arith) (λ e. omega arith) (limit_said words old new before after report report' o);
-    many = λ cause. told_of_words report report' result o tells LIMIT (many_decide o comes cause);
-    long = λ cause. told_of_file report report' result o tells LIMIT (long_decides o comes cause);
-    bytes = λ cause. told_of_file report report' result o tells LIMIT (bytes_decide o comes LIMIT (λ e. omega arith) cause);
+    many = λ cause. reported_of_words report report' result o reports LIMIT (many_decide o comes cause);
+    long = λ cause. reported_of_file report report' result o reports LIMIT (long_decides o comes cause);
+    bytes = λ cause. reported_of_file report report' result o reports LIMIT (bytes_decide o comes LIMIT (λ e. omega arith) cause);
   }
 
   pub is_for_link : IsForLink words old new before after report report' result
@@ -325,54 +325,54 @@ module _ {words : List Bytes} {old new : Disk} {before after : Output} (report r
 module _ {words : List Bytes} {old new : Disk} {before after : Output} (report report' : Output) (result : ℕ) where
   -- the line of the run is put
   run_put : (o : Outcome) (comes : ComesOf words old new before after o) → ¬ Contains refusal_statuses (outcome_status o) → IsLinePut o report report' → result ≡ outcome_status o → SaysRun words old new before after report report' result
-  run_put (Ok told) comes none line is =
-      let j = job_of_told told comes in
-      let P : ℕ → Type 0 = λ s. HasRun j.job (string_bytes told.line) s old new before after in
-      record { job = j.job; asked = j.asked; line = string_bytes told.line; ran = subst P (sym is) j.comes; told = line }
+  run_put (Ok reported) comes none line is =
+      let j = job_of_reported reported comes in
+      let P : ℕ → Type 0 = λ s. HasRun j.job (string_bytes reported.line) s old new before after in
+      record { job = j.job; asked = j.asked; line = string_bytes reported.line; ran = subst P (sym is) j.comes; reported = line }
   run_put (Err (fail.Refused r)) comes none line is = absurd (none (refusal_among r comes))
   run_put (Err fail.Output) comes none line is = absurd (none (8, omega arith, refl))
 
-  pub run_only : (o : Outcome) → ComesOf words old new before after o → IsTold o report report' result → ¬ Contains refusal_statuses result → SaysRun words old new before after report report' result
-  run_only o comes tells none =
-      let put = is_line_put report report' result o tells result (λ e. none (8, omega arith, sym e)) (λ e. none (9, omega arith, sym e)) refl in
+  pub run_only : (o : Outcome) → ComesOf words old new before after o → IsReported o report report' result → ¬ Contains refusal_statuses result → SaysRun words old new before after report report' result
+  run_only o comes reports none =
+      let put = is_line_put report report' result o reports result (λ e. none (8, omega arith, sym e)) (λ e. none (9, omega arith, sym e)) refl in
       let P : ℕ → Type 0 = λ s. ¬ Contains refusal_statuses s in
       run_put o comes (subst P (sym put.0) none) put.1 (sym put.0)
 
   -- a run that is reported, or isn't
-  run_told : (o : Outcome) → ComesOf words old new before after o → IsTold o report report' result → kind_of o ≡ DONE → SaysRun words old new before after report report' result ⊎ Contains instead_for_file result
-  run_told (Ok told) comes (inl put) is =
-      let j = job_of_told told comes in
-      let P : ℕ → Type 0 = λ s. HasRun j.job (string_bytes told.line) s old new before after in
-      inl (record { job = j.job; asked = j.asked; line = string_bytes told.line; ran = subst P (sym put.0) j.comes; told = put.1 })
-  run_told (Ok told) comes (inr (inl failed)) is = inr (1, omega arith, sym failed.0)
-  run_told (Ok told) comes (inr (inr lacking)) is = inr (2, omega arith, sym lacking.0)
-  run_told (Err (fail.Refused r)) comes tells is = absurd (not_done r comes is)
-  run_told (Err fail.Output) comes tells is = absurd (omega arith)
+  run_reported : (o : Outcome) → ComesOf words old new before after o → IsReported o report report' result → kind_of o ≡ DONE → SaysRun words old new before after report report' result ⊎ Contains instead_for_file result
+  run_reported (Ok reported) comes (inl put) is =
+      let j = job_of_reported reported comes in
+      let P : ℕ → Type 0 = λ s. HasRun j.job (string_bytes reported.line) s old new before after in
+      inl (record { job = j.job; asked = j.asked; line = string_bytes reported.line; ran = subst P (sym put.0) j.comes; reported = put.1 })
+  run_reported (Ok reported) comes (inr (inl failed)) is = inr (1, omega arith, sym failed.0)
+  run_reported (Ok reported) comes (inr (inr lacking)) is = inr (2, omega arith, sym lacking.0)
+  run_reported (Err (fail.Refused r)) comes reports is = absurd (not_done r comes is)
+  run_reported (Err fail.Output) comes reports is = absurd (omega arith)
 
   -- it has the status of the definitions' run
-  end_told : (o : Outcome) → ComesOf words old new before after o → (status : ℕ) (job : FmrunJob) → Asks words job → IsKnownRun status old job → kind_of o ≡ DONE → outcome_status o ≡ status
-  end_told (Ok told) comes status job asked known is =
-      let j = job_of_told told comes in
+  end_reported : (o : Outcome) → ComesOf words old new before after o → (status : ℕ) (job : FmrunJob) → Asks words job → IsKnownRun status old job → kind_of o ≡ DONE → outcome_status o ≡ status
+  end_reported (Ok reported) comes status job asked known is =
+      let j = job_of_reported reported comes in
       let found = Some-from_is_some old.contents known.known in
-      let P : FmrunJob → Type 0 = λ k. HasRun k (string_bytes told.line) told.status old new before after in
-      one_end job old new before after found.0 found.1 (string_bytes told.line) told.status status (subst P (asks_one words j.job job j.asked asked) j.comes)
+      let P : FmrunJob → Type 0 = λ k. HasRun k (string_bytes reported.line) reported.status old new before after in
+      one_end job old new before after found.0 found.1 (string_bytes reported.line) reported.status status (subst P (asks_one words j.job job j.asked asked) j.comes)
       known.classes known.input known.ready known.last known.printed known.run known.status_is
-  end_told (Err (fail.Refused r)) comes status job asked known is = absurd (not_done r comes is)
-  end_told (Err fail.Output) comes status job asked known is = absurd (omega arith)
+  end_reported (Err (fail.Refused r)) comes status job asked known is = absurd (not_done r comes is)
+  end_reported (Err fail.Output) comes status job asked known is = absurd (omega arith)
 
-  pub is_for_run : (o : Outcome) → ComesOf words old new before after o → IsTold o report report' result → IsForRun words old new before after report report' result
-  is_for_run o comes tells = record { only = λ none. inl (run_only o comes tells none); ready = λ asks. is_ready (ready_decides o comes asks); ends = is_end } where
+  pub is_for_run : (o : Outcome) → ComesOf words old new before after o → IsReported o report report' result → IsForRun words old new before after report report' result
+  is_for_run o comes reports = record { only = λ none. inl (run_only o comes reports none); ready = λ asks. is_ready (ready_decides o comes asks); ends = is_end } where
     late : Contains instead_for_file (outcome_status o) → Contains instead_for_file result
-    late own = is_among report report' result o tells instead_for_file own (1, omega arith, refl) (2, omega arith, refl)
+    late own = is_among report report' result o reports instead_for_file own (1, omega arith, refl) (2, omega arith, refl)
 
     is_ready : (kind_of o ≡ DONE) ⊎ Contains instead_for_file (outcome_status o) → SaysRun words old new before after report report' result ⊎ Contains instead_for_file result
-    is_ready (inl is) = run_told o comes tells is
+    is_ready (inl is) = run_reported o comes reports is
     is_ready (inr own) = inr (late own)
 
     is_end : (status : ℕ) → AskFor words (IsKnownRun status old) → Contains (status ∷ instead_for_file) result
     is_end status (job, (asked, known)) =
         let own : Contains (status ∷ instead_for_file) (outcome_status o) = ⊎_elim
-        (λ (is : kind_of o ≡ DONE). (0, omega arith, sym (end_told o comes status job asked known is)))
+        (λ (is : kind_of o ≡ DONE). (0, omega arith, sym (end_reported o comes status job asked known is)))
         (λ (later : Contains instead_for_file (outcome_status o)). Contains-append_right (status ∷ []) instead_for_file (outcome_status o) later)
         (ready_decides o comes (job, (asked, record { known = known.known; classes = known.classes; input = known.input; ready = known.ready }))) in
-        told_of_file report report' result o tells status own
+        reported_of_file report report' result o reports status own

@@ -13,63 +13,63 @@ use Rattle.fm_cli.proofs.OutsideLemmas.{no_fault_where_same}
 use Rattle.fm_cli.specs.Outside.{HasNoFileFault}
 use Rattle.fm_cli.specs.declared.command_refusal.CommandRefusal.TheVariants as refusal
 use Rattle.fm_cli.specs.declared.status.TheConstants.{WRITE, OUT_OF_MEMORY}
-use Rattle.fmrun.proofs.EndStatuses.{among_before_run, job_of_failed, job_of_told, not_for_write, refusal_among, run_apart}
+use Rattle.fmrun.proofs.EndStatuses.{among_before_run, job_of_failed, job_of_reported, not_for_write, refusal_among, run_apart}
 use Rattle.fmrun.proofs.JobLemmas.{none_within}
-use Rattle.fmrun.proofs.ToldLemmas.{FailsSo, IsLinePut, fails_so, is_line_put, output_faultless, report_fails, report_faultless}
-use Rattle.fmrun.specs.Causes.{IsFaultless, IsForMemory, IsForWrite, IsSilent, IsStatus, OnlyReads, SaysMemory, SaysUnprinted, SaysUntold, before_run, refusal_statuses}
-use Rattle.fmrun.specs.TopCall.{ComesOf, ComesTo, IsTold, Outcome, StaysWithin, outcome_status}
+use Rattle.fmrun.proofs.ReportedLemmas.{FailsSo, IsLinePut, fails_so, is_line_put, output_faultless, report_fails, report_faultless}
+use Rattle.fmrun.specs.Causes.{IsFaultless, IsForMemory, IsForWrite, IsSilent, IsStatus, OnlyReads, SaysMemory, SaysUnprinted, SaysUnreported, before_run, refusal_statuses}
+use Rattle.fmrun.specs.TopCall.{ComesOf, ComesTo, IsReported, Outcome, StaysWithin, outcome_status}
 use Rattle.fmrun.specs.declared.outcome.JobFail.TheVariants as fail
 
 module _ (words : List Bytes) (old new : Disk) (before after report report' : Output) (result : ℕ) where
   -- ---- 75
 
-  write_only : (o : Outcome) → ComesOf words old new before after o → IsTold o report report' result → result ≡ WRITE
-      → SaysUnprinted words old new before after report report' ⊎ (SaysUntold words old new before after report report' ⊎ AskOnlyForText words)
-  write_only (Ok told) comes (inl put) is = absurd (run_apart (job_of_told told comes).comes WRITE (omega arith) (omega arith) (sym put.0 ∙ is))
-  write_only (Ok told) comes (inr (inl failed)) is = inr (inl (record { outcome = Ok told; comes = comes; line = string_bytes told.line; line_is = refl; fails = failed.1 }))
-  write_only (Ok told) comes (inr (inr lacking)) is = absurd (let e = lacking.0 in omega arith)
+  write_only : (o : Outcome) → ComesOf words old new before after o → IsReported o report report' result → result ≡ WRITE
+      → SaysUnprinted words old new before after report report' ⊎ (SaysUnreported words old new before after report report' ⊎ AskOnlyForText words)
+  write_only (Ok reported) comes (inl put) is = absurd (run_apart (job_of_reported reported comes).comes WRITE (omega arith) (omega arith) (sym put.0 ∙ is))
+  write_only (Ok reported) comes (inr (inl failed)) is = inr (inl (record { outcome = Ok reported; comes = comes; line = string_bytes reported.line; line_is = refl; fails = failed.1 }))
+  write_only (Ok reported) comes (inr (inr lacking)) is = absurd (let e = lacking.0 in omega arith)
   write_only (Err (fail.Refused r)) comes (inl put) is = absurd (not_for_write r comes (sym put.0 ∙ is))
   write_only (Err (fail.Refused r)) comes (inr (inl failed)) is = inr (inl (record { outcome = Err (fail.Refused r); comes = comes; line = refusal_line r; line_is = refl; fails = failed.1 }))
   write_only (Err (fail.Refused r)) comes (inr (inr lacking)) is = absurd (let e = lacking.0 in omega arith)
-  write_only (Err fail.Output) comes tells is = let j = job_of_failed comes in inl (record { job = j.job; asked = j.asked; failed = j.comes; silent = tells.1 })
+  write_only (Err fail.Output) comes reports is = let j = job_of_failed comes in inl (record { job = j.job; asked = j.asked; failed = j.comes; silent = reports.1 })
 
-  write_there : (o : Outcome) → ComesOf words old new before after o → IsTold o report report' result → (before.faults < after.faults) ⊎ (report.faults < report'.faults) → result ≡ WRITE
-  write_there o comes tells (inl rose) = go (output_faultless words old new before after o comes) where
+  write_there : (o : Outcome) → ComesOf words old new before after o → IsReported o report report' result → (before.faults < after.faults) ⊎ (report.faults < report'.faults) → result ≡ WRITE
+  write_there o comes reports (inl rose) = go (output_faultless words old new before after o comes) where
     go : (after.faults ≡ before.faults) ⊎ (o ≡ Err fail.Output) → result ≡ WRITE
     go (inl same) = absurd (omega arith)
-    go (inr failed) = let P : Outcome → Type 0 = λ x. IsTold x report report' result in let told = subst P failed tells in told.0
-  write_there o comes tells (inr rose) = report_fails report report' result o tells rose
+    go (inr failed) = let P : Outcome → Type 0 = λ x. IsReported x report report' result in let reported = subst P failed reports in reported.0
+  write_there o comes reports (inr rose) = report_fails report report' result o reports rose
 
-  pub is_for_write : (o : Outcome) → ComesOf words old new before after o → IsTold o report report' result → IsForWrite words old new before after report report' result
-  is_for_write o comes tells = record { only = write_only o comes tells; there = write_there o comes tells }
+  pub is_for_write : (o : Outcome) → ComesOf words old new before after o → IsReported o report report' result → IsForWrite words old new before after report report' result
+  is_for_write o comes reports = record { only = write_only o comes reports; there = write_there o comes reports }
 
   -- ---- 76
 
   -- where its line is put
   memory_said : (r : JobRefusal) → ComesOf words old new before after (Err (fail.Refused r)) → refusal_status r ≡ OUT_OF_MEMORY → report' ≡ with_piece (refusal_line r) report → SaysMemory words old new before after report report'
   memory_said (job_refusal.Shared refusal.OutOfMemory) (inl j) is line =
-      record { stopped = ⊎_elim (λ none. inl none) (λ broken. inr (j.job, (j.asked, broken))) j.comes; told = line }
+      record { stopped = ⊎_elim (λ none. inl none) (λ broken. inr (j.job, (j.asked, broken))) j.comes; reported = line }
   memory_said (job_refusal.Shared refusal.OutOfMemory) (inr (inl nothing)) is line = absurd (let other = nothing.refused in cc)
   memory_said (job_refusal.Shared refusal.OutOfMemory) (inr (inr lacking)) is line =
-      record { stopped = inl (record { faultless = no_fault_where_same old new lacking.kept; kept = ap (λ (d : Disk). d.contents) lacking.kept; unwritten = ap (λ (d : Disk). d.writes) lacking.kept }, lacking.silent); told = line }
+      record { stopped = inl (record { faultless = no_fault_where_same old new lacking.kept; kept = ap (λ (d : Disk). d.contents) lacking.kept; unwritten = ap (λ (d : Disk). d.writes) lacking.kept }, lacking.silent); reported = line }
   memory_said (job_refusal.Class file r) comes is line = absurd (let c = class_status r in let low = c.low in let high = c.high in omega arith)
   memory_said r comes is line = absurd (omega arith)
 
-  pub is_for_memory : (o : Outcome) → ComesOf words old new before after o → IsTold o report report' result → IsForMemory words old new before after report report' result
-  is_for_memory (Ok told) comes (inl put) is = absurd (run_apart (job_of_told told comes).comes OUT_OF_MEMORY (omega arith) (omega arith) (sym put.0 ∙ is))
-  is_for_memory (Ok told) comes (inr (inl failed)) is = absurd (let e = failed.0 in omega arith)
-  is_for_memory (Ok told) comes (inr (inr lacking)) is = inr (inl (record { outcome = Ok told; comes = comes; silent = lacking.1 }))
+  pub is_for_memory : (o : Outcome) → ComesOf words old new before after o → IsReported o report report' result → IsForMemory words old new before after report report' result
+  is_for_memory (Ok reported) comes (inl put) is = absurd (run_apart (job_of_reported reported comes).comes OUT_OF_MEMORY (omega arith) (omega arith) (sym put.0 ∙ is))
+  is_for_memory (Ok reported) comes (inr (inl failed)) is = absurd (let e = failed.0 in omega arith)
+  is_for_memory (Ok reported) comes (inr (inr lacking)) is = inr (inl (record { outcome = Ok reported; comes = comes; silent = lacking.1 }))
   is_for_memory (Err (fail.Refused r)) comes (inl put) is = inl (memory_said r comes (sym put.0 ∙ is) put.1)
   is_for_memory (Err (fail.Refused r)) comes (inr (inl failed)) is = absurd (let e = failed.0 in omega arith)
   is_for_memory (Err (fail.Refused r)) comes (inr (inr lacking)) is = inr (inl (record { outcome = Err (fail.Refused r); comes = comes; silent = lacking.1 }))
-  is_for_memory (Err fail.Output) comes tells is = absurd (let e = tells.0 in omega arith)
+  is_for_memory (Err fail.Output) comes reports is = absurd (let e = reports.0 in omega arith)
 
   -- ---- what fails and what is kept
 
-  pub is_faultless : (o : Outcome) → ComesOf words old new before after o → IsTold o report report' result → IsFaultless old new before after report report' result
-  is_faultless o comes tells none = (reads (fails_so words old new before after o comes), output (output_faultless words old new before after o comes), report_faultless report report' result o unwritten put.1) where
+  pub is_faultless : (o : Outcome) → ComesOf words old new before after o → IsReported o report report' result → IsFaultless old new before after report report' result
+  is_faultless o comes reports none = (reads (fails_so words old new before after o comes), output (output_faultless words old new before after o comes), report_faultless report report' result o unwritten put.1) where
     put : (outcome_status o ≡ result) × IsLinePut o report report'
-    put = is_line_put report report' result o tells result (λ e. none (1, omega arith, sym e)) (λ e. none (2, omega arith, sym e)) refl
+    put = is_line_put report report' result o reports result (λ e. none (1, omega arith, sym e)) (λ e. none (2, omega arith, sym e)) refl
 
     unwritten : outcome_status o ≢ WRITE
     unwritten e = none (1, omega arith, sym e ∙ put.0)
@@ -84,18 +84,18 @@ module _ (words : List Bytes) (old new : Disk) (before after report report' : Ou
 
   -- a refusal leaves the output as it was
   job_silent : (job : FmrunJob) (o : Outcome) → ComesTo job old new before after o → Contains before_run (outcome_status o) → after ≡ before
-  job_silent job (Ok told) comes among = absurd (let bounds = among_before_run told.status among in run_apart comes told.status bounds.low (let high = bounds.high in omega arith) refl)
+  job_silent job (Ok reported) comes among = absurd (let bounds = among_before_run reported.status among in run_apart comes reported.status bounds.low (let high = bounds.high in omega arith) refl)
   job_silent job (Err fail.Output) comes among = absurd (let bounds = among_before_run WRITE among in let high = bounds.high in omega arith)
   job_silent job (Err (fail.Refused (job_refusal.Shared refusal.OutOfMemory))) comes among = absurd (let bounds = among_before_run OUT_OF_MEMORY among in let high = bounds.high in omega arith)
   job_silent job (Err (fail.Refused r)) comes among = comes.1
 
-  pub is_silent : (o : Outcome) → ComesOf words old new before after o → IsTold o report report' result → IsSilent before after result
-  is_silent o comes tells among = go comes where
+  pub is_silent : (o : Outcome) → ComesOf words old new before after o → IsReported o report report' result → IsSilent before after result
+  is_silent o comes reports among = go comes where
     bounded : (s : ℕ) → 75 ≤ s → result ≢ s
     bounded s from e = let bounds = among_before_run result among in let high = bounds.high in omega arith
 
     put : (outcome_status o ≡ result) × IsLinePut o report report'
-    put = is_line_put report report' result o tells result (bounded WRITE (omega arith)) (bounded OUT_OF_MEMORY (omega arith)) refl
+    put = is_line_put report report' result o reports result (bounded WRITE (omega arith)) (bounded OUT_OF_MEMORY (omega arith)) refl
 
     own : Contains before_run (outcome_status o)
     own = let P : ℕ → Type 0 = Contains before_run in subst P (sym put.0) among
@@ -122,11 +122,11 @@ module _ (words : List Bytes) (old new : Disk) (before after report report' : Ou
   among_all : {status : ℕ} → Contains refusal_statuses status → result ≡ status → IsStatus result
   among_all among is = let P : ℕ → Type 0 = Contains refusal_statuses in inl (subst P (sym is) among)
 
-  pub is_status : (o : Outcome) → ComesOf words old new before after o → IsTold o report report' result → IsStatus result
-  is_status (Ok told) comes (inl put) = let j = job_of_told told comes in inr ((report_of j.comes.last).end, put.0 ∙ j.comes.status_is)
-  is_status (Ok told) comes (inr (inl failed)) = among_all (8, omega arith, refl) failed.0
-  is_status (Ok told) comes (inr (inr lacking)) = among_all (9, omega arith, refl) lacking.0
+  pub is_status : (o : Outcome) → ComesOf words old new before after o → IsReported o report report' result → IsStatus result
+  is_status (Ok reported) comes (inl put) = let j = job_of_reported reported comes in inr ((report_of j.comes.last).end, put.0 ∙ j.comes.status_is)
+  is_status (Ok reported) comes (inr (inl failed)) = among_all (8, omega arith, refl) failed.0
+  is_status (Ok reported) comes (inr (inr lacking)) = among_all (9, omega arith, refl) lacking.0
   is_status (Err (fail.Refused r)) comes (inl put) = among_all (refusal_among r comes) put.0
   is_status (Err (fail.Refused r)) comes (inr (inl failed)) = among_all (8, omega arith, refl) failed.0
   is_status (Err (fail.Refused r)) comes (inr (inr lacking)) = among_all (9, omega arith, refl) lacking.0
-  is_status (Err fail.Output) comes tells = among_all (8, omega arith, refl) tells.0
+  is_status (Err fail.Output) comes reports = among_all (8, omega arith, refl) reports.0

@@ -10,7 +10,7 @@ use Rattle.fm_files.specs.Files.{Bytes, Disk}
 use Rattle.fm_files.specs.Sink.{Output}
 use Rattle.fm_law_linked.proofs.CodedMethods.{contains_at}
 use Rattle.fm_load.specs.Given.{IsUnread}
-use Rattle.fmrun.specs.Causes.{IsForRead, IsForRun, IsForWrite, SaysRead, SaysRun, SaysUnprinted, SaysUntold}
+use Rattle.fmrun.specs.Causes.{IsForRead, IsForRun, IsForWrite, SaysRead, SaysRun, SaysUnprinted, SaysUnreported}
 use Rattle.fmrun.specs.Complete.{IsComplete, NothingFails}
 use Rattle.fmrun.specs.Jobs.{input_files}
 use Rattle.fmrun.specs.TopCall.{IsInputUnread}
@@ -51,12 +51,12 @@ module _ (words : List Bytes) (old new : Disk) (before after report report' : Ou
   not_unprinted : ¬ SaysUnprinted words old new before after report report'
   not_unprinted said = let rose = said.failed.fails.fails.fault in let kept = none.prints in omega arith
 
-  not_untold : ¬ SaysUntold words old new before after report report'
-  not_untold said = let rose = said.fails.fault in let kept = none.puts in omega arith
+  not_unreported : ¬ SaysUnreported words old new before after report report'
+  not_unreported said = let rose = said.fails.fault in let kept = none.puts in omega arith
 
-  not_write : ¬ (SaysUnprinted words old new before after report report' ⊎ (SaysUntold words old new before after report report' ⊎ AskOnlyForText words))
+  not_write : ¬ (SaysUnprinted words old new before after report report' ⊎ (SaysUnreported words old new before after report report' ⊎ AskOnlyForText words))
   not_write (inl said) = not_unprinted said
-  not_write (inr (inl said)) = not_untold said
+  not_write (inr (inl said)) = not_unreported said
   not_write (inr (inr text)) = text.no_job job asked
 
 -- ---- the clause

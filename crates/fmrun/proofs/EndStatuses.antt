@@ -82,10 +82,10 @@ among_before_run = one_between 64 71 before_run refl
 
 module _ {words : List Bytes} {old new : Disk} {before after : Output} where
   -- a run that is reported is that of a job
-  pub job_of_told : (told : RunReport) → ComesOf words old new before after (Ok told) → ComesOfJob words old new before after (Ok told)
-  job_of_told told (inl j) = j
-  job_of_told told (inr (inl nothing)) = absurd (let other = nothing.refused in cc)
-  job_of_told told (inr (inr lacking)) = absurd (let other = lacking.refused in cc)
+  pub job_of_reported : (reported : RunReport) → ComesOf words old new before after (Ok reported) → ComesOfJob words old new before after (Ok reported)
+  job_of_reported reported (inl j) = j
+  job_of_reported reported (inr (inl nothing)) = absurd (let other = nothing.refused in cc)
+  job_of_reported reported (inr (inr lacking)) = absurd (let other = lacking.refused in cc)
 
   -- and so is an output that failed
   pub job_of_failed : ComesOf words old new before after (Err fail.Output) → ComesOfJob words old new before after (Err fail.Output)
@@ -128,16 +128,16 @@ module _ {words : List Bytes} {old new : Disk} {before after : Output} where
 -- ---- outcomes, of which all runs count as done
 
 abbrev pub kind_of : Outcome → ℕ
-kind_of (Ok told) = DONE
+kind_of (Ok reported) = DONE
 kind_of (Err e) = outcome_status (Err e)
 
 -- at another status than that of what is done it is the outcome's own
 pub own_status : (o : Outcome) (s : ℕ) → s ≢ DONE → kind_of o ≡ s → outcome_status o ≡ s
-own_status (Ok told) s other is = absurd (other (sym is))
+own_status (Ok reported) s other is = absurd (other (sym is))
 own_status (Err e) s other is = is
 
 pub own_among : (o : Outcome) (s : ℕ) → s ≢ DONE → Contains (s ∷ instead_for_file) (kind_of o) → Contains (s ∷ instead_for_file) (outcome_status o)
-own_among (Ok told) s other among = absurd (go (Contains-cons_cases s instead_for_file DONE among)) where
+own_among (Ok reported) s other among = absurd (go (Contains-cons_cases s instead_for_file DONE among)) where
   go : (DONE ≡ s) ⊎ Contains instead_for_file DONE → ⊥
   go (inl same) = other (sym same)
   go (inr rest) = unlike_elements DONE instead_for_file refl DONE rest refl
@@ -145,7 +145,7 @@ own_among (Err e) s other among = among
 
 -- a job isn't refused for its words
 pub not_for_words : (job : FmrunJob) (old new : Disk) (before after : Output) (o : Outcome) → ComesTo job old new before after o → outcome_status o ≢ WORDS
-not_for_words job old new before after (Ok told) comes is = run_apart comes WORDS (omega arith) (omega arith) is
+not_for_words job old new before after (Ok reported) comes is = run_apart comes WORDS (omega arith) (omega arith) is
 not_for_words job old new before after (Err (fail.Refused (job_refusal.Shared refusal.Words))) comes is = comes.0.1
 not_for_words job old new before after (Err (fail.Refused (job_refusal.Class file r))) comes is = let c = class_status r in let low = c.low in omega arith
 not_for_words job old new before after o comes is = omega arith

@@ -266,15 +266,15 @@ module _ {job : FmrunJob} {classes : List ClassDef} {old between : Disk} (has : 
       -- the classes are run, or not
       pub ends_run : (before after : Output) (o : Outcome) → ComesOfClasses classes (modified job.main) (budgets_of job) (job_arguments job) input before after o
           → ComesTo job old new before after o
-      ends_run before after (Ok told) (are, now) = record {
+      ends_run before after (Ok reported) (are, now) = record {
         classes = classes;
         input = input;
         ready = ready are;
         reads = job_reads;
-        last = now.told.last;
-        runs = now.told.runs;
-        line_is = now.told.line_is;
-        status_is = now.told.status_is;
+        last = now.reported.last;
+        runs = now.reported.runs;
+        line_is = now.reported.line_is;
+        status_is = now.reported.status_is;
         no_fault = now.no_fault;
         untouched = untouched;
       }

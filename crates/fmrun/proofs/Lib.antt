@@ -3,9 +3,9 @@ pub mod CompleteLemmas
 pub mod ChangeLemmas
 pub mod EndStatuses
 pub mod JobLemmas
+pub mod ReportedLemmas
 pub mod RequestLimits
 pub mod RunningLemmas
-pub mod ToldLemmas
 pub mod Verdicts
 pub mod RunFacts
 pub mod TextLemmas

@@ -20,7 +20,7 @@ use Rattle.fm_law_can_step.specs.Ready.{CanRun}
 use Rattle.fm_law_linked.specs.Laws.{ProgramsCanRun}
 use Rattle.fm_run.specs.Running.{BreaksRun, FailsRun, RunsTo}
 use Rattle.fm_run_job.proofs.Opened.{job_of, last_after, typings_are, typings_of}
-use Rattle.fm_run_job.specs.Runs.{AreWithin, ComesOfRun, IsToldOf, choice, opened_run}
+use Rattle.fm_run_job.specs.Runs.{AreWithin, ComesOfRun, IsReportOf, choice, opened_run}
 use Rattle.fm_run_job.specs.declared.runs.Budgets.{Budgets}
 use Rattle.fm_run_job.specs.declared.runs.RunReport.{RunReport}
 use Rattle.fm_same.specs.Resolved.{CallsNoFreeMe}
@@ -77,13 +77,13 @@ module _ (classes : List ClassDef) (main : List ℕ) where
           subst (λ (m : Moved). HasNoFault m.state) (last_after p b arguments input last before after runs) kept.1
 
       -- their run is reported
-      pub comes_told : LinkedProgramsNeverFault → AllByRecursion ClassIsSpelled classes → AllByRecursion Profile classes → length classes ≤ MAX_CLASS_FILES
-          → AreWithin b → ArgumentsFit arguments → (told : RunReport) → ComesOfRun program b arguments input before after (Ok told)
-          → ComesOfClasses classes main b arguments input before after (Ok told)
-      comes_told law spelled accepted few within given told now =
-          let P : Program → Type 0 = λ p. IsToldOf p b arguments input told before after in
-          let own : IsToldOf (program_of classes main) b arguments input told before after = subst P comes.0.1 now in
-          (are_program, record { told = own; no_fault = never_faults law spelled accepted few within given own.last own.runs })
+      pub comes_reported : LinkedProgramsNeverFault → AllByRecursion ClassIsSpelled classes → AllByRecursion Profile classes → length classes ≤ MAX_CLASS_FILES
+          → AreWithin b → ArgumentsFit arguments → (reported : RunReport) → ComesOfRun program b arguments input before after (Ok reported)
+          → ComesOfClasses classes main b arguments input before after (Ok reported)
+      comes_reported law spelled accepted few within given reported now =
+          let P : Program → Type 0 = λ p. IsReportOf p b arguments input reported before after in
+          let own : IsReportOf (program_of classes main) b arguments input reported before after = subst P comes.0.1 now in
+          (are_program, record { reported = own; no_fault = never_faults law spelled accepted few within given own.last own.runs })
 
       -- or a step of it couldn't be done
       pub comes_failed : (f : StepFail) (e : JobFail) → IsOfStep f e → ComesOfRun program b arguments input before after (Err f) → ComesOfClasses classes main b arguments input before after (Err e)

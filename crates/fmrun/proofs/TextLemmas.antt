@@ -19,9 +19,9 @@ use Rattle.fmrun.proofs.EndStatuses.{among_before_run}
 use Rattle.fmrun.specs.Causes.{AskFor, IsFaultless, IsForBytes, IsForCheck, IsForFault, IsForLimit, IsForLink, IsForMemory, IsForRead, IsForRun, IsForText, IsForWords, IsForWrite, IsSilent, IsStatus, MissesFile, OnlyReads, ReportsMostHeld, refusal_statuses}
 use Rattle.fmrun.specs.TopCall.{IsTextPut, IsTopCall, text_bytes}
 
-module _ (words : List Bytes) (files : Disk) (before after report : Output) (result : ℕ) (asked : ProgramText) (asks : AskForText words asked) (tells : Tells (text_bytes asked) DONE before after result) where
+module _ (words : List Bytes) (files : Disk) (before after report : Output) (result : ℕ) (asked : ProgramText) (asks : AskForText words asked) (reports : Tells (text_bytes asked) DONE before after result) where
   put : IsTextPut asked files files before after report report result
-  put = record { kept = refl; unreported = refl; tells = tells }
+  put = record { kept = refl; unreported = refl; reports = reports }
 
   no_job : AskNoJob words
   no_job = text_no_job words asked asks
@@ -34,7 +34,7 @@ module _ (words : List Bytes) (files : Disk) (before after report : Output) (res
 
   -- the status is that of what is done, of a write or of memory
   apart : (status : ℕ) → DONE ≢ status → WRITE ≢ status → OUT_OF_MEMORY ≢ status → result ≢ status
-  apart status done write memory is = go tells where
+  apart status done write memory is = go reports where
     go : Tells (text_bytes asked) DONE before after result → ⊥
     go (inl own) = done (sym own.0 ∙ is)
     go (inr (inl failed)) = write (sym failed.0 ∙ is)
@@ -48,7 +48,7 @@ module _ (words : List Bytes) (files : Disk) (before after report : Output) (res
   text_whole = inl (record { asked = asked; asks = asks; put = put })
 
   pub text_status : IsStatus result
-  text_status = go tells where
+  text_status = go reports where
     refused : {status : ℕ} → Contains refusal_statuses status → result ≡ status → IsStatus result
     refused among is = let P : ℕ → Type 0 = Contains refusal_statuses in inl (subst P (sym is) among)
 
@@ -102,7 +102,7 @@ module _ (words : List Bytes) (files : Disk) (before after report : Output) (res
   pub text_write : IsForWrite words files files before after report report result
   text_write = record { only = λ is. inr (inr only_text); there = there } where
     there : (before.faults < after.faults) ⊎ (report.faults < report.faults) → result ≡ WRITE
-    there (inl rose) = put_fails (text_bytes asked) DONE before after result tells rose
+    there (inl rose) = put_fails (text_bytes asked) DONE before after result reports rose
     there (inr rose) = absurd (omega arith)
 
   pub text_memory : IsForMemory words files files before after report report result
@@ -112,14 +112,14 @@ module _ (words : List Bytes) (files : Disk) (before after report : Output) (res
   text_most_held said = absurd (no_job said.job said.asked)
 
   pub text_faultless : IsFaultless files files before after report report result
-  text_faultless none = (no_fault_where_same files files refl, go tells, refl) where
+  text_faultless none = (no_fault_where_same files files refl, go reports, refl) where
     go : Tells (text_bytes asked) DONE before after result → after.faults ≡ before.faults
     go (inl own) = ap (λ (o : Output). o.faults) own.1
     go (inr (inl failed)) = absurd (none (1, omega arith, sym failed.0))
     go (inr (inr lacking)) = ap (λ (o : Output). o.faults) lacking.1
 
   pub text_silent : IsSilent before after result
-  text_silent among = go tells where
+  text_silent among = go reports where
     go : Tells (text_bytes asked) DONE before after result → after ≡ before
     go (inl own) = absurd (let bounds = among_before_run result among in let low = bounds.low in let is = own.0 in omega arith)
     go (inr (inl failed)) = absurd (let bounds = among_before_run result among in let high = bounds.high in let is = failed.0 in omega arith)

@@ -129,7 +129,7 @@ module _ (job : FmrunJob) (old : Disk) (held : Bytes → Option Bytes) (known : 
     Comes status = JobVerdict held job status ⊎ ((status ≡ READ) ⊎ ((status ≡ WRITE) ⊎ (status ≡ OUT_OF_MEMORY)))
 
     verdict_of : (o : Outcome) → ComesTo job old new before after o → Comes (kind_of o)
-    verdict_of (Ok told) comes = inl (ready_passes comes.classes comes.input comes.ready)
+    verdict_of (Ok reported) comes = inl (ready_passes comes.classes comes.input comes.ready)
     verdict_of (Err fail.Output) comes = inr (inr (inl refl))
     verdict_of (Err (fail.Refused (job_refusal.Shared refusal.Words))) comes = absurd comes.0.1
     verdict_of (Err (fail.Refused (job_refusal.Shared (refusal.Read file)))) comes = inr (inl refl)

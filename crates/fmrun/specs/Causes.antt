@@ -216,7 +216,7 @@ pub record SaysRun (words : List Bytes) (old new : Disk) (before after report re
   pub asked : Asks words job
   pub line : List ℕ
   pub ran : HasRun job line result old new before after
-  pub told : report' ≡ with_piece line report
+  pub reported : report' ≡ with_piece line report
 
 -- contents are known, all class files are taken, their classes make a program of typed methods, and the input is read
 pub record IsKnownReady (old : Disk) (job : FmrunJob) : Type 0 where
@@ -281,7 +281,7 @@ pub record SaysUnprinted (words : List Bytes) (old new : Disk) (before after rep
   pub silent : report' ≡ report
 
 -- or what the words ask for came out in some way, and the put of its line failed
-pub record SaysUntold (words : List Bytes) (old new : Disk) (before after report report' : Output) : Type 0 where
+pub record SaysUnreported (words : List Bytes) (old new : Disk) (before after report report' : Output) : Type 0 where
   pub outcome : Outcome
   pub comes : ComesOf words old new before after outcome
   pub line : List ℕ
@@ -291,7 +291,7 @@ pub record SaysUntold (words : List Bytes) (old new : Disk) (before after report
 -- only there, or where the words ask for a text, and exactly where a sink's faults rose
 pub record IsForWrite (words : List Bytes) (old new : Disk) (before after report report' : Output) (result : ℕ) : Type 0 where
   pub only : result ≡ WRITE
-      → SaysUnprinted words old new before after report report' ⊎ (SaysUntold words old new before after report report' ⊎ AskOnlyForText words)
+      → SaysUnprinted words old new before after report report' ⊎ (SaysUnreported words old new before after report report' ⊎ AskOnlyForText words)
   pub there : (before.faults < after.faults) ⊎ (report.faults < report'.faults) → result ≡ WRITE
 
 -- ---- 76
@@ -299,7 +299,7 @@ pub record IsForWrite (words : List Bytes) (old new : Disk) (before after report
 -- the line of memory is put, before anything was printed or after some of what the run prints was
 pub record SaysMemory (words : List Bytes) (old new : Disk) (before after report report' : Output) : Type 0 where
   pub stopped : (IsUntouched old new × (after ≡ before)) ⊎ AskFor words (λ job. HasBroken job old new before after)
-  pub told : report' ≡ with_piece memory_line report
+  pub reported : report' ≡ with_piece memory_line report
 
 -- or memory couldn't be had for a line, and the report is as it was
 pub record LacksLine (words : List Bytes) (old new : Disk) (before after report report' : Output) : Type 0 where

@@ -137,7 +137,7 @@ IsRefusedAs job old new r = (length (job_arguments job) ≤ MAX_ARGUMENTS) × Is
 
 -- what a job that comes out so does to the files and to the output
 abbrev pub ComesTo : FmrunJob → Disk → Disk → Output → Output → Outcome → Type 0
-ComesTo job old new before after (Ok told) = HasRun job (string_bytes told.line) told.status old new before after
+ComesTo job old new before after (Ok reported) = HasRun job (string_bytes reported.line) reported.status old new before after
 ComesTo job old new before after (Err fail.Output) = HasFailed job old new before after
 ComesTo job old new before after (Err (fail.Refused (job_refusal.Shared refusal.OutOfMemory))) =
     (IsUntouched old new × (after ≡ before)) ⊎ HasBroken job old new before after
@@ -172,19 +172,19 @@ ComesOf words old new before after outcome =
 
 -- the line of an outcome: that of the run, or of a refusal; none where the output failed
 abbrev pub outcome_line : Outcome → Option (List ℕ)
-outcome_line (Ok told) = Some (string_bytes told.line)
+outcome_line (Ok reported) = Some (string_bytes reported.line)
 outcome_line (Err (fail.Refused r)) = Some (refusal_line r)
 outcome_line (Err fail.Output) = None
 
 -- its status
 abbrev pub outcome_status : Outcome → ℕ
-outcome_status (Ok told) = told.status
+outcome_status (Ok reported) = reported.status
 outcome_status (Err (fail.Refused r)) = refusal_status r
 outcome_status (Err fail.Output) = WRITE
 
 -- the line, if there is one, is put as one piece, and the result is its status, or that of the put
-abbrev pub IsTold : Outcome → Output → Output → ℕ → Type 0
-IsTold outcome old new result =
+abbrev pub IsReported : Outcome → Output → Output → ℕ → Type 0
+IsReported outcome old new result =
     MatchOption (outcome_line outcome) ((result ≡ outcome_status outcome) × (new ≡ old)) (λ line. Tells line (outcome_status outcome) old new result)
 
 -- a call for no text: what the words ask for comes out in some way, and that is reported
@@ -192,7 +192,7 @@ pub record IsJobCall (words : List Bytes) (old new : Disk) (before after report 
   pub no_text : AskForNoText words
   pub outcome : Outcome
   pub comes : ComesOf words old new before after outcome
-  pub tells : IsTold outcome report report' result
+  pub reports : IsReported outcome report report' result
 
 -- the bytes of a text of the program
 abbrev pub text_bytes : ProgramText → List ℕ
@@ -203,7 +203,7 @@ text_bytes text.Version = VERSION_LINE.now
 pub record IsTextPut (asked : ProgramText) (old new : Disk) (before after report report' : Output) (result : ℕ) : Type 0 where
   pub kept : new ≡ old
   pub unreported : report' ≡ report
-  pub tells : Tells (text_bytes asked) DONE before after result
+  pub reports : Tells (text_bytes asked) DONE before after result
 
 -- a call for a text
 pub record IsTextCall (words : List Bytes) (old new : Disk) (before after report report' : Output) (result : ℕ) : Type 0 where

@@ -44,6 +44,6 @@ pub fn run_classes<'a, O: Sink>(
     // For their clauses: the machine can run the program, and it never ends in a fault.
     law_can_run();
     law_linked_no_fault();
-    let told = run_program(alloc, &program, budgets, arguments, input, out)?;
-    Ok(told)
+    let reported = run_program(alloc, &program, budgets, arguments, input, out)?;
+    Ok(reported)
 }

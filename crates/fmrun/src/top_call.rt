@@ -10,7 +10,7 @@ ghost use Rattle.fm_cli.specs.declared.status.TheConstants.{MALFORMED, UNSUPPORT
 ghost use Rattle.fmrun.specs.Causes.{IsFaultless, IsForBytes, IsForCheck, IsForFault, IsForLimit, IsForLink, IsForMemory, IsForRead, IsForRun, IsForText, IsForWords, IsForWrite, IsSilent, IsStatus, OnlyReads, ReportsMostHeld};
 ghost use Rattle.fmrun.specs.Complete.{IsComplete};
 ghost use Rattle.fmrun.specs.Jobs.{IsWithinLimits, text_arguments};
-ghost use Rattle.fmrun.specs.TopCall.{ComesOf, ComesTo, IsTold, IsTopCall, StaysWithin};
+ghost use Rattle.fmrun.specs.TopCall.{ComesOf, ComesTo, IsReported, IsTopCall, StaysWithin};
 
 use crate::outcome::JobFail;
 use crate::program_text::put_text;
@@ -106,17 +106,21 @@ pub fn fmrun_run<F: Files, O: Sink, R: Sink>(
         Some(asked) => put_text(alloc, asked, out),
         None => {
             let outcome = do_words(alloc, words, files, out);
-            tell(alloc, outcome, report)
+            report_outcome(alloc, outcome, report)
         }
     }
 }
 
 // Puts the line of an outcome, if it has one, and returns its status, or that of the put.
-fn tell<R: Sink>(alloc: Global, outcome: Result<RunReport, JobFail<'_>>, report: &mut R) -> u8
-    ensures { IsTold outcome.entry (R.output report.old) (R.output report.new) result }
+fn report_outcome<R: Sink>(
+    alloc: Global,
+    outcome: Result<RunReport, JobFail<'_>>,
+    report: &mut R,
+) -> u8
+    ensures { IsReported outcome.entry (R.output report.old) (R.output report.new) result }
 {
     match outcome {
-        Ok(told) => put_line(alloc, report, told.line.as_bytes(), told.status),
+        Ok(reported) => put_line(alloc, report, reported.line.as_bytes(), reported.status),
         Err(JobFail::Refused(refusal)) => match refusal.line(alloc) {
             Ok(line) => put_line(alloc, report, line.as_bytes(), refusal.status()),
             Err(NoMemory) => status::OUT_OF_MEMORY,

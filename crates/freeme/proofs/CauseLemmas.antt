@@ -33,7 +33,7 @@ use Rattle.fm_cli_requests.specs.FreemeRequest.{FreemeJob, Asks, AskNoJob, AskNo
 use Rattle.fm_cli_requests.specs.ProgramText.{AskForNoText}
 use Rattle.freeme.specs.Jobs.{given_of, main_name}
 use Rattle.fm_load.specs.Taking.{total_bytes, IsTooLong, IsRefused}
-use Rattle.freeme.specs.TopCall.{IsFirstCause, StaysWithin, IsBroken, ComesTo, ComesOfJob, ComesOf, IsTold, Outcome}
+use Rattle.freeme.specs.TopCall.{IsFirstCause, StaysWithin, IsBroken, ComesTo, ComesOfJob, ComesOf, IsReported, Outcome}
 use Rattle.freeme.specs.Refusal.{rewrite_status}
 use Rattle.freeme.specs.declared.refusal.FreeRefusal.TheVariants as free_refusal
 use Rattle.freeme.specs.declared.status.TheConstants.{CALLS_FREE, POOL_FULL, METHOD_TOO_LONG}
@@ -41,7 +41,7 @@ use Rattle.fm_load.specs.declared.refusal.JobRefusal.TheVariants as job_refusal
 use Rattle.fm_load.specs.Refusal.{IsRefusedBy, many_line}
 use Rattle.fm_cli.specs.CommandRefusal.{memory_line}
 use Rattle.freeme.proofs.JobLemmas.{reads_within}
-use Rattle.freeme.proofs.ToldLemmas.{IsLinePut, both_kept, line_faultless, line_put, outcome_line, outcome_status, own_sink, own_tells, put_failed, told_silent, untold}
+use Rattle.freeme.proofs.ReportedLemmas.{IsLinePut, both_kept, line_faultless, line_put, outcome_line, outcome_status, own_sink, own_reports, put_failed, reported_silent, is_unreported}
 use Rattle.fm_load.proofs.ReadLemmas.{reads_none}
 use Rattle.fm_cli_requests.proofs.FreemeRequestLemmas.{asks_one}
 use Rattle.fm_load.proofs.GivenLemmas.{Behind, behind_once, given_passes}
@@ -440,7 +440,7 @@ pub is_for_text : (words : List Bytes) (old new : Disk) (before after report rep
     → IsForText words old new before after report report' result
 is_for_text words old new before after report report' result none asked asks = absurd (none asked asks)
 
-module _ {words : List Bytes} {old new : Disk} (before after report report' : Output) (result : ℕ) (o : Outcome) (comes : ComesOf words old new o) (tells : IsTold o before after report report' result) where
+module _ {words : List Bytes} {old new : Disk} (before after report report' : Output) (result : ℕ) (o : Outcome) (comes : ComesOf words old new o) (reports : IsReported o before after report report' result) where
   -- the sink of the lines, before and after
   abbrev from : Output
   from = own_sink o before report
@@ -449,10 +449,10 @@ module _ {words : List Bytes} {old new : Disk} (before after report report' : Ou
   to = own_sink o after report'
 
   own : Tells (outcome_line o) (outcome_status o) from to result
-  own = own_tells before after report report' result o tells
+  own = own_reports before after report report' result o reports
 
   put_so : to ≡ with_piece (outcome_line o) from → IsLinePut o before after report report'
-  put_so = line_put before after report report' result o tells
+  put_so = line_put before after report report' result o reports
 
   -- what the line of a job says, at a status that isn't for words
   of_job_alone : {Said : Type 0} (status : ℕ) → status ≢ WORDS → status ≢ OUT_OF_MEMORY → (ComesOfJob words old new o → outcome_status o ≡ status → IsLinePut o before after report report' → Said)
@@ -513,14 +513,14 @@ module _ {words : List Bytes} {old new : Disk} (before after report report' : Ou
   pub is_for_write : IsForWrite words old new before after report report' result
   is_for_write = record {
     only = only own;
-    put = put_failed before after report report' result o tells;
+    put = put_failed before after report report' result o reports;
     write = λ cause. told_among (outcome_line o) (outcome_status o) from to result own instead_for_words (write_decides words old new o comes cause) (0, omega arith, refl) (1, omega arith, refl);
   } where
     only : Tells (outcome_line o) (outcome_status o) from to result → result ≡ WRITE → SaysWrite words old new before after report report'
     only (inl put) is =
         let same : outcome_status o ≡ WRITE = sym put.0 ∙ is in
         inr (inl (unwritten_said words old new before after report report' o (job_of_status words old new o WRITE comes same (λ e. omega arith) (λ e. omega arith)) same (put_so put.1)))
-    only (inr (inl failed)) is = inl (record { outcome = o; comes = comes; fails = untold before after report report' result o tells failed.1 })
+    only (inr (inl failed)) is = inl (record { outcome = o; comes = comes; fails = is_unreported before after report report' result o reports failed.1 })
     only (inr (inr lacking)) is = absurd (let e = lacking.0 in omega arith)
 
   pub is_for_memory : IsForMemory words old new before after report report' result
@@ -536,7 +536,7 @@ module _ {words : List Bytes} {old new : Disk} (before after report report' : Ou
         inl (record { stopped = own_line comes same; refused = memory_said words old new before after report report' o same (put_so put.1) })
     go (inr (inl failed)) = absurd (let e = failed.0 in omega arith)
     go (inr (inr lacking)) =
-        let kept = both_kept before after report report' result o tells lacking.1 in inr (inl (record { outcome = o; comes = comes; silent = kept.0; unreported = kept.1 }))
+        let kept = both_kept before after report report' result o reports lacking.1 in inr (inl (record { outcome = o; comes = comes; silent = kept.0; unreported = kept.1 }))
 
   -- where the line is put no put failed
   own_line_put : (status : ℕ) → status ≢ WRITE → status ≢ OUT_OF_MEMORY → result ≡ status → (outcome_status o ≡ status) × ((after.faults ≡ before.faults) × (report'.faults ≡ report.faults))
@@ -563,7 +563,7 @@ module _ {words : List Bytes} {old new : Disk} (before after report report' : Ou
   pub is_silent : IsSilent before after result
   is_silent among_these =
       let unlike : (s : ℕ) → list_any (λ y. eqb y s) before_writes ≡ false → result ≢ s = λ s none. unlike_elements s before_writes none result among_these in
-      told_silent before after report report' result o tells (unlike DONE refl) (unlike WRITE refl) (unlike OUT_OF_MEMORY refl)
+      reported_silent before after report report' result o reports (unlike DONE refl) (unlike WRITE refl) (unlike OUT_OF_MEMORY refl)
 
   pub changes_only : ChangesOnly words old new
   changes_only = record { asked = λ job asked. stays job asked comes; unasked = λ none. unchanged none comes } where

@@ -26,7 +26,7 @@ use Rattle.freeme.proofs.WrittenLemmas.{names_same}
 use Rattle.freeme.specs.Causes.{AskFor, BecomesAs, IsForDone, IsForRead, IsForWrite, IsKnownAs, SaysRead, SaysWrite, cause_status}
 use Rattle.freeme.specs.Complete.{CanBeDone, IsComplete, NothingFails}
 use Rattle.freeme.specs.Jobs.{given_of, main_name}
-use Rattle.freeme.specs.TopCall.{IsUntold, IsUnwritten, Outcome}
+use Rattle.freeme.specs.TopCall.{IsUnreported, IsUnwritten, Outcome}
 use Rattle.freeme.specs.Writing.{IsFileOf, class_text, file_name, written_name}
 
 -- ---- lists
@@ -128,12 +128,12 @@ module _ {words : List Bytes} {old new : Disk} {before after report report' : Ou
     not_unwritten : ⊥
     not_unwritten = one_sort Kept (given_of job) old.contents can.known classes given can.checked.linked.source unwritten.freed.checked.linked.source none.writes fails_here
 
-  not_untold : (o : Outcome) → ¬ IsUntold o before after report report'
-  not_untold (Ok lines) fails = let rose = fails.0.fault in let kept = none.puts in omega arith
-  not_untold (Err refusal) fails = let rose = fails.0.fault in let kept = none.reports in omega arith
+  not_unreported : (o : Outcome) → ¬ IsUnreported o before after report report'
+  not_unreported (Ok lines) fails = let rose = fails.0.fault in let kept = none.puts in omega arith
+  not_unreported (Err refusal) fails = let rose = fails.0.fault in let kept = none.reports in omega arith
 
   not_write : ¬ SaysWrite words old new before after report report'
-  not_write (inl unput) = not_untold unput.outcome unput.fails
+  not_write (inl unput) = not_unreported unput.outcome unput.fails
   not_write (inr (inl said)) =
       let P : FreemeJob → Type 0 = λ k. IsUnwritten k said.name old new in
       not_unwritten said.name (subst P (asks_one words said.job job said.asked asked) said.unwritten)

@@ -139,9 +139,9 @@ cause_there given main (fail.MethodTooLong method bytes) comes = method_there gi
 cause_there given main fail.NoMemory comes = tt
 
 -- and is reported by its name
-pub cause_told : (given : List ClassDef) (main : List ℕ) (cause : RewriteFail) (name : List ℕ) → ComesOfRewriting given main (Err cause)
+pub cause_reported : (given : List ClassDef) (main : List ℕ) (cause : RewriteFail) (name : List ℕ) → ComesOfRewriting given main (Err cause)
     → IsNamed (program_of given main).outline cause name → ComesOfFreeing given main (Err (free_refusal.Rewrite cause name))
-cause_told given main (fail.CallsFree method offset) name comes named = (comes, named)
-cause_told given main (fail.PoolFull class indices) name comes named = (comes, named)
-cause_told given main (fail.MethodTooLong method bytes) name comes named = (comes, named)
-cause_told given main fail.NoMemory name comes named = absurd named
+cause_reported given main (fail.CallsFree method offset) name comes named = (comes, named)
+cause_reported given main (fail.PoolFull class indices) name comes named = (comes, named)
+cause_reported given main (fail.MethodTooLong method bytes) name comes named = (comes, named)
+cause_reported given main fail.NoMemory name comes named = absurd named

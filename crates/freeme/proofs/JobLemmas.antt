@@ -40,7 +40,7 @@ use Rattle.fm_load.specs.Changes.{RisesOnlyAt, ChangesOnlyAt}
 use Rattle.fm_cli_requests.specs.FreemeRequest.{FreemeJob, job_of}
 use Rattle.freeme.specs.Jobs.{given_of, main_name}
 use Rattle.fm_load.specs.Taking.{AllTaken, ClassIsSpelled}
-use Rattle.freeme.specs.TopCall.{AreFreed, AreTakenAgain, IsFirstCause, IsNotFreed, StaysWithin, IsDone, ComesTo, told_name}
+use Rattle.freeme.specs.TopCall.{AreFreed, AreTakenAgain, IsFirstCause, IsNotFreed, StaysWithin, IsDone, ComesTo, cause_name}
 use Rattle.freeme.specs.Writing.{HasName, class_text, written_name, class_lines, IsClassFileIn, IsFileOf, AreWritten, AllWritten, class_writes}
 use Rattle.fm_load.specs.Judging.{ComesOfProgram}
 use Rattle.fm_load.specs.Reading.{ReadsAll}
@@ -115,7 +115,7 @@ module _ (job : FreemeJob) (old new : Disk) (classes : List ClassDef) (source : 
 
   -- there is a cause not to rewrite it
   pub is_not_freed : (cause : RewriteFail) (name : Bytes) → AreChecked (given_of job) old.contents classes → IsFirstCause classes (main_name job) cause
-      → name ≡ told_name (given_program (given_of job) classes).outline cause → IsNotFreed job cause name old new
+      → name ≡ cause_name (given_program (given_of job) classes).outline cause → IsNotFreed job cause name old new
   is_not_freed cause name checked refused is = record {
     classes = classes;
     checked = checked;
@@ -375,7 +375,7 @@ module _ {request : FreemeRequest} {names : List (Bor Bytes)} {classes : List Cl
       lent_apart = subst AreApart (sym lent) (apart_of made.classes.items (written_apart classes (main_name (job_of request)) made judged rewritten))
 
       pub lent_counted : {counts : List Count} → counts ≡ made.counts.items → length counts ≡ length written
-      lent_counted told = ap length told ∙ one_count_each classes (main_name (job_of request)) made rewritten ∙ ap length (sym lent)
+      lent_counted reported = ap length reported ∙ one_count_each classes (main_name (job_of request)) made rewritten ∙ ap length (sym lent)
 
   -- they are written, or a write didn't come off
   module _ {new : Disk} (keeps : KeepsReads between new) (written : List ClassDef) where
@@ -385,10 +385,10 @@ module _ {request : FreemeRequest} {names : List (Bor Bytes)} {classes : List Cl
   module _ {new : Disk} (keeps : KeepsReads between new) (link : SafeClassesLink) (retype : SafeClassesAreTyped) (taken : CheckedAreTaken) (same : ClassesDoTheSame) (checked : AreChecked (given_of (job_of request)) old.contents classes) (made : Rewritten) (rewritten : AreRewritten classes (main_name (job_of request)) made) {written : List ClassDef} (lent : written ≡ made.classes.items) where
     pub ends_done : {counts : List Count} (lines : List ℕ) → counts ≡ made.counts.items → lines ≡ class_lines written counts → AllWritten request.folder.now written between new
         → IsDone (job_of request) lines old new
-    ends_done lines told is now =
+    ends_done lines reported is now =
         let P : List ClassDef → Type 0 = λ cs. AllWritten request.folder.now cs between new in
         is_done (job_of request) old between new reads.all keeps made reads.faultless (freed checked made rewritten link retype taken same) reads.calls lines
-        (is ∙ ap (class_lines written) told ∙ ap (λ (cs : List ClassDef). class_lines cs made.counts.items) lent) (subst P lent now)
+        (is ∙ ap (class_lines written) reported ∙ ap (λ (cs : List ClassDef). class_lines cs made.counts.items) lent) (subst P lent now)
 
     pub ends_unwritten : (r : JobRefusal) → ComesOfClasses request.folder.now written between new (Err r) → ComesTo (job_of request) old new (Err (free_refusal.Job r))
     ends_unwritten r now =

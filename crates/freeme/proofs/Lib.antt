@@ -2,6 +2,7 @@ pub mod CauseLemmas
 pub mod CompleteLemmas
 pub mod FreeingLemmas
 pub mod JobLemmas
+pub mod ReportedLemmas
 pub mod StatusLemmas
 pub mod UnheldLemmas
 pub mod WovenFew
@@ -9,5 +10,4 @@ pub mod WriteLemmas
 pub mod WrittenLemmas
 pub mod TakenAgain
 pub mod TextLemmas
-pub mod ToldLemmas
 pub mod MeaningLemmas

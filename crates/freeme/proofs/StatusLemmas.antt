@@ -6,10 +6,10 @@ use Rattle.fm_cli.proofs.LineLemmas.{told_among}
 use Rattle.fm_cli.specs.declared.command_refusal.CommandRefusal.TheVariants as refusal
 use Rattle.fm_cli.specs.declared.status.TheConstants.{DONE, WORDS, READ, MALFORMED, VERSION, LIMIT, UNSUPPORTED, LINK, CHECK, WRITE, OUT_OF_MEMORY}
 use Rattle.fm_rewrite.specs.declared.error.RewriteFail.TheVariants as fail
-use Rattle.freeme.proofs.ToldLemmas.{outcome_line, outcome_status, own_sink, own_tells}
+use Rattle.freeme.proofs.ReportedLemmas.{outcome_line, outcome_status, own_sink, own_reports}
 use Rattle.freeme.specs.Causes.{IsStatus}
 use Rattle.fm_cli_requests.specs.FreemeRequest.{FreemeJob}
-use Rattle.freeme.specs.TopCall.{ComesOf, ComesTo, IsTold, Outcome}
+use Rattle.freeme.specs.TopCall.{ComesOf, ComesTo, IsReported, Outcome}
 use Rattle.freeme.specs.declared.refusal.FreeRefusal.TheVariants as free_refusal
 use Rattle.freeme.specs.declared.status.TheConstants.{CALLS_FREE, POOL_FULL, METHOD_TOO_LONG}
 use Rattle.fm_load.specs.declared.class_refusal.ClassRefusal.TheVariants as refused
@@ -46,8 +46,8 @@ own_status words old new o (inr (inl nothing)) = subst (λ (x : Outcome). IsStat
 own_status words old new o (inr (inr lacking)) = subst (λ (x : Outcome). IsStatus (outcome_status x)) (sym lacking.refused) (13, omega arith, refl)
 
 pub is_status : (words : List Bytes) (old new : Disk) (before after report report' : Output) (result : ℕ) (o : Outcome) → ComesOf words old new o
-    → IsTold o before after report report' result → IsStatus result
-is_status words old new before after report report' result o comes tells =
-    told_among (outcome_line o) (outcome_status o) (own_sink o before report) (own_sink o after report') result (own_tells before after report report' result o tells)
+    → IsReported o before after report report' result → IsStatus result
+is_status words old new before after report report' result o comes reports =
+    told_among (outcome_line o) (outcome_status o) (own_sink o before report) (own_sink o after report') result (own_reports before after report report' result o reports)
     all_statuses
     (own_status words old new o comes) (12, omega arith, refl) (13, omega arith, refl)

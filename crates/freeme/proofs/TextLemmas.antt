@@ -19,7 +19,7 @@ use Rattle.freeme.proofs.StatusLemmas.{all_statuses}
 use Rattle.freeme.specs.Causes.{AskFor, AskForGiven, ChangesOnly, IsFaultless, IsForBytes, IsForCheck, IsForDone, IsForLimit, IsForLink, IsForMemory, IsForRead, IsForRewrite, IsForText, IsForWords, IsForWrite, IsSilent, IsStatus, KeepsContents, before_writes}
 use Rattle.freeme.specs.TopCall.{IsTextPut, IsTopCall, text_bytes}
 
-module _ (words : List Bytes) (files : Disk) (before after report : Output) (result : ℕ) (asked : ProgramText) (asks : AskForText words asked) (tells : Tells (text_bytes asked) DONE before after result) where
+module _ (words : List Bytes) (files : Disk) (before after report : Output) (result : ℕ) (asked : ProgramText) (asks : AskForText words asked) (reports : Tells (text_bytes asked) DONE before after result) where
   no_job : AskNoJob words
   no_job = text_no_job words asked asks
 
@@ -31,7 +31,7 @@ module _ (words : List Bytes) (files : Disk) (before after report : Output) (res
 
   -- the status is that of what is done, of a write or of memory
   apart : (status : ℕ) → DONE ≢ status → WRITE ≢ status → OUT_OF_MEMORY ≢ status → result ≢ status
-  apart status done write memory is = go tells where
+  apart status done write memory is = go reports where
     go : Tells (text_bytes asked) DONE before after result → ⊥
     go (inl own) = done (sym own.0 ∙ is)
     go (inr (inl failed)) = write (sym failed.0 ∙ is)
@@ -49,13 +49,13 @@ module _ (words : List Bytes) (files : Disk) (before after report : Output) (res
   no_write (name, rose) = omega arith
 
   put : IsTextPut asked files files before after report report result
-  put = record { kept = refl; unreported = refl; tells = tells }
+  put = record { kept = refl; unreported = refl; reports = reports }
 
   pub text_whole : IsTopCall words files files before after report report result
   text_whole = inl (record { asked = asked; asks = asks; put = put })
 
   pub text_status : IsStatus result
-  text_status = told_among (text_bytes asked) DONE before after result tells all_statuses (0, omega arith, refl) (12, omega arith, refl) (13, omega arith, refl)
+  text_status = told_among (text_bytes asked) DONE before after result reports all_statuses (0, omega arith, refl) (12, omega arith, refl) (13, omega arith, refl)
 
   pub text_done : IsForDone words files files before after report report result
   text_done = record { only = λ is. inr only_text; there = λ cause. absurd (none_for cause) }
@@ -99,14 +99,14 @@ module _ (words : List Bytes) (files : Disk) (before after report : Output) (res
     write = λ cause. absurd (no_write cause);
   } where
     rose : (before.faults < after.faults) ⊎ (report.faults < report.faults) → result ≡ WRITE
-    rose (inl output) = put_fails (text_bytes asked) DONE before after result tells output
+    rose (inl output) = put_fails (text_bytes asked) DONE before after result reports output
     rose (inr reported) = absurd (omega arith)
 
   pub text_memory : IsForMemory words files files before after report report result
   text_memory is = inr (inr only_text)
 
   pub text_faultless : IsFaultless files files before after report report result
-  text_faultless among = (no_fault_where_same files files refl, go tells, refl) where
+  text_faultless among = (no_fault_where_same files files refl, go reports, refl) where
     go : Tells (text_bytes asked) DONE before after result → after.faults ≡ before.faults
     go (inl own) = ap (λ (o : Output). o.faults) own.1
     go (inr (inl failed)) = absurd (unlike_elements WRITE faultless_statuses refl result among failed.0)
@@ -116,7 +116,7 @@ module _ (words : List Bytes) (files : Disk) (before after report : Output) (res
   text_kept among = (refl, refl)
 
   pub text_silent : IsSilent before after result
-  text_silent among = go tells where
+  text_silent among = go reports where
     go : Tells (text_bytes asked) DONE before after result → after ≡ before
     go (inl own) = absurd (unlike_elements DONE before_writes refl result among own.0)
     go (inr (inl failed)) = absurd (unlike_elements WRITE before_writes refl result among failed.0)

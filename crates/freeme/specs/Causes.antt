@@ -23,7 +23,7 @@ use Rattle.fm_cli_requests.specs.FreemeRequest.{FreemeJob, Asks, AskNoJob, AskNo
 use Rattle.fm_cli_requests.specs.ProgramText.{AskForText}
 use Rattle.fm_cli_requests.specs.declared.program_text.ProgramText.{ProgramText}
 use Rattle.freeme.specs.Jobs.{given_of, main_name}
-use Rattle.freeme.specs.TopCall.{StaysWithin, IsDone, IsUnwritten, IsBroken, IsNotFreed, IsTextPut, IsUntold, Outcome, ComesOf}
+use Rattle.freeme.specs.TopCall.{StaysWithin, IsDone, IsUnwritten, IsBroken, IsNotFreed, IsTextPut, IsUnreported, Outcome, ComesOf}
 use Rattle.freeme.specs.declared.status.TheConstants.{CALLS_FREE, POOL_FULL, METHOD_TOO_LONG}
 use Rattle.fm_load.specs.Causes.{FailsARead, FailsAWrite, HasTooMany, IsMissing, IsKnownLong, IsKnownRefused, IsKnownUnlinked, IsKnownUntyped}
 use Rattle.fm_load.specs.Given.{Given, IsUntouched, AreMany, IsUnread, IsLong, IsRefusedFile, IsNotLinked, IsNotTyped, AreChecked, given_program}
@@ -32,7 +32,8 @@ use Rattle.fm_load.specs.declared.class_refusal.ClassRefusal.{ClassRefusal}
 -- there is no other status
 abbrev pub IsStatus : ℕ → Type 0
 IsStatus result =
-    Contains (DONE ∷ WORDS ∷ READ ∷ MALFORMED ∷ VERSION ∷ LIMIT ∷ UNSUPPORTED ∷ LINK ∷ CHECK ∷ CALLS_FREE ∷ POOL_FULL ∷ METHOD_TOO_LONG ∷ WRITE ∷ OUT_OF_MEMORY ∷ []) result
+    Contains (DONE ∷ WORDS ∷ READ ∷ MALFORMED ∷ VERSION ∷ LIMIT ∷ UNSUPPORTED ∷ LINK ∷ CHECK
+    ∷ CALLS_FREE ∷ POOL_FULL ∷ METHOD_TOO_LONG ∷ WRITE ∷ OUT_OF_MEMORY ∷ []) result
 
 -- the words ask for a job such as this
 abbrev pub AskFor : List Bytes → (FreemeJob → Type 0) → Type 0
@@ -52,7 +53,8 @@ pub record SaysWords (words : List Bytes) (old new : Disk) (before after report 
 
 -- exactly where the words ask for nothing, unless the put fails or memory can't be had
 abbrev pub IsForWords : List Bytes → Disk → Disk → Output → Output → Output → Output → ℕ → Type 0
-IsForWords words old new before after report report' result = ComesExactly WORDS (WRITE ∷ OUT_OF_MEMORY ∷ []) result (SaysWords words old new before after report report') (AskNothing words)
+IsForWords words old new before after report report' result =
+    ComesExactly WORDS (WRITE ∷ OUT_OF_MEMORY ∷ []) result (SaysWords words old new before after report report') (AskNothing words)
 
 -- ---- 65
 
@@ -67,7 +69,8 @@ pub record SaysRead (words : List Bytes) (old new : Disk) (before after report r
 -- exactly there, unless the put fails or memory can't be had
 abbrev pub IsForRead : List Bytes → Disk → Disk → Output → Output → Output → Output → ℕ → Type 0
 IsForRead words old new before after report report' result =
-    ComesExactly READ (WRITE ∷ OUT_OF_MEMORY ∷ []) result (SaysRead words old new before after report report') (FailsARead old new ⊎ AskForGiven words (IsMissing old))
+    ComesExactly READ (WRITE ∷ OUT_OF_MEMORY ∷ []) result (SaysRead words old new before after report report')
+    (FailsARead old new ⊎ AskForGiven words (IsMissing old))
 
 -- ---- 66, 67 and 69
 
@@ -85,7 +88,8 @@ pub record SaysRefused (status : ℕ) (words : List Bytes) (old new : Disk) (bef
 -- exactly there, unless a read or the put fails or memory can't be had
 abbrev pub IsForBytes : ℕ → List Bytes → Disk → Disk → Output → Output → Output → Output → ℕ → Type 0
 IsForBytes status words old new before after report report' result =
-    ComesExactly status (READ ∷ WRITE ∷ OUT_OF_MEMORY ∷ []) result (SaysRefused status words old new before after report report') (AskForGiven words (IsKnownRefused status old))
+    ComesExactly status (READ ∷ WRITE ∷ OUT_OF_MEMORY ∷ []) result (SaysRefused status words old new before after report report')
+    (AskForGiven words (IsKnownRefused status old))
 
 -- ---- 68
 
@@ -108,7 +112,8 @@ pub record SaysLong (words : List Bytes) (old new : Disk) (before after report r
 -- there are too many files, or one is too long, or a count of a method is above its limit
 abbrev pub SaysLimit : List Bytes → Disk → Disk → Output → Output → Output → Output → Type 0
 SaysLimit words old new before after report report' =
-    SaysMany words old new before after report report' ⊎ (SaysLong words old new before after report report' ⊎ SaysRefused LIMIT words old new before after report report')
+    SaysMany words old new before after report report'
+    ⊎ (SaysLong words old new before after report report' ⊎ SaysRefused LIMIT words old new before after report report')
 
 -- exactly there, unless a read or the put fails or memory can't be had; of too many files none is read
 pub record IsForLimit (words : List Bytes) (old new : Disk) (before after report report' : Output) (result : ℕ) : Type 0 where
@@ -130,7 +135,8 @@ pub record SaysLink (words : List Bytes) (old new : Disk) (before after report r
 -- exactly there, unless a read or the put fails or memory can't be had
 abbrev pub IsForLink : List Bytes → Disk → Disk → Output → Output → Output → Output → ℕ → Type 0
 IsForLink words old new before after report report' result =
-    ComesExactly LINK (READ ∷ WRITE ∷ OUT_OF_MEMORY ∷ []) result (SaysLink words old new before after report report') (AskForGiven words (IsKnownUnlinked old))
+    ComesExactly LINK (READ ∷ WRITE ∷ OUT_OF_MEMORY ∷ []) result (SaysLink words old new before after report report')
+    (AskForGiven words (IsKnownUnlinked old))
 
 -- ---- 71
 
@@ -146,7 +152,8 @@ pub record SaysCheck (words : List Bytes) (old new : Disk) (before after report 
 -- exactly there, unless a read or the put fails or memory can't be had
 abbrev pub IsForCheck : List Bytes → Disk → Disk → Output → Output → Output → Output → ℕ → Type 0
 IsForCheck words old new before after report report' result =
-    ComesExactly CHECK (READ ∷ WRITE ∷ OUT_OF_MEMORY ∷ []) result (SaysCheck words old new before after report report') (AskForGiven words (IsKnownUntyped old))
+    ComesExactly CHECK (READ ∷ WRITE ∷ OUT_OF_MEMORY ∷ []) result (SaysCheck words old new before after report report')
+    (AskForGiven words (IsKnownUntyped old))
 
 -- ---- 72, 73 and 74
 
@@ -186,12 +193,14 @@ pub record IsKnownAs (status : ℕ) (old : Disk) (job : FreemeJob) : Type 0 wher
 -- exactly there, unless a read or the put fails or memory can't be had
 abbrev pub IsForRewrite : ℕ → List Bytes → Disk → Disk → Output → Output → Output → Output → ℕ → Type 0
 IsForRewrite status words old new before after report report' result =
-    ComesExactly status (READ ∷ WRITE ∷ OUT_OF_MEMORY ∷ []) result (SaysNotFreed status words old new before after report report') (AskFor words (IsKnownAs status old))
+    ComesExactly status (READ ∷ WRITE ∷ OUT_OF_MEMORY ∷ []) result (SaysNotFreed status words old new before after report report')
+    (AskFor words (IsKnownAs status old))
 
 -- ---- 0
 
--- all files of the job are taken, their classes make a program, its methods are typed, its classes are written with what frees their dead objects, nothing
--- failed, every other name is as before, the output got the lines of the classes as one piece, and the report is as it was
+-- all files of the job are taken, their classes make a program, its methods are typed, its classes are written with what frees
+-- their dead objects, nothing failed, every other name is as before, the output got the lines of the classes as one piece, and
+-- the report is as it was
 pub record SaysDone (words : List Bytes) (old new : Disk) (before after report report' : Output) : Type 0 where
   pub job : FreemeJob
   pub asked : Asks words job
@@ -200,17 +209,19 @@ pub record SaysDone (words : List Bytes) (old new : Disk) (before after report r
   pub line : after ≡ with_piece lines before
   pub unreported : report' ≡ report
 
--- only there, or where the words ask for a text; exactly where there is no cause against it, unless a read, a write or the put fails or memory can't
--- be had
+-- only there, or where the words ask for a text; exactly where there is no cause against it, unless a read, a write or the put fails or
+-- memory can't be had
 abbrev pub IsForDone : List Bytes → Disk → Disk → Output → Output → Output → Output → ℕ → Type 0
 IsForDone words old new before after report report' result =
-    ComesExactly DONE (READ ∷ WRITE ∷ OUT_OF_MEMORY ∷ []) result (SaysDone words old new before after report report' ⊎ AskOnlyForText words) (AskFor words (IsKnownAs DONE old))
+    ComesExactly DONE (READ ∷ WRITE ∷ OUT_OF_MEMORY ∷ []) result (SaysDone words old new before after report report' ⊎ AskOnlyForText words)
+    (AskFor words (IsKnownAs DONE old))
 
 -- ---- 0, for a text
 
 -- where the words ask for a text, it is put, or the put fails, or memory can't be had, and nothing else happens
 abbrev pub IsForText : List Bytes → Disk → Disk → Output → Output → Output → Output → ℕ → Type 0
-IsForText words old new before after report report' result = (asked : ProgramText) → AskForText words asked → IsTextPut asked old new before after report report' result
+IsForText words old new before after report report' result =
+    (asked : ProgramText) → AskForText words asked → IsTextPut asked old new before after report report' result
 
 -- ---- 75
 
@@ -226,11 +237,12 @@ pub record SaysUnwritten (words : List Bytes) (old new : Disk) (before after rep
 pub record SaysUnput (words : List Bytes) (old new : Disk) (before after report report' : Output) : Type 0 where
   pub outcome : Outcome
   pub comes : ComesOf words old new outcome
-  pub fails : IsUntold outcome before after report report'
+  pub fails : IsUnreported outcome before after report report'
 
 -- one of the two, or the words ask for a text
 abbrev pub SaysWrite : List Bytes → Disk → Disk → Output → Output → Output → Output → Type 0
-SaysWrite words old new before after report report' = SaysUnput words old new before after report report' ⊎ (SaysUnwritten words old new before after report report' ⊎ AskOnlyForText words)
+SaysWrite words old new before after report report' =
+    SaysUnput words old new before after report report' ⊎ (SaysUnwritten words old new before after report report' ⊎ AskOnlyForText words)
 
 -- only there; exactly there where a put failed, and where a write failed unless memory for its line can't be had
 pub record IsForWrite (words : List Bytes) (old new : Disk) (before after report report' : Output) (result : ℕ) : Type 0 where
@@ -255,19 +267,22 @@ pub record LacksLine (words : List Bytes) (old new : Disk) (before after report 
 -- one of the two, or the words ask for a text
 abbrev pub IsForMemory : List Bytes → Disk → Disk → Output → Output → Output → Output → ℕ → Type 0
 IsForMemory words old new before after report report' result =
-    result ≡ OUT_OF_MEMORY → SaysMemory words old new before after report report' ⊎ (LacksLine words old new before after report report' ⊎ AskOnlyForText words)
+    result ≡ OUT_OF_MEMORY
+    → SaysMemory words old new before after report report' ⊎ (LacksLine words old new before after report report' ⊎ AskOnlyForText words)
 
 -- ---- what changes
 
 -- at a status that isn't for a fault or for memory, no count of faults rose in this call
 abbrev pub IsFaultless : Disk → Disk → Output → Output → Output → Output → ℕ → Type 0
 IsFaultless old new before after report report' result =
-    Contains (DONE ∷ WORDS ∷ MALFORMED ∷ VERSION ∷ LIMIT ∷ UNSUPPORTED ∷ LINK ∷ CHECK ∷ CALLS_FREE ∷ POOL_FULL ∷ METHOD_TOO_LONG ∷ []) result
+    Contains (DONE ∷ WORDS ∷ MALFORMED ∷ VERSION ∷ LIMIT ∷ UNSUPPORTED ∷ LINK ∷ CHECK
+    ∷ CALLS_FREE ∷ POOL_FULL ∷ METHOD_TOO_LONG ∷ []) result
     → HasNoFileFault old new × (after.faults ≡ before.faults) × (report'.faults ≡ report.faults)
 
 -- the statuses of refusals before the first write
 abbrev pub before_writes : List ℕ
-before_writes = WORDS ∷ READ ∷ MALFORMED ∷ VERSION ∷ LIMIT ∷ UNSUPPORTED ∷ LINK ∷ CHECK ∷ CALLS_FREE ∷ POOL_FULL ∷ METHOD_TOO_LONG ∷ []
+before_writes =
+    WORDS ∷ READ ∷ MALFORMED ∷ VERSION ∷ LIMIT ∷ UNSUPPORTED ∷ LINK ∷ CHECK ∷ CALLS_FREE ∷ POOL_FULL ∷ METHOD_TOO_LONG ∷ []
 
 -- such a refusal leaves all contents as they were, and writes nothing
 abbrev pub KeepsContents : Disk → Disk → ℕ → Type 0

@@ -49,8 +49,8 @@ pub record StaysWithin (job : FreemeJob) (old new : Disk) : Type 0 where
 
 -- ---- how a job comes out
 
--- The classes that are written are taken again: they link, and their methods that have code are typed where, by the facts and plans by which they are safe,
--- no local holds an object that isn't initialised while the constructor of an object that is held is called.
+-- The classes that are written are taken again: they link, and their methods that have code are typed where, by the facts and plans
+-- by which they are safe, no local holds an object that isn't initialised while the constructor of an object that is held is called.
 pub record AreTakenAgain (given : List ClassDef) (main : List ℕ) (made : Rewritten) (are : AreRewritten given main made) : Type 0 where
   pub links : refusals made.classes.items main ≡ []
   pub typed : (safe : Safe given main made.classes.items are.marks) → NoneUnready (program_of given main) safe.facts safe.plans
@@ -105,25 +105,25 @@ pub record IsBroken (job : FreemeJob) (old new : Disk) : Type 0 where
   pub written : SomeWritten job.folder made.classes.items old new
 
 -- the method or the class that a cause names, by its name
-abbrev pub told_name : Outline → RewriteFail → List ℕ
-told_name o (fail.CallsFree method offset) = method_text (declared_name o.classes method.0)
-told_name o (fail.PoolFull class indices) = (class_info o class.0).name
-told_name o (fail.MethodTooLong method bytes) = method_text (declared_name o.classes method.0)
-told_name o fail.NoMemory = []
+abbrev pub cause_name : Outline → RewriteFail → List ℕ
+cause_name o (fail.CallsFree method offset) = method_text (declared_name o.classes method.0)
+cause_name o (fail.PoolFull class indices) = (class_info o class.0).name
+cause_name o (fail.MethodTooLong method bytes) = method_text (declared_name o.classes method.0)
+cause_name o fail.NoMemory = []
 
 -- class files with this main class aren't rewritten for this cause, which is the first one
 abbrev pub IsFirstCause : List ClassDef → List ℕ → RewriteFail → Type 0
 IsFirstCause classes main fail.NoMemory = ⊥
 IsFirstCause classes main cause = ComesOfRewriting classes main (Err cause)
 
--- its class files make a program of typed methods, and this is the first cause for which it isn't rewritten: a method calls FreeMe, or else the pool of a
--- class with a held site is full, or else a method is too long
+-- its class files make a program of typed methods, and this is the first cause for which it isn't rewritten: a method calls
+-- FreeMe, or else the pool of a class with a held site is full, or else a method is too long
 pub record IsNotFreed (job : FreemeJob) (cause : RewriteFail) (name : Bytes) (old new : Disk) : Type 0 where
   pub classes : List ClassDef
   pub checked : AreChecked (given_of job) old.contents classes
   pub reads : ReadsAs job.files classes old new
   pub refused : IsFirstCause classes (main_name job) cause
-  pub name_is : name ≡ told_name (given_program (given_of job) classes).outline cause
+  pub name_is : name ≡ cause_name (given_program (given_of job) classes).outline cause
   pub untouched : IsUntouched old new
 
 -- how it comes out: with lines that report what is written, or with why it isn't done
@@ -171,21 +171,22 @@ ComesOf words old new outcome = ComesOfJob words old new outcome ⊎ (ComesOfNot
 
 -- the lines of a job that is done are put into the output as one piece, that of a refusal into the report, and the result is the status of the
 -- outcome; or the put fails, or memory for it can't be had; the other sink is as it was
-abbrev pub IsTold : Outcome → Output → Output → Output → Output → ℕ → Type 0
-IsTold (Ok lines) before after report report' result = Tells (string_bytes lines) DONE before after result × (report' ≡ report)
-IsTold (Err refusal) before after report report' result = Tells (refusal_line refusal) (refusal_status refusal) report report' result × (after ≡ before)
+abbrev pub IsReported : Outcome → Output → Output → Output → Output → ℕ → Type 0
+IsReported (Ok lines) before after report report' result = Tells (string_bytes lines) DONE before after result × (report' ≡ report)
+IsReported (Err refusal) before after report report' result =
+    Tells (refusal_line refusal) (refusal_status refusal) report report' result × (after ≡ before)
 
 -- that put fails, and the other sink is as it was
-abbrev pub IsUntold : Outcome → Output → Output → Output → Output → Type 0
-IsUntold (Ok lines) before after report report' = FailsPut (string_bytes lines) before after × (report' ≡ report)
-IsUntold (Err refusal) before after report report' = FailsPut (refusal_line refusal) report report' × (after ≡ before)
+abbrev pub IsUnreported : Outcome → Output → Output → Output → Output → Type 0
+IsUnreported (Ok lines) before after report report' = FailsPut (string_bytes lines) before after × (report' ≡ report)
+IsUnreported (Err refusal) before after report report' = FailsPut (refusal_line refusal) report report' × (after ≡ before)
 
 -- a call for no text: what the words ask for comes out in some way, and that is reported
 pub record IsJobCall (words : List Bytes) (old new : Disk) (before after report report' : Output) (result : ℕ) : Type 0 where
   pub no_text : AskForNoText words
   pub outcome : Outcome
   pub comes : ComesOf words old new outcome
-  pub tells : IsTold outcome before after report report' result
+  pub reports : IsReported outcome before after report report' result
 
 -- the bytes of a text of the program
 abbrev pub text_bytes : ProgramText → List ℕ
@@ -196,7 +197,7 @@ text_bytes text.Version = VERSION_LINE.now
 pub record IsTextPut (asked : ProgramText) (old new : Disk) (before after report report' : Output) (result : ℕ) : Type 0 where
   pub kept : new ≡ old
   pub unreported : report' ≡ report
-  pub tells : Tells (text_bytes asked) DONE before after result
+  pub reports : Tells (text_bytes asked) DONE before after result
 
 -- a call for a text
 pub record IsTextCall (words : List Bytes) (old new : Disk) (before after report report' : Output) (result : ℕ) : Type 0 where

@@ -288,7 +288,7 @@ fn a_class_of_an_earlier_name_is_not_written(rt: HostRuntime) -> Result<(), Fail
 
 // A file is judged whole before the next one is read.
 #[test]
-fn the_first_file_that_is_refused_is_told(rt: HostRuntime) -> Result<(), Fail> {
+fn the_first_file_that_is_refused_is_reported(rt: HostRuntime) -> Result<(), Fail> {
     let version = Call {
         files: &[("A.class", NEWER), ("B.class", b"")],
         status: 67,

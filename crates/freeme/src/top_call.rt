@@ -8,7 +8,7 @@ ghost use Rattle.fm_cli_requests.specs.FreemeRequest.{job_of};
 ghost use Rattle.fm_load.specs.Given.{IsMadeAlone};
 ghost use Rattle.freeme.specs.Jobs.{given_of};
 ghost use Rattle.freeme.specs.Meaning.{KeepsMeaning};
-ghost use Rattle.freeme.specs.TopCall.{ComesOf, ComesTo, IsTold, IsTopCall, StaysWithin};
+ghost use Rattle.freeme.specs.TopCall.{ComesOf, ComesTo, IsReported, IsTopCall, StaysWithin};
 ghost use Rattle.freeme.specs.declared.status.TheConstants.{CALLS_FREE, METHOD_TOO_LONG, POOL_FULL};
 
 use crate::freeing::{class_lines, freed_classes};
@@ -112,7 +112,7 @@ pub fn freeme_run<F: Files, O: Sink, R: Sink>(
         Some(asked) => put_text(alloc, asked, out),
         None => {
             let outcome = do_words(alloc, words, files);
-            tell(alloc, outcome, out, report)
+            report_outcome(alloc, outcome, out, report)
         }
     }
 }
@@ -165,13 +165,13 @@ fn do_job<'a, F: Files>(
 
 // Puts the lines of a job that is done into the output, or the line of a refusal into the report, and
 // returns the status, or that of the put.
-fn tell<O: Sink, R: Sink>(
+fn report_outcome<O: Sink, R: Sink>(
     alloc: Global,
     outcome: Result<String, FreeRefusal<'_>>,
     out: &mut O,
     report: &mut R,
 ) -> u8
-    ensures { IsTold outcome.entry (O.output out.old) (O.output out.new)
+    ensures { IsReported outcome.entry (O.output out.old) (O.output out.new)
         (R.output report.old) (R.output report.new) result }
 {
     match outcome {

@@ -128,10 +128,10 @@ fn run_ends_so(alloc: Global, classes: Vec<ClassDef>, end: End<'_>) -> Result<bo
     };
     let mut out = SureSink::new(alloc);
     match run_classes(alloc, classes, "M", budgets, &[], &[], &mut out) {
-        Ok(told) => Ok(
-            told.status == end.status
+        Ok(reported) => Ok(
+            reported.status == end.status
                 && out.bytes() == end.printed
-                && told.line.as_bytes() == end.reported,
+                && reported.line.as_bytes() == end.reported,
         ),
         Err(_) => Ok(false),
     }

@@ -10,7 +10,7 @@ use Rattle.fm_rewrite.specs.declared.rewriting.Rewritten.{Rewritten}
 use Rattle.fm_cli.specs.declared.command_refusal.CommandRefusal.TheVariants as refusal
 use Rattle.fm_world.specs.Members.{methods_of}
 use Rattle.fm_world.specs.Programs.{Outline, program_of}
-use Rattle.freeme.specs.TopCall.{IsFirstCause, told_name}
+use Rattle.freeme.specs.TopCall.{IsFirstCause, cause_name}
 use Rattle.freeme.specs.declared.refusal.FreeRefusal.{FreeRefusal}
 use Rattle.freeme.specs.declared.refusal.FreeRefusal.TheVariants as free_refusal
 
@@ -24,12 +24,12 @@ IsThere o fail.NoMemory = Unit {0}
 -- the name is that of the method or the class; want of memory names none
 abbrev pub IsNamed : Outline → RewriteFail → List ℕ → Type 0
 IsNamed o fail.NoMemory name = ⊥
-IsNamed o cause name = name ≡ told_name o cause
+IsNamed o cause name = name ≡ cause_name o cause
 
 -- they are rewritten; or there is a cause against it; or memory couldn't be had
 abbrev pub ComesOfFreeing : List ClassDef → List ℕ → Result Rewritten FreeRefusal → Type 0
 ComesOfFreeing given main (Ok made) = AreRewritten given main made
 ComesOfFreeing given main (Err (free_refusal.Rewrite cause name)) =
-    IsFirstCause given main cause × (name ≡ told_name (program_of given main).outline cause)
+    IsFirstCause given main cause × (name ≡ cause_name (program_of given main).outline cause)
 ComesOfFreeing given main (Err (free_refusal.Job (job_refusal.Shared refusal.OutOfMemory))) = Unit {0}
 ComesOfFreeing given main (Err r) = ⊥

@@ -50,9 +50,9 @@ pub fn is_answered(alloc: Global, class: &[u8], status: u8, lines: &str) -> Resu
     files.add("M.class", class)?;
     files.add("R.class", interface.as_slice())?;
     let words = "--out d --main M M.class R.class";
-    let is_told = ends_with(alloc, words, &mut files, status, lines)?;
+    let is_reported = ends_with(alloc, words, &mut files, status, lines)?;
     let written = if status == 0 { Some(class) } else { None };
-    Ok(is_told && files.bytes("d/M.class") == written)
+    Ok(is_reported && files.bytes("d/M.class") == written)
 }
 
 /// Whether a change of a class file ends so.

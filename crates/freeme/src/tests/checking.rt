@@ -149,7 +149,7 @@ fn methods_that_are_not_typed_are_refused(rt: HostRuntime) -> Result<(), Fail> {
 }
 
 #[test]
-fn the_first_method_that_is_not_typed_is_told(rt: HostRuntime) -> Result<(), Fail> {
+fn the_first_method_that_is_not_typed_is_reported(rt: HostRuntime) -> Result<(), Fail> {
     let alloc = rt.alloc();
     let class = TWO_UNTYPED.bytes(alloc)?;
     let line = "refused: check M.Code([Ljava/lang/String;)V\n";

@@ -130,8 +130,8 @@ fn is_answered(alloc: Global, row: &Row) -> Result<bool, NoMemory> {
         files.add(file.name, bytes.as_slice())?;
     }
     let words = words_for(alloc, program)?;
-    let is_told = ends_with(alloc, words.as_str(), &mut files, *status, lines)?;
-    Ok(is_told && are_written(&files, alloc, program.written)?)
+    let is_reported = ends_with(alloc, words.as_str(), &mut files, *status, lines)?;
+    Ok(is_reported && are_written(&files, alloc, program.written)?)
 }
 
 // The place of the first program for which a call ends otherwise.

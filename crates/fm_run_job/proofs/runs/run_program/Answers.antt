@@ -8,7 +8,7 @@ use Rattle.fm_frames.specs.declared.turns.StepFail.TheVariants as fail
 use Rattle.fm_law_can_step.proofs.Constants.{start_fits}
 use Rattle.fm_run_job.specs.Reports.{end_status, IsEndIn, report_line}
 use Rattle.fm_run.specs.Running.{CanGo, RunsTo}
-use Rattle.fm_run_job.proofs.Opened.{end_told, ends-breaks, job_of, none-breaks, opened_goes}
+use Rattle.fm_run_job.proofs.Opened.{end_reported, ends-breaks, job_of, none-breaks, opened_goes}
 use Rattle.fm_run_job.specs.Runs.{choice, ComesOfRun, opened_run}
 use Rattle.fm_run_job.proofs.runs.run_program.Goals as goal
 
@@ -44,7 +44,7 @@ report_line-requires g c =
     let is : c.in_ok-machine.machine ≡ opened_run p b c.args.arguments.now c.args.input.now =
     c.in_ok-machine.ensures ∙ ap (λ s. (opening p choice (job_of b c.args.arguments.now c.args.input.now) s).state) c.new-memory.ensures in
     subst (λ (r : Report). IsEndIn p r.end) (sym c.in_ok-report.ensures.report)
-    (end_told p b c.args.arguments.now c.args.input.now c.requires.can c.requires.typed c.requires.within c.requires.given c.run.new.machine before
+    (end_reported p b c.args.arguments.now c.args.input.now c.requires.can c.requires.typed c.requires.within c.requires.given c.run.new.machine before
     later (subst (λ x. RunsTo p choice b.steps x c.run.new.machine before later) is c.in_ok-report.ensures.runs))
 
 pub returns-in_err-line : goal.returns-in_err-line

@@ -1,6 +1,6 @@
 use Rattle.std.proofs.lemmas.Result.{err_from_is_err_and}
 use Rattle.fm_cli.specs.Encoding.{modified}
-use Rattle.fmrun.proofs.RunningLemmas.{are_typed, are_within, can_run, comes_failed, comes_refused, comes_told}
+use Rattle.fmrun.proofs.RunningLemmas.{are_typed, are_within, can_run, comes_failed, comes_refused, comes_reported}
 use Rattle.fmrun.proofs.running.run_classes.Goals as goal
 
 pub program_of-requires-clause-within : goal.program_of-requires-clause-within
@@ -21,19 +21,19 @@ run_program-requires-clause-can g c =
 pub run_program-requires-clause-typed : goal.run_program-requires-clause-typed
 run_program-requires-clause-typed g c = are_typed c.args.classes.items (modified c.args.main.now) c.in_ok-program.program c.in_ok-program.ensures
 
-pub returns-in_err-told : goal.returns-in_err-told
-returns-in_err-told g c =
+pub returns-in_err-reported : goal.returns-in_err-reported
+returns-in_err-reported g c =
     let before = g.O.Sink.output c.args.out.now in
     let later = g.O.Sink.output c.run_program.new.out in
-    let handed = err_from_is_err_and c.from_residual-in_err-told.result c.from_residual-in_err-told.ensures.1 in
+    let handed = err_from_is_err_and c.from_residual-in_err-reported.result c.from_residual-in_err-reported.ensures.1 in
     rw handed.1
     (comes_failed c.args.classes.items (modified c.args.main.now) c.args.budgets c.args.arguments.now c.args.input.now before later c.in_ok-program.program
-    c.in_ok-program.ensures c.in_err-told.field-0.0 handed.0 handed.2 c.in_err-told.ensures)
+    c.in_ok-program.ensures c.in_err-reported.field-0.0 handed.0 handed.2 c.in_err-reported.ensures)
 
 pub returns : goal.returns
 returns g c =
     let before = g.O.Sink.output c.args.out.now in
     let later = g.O.Sink.output c.run_program.new.out in
-    comes_told c.args.classes.items (modified c.args.main.now) c.args.budgets c.args.arguments.now c.args.input.now before later c.in_ok-program.program
+    comes_reported c.args.classes.items (modified c.args.main.now) c.args.budgets c.args.arguments.now c.args.input.now before later c.in_ok-program.program
     c.in_ok-program.ensures c.law_linked_no_fault.ensures c.requires.spelled c.requires.accepted c.requires.few_files c.requires.within c.requires.given
-    c.in_ok-told.told c.in_ok-told.ensures
+    c.in_ok-reported.reported c.in_ok-reported.ensures

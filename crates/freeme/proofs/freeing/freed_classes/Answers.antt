@@ -1,6 +1,6 @@
 use Rattle.std.proofs.Common.{sym, subst}
 use Rattle.fm_world.specs.Programs.{Program}
-use Rattle.freeme.proofs.FreeingLemmas.{cause_there, cause_told}
+use Rattle.freeme.proofs.FreeingLemmas.{cause_there, cause_reported}
 use Rattle.freeme.specs.inner.Freeing.{IsNamed, IsThere}
 use Rattle.freeme.proofs.freeing.freed_classes.Goals as goal
 
@@ -12,5 +12,5 @@ cause_name-requires c =
 
 pub returns-in_ok-name-in-Err : goal.returns-in_ok-name-in-Err
 returns-in_ok-name-in-Err c =
-    λ main same. cause_told c.args.classes.now main c.in-Err.fail c.in_ok-name-in-Err.name (c.in-Err.ensures main same)
+    λ main same. cause_reported c.args.classes.now main c.in-Err.fail c.in_ok-name-in-Err.name (c.in-Err.ensures main same)
     (subst (λ (p : Program). IsNamed p.outline c.in-Err.fail c.in_ok-name-in-Err.name) same c.in_ok-name-in-Err.ensures)

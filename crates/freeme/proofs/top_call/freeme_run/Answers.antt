@@ -19,33 +19,33 @@ returns-in-Some g c =
     let result = c.put_text.result in
     let asked = c.in-Some.asked in
     let asks = c.in-Some.ensures in
-    let tells = c.put_text.ensures in
+    let reports = c.put_text.ensures in
     record {
-      whole = text_whole words files before after report result asked asks tells;
-      status = text_status words files before after report result asked asks tells;
-      done = text_done words files before after report result asked asks tells;
-      text = text_text words files before after report result asked asks tells;
-      words = text_words words files before after report result asked asks tells;
-      read = text_read words files before after report result asked asks tells;
-      malformed = text_of_bytes words files before after report result asked asks tells MALFORMED (omega arith) (omega arith);
-      version = text_of_bytes words files before after report result asked asks tells VERSION (omega arith) (omega arith);
-      limit = text_limit words files before after report result asked asks tells;
-      unsupported = text_of_bytes words files before after report result asked asks tells UNSUPPORTED (omega arith) (omega arith);
-      link = text_link words files before after report result asked asks tells;
-      check = text_check words files before after report result asked asks tells;
-      calls_free = text_rewrite words files before after report result asked asks tells CALLS_FREE (omega arith) (omega arith);
-      pool_full = text_rewrite words files before after report result asked asks tells POOL_FULL (omega arith) (omega arith);
-      method_too_long = text_rewrite words files before after report result asked asks tells METHOD_TOO_LONG (omega arith) (omega arith);
-      write = text_write words files before after report result asked asks tells;
-      memory = text_memory words files before after report result asked asks tells;
+      whole = text_whole words files before after report result asked asks reports;
+      status = text_status words files before after report result asked asks reports;
+      done = text_done words files before after report result asked asks reports;
+      text = text_text words files before after report result asked asks reports;
+      words = text_words words files before after report result asked asks reports;
+      read = text_read words files before after report result asked asks reports;
+      malformed = text_of_bytes words files before after report result asked asks reports MALFORMED (omega arith) (omega arith);
+      version = text_of_bytes words files before after report result asked asks reports VERSION (omega arith) (omega arith);
+      limit = text_limit words files before after report result asked asks reports;
+      unsupported = text_of_bytes words files before after report result asked asks reports UNSUPPORTED (omega arith) (omega arith);
+      link = text_link words files before after report result asked asks reports;
+      check = text_check words files before after report result asked asks reports;
+      calls_free = text_rewrite words files before after report result asked asks reports CALLS_FREE (omega arith) (omega arith);
+      pool_full = text_rewrite words files before after report result asked asks reports POOL_FULL (omega arith) (omega arith);
+      method_too_long = text_rewrite words files before after report result asked asks reports METHOD_TOO_LONG (omega arith) (omega arith);
+      write = text_write words files before after report result asked asks reports;
+      memory = text_memory words files before after report result asked asks reports;
       complete =
-          is_complete words files files before after report report result (text_done words files before after report result asked asks tells)
-          (text_read words files before after report result asked asks tells) (text_write words files before after report result asked asks tells);
-      faultless = text_faultless words files before after report result asked asks tells;
-      kept = text_kept words files before after report result asked asks tells;
-      silent = text_silent words files before after report result asked asks tells;
-      others = text_changes words files before after report result asked asks tells;
-      same = keeps_meaning words files files before after report report result (text_done words files before after report result asked asks tells);
+          is_complete words files files before after report report result (text_done words files before after report result asked asks reports)
+          (text_read words files before after report result asked asks reports) (text_write words files before after report result asked asks reports);
+      faultless = text_faultless words files before after report result asked asks reports;
+      kept = text_kept words files before after report result asked asks reports;
+      silent = text_silent words files before after report result asked asks reports;
+      others = text_changes words files before after report result asked asks reports;
+      same = keeps_meaning words files files before after report report result (text_done words files before after report result asked asks reports);
     }
 
 pub returns-in-None : goal.returns-in-None
@@ -54,37 +54,37 @@ returns-in-None g c =
     let old = g.F.Files.disk c.args.files.now in
     let new = g.F.Files.disk c.do_words-outcome.new.files in
     let before = g.O.Sink.output c.args.out.now in
-    let after = g.O.Sink.output c.tell.new.out in
+    let after = g.O.Sink.output c.report_outcome.new.out in
     let report = g.R.Sink.output c.args.report.now in
-    let report' = g.R.Sink.output c.tell.new.report in
-    let result = c.tell.result in
+    let report' = g.R.Sink.output c.report_outcome.new.report in
+    let result = c.report_outcome.result in
     let o = c.do_words-outcome.result in
     let comes = c.do_words-outcome.ensures in
-    let tells = c.tell.ensures in
+    let reports = c.report_outcome.ensures in
     record {
-      whole = inr (record { no_text = c.in-None.ensures; outcome = o; comes = comes; tells = tells });
-      status = is_status words old new before after report report' result o comes tells;
-      done = is_for_done before after report report' result o comes tells;
+      whole = inr (record { no_text = c.in-None.ensures; outcome = o; comes = comes; reports = reports });
+      status = is_status words old new before after report report' result o comes reports;
+      done = is_for_done before after report report' result o comes reports;
       text = is_for_text words old new before after report report' result c.in-None.ensures;
-      words = is_for_words before after report report' result o comes tells c.in-None.ensures;
-      read = is_for_read before after report report' result o comes tells;
-      malformed = is_for_bytes before after report report' result o comes tells MALFORMED (omega arith) (omega arith) (λ e. omega arith);
-      version = is_for_bytes before after report report' result o comes tells VERSION (omega arith) (omega arith) (λ e. omega arith);
-      limit = is_for_limit before after report report' result o comes tells;
-      unsupported = is_for_bytes before after report report' result o comes tells UNSUPPORTED (omega arith) (omega arith) (λ e. omega arith);
-      link = is_for_link before after report report' result o comes tells;
-      check = is_for_check before after report report' result o comes tells;
-      calls_free = is_for_rewrite before after report report' result o comes tells CALLS_FREE (omega arith) (omega arith);
-      pool_full = is_for_rewrite before after report report' result o comes tells POOL_FULL (omega arith) (omega arith);
-      method_too_long = is_for_rewrite before after report report' result o comes tells METHOD_TOO_LONG (omega arith) (omega arith);
-      write = is_for_write before after report report' result o comes tells;
-      memory = is_for_memory before after report report' result o comes tells;
+      words = is_for_words before after report report' result o comes reports c.in-None.ensures;
+      read = is_for_read before after report report' result o comes reports;
+      malformed = is_for_bytes before after report report' result o comes reports MALFORMED (omega arith) (omega arith) (λ e. omega arith);
+      version = is_for_bytes before after report report' result o comes reports VERSION (omega arith) (omega arith) (λ e. omega arith);
+      limit = is_for_limit before after report report' result o comes reports;
+      unsupported = is_for_bytes before after report report' result o comes reports UNSUPPORTED (omega arith) (omega arith) (λ e. omega arith);
+      link = is_for_link before after report report' result o comes reports;
+      check = is_for_check before after report report' result o comes reports;
+      calls_free = is_for_rewrite before after report report' result o comes reports CALLS_FREE (omega arith) (omega arith);
+      pool_full = is_for_rewrite before after report report' result o comes reports POOL_FULL (omega arith) (omega arith);
+      method_too_long = is_for_rewrite before after report report' result o comes reports METHOD_TOO_LONG (omega arith) (omega arith);
+      write = is_for_write before after report report' result o comes reports;
+      memory = is_for_memory before after report report' result o comes reports;
       complete =
-          is_complete words old new before after report report' result (is_for_done before after report report' result o comes tells)
-          (is_for_read before after report report' result o comes tells) (is_for_write before after report report' result o comes tells);
-      faultless = is_faultless before after report report' result o comes tells;
-      kept = keeps_contents before after report report' result o comes tells;
-      silent = is_silent before after report report' result o comes tells;
-      others = changes_only before after report report' result o comes tells;
-      same = keeps_meaning words old new before after report report' result (is_for_done before after report report' result o comes tells);
+          is_complete words old new before after report report' result (is_for_done before after report report' result o comes reports)
+          (is_for_read before after report report' result o comes reports) (is_for_write before after report report' result o comes reports);
+      faultless = is_faultless before after report report' result o comes reports;
+      kept = keeps_contents before after report report' result o comes reports;
+      silent = is_silent before after report report' result o comes reports;
+      others = changes_only before after report report' result o comes reports;
+      same = keeps_meaning words old new before after report report' result (is_for_done before after report report' result o comes reports);
     }

@@ -10,7 +10,7 @@ use Rattle.fm_cli.proofs.OutsideLemmas.{no_fault_where_same}
 use Rattle.fm_cli.specs.Outside.{HasNoFileFault}
 use Rattle.fm_cli.specs.declared.command_refusal.CommandRefusal.TheVariants as refusal
 use Rattle.fm_cli.specs.declared.status.TheConstants.{READ, WRITE, OUT_OF_MEMORY}
-use Rattle.fmrun.specs.TopCall.{ComesOf, ComesTo, IsTold, Outcome, outcome_line, outcome_status}
+use Rattle.fmrun.specs.TopCall.{ComesOf, ComesTo, IsReported, Outcome, outcome_line, outcome_status}
 use Rattle.fmrun.specs.declared.outcome.JobFail.TheVariants as fail
 
 -- the line of an outcome was put
@@ -19,35 +19,35 @@ IsLinePut o report report' = IfSome (outcome_line o) (λ line. report' ≡ with_
 
 module _ (report report' : Output) (result : ℕ) where
   -- the result is among statuses of which these three are
-  pub is_among : (o : Outcome) → IsTold o report report' result → (statuses : List ℕ) → Contains statuses (outcome_status o) → Contains statuses WRITE → Contains statuses OUT_OF_MEMORY → Contains statuses result
-  is_among (Ok told) tells = told_among (string_bytes told.line) told.status report report' result tells
-  is_among (Err (fail.Refused r)) tells = told_among (refusal_line r) (refusal_status r) report report' result tells
-  is_among (Err fail.Output) tells = λ statuses own write memory. let P : ℕ → Type 0 = Contains statuses in subst P (sym tells.0) write
+  pub is_among : (o : Outcome) → IsReported o report report' result → (statuses : List ℕ) → Contains statuses (outcome_status o) → Contains statuses WRITE → Contains statuses OUT_OF_MEMORY → Contains statuses result
+  is_among (Ok reported) reports = told_among (string_bytes reported.line) reported.status report report' result reports
+  is_among (Err (fail.Refused r)) reports = told_among (refusal_line r) (refusal_status r) report report' result reports
+  is_among (Err fail.Output) reports = λ statuses own write memory. let P : ℕ → Type 0 = Contains statuses in subst P (sym reports.0) write
 
   -- at a status that is neither that of a failed put nor that of memory the line is put
-  pub is_line_put : (o : Outcome) → IsTold o report report' result → (wanted : ℕ) → wanted ≢ WRITE → wanted ≢ OUT_OF_MEMORY → result ≡ wanted → (outcome_status o ≡ wanted) × IsLinePut o report report'
-  is_line_put (Ok told) tells = is_put (string_bytes told.line) told.status report report' result tells
-  is_line_put (Err (fail.Refused r)) tells = is_put (refusal_line r) (refusal_status r) report report' result tells
-  is_line_put (Err fail.Output) tells = λ wanted write memory is. absurd (write (sym is ∙ tells.0))
+  pub is_line_put : (o : Outcome) → IsReported o report report' result → (wanted : ℕ) → wanted ≢ WRITE → wanted ≢ OUT_OF_MEMORY → result ≡ wanted → (outcome_status o ≡ wanted) × IsLinePut o report report'
+  is_line_put (Ok reported) reports = is_put (string_bytes reported.line) reported.status report report' result reports
+  is_line_put (Err (fail.Refused r)) reports = is_put (refusal_line r) (refusal_status r) report report' result reports
+  is_line_put (Err fail.Output) reports = λ wanted write memory is. absurd (write (sym is ∙ reports.0))
 
   -- where the faults of the report's sink rose the put failed
-  pub report_fails : (o : Outcome) → IsTold o report report' result → report.faults < report'.faults → result ≡ WRITE
-  report_fails (Ok told) tells = put_fails (string_bytes told.line) told.status report report' result tells
-  report_fails (Err (fail.Refused r)) tells = put_fails (refusal_line r) (refusal_status r) report report' result tells
-  report_fails (Err fail.Output) tells = λ rose. tells.0
+  pub report_fails : (o : Outcome) → IsReported o report report' result → report.faults < report'.faults → result ≡ WRITE
+  report_fails (Ok reported) reports = put_fails (string_bytes reported.line) reported.status report report' result reports
+  report_fails (Err (fail.Refused r)) reports = put_fails (refusal_line r) (refusal_status r) report report' result reports
+  report_fails (Err fail.Output) reports = λ rose. reports.0
 
   -- where the line was put, they didn't
   pub report_faultless : (o : Outcome) → outcome_status o ≢ WRITE → IsLinePut o report report' → report'.faults ≡ report.faults
-  report_faultless (Ok told) other put = ap (λ (x : Output). x.faults) put
+  report_faultless (Ok reported) other put = ap (λ (x : Output). x.faults) put
   report_faultless (Err (fail.Refused r)) other put = ap (λ (x : Output). x.faults) put
   report_faultless (Err fail.Output) other put = absurd (other refl)
 
   -- a cause that decides the outcome's status decides the result, but for a failed put and for memory
-  pub told_of_file : (o : Outcome) → IsTold o report report' result → (wanted : ℕ) → Contains (wanted ∷ instead_for_file) (outcome_status o) → Contains (wanted ∷ instead_for_file) result
-  told_of_file o tells wanted own = is_among o tells (wanted ∷ instead_for_file) own (2, omega arith, refl) (3, omega arith, refl)
+  pub reported_of_file : (o : Outcome) → IsReported o report report' result → (wanted : ℕ) → Contains (wanted ∷ instead_for_file) (outcome_status o) → Contains (wanted ∷ instead_for_file) result
+  reported_of_file o reports wanted own = is_among o reports (wanted ∷ instead_for_file) own (2, omega arith, refl) (3, omega arith, refl)
 
-  pub told_of_words : (o : Outcome) → IsTold o report report' result → (wanted : ℕ) → Contains (wanted ∷ instead_for_words) (outcome_status o) → Contains (wanted ∷ instead_for_words) result
-  told_of_words o tells wanted own = is_among o tells (wanted ∷ instead_for_words) own (1, omega arith, refl) (2, omega arith, refl)
+  pub reported_of_words : (o : Outcome) → IsReported o report report' result → (wanted : ℕ) → Contains (wanted ∷ instead_for_words) (outcome_status o) → Contains (wanted ∷ instead_for_words) result
+  reported_of_words o reports wanted own = is_among o reports (wanted ∷ instead_for_words) own (1, omega arith, refl) (2, omega arith, refl)
 
 -- ---- counts of faults
 
@@ -56,7 +56,7 @@ abbrev pub FailsSo : Disk → Disk → ℕ → Type 0
 FailsSo old new status = HasNoFileFault old new ⊎ (status ≡ READ)
 
 job_fails : (job : FmrunJob) (old new : Disk) (before after : Output) (o : Outcome) → ComesTo job old new before after o → FailsSo old new (outcome_status o)
-job_fails job old new before after (Ok told) comes = inl comes.untouched.faultless
+job_fails job old new before after (Ok reported) comes = inl comes.untouched.faultless
 job_fails job old new before after (Err fail.Output) comes = inl comes.untouched.faultless
 job_fails job old new before after (Err (fail.Refused (job_refusal.Shared refusal.Words))) comes = absurd comes.0.1
 job_fails job old new before after (Err (fail.Refused (job_refusal.Shared (refusal.Read file)))) comes = inr refl
@@ -78,7 +78,7 @@ fails_so words old new before after o (inr (inr lacking)) = inl (no_fault_where_
 
 -- the faults of the output didn't rise, but where it failed
 job_output : (job : FmrunJob) (old new : Disk) (before after : Output) (o : Outcome) → ComesTo job old new before after o → (after.faults ≡ before.faults) ⊎ (o ≡ Err fail.Output)
-job_output job old new before after (Ok told) comes = inl (ap (λ (x : Output). x.faults) comes.runs.put)
+job_output job old new before after (Ok reported) comes = inl (ap (λ (x : Output). x.faults) comes.runs.put)
 job_output job old new before after (Err fail.Output) comes = inr refl
 job_output job old new before after (Err (fail.Refused (job_refusal.Shared refusal.OutOfMemory))) (inl none) = inl (ap (λ (x : Output). x.faults) none.1)
 job_output job old new before after (Err (fail.Refused (job_refusal.Shared refusal.OutOfMemory))) (inr broken) = inl (ap (λ (x : Output). x.faults) broken.breaks.put)

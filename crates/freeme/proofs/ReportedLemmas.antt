@@ -6,7 +6,7 @@ use Rattle.fm_cli.specs.Line.{Tells}
 use Rattle.fm_cli.specs.declared.status.TheConstants.{DONE, WRITE, OUT_OF_MEMORY}
 use Rattle.fm_load.specs.Refusal.{IsRefusedBy}
 use Rattle.freeme.specs.Refusal.{refusal_line, refusal_status}
-use Rattle.freeme.specs.TopCall.{IsTold, IsUntold, Outcome}
+use Rattle.freeme.specs.TopCall.{IsReported, IsUnreported, Outcome}
 
 -- the lines of an outcome
 abbrev pub outcome_line : Outcome → List ℕ
@@ -32,41 +32,41 @@ IsLinePut (Err refusal) before after report report' = IsRefusedBy (refusal_line 
 pub line_faultless : (before after report report' : Output) (o : Outcome) → IsLinePut o before after report report'
     → (after.faults ≡ before.faults) × (report'.faults ≡ report.faults)
 line_faultless before after report report' (Ok lines) put = (ap (λ (x : Output). x.faults) put.0, ap (λ (x : Output). x.faults) put.1)
-line_faultless before after report report' (Err refusal) put = (ap (λ (x : Output). x.faults) put.silent, ap (λ (x : Output). x.faults) put.told)
+line_faultless before after report report' (Err refusal) put = (ap (λ (x : Output). x.faults) put.silent, ap (λ (x : Output). x.faults) put.reported)
 
 module _ (before after report report' : Output) (result : ℕ) where
   -- its own sink got its lines, or the put failed, or memory was lacking
-  pub own_tells : (o : Outcome) → IsTold o before after report report' result
+  pub own_reports : (o : Outcome) → IsReported o before after report report' result
       → Tells (outcome_line o) (outcome_status o) (own_sink o before report) (own_sink o after report') result
-  own_tells (Ok lines) tells = tells.0
-  own_tells (Err refusal) tells = tells.0
+  own_reports (Ok lines) reports = reports.0
+  own_reports (Err refusal) reports = reports.0
 
-  pub line_put : (o : Outcome) → IsTold o before after report report' result → own_sink o after report' ≡ with_piece (outcome_line o) (own_sink o before report)
+  pub line_put : (o : Outcome) → IsReported o before after report report' result → own_sink o after report' ≡ with_piece (outcome_line o) (own_sink o before report)
       → IsLinePut o before after report report'
-  line_put (Ok lines) tells put = (put, tells.1)
-  line_put (Err refusal) tells put = record { silent = tells.1; told = put }
+  line_put (Ok lines) reports put = (put, reports.1)
+  line_put (Err refusal) reports put = record { silent = reports.1; reported = put }
 
-  pub untold : (o : Outcome) → IsTold o before after report report' result → FailsPut (outcome_line o) (own_sink o before report) (own_sink o after report')
-      → IsUntold o before after report report'
-  untold (Ok lines) tells fails = (fails, tells.1)
-  untold (Err refusal) tells fails = (fails, tells.1)
+  pub is_unreported : (o : Outcome) → IsReported o before after report report' result → FailsPut (outcome_line o) (own_sink o before report) (own_sink o after report')
+      → IsUnreported o before after report report'
+  is_unreported (Ok lines) reports fails = (fails, reports.1)
+  is_unreported (Err refusal) reports fails = (fails, reports.1)
 
-  pub both_kept : (o : Outcome) → IsTold o before after report report' result → own_sink o after report' ≡ own_sink o before report
+  pub both_kept : (o : Outcome) → IsReported o before after report report' result → own_sink o after report' ≡ own_sink o before report
       → (after ≡ before) × (report' ≡ report)
-  both_kept (Ok lines) tells kept = (kept, tells.1)
-  both_kept (Err refusal) tells kept = (tells.1, kept)
+  both_kept (Ok lines) reports kept = (kept, reports.1)
+  both_kept (Err refusal) reports kept = (reports.1, kept)
 
   -- where the faults of a sink rose the put failed
-  pub put_failed : (o : Outcome) → IsTold o before after report report' result → (before.faults < after.faults) ⊎ (report.faults < report'.faults) → result ≡ WRITE
-  put_failed (Ok lines) tells (inl rose) = put_fails (string_bytes lines) DONE before after result tells.0 rose
-  put_failed (Ok lines) tells (inr rose) = absurd (let same = ap (λ (x : Output). x.faults) tells.1 in omega arith)
-  put_failed (Err refusal) tells (inl rose) = absurd (let same = ap (λ (x : Output). x.faults) tells.1 in omega arith)
-  put_failed (Err refusal) tells (inr rose) = put_fails (refusal_line refusal) (refusal_status refusal) report report' result tells.0 rose
+  pub put_failed : (o : Outcome) → IsReported o before after report report' result → (before.faults < after.faults) ⊎ (report.faults < report'.faults) → result ≡ WRITE
+  put_failed (Ok lines) reports (inl rose) = put_fails (string_bytes lines) DONE before after result reports.0 rose
+  put_failed (Ok lines) reports (inr rose) = absurd (let same = ap (λ (x : Output). x.faults) reports.1 in omega arith)
+  put_failed (Err refusal) reports (inl rose) = absurd (let same = ap (λ (x : Output). x.faults) reports.1 in omega arith)
+  put_failed (Err refusal) reports (inr rose) = put_fails (refusal_line refusal) (refusal_status refusal) report report' result reports.0 rose
 
   -- at a status of a refusal the output is as it was
-  pub told_silent : (o : Outcome) → IsTold o before after report report' result → result ≢ DONE → result ≢ WRITE → result ≢ OUT_OF_MEMORY → after ≡ before
-  told_silent (Err refusal) tells done write memory = tells.1
-  told_silent (Ok lines) tells done write memory = absurd (go tells.0) where
+  pub reported_silent : (o : Outcome) → IsReported o before after report report' result → result ≢ DONE → result ≢ WRITE → result ≢ OUT_OF_MEMORY → after ≡ before
+  reported_silent (Err refusal) reports done write memory = reports.1
+  reported_silent (Ok lines) reports done write memory = absurd (go reports.0) where
     go : Tells (string_bytes lines) DONE before after result → ⊥
     go (inl own) = done own.0
     go (inr (inl failed)) = write failed.0
