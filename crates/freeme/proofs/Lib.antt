@@ -2,6 +2,7 @@ pub mod CauseLemmas
 pub mod CompleteLemmas
 pub mod FreeingLemmas
 pub mod JobLemmas
+pub mod PutLemmas
 pub mod ReportedLemmas
 pub mod StatusLemmas
 pub mod UnheldLemmas

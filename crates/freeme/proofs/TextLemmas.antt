@@ -1,5 +1,5 @@
 -- What each clause says of a call for a text.
-use Rattle.std.proofs.Common.{◌≡◌, ◌≢◌, ◌<◌, ◌≤◌, ◌⊎◌, ℕ, inl, inr, List, refl, sym, ap, ◌∙◌, subst, arith}
+use Rattle.std.proofs.Common.{◌≡◌, ◌≢◌, ◌<◌, ◌≤◌, ◌⊎◌, ℕ, inl, inr, List, length, refl, sym, ap, ◌∙◌, subst, arith}
 use Rattle.fm_base.proofs.ContainsFacts.{unlike_elements}
 use Rattle.fm_files.specs.Files.{Bytes, Disk}
 use Rattle.fm_files.specs.Sink.{Output}
@@ -13,10 +13,12 @@ use Rattle.fm_cli_requests.proofs.ProgramTextLemmas.{one_text}
 use Rattle.fm_cli_requests.specs.FreemeRequest.{FreemeJob, AskNoJob, AskOnlyForText}
 use Rattle.fm_cli_requests.specs.ProgramText.{AskForText}
 use Rattle.fm_cli_requests.specs.declared.program_text.ProgramText.{ProgramText}
+use Rattle.fm_cli_requests.specs.declared.program_text.ProgramText.TheVariants as text
 use Rattle.fm_load.specs.Causes.{FailsARead, FailsAWrite, IsMissing}
 use Rattle.freeme.proofs.CauseLemmas.{faultless_statuses}
+use Rattle.freeme.proofs.PutLemmas.{line_once}
 use Rattle.freeme.proofs.StatusLemmas.{all_statuses}
-use Rattle.freeme.specs.Causes.{AskFor, AskForGiven, ChangesOnly, IsFaultless, IsForBytes, IsForCheck, IsForDone, IsForLimit, IsForLink, IsForMemory, IsForRead, IsForRewrite, IsForText, IsForWords, IsForWrite, IsSilent, IsStatus, KeepsContents, before_writes}
+use Rattle.freeme.specs.Causes.{AskFor, AskForGiven, ChangesOnly, IsFaultless, IsForBytes, IsForCheck, IsForDone, IsForLimit, IsForLink, IsForMemory, IsForRead, IsForRewrite, IsForText, IsForWords, IsForWrite, IsSilent, IsStatus, KeepsContents, PutsOnce, before_writes}
 use Rattle.freeme.specs.TopCall.{IsTextPut, IsTopCall, text_bytes}
 
 module _ (words : List Bytes) (files : Disk) (before after report : Output) (result : ℕ) (asked : ProgramText) (asks : AskForText words asked) (reports : Tells (text_bytes asked) DONE before after result) where
@@ -121,6 +123,12 @@ module _ (words : List Bytes) (files : Disk) (before after report : Output) (res
     go (inl own) = absurd (unlike_elements DONE before_writes refl result among own.0)
     go (inr (inl failed)) = absurd (unlike_elements WRITE before_writes refl result among failed.0)
     go (inr (inr lacking)) = lacking.1
+
+  pub text_once : PutsOnce before after report report
+  text_once = inl (line_once (text_bytes asked) DONE before after result (some asked) reports, refl) where
+    some : (own : ProgramText) → 0 < length (text_bytes own)
+    some text.Help = omega arith
+    some text.Version = omega arith
 
   pub text_changes : ChangesOnly words files files
   text_changes = record { asked = λ job has. absurd (no_job job has); unasked = λ none. refl }

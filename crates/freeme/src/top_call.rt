@@ -2,7 +2,7 @@
 
 ghost use Rattle.fm_cli.specs.Words.{texts};
 ghost use Rattle.fm_cli.specs.declared.status.TheConstants.{MALFORMED, UNSUPPORTED, VERSION};
-ghost use Rattle.freeme.specs.Causes.{ChangesOnly, IsFaultless, IsForBytes, IsForCheck, IsForDone, IsForLimit, IsForLink, IsForMemory, IsForRead, IsForRewrite, IsForText, IsForWords, IsForWrite, IsSilent, IsStatus, KeepsContents};
+ghost use Rattle.freeme.specs.Causes.{ChangesOnly, IsFaultless, IsForBytes, IsForCheck, IsForDone, IsForLimit, IsForLink, IsForMemory, IsForRead, IsForRewrite, IsForText, IsForWords, IsForWrite, IsSilent, IsStatus, KeepsContents, PutsOnce};
 ghost use Rattle.freeme.specs.Complete.{IsComplete};
 ghost use Rattle.fm_cli_requests.specs.FreemeRequest.{job_of};
 ghost use Rattle.fm_load.specs.Given.{IsMadeAlone};
@@ -103,6 +103,8 @@ pub fn freeme_run<F: Files, O: Sink, R: Sink>(
         (R.output report.old) (R.output report.new) result }
     ensures kept { KeepsContents (F.disk files.old) (F.disk files.new) result }
     ensures silent { IsSilent (O.output out.old) (O.output out.new) result }
+    ensures once { PutsOnce (O.output out.old) (O.output out.new)
+        (R.output report.old) (R.output report.new) }
     ensures others { ChangesOnly (texts words.now) (F.disk files.old) (F.disk files.new) }
 
     // Where it is done: the classes written do what the classes read do.

@@ -1,0 +1,125 @@
+-- The lines of each outcome have bytes, so a call puts at most one piece, which isn't empty.
+use Rattle.std.proofs.Common.{◌≡◌, ◌<◌, ℕ, ◌+◌, inl, inr, List, [], ◌∷◌, ◌++◌, length, length-append, codes, Option, Some, None, Ok, Err, string_bytes, ap, arith}
+use Rattle.std.proofs.lemmas.List.{length-map}
+use Rattle.fm_base.proofs.ListFacts.{AllByRecursion-weaker}
+use Rattle.fm_cli.specs.Line.{Tells}
+use Rattle.fm_cli.specs.declared.command_refusal.CommandRefusal.TheVariants as refusal
+use Rattle.fm_cli.specs.declared.status.TheConstants.{DONE}
+use Rattle.fm_cli_requests.specs.ClassFiles.{NameClasses}
+use Rattle.fm_cli_requests.specs.FreemeRequest.{Asks, FreemeJob, matched_in}
+use Rattle.fm_code.specs.ClassBytes.{class_bytes}
+use Rattle.fm_code.specs.Spells.{HasSpelling}
+use Rattle.fm_code.specs.declared.class_file.ClassDef.{ClassDef}
+use Rattle.fm_files.specs.Files.{Bytes, Contents, Disk}
+use Rattle.fm_files.specs.Sink.{Output}
+use Rattle.fm_link_refusals.specs.Refused.{refusal_of}
+use Rattle.fm_law_spelled.proofs.ApartLemmas.{printed_name}
+use Rattle.fm_load.proofs.GivenLemmas.{given_spelled}
+use Rattle.fm_load.proofs.ReadLemmas.{same_number}
+use Rattle.fm_load.specs.Given.{AreGiven, made_classes}
+use Rattle.fm_load.specs.LinkRefusal.{cause_line}
+use Rattle.fm_load.specs.Taking.{AreTaken, ClassIsSpelled}
+use Rattle.fm_load.specs.declared.class_refusal.ClassRefusal.TheVariants as refused
+use Rattle.fm_load.specs.declared.refusal.JobRefusal.TheVariants as job_refusal
+use Rattle.fm_rewrite.specs.declared.counts.Count.{Count}
+use Rattle.fm_rewrite.specs.declared.error.RewriteFail.TheVariants as fail
+use Rattle.fm_world.specs.Causes.{Refusal}
+use Rattle.freeme.proofs.ReportedLemmas.{outcome_line}
+use Rattle.freeme.proofs.WrittenLemmas.{names_same, one_count_each}
+use Rattle.freeme.specs.Causes.{GetsAtMostOne, PutsOnce}
+use Rattle.freeme.specs.Jobs.{given_of, main_name}
+use Rattle.freeme.specs.Refusal.{refusal_line, refusal_status}
+use Rattle.freeme.specs.TopCall.{ComesOf, IsDone, IsReported, Outcome}
+use Rattle.freeme.specs.Writing.{class_line, class_lines, class_text}
+use Rattle.freeme.specs.declared.refusal.FreeRefusal.{FreeRefusal}
+use Rattle.freeme.specs.declared.refusal.FreeRefusal.TheVariants as free_refusal
+
+-- ---- the lines of refusals
+
+cause_some : (cause : Option Refusal) → 0 < length (cause_line cause)
+cause_some None = omega arith
+cause_some (Some refusal) = omega arith
+
+refusal_some : (r : FreeRefusal) → 0 < length (refusal_line r)
+refusal_some (free_refusal.Job (job_refusal.Shared refusal.Words)) = omega arith
+refusal_some (free_refusal.Job (job_refusal.Shared (refusal.Read file))) = omega arith
+refusal_some (free_refusal.Job (job_refusal.Shared refusal.OutOfMemory)) = omega arith
+refusal_some (free_refusal.Job (job_refusal.TooManyFiles count)) = omega arith
+refusal_some (free_refusal.Job (job_refusal.TooManyArguments count)) = omega arith
+refusal_some (free_refusal.Job (job_refusal.TooLong file)) = omega arith
+refusal_some (free_refusal.Job (job_refusal.Class file refused.Malformed)) = omega arith
+refusal_some (free_refusal.Job (job_refusal.Class file (refused.Version major minor))) = omega arith
+refusal_some (free_refusal.Job (job_refusal.Class file (refused.Limit kind name count))) = omega arith
+refusal_some (free_refusal.Job (job_refusal.Class file (refused.Unsupported name offset))) = omega arith
+refusal_some (free_refusal.Job (job_refusal.Link fail)) = cause_some (refusal_of fail)
+refusal_some (free_refusal.Job (job_refusal.Check name)) = omega arith
+refusal_some (free_refusal.Job (job_refusal.Write name)) = omega arith
+refusal_some (free_refusal.Rewrite (fail.CallsFree method offset) name) = omega arith
+refusal_some (free_refusal.Rewrite (fail.PoolFull class indices) name) = omega arith
+refusal_some (free_refusal.Rewrite (fail.MethodTooLong method bytes) name) = omega arith
+refusal_some (free_refusal.Rewrite fail.NoMemory name) = omega arith
+
+-- ---- the lines of classes
+
+line_some : (c : ClassDef) (count : Count) → 0 < length (class_line c count)
+line_some c count = go (class_text c) _ (omega arith) where
+  go : (s t : List ℕ) → 0 < length t → 0 < length (s ++ t)
+  go s t some = omega (arith, length-append s t)
+
+lines_some : (classes : List ClassDef) (counts : List Count) → length counts ≡ length classes → 0 < length classes → 0 < length (class_lines classes counts)
+lines_some [] counts same some = absurd (omega arith)
+lines_some (c ∷ classes) [] same some = absurd (omega arith)
+lines_some (c ∷ classes) (count ∷ counts) same some =
+    let own = line_some c count in omega (arith, length-append (class_line c count) (class_lines classes counts))
+
+more_some : (read : List ClassDef) (c : ClassDef) → 0 < length (read ++ c ∷ [])
+more_some read c = omega (arith, length-append read (c ∷ []))
+
+-- a job has a class: that of a file, or the one that is made
+classes_some : (id : List ℕ) (matches : _) (main : List ℕ) (files : List Bytes) (number : Option ℕ) (contents : Contents) (read : List ClassDef)
+    → NameClasses id matches main files number → AreTaken contents files read → 0 < length (read ++ made_classes number)
+classes_some id matches main files None contents read names taken =
+    let same = same_number contents files read taken in let some = names.some_file in omega (arith, length-append read [])
+classes_some id matches main files (Some n) contents read names taken = more_some read _
+
+given_some : (words : List Bytes) (job : FreemeJob) → Asks words job → (contents : Contents) (classes : List ClassDef) → AreGiven (given_of job) contents classes → 0 < length classes
+given_some words job asked contents classes are =
+    let some = classes_some (codes "main") (matched_in words) job.main job.files job.made contents are.read asked.values.classes are.taken.taken in
+    let size = ap length are.classes_are in
+    omega arith
+
+done_some : (words : List Bytes) (job : FreemeJob) (old new : Disk) (lines : List ℕ) → Asks words job → IsDone job lines old new → 0 < length lines
+done_some words job old new lines asked done =
+    let given = done.freed.classes in
+    let source = done.freed.checked.linked.source in
+    let spelled = AllByRecursion-weaker ClassIsSpelled HasSpelling (λ c spells. (class_bytes c, spells)) given (given_spelled source) in
+    let names = ap length (names_same given (main_name job) done.made spelled done.freed.rewritten) in
+    let counted = one_count_each given (main_name job) done.made done.freed.rewritten in
+    let some = given_some words job asked old.contents given source in
+    let is = ap length done.lines_are in
+    let own = lines_some done.made.classes.items done.made.counts.items counted (omega (arith, length-map done.made.classes.items printed_name, length-map given printed_name)) in
+    omega arith
+
+outcome_some : (words : List Bytes) (old new : Disk) (o : Outcome) → ComesOf words old new o → 0 < length (outcome_line o)
+outcome_some words old new (Err refusal) comes = refusal_some refusal
+outcome_some words old new (Ok lines) (inl j) = done_some words j.job old new (string_bytes lines) j.asked j.comes
+outcome_some words old new (Ok lines) (inr (inl nothing)) = absurd (let other = nothing.refused in cc)
+outcome_some words old new (Ok lines) (inr (inr lacking)) = absurd (let other = lacking.refused in cc)
+
+-- ---- puts
+
+-- a line that isn't empty is the only piece that a sink gets
+pub line_once : (line : List ℕ) (status : ℕ) (old new : Output) (result : ℕ) → 0 < length line → Tells line status old new result → GetsAtMostOne old new
+line_once line status old new result some (inl put) = inl (record { piece = line; some = some; put = inl put.1 })
+line_once line status old new result some (inr (inl failed)) = inl (record { piece = line; some = some; put = inr failed.1 })
+line_once line status old new result some (inr (inr lacking)) = inr lacking.1
+
+outcome_once : (before after report report' : Output) (result : ℕ) (o : Outcome) → 0 < length (outcome_line o) → IsReported o before after report report' result
+    → PutsOnce before after report report'
+outcome_once before after report report' result (Ok lines) some reports = inl (line_once (string_bytes lines) DONE before after result some reports.0, reports.1)
+outcome_once before after report report' result (Err refusal) some reports =
+    inr (line_once (refusal_line refusal) (refusal_status refusal) report report' result some reports.0, reports.1)
+
+pub puts_once : {words : List Bytes} {old new : Disk} (before after report report' : Output) (result : ℕ) (o : Outcome) → ComesOf words old new o
+    → IsReported o before after report report' result → PutsOnce before after report report'
+puts_once {words} {old} {new} before after report report' result o comes = outcome_once before after report report' result o (outcome_some words old new o comes)
