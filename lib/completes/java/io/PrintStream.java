@@ -47,6 +47,32 @@ public class PrintStream {
         println(String.valueOf(value));
     }
 
+    /** Prints a format and what is put into it, without floats and dates, part by part. */
+    public PrintStream printf(String format, Object... arguments) {
+        return format(format, arguments);
+    }
+
+    /** Prints a format and what is put into it, without floats and dates, part by part. */
+    public PrintStream format(String format, Object... arguments) {
+        zuqelash.Format parts = new zuqelash.Format(format, arguments);
+        while (parts.hasNext()) {
+            print(parts.next());
+        }
+        return this;
+    }
+
+    /** Prints a char. */
+    public PrintStream append(char value) {
+        print(value);
+        return this;
+    }
+
+    /** Prints the chars of a sequence, in the time of their number. */
+    public PrintStream append(CharSequence value) {
+        print(String.valueOf(value));
+        return this;
+    }
+
     /** Does nothing: what is printed isn't kept back. */
     public void flush() {
     }

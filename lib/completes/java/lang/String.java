@@ -50,6 +50,11 @@ public final class String implements java.io.Serializable, Comparable<String>, C
         return valueOf(chars);
     }
 
+    /** Makes a text of a format and what is put into it, without floats and dates, in the time of the whole for each part. */
+    public static String format(String format, Object... arguments) {
+        return zuqelash.Format.of(format, arguments);
+    }
+
     /** Joins texts with one between each two, in the time of the whole for each part. */
     public static String join(CharSequence between, CharSequence... parts) {
         StringBuilder text = new StringBuilder();
@@ -284,15 +289,32 @@ public final class String implements java.io.Serializable, Comparable<String>, C
         return equals(text.toString());
     }
 
-    /**
-     * Returns the parts between a char, without empty ones at the end. Of regular expressions only one char that means itself is
-     * taken, and one behind a backslash that is neither a letter nor a digit.
-     */
+    /** Returns the parts between what fits a regular expression: at most {@code most} of them where that is positive. */
+    public String[] split(String by, int most) {
+        return new zuqelash.Pattern(by).split(this, most);
+    }
+
+    /** Reports whether the whole text fits a regular expression as {@link zuqelash.Pattern} takes it. */
+    public boolean matches(String pattern) {
+        return new zuqelash.Pattern(pattern).matches(this);
+    }
+
+    /** Returns it with each part that fits a regular expression replaced. */
+    public String replaceAll(String pattern, String by) {
+        return new zuqelash.Pattern(pattern).replace(this, by, true);
+    }
+
+    /** Returns it with the first part that fits a regular expression replaced. */
+    public String replaceFirst(String pattern, String by) {
+        return new zuqelash.Pattern(pattern).replace(this, by, false);
+    }
+
+    /** Returns the parts between what fits a regular expression as {@link zuqelash.Pattern} takes it, without empty ones at the end. */
     public String[] split(String by) {
         char value = by.length() == 0 ? '.' : by.charAt(by.length() - 1);
         boolean means_itself = by.length() == 1 && ".$|()[{^?*+\\".indexOf(value) < 0;
         if (!means_itself && !(by.length() == 2 && by.charAt(0) == '\\' && !Character.isLetterOrDigit(value))) {
-            throw new UnsupportedOperationException(by);
+            return split(by, 0);
         }
         int count = 1;
         int end = length();

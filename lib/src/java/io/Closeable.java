@@ -1,7 +1,7 @@
 package java.io;
 
 /** What can be closed. */
-public interface Closeable {
+public interface Closeable extends AutoCloseable {
     /** Closes it. */
     void close() throws IOException;
 }
