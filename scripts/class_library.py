@@ -10,6 +10,7 @@ that it lists.
 import re
 import struct
 import sys
+from functools import cache
 from pathlib import Path
 
 LIBRARY = Path(__file__).resolve().parent.parent / "lib"
@@ -90,6 +91,7 @@ def without_built_ins(data, name):
     return data[:first] + struct.pack(">H", len(kept)) + b"".join(kept) + data[last:]
 
 
+@cache
 def completed_by(name):
     """What the class file that completes a built-in class declares: its interfaces, and its methods by the class by which they may be named."""
     data = (CLASSES / f"{name}.class").read_bytes()
@@ -106,6 +108,7 @@ def completed_by(name):
     return set(interfaces) - {"java/io/Serializable"}, declared
 
 
+@cache
 def members_named(file):
     """The methods that a class file names, each with and without the class by which it does; none where it isn't one or can't be read."""
     try:
@@ -122,6 +125,7 @@ def members_named(file):
         return set()
 
 
+@cache
 def names_in(file):
     """The classes that a class file names, its own too, or none where it isn't one or can't be read: freeme says what is wrong with it."""
     try:

@@ -1,6 +1,6 @@
 """Calls of freeme and fmrun, for the scripts that compare programs with what `java` printed of them.
 
-A program is a folder with a file expect.txt: classes/, there or one folder up, has its class files, expected.out what `java` printed. expect.txt gives the
+A program is a folder with a file expect.txt: classes/, there or one folder up, has its class files, ecj/ those that ecj made, expected.out what `java` printed. expect.txt gives the
 main class, the words of fmrun (for `--input input` it is the file of the folder, for `--args` the text in the file args), and the status and, where
 it is known, the report line of fmrun on the files read; where they are known, the lines of freeme and what fmrun reports of the files written. With the
 line `class library: used` those class files of lib/classes that the program names are given too.
@@ -79,9 +79,9 @@ def files_of(folder):
     return sorted(folder.rglob("*.class"), key=lambda path: path.relative_to(folder).as_posix())
 
 
-def classes_of(folder):
-    """The folder with the class files of a program."""
-    return folder / "classes" if (folder / "classes").is_dir() else folder.parent / "classes"
+def classes_of(folder, kind="classes"):
+    """The folder with the class files of a program: those that javac made, or of the kind "ecj" those of ecj."""
+    return folder / kind if (folder / kind).is_dir() else folder.parent / kind
 
 
 def words_of(folder, listed):
@@ -108,7 +108,7 @@ def status_of(text):
     return int(text.split()[1])
 
 
-def differences(programs, folder):
+def differences(programs, folder, kind="classes"):
     """What differs of one program, a text for each thing, and its two report lines.
 
     It is run as it was read, then freed, then run as it was written. It agrees where all that expect.txt gives is so, and where
@@ -118,7 +118,7 @@ def differences(programs, folder):
     words = words_of(folder, due["words of fmrun before CLASS FILE..."][0])
     printed = (folder / "expected.out").read_bytes()
     status, lines = due["fmrun on the files read"]
-    files = files_of(classes_of(folder))
+    files = files_of(classes_of(folder, kind))
     if "class library" in due:
         files += needed(files)
     wrong = []
