@@ -12,7 +12,7 @@ use Rattle.fm_base.proofs.OptionFacts.{IsSomeAnd-at_some, IsSomeAnd-from_some, o
 use Rattle.fm_check_walk.proofs.MergingLemmas.{state-refl, state-trans}
 use Rattle.fm_check_walk.proofs.WalkLemmas.{fits_at, fits_later, fits_one, given_at, kept-locals, kept-stack, reachable-more, Went-none, Went-then, with_waiting-waits}
 use Rattle.fm_check_walk.proofs.RisenLemmas.{alike-then, same_locals}
-use Rattle.fm_check_walk.specs.declared.known_state.SlotPlace.{SlotPlace}
+use Rattle.fm_types.specs.declared.known_state.SlotPlace.{SlotPlace}
 use Rattle.fm_check_walk.specs.inner.Ranks.{rank_at}
 use Rattle.fm_check_walk.specs.inner.Risen.{IsAlikeBut}
 use Rattle.fm_check_walk.specs.inner.Walks.{Brings, is_marked, IsForced, IsKept, not_begun, Pops, risen_at, Rises, Stands, Untypable, waiting_count, Walked, Went, with_risen, with_state, work_left}

@@ -12,10 +12,11 @@ use Rattle.fm_check_handlers.proofs.HandlerLemmas.{caught_alike, caught_forced, 
 use Rattle.fm_check_walk.proofs.WalkLemmas.{kept-locals, kept-stack, fits_one, Went-none, Went-then}
 use Rattle.fm_check_walk.proofs.PlaceLemmas.{same_longs}
 use Rattle.fm_check_walk.proofs.RowFrames.{row-carried}
-use Rattle.fm_check_walk.specs.declared.known_state.SlotPlace.{SlotPlace}
-use Rattle.fm_check_walk.specs.declared.known_state.SlotPlace.TheVariants as place
+use Rattle.fm_types.specs.declared.known_state.SlotPlace.{SlotPlace}
+use Rattle.fm_types.specs.declared.known_state.SlotPlace.TheVariants as place
 use Rattle.fm_check_walk.specs.declared.risen.Rise.{Rise}
-use Rattle.fm_check_walk.specs.inner.Risen.{is_local, IsAlikeBut, IsCarried, IsLeftAlone, leaves_alone, locals_of, rise_of, slot_at, words_taken}
+use Rattle.fm_check_walk.specs.inner.Risen.{is_local, IsAlikeBut, IsCarried, IsLeftAlone, leaves_alone, locals_of, rise_of, words_taken}
+use Rattle.fm_types.specs.inner.Places.{slot_at}
 use Rattle.fm_check_handlers.specs.declared.runs.Level.{Level}
 use Rattle.fm_check_handlers.specs.inner.Runs.{GivesAll, has_room}
 use Rattle.fm_check_walk.specs.inner.Walks.{Carries, HasRoom, IsForced, IsKept, Stands, Walked}

@@ -1,12 +1,11 @@
 // The checker's one call.
 
-ghost use Rattle.std.specs.Prelude.{◌≡◌, ℕ, ◌<◌, ◌-◌, ◌++◌, Err, IfOk, IsSomeAnd, MatchOption, OnOk, length, map, replicate};
-ghost use Rattle.std.specs.Option.{option_copied, option_map};
+ghost use Rattle.std.specs.Prelude.{◌≡◌, ℕ, ◌<◌, ◌-◌, ◌++◌, Err, IfOk, IsSomeAnd, MatchOption, OnOk, length, replicate};
+ghost use Rattle.std.specs.Option.{option_copied};
 ghost use Rattle.fm_check.specs.Checking.{HasCode, IsCheckable, IsLeastTyping, IsNarrow, IsTooWide, coded};
 ghost use Rattle.fm_check.specs.inner.Judgements.{Judged};
-ghost use Rattle.fm_check_walk.specs.inner.Risen.{known_state};
 ghost use Rattle.fm_check.specs.inner.Steps.{IsLeast};
-ghost use Rattle.fm_check_walk.specs.inner.Walks.{Untypable, states_seen};
+ghost use Rattle.fm_check_walk.specs.inner.Walks.{Untypable};
 ghost use Rattle.fm_check_walk.specs.inner.Tasks.{IsSound, task};
 ghost use Rattle.fm_code.specs.AccessFlags.{is_static};
 ghost use Rattle.fm_types.specs.Typed.{Typed, entry_slots, entry_state, receiver_slots};
@@ -20,9 +19,9 @@ use crate::steps::run;
 use fm_base::limits::{MAX_LOCAL_WORDS, MAX_STACK_WORDS};
 use fm_base::{MethodId, NoMemory, Seq};
 use fm_check_rows::{is_constructor, this_class};
-use fm_check_walk::{CheckedMethod, KnownState, Walk, is_within, parameter_slots};
+use fm_check_walk::{CheckedMethod, Walk, is_within, parameter_slots};
 use fm_code::{ACC_STATIC, Code, has_flag};
-use fm_types::{Slot, Stack, State, Typing};
+use fm_types::{KnownState, Slot, Stack, State, Typing};
 use fm_world::{Body, Program, type_of_class};
 use std::alloc::Global;
 
@@ -104,35 +103,16 @@ fn typing_of(alloc: Global, method: &CheckedMethod<'_>) -> Result<Option<Typing>
         return Ok(None);
     }
     let mut walk = Walk::new(alloc, method.code.items.len())?;
-    walk.begin(0, KnownState::new(alloc, &first)?)?;
+    walk.begin(
+        0,
+        KnownState::like(alloc, &first, &KnownState::empty(alloc))?,
+    )?;
     if !run(alloc, &mut walk, method)? {
         return Ok(None);
     }
     Ok(Some(Typing {
-        states: Seq::new(typed_states(alloc, walk.states)?),
+        states: Seq::new(walk.states),
     }))
-}
-
-// The states that are known, as a typing has them.
-fn typed_states(
-    alloc: Global,
-    states: Vec<Option<KnownState>>,
-) -> Result<Vec<Option<State>>, NoMemory>
-    ensures { IfOk result
-        (λ typed. map (option_map type_state) typed.items ≡ states_seen states.items) }
-{
-    let mut typed = Vec::with_capacity(alloc, states.len())?;
-    for known in states {
-        typed.push(state_of(known))?;
-    }
-    Ok(typed)
-}
-
-// The state that is known, if one is.
-fn state_of(known: Option<KnownState>) -> Option<State>
-    ensures { option_map type_state result ≡ option_map known_state known }
-{
-    known.map(KnownState::into_state)
 }
 
 // Whether the method is static.

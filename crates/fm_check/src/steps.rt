@@ -12,11 +12,9 @@ use crate::carrying::carry_on;
 use fm_base::{NoMemory, Seq};
 use fm_check_handlers::{Level, bring_to_runs, levels_of};
 use fm_check_rows::apply;
-use fm_check_walk::{
-    CheckedMethod, SlotPlace, Walk, all_left_alone, rises_of, state_of, words_taken,
-};
+use fm_check_walk::{CheckedMethod, Walk, all_left_alone, rises_of, state_of, words_taken};
 use fm_code::{Code, Insn};
-use fm_types::State;
+use fm_types::{SlotPlace, State};
 use std::alloc::Global;
 
 // Whether control can go on past the last item after the instruction of this item.
@@ -41,11 +39,12 @@ pub fn next_items(alloc: Global, insn: &Insn, item: u32) -> Result<Vec<u32>, NoM
     Ok(items)
 }
 
-// Brings a state to each item of the list; false where no typing has room for it.
+// Brings a state from an item to each one of the list; false where no typing has room for it.
 fn bring_to_all(
     alloc: Global,
     walk: &mut Walk,
     method: &CheckedMethod<'_>,
+    from: u32,
     items: &[u32],
     brought: &State,
 ) -> Result<bool, NoMemory>
@@ -59,7 +58,7 @@ fn bring_to_all(
         (Untypable (task method.now))) }
 {
     for item in items {
-        if !walk.bring(alloc, method, *item, brought)? {
+        if !walk.bring(alloc, method, from, *item, brought)? {
             return Ok(false);
         }
     }
@@ -90,7 +89,7 @@ fn bring_on(
         return Ok(false);
     }
     let items = next_items(alloc, insn, item)?;
-    bring_to_all(alloc, walk, method, items.as_slice(), after)
+    bring_to_all(alloc, walk, method, item, items.as_slice(), after)
 }
 
 // Goes over one item that waited, by its whole state; false where no typing has room for what it
@@ -160,8 +159,7 @@ fn go_over(
     if let Some(places) = &risen {
         let rises = rises_of(alloc, own, places.as_slice())?;
         let below = own
-            .words
-            .len()
+            .depth()
             .saturating_sub(words_taken(alloc, method, insn)?);
         if all_left_alone(insn, below, rises.as_slice()) {
             return carry_on(alloc, walk, method, levels, item, insn, rises.as_slice());

@@ -17,15 +17,16 @@ use Rattle.fm_check_walk.proofs.PlaceLemmas.{place_wanted, slot-fits, with_slot-
 use Rattle.fm_check_walk.proofs.CarryLemmas.{all_held, all_room_later, can_carry_later, raised_forced, room_fits}
 use Rattle.fm_check_handlers.proofs.RunLemmas.{Contains-set_cases, got_entries, inside_level}
 use Rattle.fm_check_walk.proofs.RisenLemmas.{alike-more, alike-refl, alike-then}
-use Rattle.fm_check_walk.specs.declared.known_state.KnownState.{KnownState}
-use Rattle.fm_check_walk.specs.declared.known_state.SlotPlace.{SlotPlace}
-use Rattle.fm_check_walk.specs.declared.known_state.SlotPlace.TheVariants as place
+use Rattle.fm_types.specs.declared.known_state.KnownState.{KnownState}
+use Rattle.fm_types.specs.declared.known_state.SlotPlace.{SlotPlace}
+use Rattle.fm_types.specs.declared.known_state.SlotPlace.TheVariants as place
 use Rattle.fm_check_walk.specs.declared.risen.Rise.{Rise}
 use Rattle.fm_check_handlers.specs.declared.catching.Giving.{Giving}
 use Rattle.fm_check_handlers.specs.declared.catching.Giving.TheVariants as giving
 use Rattle.fm_check_handlers.specs.declared.runs.Level.{Level}
 use Rattle.fm_check_handlers.specs.declared.runs.Run.{Run}
-use Rattle.fm_check_walk.specs.inner.Risen.{HasPlace, is_local, known_state, local_rises, rise_of, slot_at, with_slot, without_words}
+use Rattle.fm_check_walk.specs.inner.Risen.{is_local, local_rises, rise_of}
+use Rattle.fm_types.specs.inner.Places.{HasPlace, slot_at, with_slot, without_words}
 use Rattle.fm_check_handlers.specs.inner.Runs.{AreGiven, entries_at, entries_in, entries_of, GivesAll, GivesLevel, GivesLevels, GivesRun, halved, has_room, Holds, is_brought, is_open, is_open_to, is_taken, IsAsked, IsCovered, IsGiven, IsGuarded, IsHeld, IsLaid, IsRaised, LeavesAll, MayGive, RaisesOne, RaisesRun, shape, Wanted, BringsHandlers, CarriesHandlers}
 use Rattle.fm_check_walk.specs.inner.Walks.{CanCarry, HasRoom, IsForced, Rises, Stands, Walked, Went}
 use Rattle.fm_check_walk.specs.inner.Tasks.{is_within, IsSound, Task}
@@ -38,7 +39,7 @@ use Rattle.fm_types.proofs.StateOrder.{Fitting}
 use Rattle.fm_types.specs.Fits.{fits}
 use Rattle.fm_types.specs.Joins.{IsJoin, join}
 use Rattle.fm_types.specs.States.{local_at, TypeState}
-use Rattle.fm_types.specs.Typings.{type_state}
+use Rattle.fm_types.specs.Typings.{known_state, type_state}
 use Rattle.fm_types.specs.Typed.{caught_type, FitsAt, FitsHandler, handler_state, state_at}
 use Rattle.fm_types.specs.declared.slots.Slot.{Slot}
 use Rattle.fm_types.specs.declared.slots.Slot.TheVariants as slot

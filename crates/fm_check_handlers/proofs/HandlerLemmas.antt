@@ -10,8 +10,9 @@ use Rattle.fm_base.proofs.ListFacts.{AllByRecursion-append, AllByRecursion-weake
 use Rattle.fm_base.proofs.OptionFacts.{IsSomeAnd-at_some, IsSomeAnd-from_some, Some-from_some_and}
 use Rattle.fm_check_walk.proofs.MergingLemmas.{fits-from, fits-parts, state-trans}
 use Rattle.fm_check_walk.proofs.WalkLemmas.{fits_at, fits_later, fits_one, reachable-more, Went-none, Went-then}
-use Rattle.fm_check_walk.specs.declared.known_state.SlotPlace.{SlotPlace}
-use Rattle.fm_check_walk.specs.inner.Risen.{IsAlikeBut, is_local, IsCarried, locals_of, slot_at}
+use Rattle.fm_types.specs.declared.known_state.SlotPlace.{SlotPlace}
+use Rattle.fm_check_walk.specs.inner.Risen.{IsAlikeBut, is_local, IsCarried, locals_of}
+use Rattle.fm_types.specs.inner.Places.{slot_at}
 use Rattle.fm_check_walk.specs.inner.Walks.{Brings, IsForced, Rises, Stands, Untypable, Walked, Carries, HasRoom}
 use Rattle.fm_check_handlers.specs.inner.Runs.{BringsCaught, BringsHandlers, CarriesHandlers}
 use Rattle.fm_check_walk.specs.inner.Tasks.{IsSound, Task}
@@ -23,7 +24,7 @@ use Rattle.fm_types.proofs.Order.{fits-refl}
 use Rattle.fm_types.specs.States.{state_fits, TypeState}
 use Rattle.fm_types.specs.Typed.{caught_type, FitsAt, FitsHandler, handler_state}
 use Rattle.fm_types.specs.declared.slots.Slot.TheVariants as slot
-use Rattle.fm_check_walk.specs.declared.known_state.SlotPlace.TheVariants as place
+use Rattle.fm_types.specs.declared.known_state.SlotPlace.TheVariants as place
 use Rattle.fm_check_walk.specs.declared.risen.Rise.{Rise}
 use Rattle.fm_code.proofs.EdgesLemmas.{Contains-filter, Contains-from_filter}
 use Rattle.fm_types.specs.Fits.{fits}

@@ -3,22 +3,22 @@
 // handlers of the run's entries.
 
 ghost use Rattle.std.specs.Prelude.{◌≡◌, ◌<◌, ◌⊎◌, Contains, IfOk, MatchBool, OnOk, length, true};
-ghost use Rattle.fm_check_walk.specs.inner.Risen.{is_local, known_state, local_rises};
+ghost use Rattle.fm_check_walk.specs.inner.Risen.{is_local, local_rises};
 ghost use Rattle.fm_check_handlers.specs.inner.Runs.{AreGiven, GivesAll, GivesLevel, GivesRun, Holds, IsGiven, IsGuarded, IsRaised, LeavesAll, MayGive, RaisesOne, RaisesRun, entries_in, has_room, is_brought, is_open, is_taken, BringsCaught, BringsHandlers, CarriesHandlers};
 ghost use Rattle.fm_check_walk.specs.inner.Walks.{CanCarry, IsForced, Stands, Untypable, walked};
 ghost use Rattle.fm_check_walk.specs.inner.Tasks.{IsSound, is_within, task};
 ghost use Rattle.fm_check_walk.specs.declared.risen.Rise.{Rise as RiseSpec};
 ghost use Rattle.fm_code.specs.declared.code_array.Handler.{Handler as HandlerSpec};
 ghost use Rattle.fm_types.specs.Typed.{caught_type, handler_state};
-ghost use Rattle.fm_types.specs.Typings.{type_state};
+ghost use Rattle.fm_types.specs.Typings.{known_state, type_state};
 ghost use Rattle.fm_world.specs.Members.{methods_of};
 
 use crate::runs::{Level, Run};
 use fm_base::{NoMemory, TypeRef};
 use fm_check_rows::{built_in_type, type_of_use, use_in};
-use fm_check_walk::{CheckedMethod, KnownState, Rise, SlotPlace, Walk, local_rises, rises_of};
+use fm_check_walk::{CheckedMethod, Rise, Walk, local_rises, rises_of, state_of};
 use fm_code::Handler;
-use fm_types::{Slot, Stack, State, fits, fits_type, join};
+use fm_types::{KnownState, Slot, SlotPlace, Stack, State, fits, fits_type, join};
 use std::alloc::Global;
 
 /// What an item gives to the handlers of the entries whose ranges hold it.
@@ -66,6 +66,7 @@ fn handler_state(alloc: Global, state: &State, caught: TypeRef) -> Result<State,
 
 // Raises a state to where it has room for a slot, and notes the place where it didn't.
 fn raise_one(
+    alloc: Global,
     method: &CheckedMethod<'_>,
     given: &mut KnownState,
     rise: Rise,
@@ -80,7 +81,7 @@ fn raise_one(
     if fits(method.program, rise.slot, own) {
         return Ok(());
     }
-    given.set(rise.place, join(method.program, own, rise.slot));
+    given.set(alloc, rise.place, join(method.program, own, rise.slot))?;
     places.push(rise.place)?;
     Ok(())
 }
@@ -99,7 +100,7 @@ fn raise(
 {
     let mut places = Vec::new(alloc);
     for rise in rises {
-        raise_one(method, given, *rise, &mut places)?;
+        raise_one(alloc, method, given, *rise, &mut places)?;
     }
     Ok(places)
 }
@@ -157,7 +158,7 @@ fn bring_caught(
         return Ok(false);
     };
     let brought = handler_state(alloc, state, caught)?;
-    walk.bring(alloc, method, handler.handler, &brought)
+    walk.bring(alloc, method, item, handler.handler, &brought)
 }
 
 // The same for all entries of the list.
@@ -269,7 +270,7 @@ fn bring_to_run(
     if !bring_to_handlers(alloc, walk, method, item, run.entries.as_slice(), state)? {
         return Ok(false);
     }
-    run.keep(alloc, state)?;
+    run.keep(alloc, state, state_of(walk.states.as_slice(), item))?;
     Ok(true)
 }
 

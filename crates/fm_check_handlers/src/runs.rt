@@ -6,9 +6,8 @@ ghost use Rattle.fm_check_handlers.specs.inner.Runs.{IsLaid, IsMade, IsNoted, Is
 ghost use Rattle.fm_types.specs.Typings.{type_state};
 
 use fm_base::NoMemory;
-use fm_check_walk::KnownState;
 use fm_code::Handler;
-use fm_types::State;
+use fm_types::{KnownState, State};
 use std::alloc::Global;
 
 /// Items side by side, with entries whose ranges hold all of them.
@@ -21,11 +20,21 @@ pub struct Run {
 }
 
 impl Run {
-    /// Notes a state that was brought to the handlers, but for the words of its stack.
-    pub fn keep(&mut self, alloc: Global, state: &State) -> Result<(), NoMemory>
+    /// Notes a state that was brought to the handlers, but for the words of its stack. Takes memory for
+    /// the pieces in which it differs from the other one, if there is one.
+    pub fn keep(
+        &mut self,
+        alloc: Global,
+        state: &State,
+        other: Option<&KnownState>,
+    ) -> Result<(), NoMemory>
         ensures { OnOk result (Keeps (type_state state.now) self.old self.new) }
     {
-        self.given = Some(KnownState::without_words(alloc, state)?);
+        let given = match other {
+            Some(other) => KnownState::without_words(alloc, state, other)?,
+            None => KnownState::without_words(alloc, state, &KnownState::empty(alloc))?,
+        };
+        self.given = Some(given);
         Ok(())
     }
 }

@@ -8,11 +8,12 @@ use Rattle.fm_base.proofs.OptionFacts.{IsSomeAnd-at_some, IsSomeAnd-from_some, s
 use Rattle.fm_check_walk.proofs.MergingLemmas.{fits-from, fits-parts}
 use Rattle.fm_check_walk.proofs.PlaceLemmas.{lost-fits, place_wanted, slot-fits, slot-less, with_slot-above, with_slot-alike, with_slot-below, with_slot-read, with_slot-whole, with_slot-within, zip-from, zip-turned}
 use Rattle.fm_check_walk.proofs.WalkLemmas.{fits_at, fits_one, first_unfit, noted-tracked, Went-given, Went-none, Went-then, with_waiting-waits}
-use Rattle.fm_check_walk.specs.declared.known_state.SlotPlace.{SlotPlace}
-use Rattle.fm_check_walk.specs.declared.known_state.SlotPlace.TheVariants as place
+use Rattle.fm_types.specs.declared.known_state.SlotPlace.{SlotPlace}
+use Rattle.fm_types.specs.declared.known_state.SlotPlace.TheVariants as place
 use Rattle.fm_check_walk.specs.declared.risen.Rise.{Rise}
 use Rattle.fm_check_walk.specs.inner.Ranks.{IsBounded, state_rank, rank_at}
-use Rattle.fm_check_walk.specs.inner.Risen.{HasPlace, is_lost, IsAlikeBut, IsCarried, noted, rise_of, slot_at, with_slot}
+use Rattle.fm_check_walk.specs.inner.Risen.{is_lost, IsAlikeBut, IsCarried, noted, rise_of}
+use Rattle.fm_types.specs.inner.Places.{HasPlace, slot_at, with_slot}
 use Rattle.fm_check_walk.specs.inner.Walks.{CanCarry, CanCarryOne, Carries, CarriesOne, HasRoom, IsForced, IsKept, risen_at, Rises, Stands, Untypable, Walked, Went, with_state}
 use Rattle.fm_check_walk.specs.inner.Tasks.{IsSound, Task}
 use Rattle.fm_code.proofs.EdgesLemmas.{Contains-from_map, Contains-later}

@@ -6,10 +6,11 @@ use Rattle.std.proofs.lemmas.List.{get_or-set_same, get_or-set_other, get_or_pas
 use Rattle.std.proofs.lemmas.List.Sums.{sum_by-append, sum_by-cons, sum_by-set}
 use Rattle.fm_check_walk.proofs.MergingLemmas.{fits-from, fits-parts, state-refl}
 use Rattle.fm_check_walk.proofs.RankLemmas.{rank-less}
-use Rattle.fm_check_walk.specs.declared.known_state.SlotPlace.{SlotPlace}
-use Rattle.fm_check_walk.specs.declared.known_state.SlotPlace.TheVariants as place
+use Rattle.fm_types.specs.declared.known_state.SlotPlace.{SlotPlace}
+use Rattle.fm_types.specs.declared.known_state.SlotPlace.TheVariants as place
 use Rattle.fm_check_walk.specs.inner.Ranks.{IsBounded, rank, state_rank}
-use Rattle.fm_check_walk.specs.inner.Risen.{AreCarried, HasPlace, is_lost, IsAlikeBut, slot_at, with_slot, word_at}
+use Rattle.fm_check_walk.specs.inner.Risen.{AreCarried, is_lost, IsAlikeBut}
+use Rattle.fm_types.specs.inner.Places.{HasPlace, slot_at, with_slot, word_at}
 use Rattle.fm_check_walk.specs.inner.Tasks.{is_within}
 use Rattle.fm_code.specs.declared.code_array.Code.{Code}
 use Rattle.fm_types.proofs.Order.{fits-top}

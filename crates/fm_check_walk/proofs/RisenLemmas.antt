@@ -4,8 +4,8 @@ use Rattle.std.proofs.lemmas.List.{length-reverse}
 use Rattle.std.proofs.lemmas.List.Elements.{Contains-append_left, Contains-append_right}
 use Rattle.fm_code.proofs.EdgesLemmas.{Contains-map}
 use Rattle.fm_check_walk.proofs.PlaceLemmas.{same_slots}
-use Rattle.fm_check_walk.specs.declared.known_state.SlotPlace.{SlotPlace}
-use Rattle.fm_check_walk.specs.declared.known_state.SlotPlace.TheVariants as place
+use Rattle.fm_types.specs.declared.known_state.SlotPlace.{SlotPlace}
+use Rattle.fm_types.specs.declared.known_state.SlotPlace.TheVariants as place
 use Rattle.fm_check_walk.specs.declared.risen.Rise.{Rise}
 use Rattle.fm_check_walk.specs.inner.Risen.{AreCarried, DifferIn, IsAlikeBut}
 use Rattle.fm_types.specs.States.{local_at, TypeState}

@@ -10,8 +10,8 @@ use Rattle.std.proofs.lemmas.Option.{slice_get-get_or, slice_get_past}
 use Rattle.std.proofs.Math.ListN.{get_or-map}
 use Rattle.fm_base.specs.declared.kinds.TypeRef.{TypeRef}
 use Rattle.fm_check_walk.proofs.StackFrames.{AreLow, clear-less, follows-equal, IsClear, low-given, low-of, low-push, low-size, low-top, move_of-carried, pushed-carried, Same, taken-low, with_stack, worked-carried, worked_below-carried}
-use Rattle.fm_check_walk.specs.declared.known_state.SlotPlace.{SlotPlace}
-use Rattle.fm_check_walk.specs.declared.known_state.SlotPlace.TheVariants as place
+use Rattle.fm_types.specs.declared.known_state.SlotPlace.{SlotPlace}
+use Rattle.fm_types.specs.declared.known_state.SlotPlace.TheVariants as place
 use Rattle.fm_check_walk.specs.inner.Risen.{are_apart, AreCarried, called_words, is_bare, IsCarried, leaves_alone, leaves_local, leaves_word, words_taken}
 use Rattle.fm_code.specs.StackWords as insns
 use Rattle.fm_code.specs.StackWords.{element_words, reg_words}

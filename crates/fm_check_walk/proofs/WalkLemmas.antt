@@ -11,7 +11,8 @@ use Rattle.fm_check_walk.proofs.RankLemmas.{state-less, state-within}
 use Rattle.fm_check_walk.proofs.RisenLemmas.{alike-more, alike-refl, alike-then}
 use Rattle.fm_check_walk.specs.inner.Merging.{join_state}
 use Rattle.fm_check_walk.specs.inner.Ranks.{IsBoundedState, rank_at, state_rank}
-use Rattle.fm_check_walk.specs.inner.Risen.{IsRisenIn, known_state, noted}
+use Rattle.fm_check_walk.specs.inner.Risen.{IsRisenIn, noted}
+use Rattle.fm_types.specs.Typings.{known_state}
 use Rattle.fm_check_walk.specs.inner.Walks.{Brings, is_marked, IsForced, IsKept, IsTracked, risen_at, Rises, Stands, states_seen, Untypable, Walked, Went, with_state, waiting_count, with_waiting, work_left}
 use Rattle.fm_check_walk.specs.inner.Tasks.{is_within, IsSound, Task}
 use Rattle.fm_code.specs.declared.code_array.Code.{Code}
@@ -21,8 +22,8 @@ use Rattle.fm_types.proofs.StateOrder.{Fitting}
 use Rattle.fm_types.specs.Fits.{AreTree}
 use Rattle.fm_types.specs.States.{state_fits, TypeState}
 use Rattle.fm_types.specs.Typed.{FitsAt, state_at}
-use Rattle.fm_check_walk.specs.declared.known_state.KnownState.{KnownState}
-use Rattle.fm_check_walk.specs.declared.known_state.SlotPlace.{SlotPlace}
+use Rattle.fm_types.specs.declared.known_state.KnownState.{KnownState}
+use Rattle.fm_types.specs.declared.known_state.SlotPlace.{SlotPlace}
 use Rattle.fm_world.specs.Programs.{Outline}
 use Rattle.fm_code.specs.Edges.{IsEdge, IsReachable}
 

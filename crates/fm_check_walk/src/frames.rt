@@ -8,12 +8,11 @@ ghost use Rattle.fm_check_rows.specs.Members.{NamesMember};
 ghost use Rattle.fm_types.specs.Typed.{use_by};
 
 use crate::checked_method::{CheckedMethod, parameter_slots};
-use crate::known_state::SlotPlace;
 use crate::risen::Rise;
 use fm_base::NoMemory;
 use fm_check_rows::use_in;
 use fm_code::Insn;
-use fm_types::Slot;
+use fm_types::{Slot, SlotPlace};
 use fm_world::{Program, Use};
 use std::alloc::Global;
 

@@ -5,7 +5,6 @@
 mod carrying;
 mod checked_method;
 mod frames;
-mod known_state;
 mod merging;
 mod risen;
 mod turns;
@@ -13,7 +12,6 @@ mod walk;
 
 pub use checked_method::{CheckedMethod, parameter_slots};
 pub use frames::{all_left_alone, words_taken};
-pub use known_state::{KnownState, SlotPlace, slot_in};
 pub use merging::{join_state, law_bounded, law_bounded_state, state_fits};
 pub use risen::{Rise, is_lost, local_rises, locals_of, noted, risen_places, rises_of};
 pub use walk::{Walk, is_within, state_of};

@@ -4,26 +4,24 @@ ghost use Rattle.std.specs.Prelude.{◌≡◌, All, IfOk, length};
 ghost use Rattle.std.specs.Option.{option_map};
 ghost use Rattle.fm_check_walk.specs.inner.Merging.{have_same_sizes, join_slots, join_state};
 ghost use Rattle.fm_check_walk.specs.inner.Ranks.{IsBounded, IsBoundedState};
-ghost use Rattle.fm_check_walk.specs.inner.Risen.{known_state};
 ghost use Rattle.fm_types.specs.States.{all_fit, state_fits};
-ghost use Rattle.fm_types.specs.Typings.{type_state};
+ghost use Rattle.fm_types.specs.Typings.{known_state, type_state};
 
-use crate::known_state::KnownState;
 use fm_base::NoMemory;
 use fm_check_rows::is_whole;
-use fm_types::{Slot, Stack, State, fits, join};
+use fm_types::{KnownState, SharedSlots, Slot, Stack, State, fits, join};
 use fm_world::Program;
 use std::alloc::Global;
 
 // Whether each slot fits the one at its place, in lists of one length.
-fn all_fit(program: &Program, slots: &[Slot], others: &[Slot]) -> bool
+fn all_fit(program: &Program, slots: &[Slot], others: &SharedSlots) -> bool
     requires { length slots.now ≡ length others.now }
     ensures { result ≡ all_fit program.now.outline slots.now others.now }
 {
     let size = slots.len();
     let mut index = 0;
     while index < size {
-        if !fits(program, slots[index], others[index]) {
+        if !fits(program, slots[index], others.slot(index)) {
             return false;
         }
         index += 1;
@@ -56,8 +54,8 @@ pub fn state_fits(program: &Program, a: &State, known: &KnownState) -> bool
     if known.built && !a.built {
         return false;
     }
-    all_fit(program, a.locals.as_slice(), known.locals.as_slice())
-        && all_fit(program, a.stack.as_slice(), known.words.as_slice())
+    all_fit(program, a.locals.as_slice(), &known.locals)
+        && all_fit(program, a.stack.as_slice(), &known.words)
 }
 
 // The joins of slots at the same places, in lists of one length.

@@ -1,13 +1,12 @@
 // What rose at an item: some places, or more.
 
 ghost use Rattle.std.specs.Prelude.{◌≡◌, ◌≤◌, IfOk, OnOk, length, map};
-ghost use Rattle.fm_check_walk.specs.inner.Risen.{DifferIn, IsPlaced, IsRisenIn, is_local, is_lost, known_state, local_rises, locals_of, noted, rise_of};
-ghost use Rattle.fm_check_walk.specs.declared.known_state.SlotPlace.TheVariants as place;
-ghost use Rattle.fm_types.specs.Typings.{type_state};
+ghost use Rattle.fm_check_walk.specs.inner.Risen.{DifferIn, IsPlaced, IsRisenIn, is_local, is_lost, local_rises, locals_of, noted, rise_of};
+ghost use Rattle.fm_types.specs.declared.known_state.SlotPlace.TheVariants as place;
+ghost use Rattle.fm_types.specs.Typings.{known_state, type_state};
 
-use crate::known_state::{KnownState, SlotPlace, slot_in};
 use fm_base::{NoMemory, Seq};
-use fm_types::{Slot, State};
+use fm_types::{KnownState, Slot, SlotPlace, State, slot_in};
 use std::alloc::Global;
 
 /// A place at which something rose, and what is there now.
@@ -46,7 +45,7 @@ pub fn local_rises(alloc: Global, state: &State, count: u16) -> Result<Vec<Rise>
     for local in 0..count {
         rises.push(Rise {
             place: SlotPlace::Local(local),
-            slot: slot_in(state.locals.as_slice(), local),
+            slot: slot_in(state.locals.as_slice(), usize::from(local)),
         })?;
     }
     Ok(rises)

@@ -6,19 +6,19 @@ ghost use Rattle.std.specs.Prelude.{◌≡◌, ◌<◌, ◌≤◌, None, replica
 ghost use Rattle.std.specs.Option.{option_copied, option_map};
 ghost use Rattle.fm_check_walk.specs.inner.Walks.{Brings, IsForced, NoneWaits, Pops, Stands, Untypable, not_begun, risen_at, states_seen, walked, with_risen, with_state, with_waiting};
 ghost use Rattle.fm_check_walk.specs.inner.Tasks.{IsSound, is_within, task};
-ghost use Rattle.fm_check_walk.specs.inner.Risen.{HasPlace, known_state, noted, with_slot};
+ghost use Rattle.fm_check_walk.specs.inner.Risen.{noted};
+ghost use Rattle.fm_types.specs.inner.Places.{HasPlace, with_slot};
 ghost use Rattle.fm_types.specs.States.{TypeState};
 ghost use Rattle.fm_types.specs.Typed.{state_at};
-ghost use Rattle.fm_types.specs.Typings.{type_state};
+ghost use Rattle.fm_types.specs.Typings.{known_state, type_state};
 
 use crate::checked_method::CheckedMethod;
-use crate::known_state::{KnownState, SlotPlace};
 use crate::merging::{join_state, law_bounded_state, state_fits};
 use crate::risen::{noted, risen_places};
 use crate::turns::Turns;
 use fm_base::{NoMemory, Seq};
 use fm_code::Code;
-use fm_types::{Slot, State};
+use fm_types::{KnownState, Slot, SlotPlace, State};
 use std::alloc::Global;
 use std::mem;
 
@@ -75,16 +75,24 @@ fn nothing_noted(alloc: Global, items: usize) -> Result<Vec<Option<Seq<SlotPlace
 }
 
 // Puts a slot at a place of an item's state, where it has one.
-fn put_slot(states: &mut Vec<Option<KnownState>>, item: u32, place: SlotPlace, slot: Slot)
+fn put_slot(
+    alloc: Global,
+    states: &mut Vec<Option<KnownState>>,
+    item: u32,
+    place: SlotPlace,
+    slot: Slot,
+) -> Result<(), NoMemory>
     requires item { item < length states.old.items }
     requires place { (s : TypeState) → state_at (states_seen states.old.items) item ≡ Some s
         → HasPlace s place }
-    ensures { states_seen states.new.items ≡ slice_set (states_seen states.old.items) item
-        (option_map (with_slot place slot) (state_at (states_seen states.old.items) item)) }
+    ensures { OnOk result (states_seen states.new.items
+        ≡ slice_set (states_seen states.old.items) item
+        (option_map (with_slot place slot) (state_at (states_seen states.old.items) item))) }
 {
     if let Some(known) = &mut states[item as usize] {
-        known.set(place, slot);
+        known.set(alloc, place, slot)?;
     }
+    Ok(())
 }
 
 /// Whether the state has as many locals as the method, and no more words on the stack than it allows.
@@ -191,7 +199,7 @@ impl Walk {
     {
         let mut rose = Seq::empty(alloc);
         rose.push(place)?;
-        put_slot(&mut self.states, item, place, slot);
+        put_slot(alloc, &mut self.states, item, place, slot)?;
         self.note(item, Some(rose), most)?;
         self.wait(item)
     }
@@ -214,11 +222,23 @@ impl Walk {
         mem::replace(&mut self.risen[item as usize], Some(Seq::empty(alloc)))
     }
 
-    /// Brings a state to an item; false where no typing has room for it.
+    // What the state holds, in pieces that it has in common with what is known at an item.
+    fn known_like(&self, alloc: Global, state: &State, item: u32) -> Result<KnownState, NoMemory>
+        ensures { IfOk result (λ known. known_state known ≡ type_state state.now) }
+    {
+        match state_of(self.states.as_slice(), item) {
+            Some(other) => KnownState::like(alloc, state, other),
+            None => KnownState::like(alloc, state, &KnownState::empty(alloc)),
+        }
+    }
+
+    /// Brings a state from one item to another one; false where no typing has room for it. Takes memory
+    /// for the pieces in which it differs from the state of the item that it is brought from.
     pub fn bring(
         &mut self,
         alloc: Global,
         method: &CheckedMethod<'_>,
+        from: u32,
         item: u32,
         brought: &State,
     ) -> Result<bool, NoMemory>
@@ -234,7 +254,7 @@ impl Walk {
             return Ok(false);
         }
         let Some(known) = state_of(self.states.as_slice(), item) else {
-            let first = KnownState::new(alloc, brought)?;
+            let first = self.known_like(alloc, brought, from)?;
             self.begin(item, first)?;
             return Ok(true);
         };
@@ -253,7 +273,7 @@ impl Walk {
             return Ok(false);
         };
         let rose = risen_places(alloc, &state, &joined)?;
-        let raised = KnownState::new(alloc, &joined)?;
+        let raised = KnownState::like(alloc, &joined, known)?;
         self.raise_state(item, raised, rose, most_noted(method.code))?;
         Ok(true)
     }

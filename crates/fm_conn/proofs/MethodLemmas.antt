@@ -13,7 +13,7 @@ use Rattle.fm_flow.proofs.CodeFacts.{items_counted}
 use Rattle.fm_flow.specs.Flow.{IsFlowOf}
 use Rattle.fm_flow.specs.declared.flow.Flow.{Flow}
 use Rattle.fm_types.specs.States.{TypeState}
-use Rattle.fm_types.specs.Typings.{type_state}
+use Rattle.fm_types.specs.Typings.{known_state}
 use Rattle.fm_conn.proofs.CallLemmas.{called_listed, calls_sound}
 use Rattle.fm_conn.proofs.ChainLemmas.{numbers_back, numbers_one, numbers_then, Lists}
 use Rattle.fm_conn.proofs.NumberLemmas.{number_below}
@@ -50,7 +50,7 @@ pub few_items : (code : Code) (flow : Flow) → IsFlowOf code flow → length co
 few_items code flow is = let counted = items_counted code is.spelled in let few = counted.1 in omega arith
 
 pub states_counted : (m : AnalysedMethod) → IsTypedAs m → length m.typing.now.states ≡ length m.code.now.items
-states_counted m typed = sym (length-map m.typing.now.states (option_map type_state)) ∙ typed.one_each
+states_counted m typed = sym (length-map m.typing.now.states (option_map known_state)) ∙ typed.one_each
 
 -- ---- what the lists join
 

@@ -4,11 +4,11 @@
 ghost use Rattle.std.specs.Prelude.{◌≡◌, ◌+◌, ◌<◌, ◌^◌, IfOk, length, map};
 ghost use Rattle.std.specs.Option.{option_map};
 ghost use Rattle.fm_types.specs.States.{is_reference};
-ghost use Rattle.fm_types.specs.Typings.{states_of, type_state};
+ghost use Rattle.fm_types.specs.Typings.{known_state, states_of};
 ghost use Rattle.fm_conn.specs.inner.NodeTables.{global_number, local_number, node_count, return_number, slot_number, table_with, words_at, words_of_state};
 
 use fm_base::{NoMemory, Seq};
-use fm_types::{Slot, State, Typing};
+use fm_types::{KnownState, Slot, Typing};
 use std::alloc::Global;
 use std::marker::Model;
 
@@ -130,12 +130,12 @@ fn sum(next: u32, words: usize) -> Result<u32, NoMemory>
 }
 
 // Which words of a state's stack hold a reference, from the bottom up.
-fn references_at(alloc: Global, state: &Option<State>) -> Result<Vec<bool>, NoMemory>
+fn references_at(alloc: Global, state: &Option<KnownState>) -> Result<Vec<bool>, NoMemory>
     ensures { IfOk result (λ words. words.items
-        ≡ words_of_state (option_map type_state state.now)) }
+        ≡ words_of_state (option_map known_state state.now)) }
 {
     match state {
-        Some(state) => references_among(alloc, state.stack.as_slice()),
+        Some(state) => references_among(alloc, state.to_words(alloc)?.as_slice()),
         None => Ok(Vec::new(alloc)),
     }
 }

@@ -155,7 +155,8 @@ fn parameters_of(
 {
     match method.typing.states.get(0) {
         Some(Some(first)) => {
-            references_of(alloc, first.locals.as_slice(), nodes.locals(), least)
+            let locals = first.locals.to_vec(alloc)?;
+            references_of(alloc, locals.as_slice(), nodes.locals(), least)
         }
         _ => Ok(Vec::new(alloc)),
     }

@@ -5,13 +5,13 @@ ghost use Rattle.std.specs.Option.{option_copied, option_map};
 ghost use Rattle.fm_place.specs.Places.{is_local_in, is_word_in};
 ghost use Rattle.fm_place.specs.inner.PlanRows.{AreGroups, AreRowsIn, IsSeen, busy_before, busy_by_locals, busy_by_words, count_of, facts_seen, is_busy_at, is_class, typed_seen};
 ghost use Rattle.fm_types.specs.Typed.{state_at};
-ghost use Rattle.fm_types.specs.Typings.{states_of, type_state};
+ghost use Rattle.fm_types.specs.Typings.{known_state, states_of};
 
 use crate::groups::Groups;
 use fm_base::{NoMemory, Row};
 use fm_conn::{AnalysedMethod, Classes};
 use fm_flow::{Flow, LiveRows, empty_rows};
-use fm_types::{State, Typing};
+use fm_types::{KnownState, Typing};
 use std::alloc::Global;
 
 /// A method with its flow, its live locals and its classes.
@@ -57,7 +57,7 @@ impl Seen<'_> {
         let Some(state) = state_at(self.method.typing, item) else {
             return;
         };
-        let depth = depth_within(state.stack.len(), self.method.code.max_stack);
+        let depth = depth_within(state.depth(), self.method.code.max_stack);
         self.mark_words(groups, item, depth, rows);
         self.mark_locals(groups, item, depth, rows);
     }
@@ -122,8 +122,8 @@ impl Seen<'_> {
 }
 
 // The state of an item; none where it can't be reached.
-fn state_at(typing: &Typing, item: u32) -> Option<&State>
-    ensures { option_map type_state (option_copied result) ≡ state_at (states_of typing.now) item }
+fn state_at(typing: &Typing, item: u32) -> Option<&KnownState>
+    ensures { option_map known_state (option_copied result) ≡ state_at (states_of typing.now) item }
 {
     match typing.states.as_slice().get(item as usize) {
         Some(Some(state)) => Some(state),

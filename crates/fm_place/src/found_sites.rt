@@ -14,7 +14,7 @@ ghost use Rattle.fm_conn.specs.Shapes.{method_with, HasUsesIn, IsCoded, IsUseIn}
 ghost use Rattle.fm_conn.specs.Summaries.{linked_by, AreSummariesOf};
 ghost use Rattle.fm_conn.specs.inner.PairLists.{IsCallIn};
 ghost use Rattle.fm_types.specs.Typed.{state_at, IsTyping};
-ghost use Rattle.fm_types.specs.Typings.{states_of, type_state};
+ghost use Rattle.fm_types.specs.Typings.{known_state, states_of};
 ghost use Rattle.fm_world.specs.Members.{methods_of};
 ghost use Rattle.fm_world.specs.Programs.{code_at, method_info};
 ghost use Rattle.fm_place.specs.FactsBy.{facts_by};
@@ -29,7 +29,7 @@ use fm_code::{Code, Insn};
 use fm_conn::{
     AnalysedMethod, Classes, End2, Summaries, is_reference, is_reference_kind, words_taken,
 };
-use fm_types::{Slot, State, Typing};
+use fm_types::{KnownState, SharedSlots, Slot, Typing};
 use fm_world::{Body, Call, Program, Use};
 use std::alloc::Global;
 
@@ -173,8 +173,8 @@ impl JoinedMethod<'_> {
     }
 
     // The state of an item; none where it can't be reached.
-    fn state_at(&self, item: u32) -> Option<&State>
-        ensures { option_map type_state (option_copied result)
+    fn state_at(&self, item: u32) -> Option<&KnownState>
+        ensures { option_map known_state (option_copied result)
             ≡ state_at (typed_in self.now).states item }
     {
         match self.method.typing.states.as_slice().get(item as usize) {
@@ -207,7 +207,7 @@ impl JoinedMethod<'_> {
         ensures { result ≡ depth_at (typed_in self.now) item }
     {
         match self.state_at(item) {
-            Some(state) => state.stack.len(),
+            Some(state) => state.depth(),
             None => 0,
         }
     }
@@ -233,22 +233,19 @@ impl JoinedMethod<'_> {
             (state_at (typed_in self.now).states 0) }
     {
         match self.state_at(0) {
-            Some(state) => any_parameter_in(self, class, state.locals.as_slice()),
+            Some(state) => any_parameter_in(self, class, &state.locals),
             None => false,
         }
     }
 
     // Whether the local holds a reference at first, and is in the class.
-    fn is_parameter_in(&self, class: u32, locals: &[Slot], k: u16) -> bool
+    fn is_parameter_in(&self, class: u32, locals: &SharedSlots, k: u16) -> bool
         requires known { IsKnown self.now }
         requires inside { k < self.now.method.code.now.max_locals }
         ensures { result
             ≡ is_parameter_in (facts_in self.now) (typed_in self.now) class locals.now k }
     {
-        match locals.get(k as usize) {
-            Some(slot) => is_reference(*slot) && self.classes.of_local(k) == class,
-            None => false,
-        }
+        is_reference(locals.slot(usize::from(k))) && self.classes.of_local(k) == class
     }
 
     // Whether the item is a site.
@@ -265,7 +262,7 @@ impl JoinedMethod<'_> {
         if makes_array(insn) {
             return Ok(true);
         }
-        if self.constructs(insn, state) {
+        if self.constructs(alloc, insn, state)? {
             return Ok(true);
         }
         match self.method.call_of(insn) {
@@ -275,23 +272,22 @@ impl JoinedMethod<'_> {
     }
 
     // Whether a constructor is called, and the caller keeps the receiver in the word below it.
-    fn constructs(&self, insn: &Insn, state: &State) -> bool
+    fn constructs(&self, alloc: Global, insn: &Insn, state: &KnownState) -> Result<bool, NoMemory>
         requires { IsKnown self.now }
-        ensures { (j : ℕ) → state_at (typed_in self.now).states j ≡ Some (type_state state.now)
-            → result ≡ constructs (typed_in self.now) j insn.now }
+        ensures { IfOk result (λ is. (j : ℕ)
+            → state_at (typed_in self.now).states j ≡ Some (known_state state.now)
+            → is ≡ constructs (typed_in self.now) j insn.now) }
     {
         if !matches!(insn, Insn::Special(_)) {
-            return false;
+            return Ok(false);
         }
         let resolved = self.method.use_at(insn);
         if !names_constructor(self.method.program, resolved) {
-            return false;
+            return Ok(false);
         }
         let taken = words_taken(self.method.program, resolved, insn);
-        is_doubled(
-            state.stack.as_slice(),
-            state.stack.len().saturating_sub(taken),
-        )
+        let words = state.to_words(alloc)?;
+        Ok(is_doubled(words.as_slice(), words.len().saturating_sub(taken)))
     }
 
     // Whether the call gives a reference, may lead to some method, and gives what is new whichever it
@@ -326,7 +322,7 @@ fn any_gives_old(summaries: &Summaries, targets: &[MethodId]) -> bool
 }
 
 // Whether one of the locals holds a reference at first, and is in the class.
-fn any_parameter_in(known: &JoinedMethod<'_>, class: u32, locals: &[Slot]) -> bool
+fn any_parameter_in(known: &JoinedMethod<'_>, class: u32, locals: &SharedSlots) -> bool
     requires { IsKnown known.now }
     ensures { result ≡ list_any (is_parameter_in (facts_in known.now) (typed_in known.now) class locals.now)
         (range_with_len 0 known.now.method.code.now.max_locals) }

@@ -10,3 +10,4 @@ pub mod ObjectOrder
 pub mod CallOrder
 pub mod EachCheckRow
 pub mod RowOrder
+pub mod PieceLemmas

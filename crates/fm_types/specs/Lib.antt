@@ -12,3 +12,4 @@ pub mod Rows
 pub mod Typed
 pub mod Typings
 pub mod Example
+pub mod inner

@@ -1,6 +1,9 @@
 // What a local variable or a word of the operand stack holds, as far as it is known before a run
 // (JVMS 4.10.2.2).
 
+ghost use Rattle.std.specs.Prelude.{◌≡◌};
+ghost use Rattle.fm_types.specs.States.{local_at};
+
 use fm_base::TypeRef;
 
 /// What a local variable or a word of the operand stack holds.
@@ -18,4 +21,14 @@ pub enum Slot {
     Uninit(u32),
     /// The object of a constructor, before a constructor that it calls returns.
     UninitThis,
+}
+
+/// The slot of this number; `Top` past the last one.
+pub fn slot_in(slots: &[Slot], number: usize) -> Slot
+    ensures { result ≡ local_at slots.now number }
+{
+    match slots.get(number) {
+        Some(slot) => *slot,
+        None => Slot::Top,
+    }
 }

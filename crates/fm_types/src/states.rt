@@ -3,6 +3,7 @@
 ghost use Rattle.std.specs.Prelude.{◌≡◌, IfOk};
 ghost use Rattle.fm_types.specs.Typings.{type_state};
 
+use crate::known_state::KnownState;
 use crate::slots::Slot;
 use crate::stacks::Stack;
 use fm_base::{NoMemory, Seq};
@@ -38,5 +39,5 @@ impl State {
 #[derive(Debug, Drop)]
 pub struct Typing {
     /// One for each item of the code, in its order.
-    pub states: Seq<Option<State>>,
+    pub states: Seq<Option<KnownState>>,
 }

@@ -9,7 +9,7 @@ use Rattle.fm_code.specs.declared.code_array.Handler.{Handler}
 use Rattle.fm_code.specs.declared.instructions.Insn.{Insn}
 use Rattle.fm_check_walk.specs.inner.Tasks.{Task}
 use Rattle.fm_check_walk.specs.inner.Risen.{IsAlikeBut, locals_of}
-use Rattle.fm_check_walk.specs.declared.known_state.SlotPlace.{SlotPlace}
+use Rattle.fm_types.specs.declared.known_state.SlotPlace.{SlotPlace}
 use Rattle.fm_check_walk.specs.declared.risen.Rise.{Rise}
 use Rattle.fm_types.specs.Fits.{fits}
 use Rattle.fm_types.specs.States.{state_fits, TypeState}

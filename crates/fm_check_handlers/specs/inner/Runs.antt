@@ -2,21 +2,22 @@
 use Rattle.std.specs.Prelude.{◌≡◌, ℕ, zero, suc, ◌+◌, ◌-◌, ◌/◌, ◌%◌, ◌<◌, ◌≤◌, ◌⊎◌, ◌||◌, not, Bool, true, false, List, [], length, map, Option, Some, None, All, Contains, if◌then◌else◌}
 use Rattle.std.specs.List.{slice_index_or, AllByRecursion}
 use Rattle.fm_base.specs.declared.kinds.TypeRef.{TypeRef}
-use Rattle.fm_check_walk.specs.declared.known_state.KnownState.{KnownState}
-use Rattle.fm_check_walk.specs.declared.known_state.SlotPlace.{SlotPlace}
+use Rattle.fm_types.specs.declared.known_state.KnownState.{KnownState}
+use Rattle.fm_types.specs.declared.known_state.SlotPlace.{SlotPlace}
 use Rattle.fm_check_walk.specs.declared.risen.Rise.{Rise}
 use Rattle.fm_check_handlers.specs.declared.catching.Giving.{Giving}
 use Rattle.fm_check_handlers.specs.declared.catching.Giving.TheVariants as giving
 use Rattle.fm_check_handlers.specs.declared.runs.Level.{Level}
 use Rattle.fm_check_handlers.specs.declared.runs.Run.{Run}
 use Rattle.fm_check_handlers.specs.declared.runs.Span.{Span}
-use Rattle.fm_check_walk.specs.inner.Risen.{IsAlikeBut, is_local, known_state, local_rises, rise_of, slot_at, without_words}
+use Rattle.fm_check_walk.specs.inner.Risen.{IsAlikeBut, is_local, local_rises, rise_of}
+use Rattle.fm_types.specs.inner.Places.{slot_at, without_words}
 use Rattle.fm_check_walk.specs.inner.Walks.{CanCarry, HasRoom, IsForced, Walked, Went}
 use Rattle.fm_check_walk.specs.inner.Tasks.{is_within, Task}
 use Rattle.fm_code.specs.declared.code_array.Handler.{Handler}
 use Rattle.fm_types.specs.Fits.{fits}
 use Rattle.fm_types.specs.States.{TypeState}
-use Rattle.fm_types.specs.Typings.{type_state}
+use Rattle.fm_types.specs.Typings.{known_state, type_state}
 use Rattle.fm_types.specs.Typed.{caught_type, FitsAt, FitsHandler, handler_state}
 
 -- ---- runs

@@ -1,15 +1,15 @@
 -- What rose at an item, place by place: which places the item's row leaves alone, and states that differ in such places only.
 use Rattle.std.specs.Prelude.{◌≡◌, ℕ, ◌+◌, ◌<◌, ◌++◌, ◌&&◌, ◌||◌, not, nat_le, nat_lt, Bool, true, false, List, [], length, map, reverse, Option, Some, None, Contains, slice_set, if◌then◌else◌}
 use Rattle.std.specs.List.{filter, flat_map, range_with_len}
-use Rattle.fm_check_walk.specs.declared.known_state.KnownState.{KnownState}
-use Rattle.fm_check_walk.specs.declared.known_state.SlotPlace.{SlotPlace}
-use Rattle.fm_check_walk.specs.declared.known_state.SlotPlace.TheVariants as place
+use Rattle.fm_types.specs.declared.known_state.SlotPlace.{SlotPlace}
+use Rattle.fm_types.specs.declared.known_state.SlotPlace.TheVariants as place
 use Rattle.fm_check_walk.specs.declared.risen.Rise.{Rise}
 use Rattle.fm_code.specs.StackWords as insns
 use Rattle.fm_code.specs.declared.instructions.Insn.{Insn}
 use Rattle.fm_code.specs.declared.instructions.Insn.TheVariants as insn
 use Rattle.fm_types.specs.Named.{parameters_of}
 use Rattle.fm_types.specs.States.{local_at, local_slots, TypeState}
+use Rattle.fm_types.specs.inner.Places.{slot_at}
 use Rattle.fm_types.specs.declared.slots.Slot.{Slot}
 use Rattle.fm_types.specs.declared.slots.Slot.TheVariants as slot
 use Rattle.fm_world.specs.Programs.{Outline}
@@ -17,33 +17,6 @@ use Rattle.fm_world.specs.declared.uses.Use.{Use}
 use Rattle.fm_world.specs.declared.uses.Use.TheVariants as resolved
 
 -- ---- places of a state
-
--- what is kept of an item, as a state: its words come with the top last
-abbrev pub known_state : KnownState → TypeState
-known_state k = record { locals = k.locals.items; stack = reverse k.words.items; built = k.built }
-
--- the state with no words on its stack
-abbrev pub without_words : TypeState → TypeState
-without_words s = record s { stack = [] }
-
--- the word of this number, counted from the bottom of a stack; Top past its top
-abbrev pub word_at : List Slot → ℕ → Slot
-word_at stack h = local_at (reverse stack) h
-
--- what is at a place
-abbrev pub slot_at : TypeState → SlotPlace → Slot
-slot_at s (place.Local k) = local_at s.locals k
-slot_at s (place.Word h) = word_at s.stack h
-
--- the state with this slot at a place
-abbrev pub with_slot : SlotPlace → Slot → TypeState → TypeState
-with_slot (place.Local k) x s = record s { locals = slice_set s.locals k x }
-with_slot (place.Word h) x s = record s { stack = reverse (slice_set (reverse s.stack) h x) }
-
--- the state has such a place
-abbrev pub HasPlace : TypeState → SlotPlace → Type 0
-HasPlace s (place.Local k) = k < length s.locals
-HasPlace s (place.Word h) = h < length s.stack
 
 -- the place is a local's
 abbrev pub is_local : SlotPlace → Bool

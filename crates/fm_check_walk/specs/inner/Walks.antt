@@ -7,9 +7,11 @@ use Rattle.fm_code.specs.Edges.{IsReachable}
 use Rattle.fm_check_walk.specs.inner.Tasks.{is_within, Task}
 use Rattle.fm_check_walk.specs.inner.Turns.{Leaves}
 use Rattle.fm_check_walk.specs.inner.Ranks.{rank_at}
-use Rattle.fm_check_walk.specs.inner.Risen.{IsAlikeBut, known_state, slot_at}
-use Rattle.fm_check_walk.specs.declared.known_state.KnownState.{KnownState}
-use Rattle.fm_check_walk.specs.declared.known_state.SlotPlace.{SlotPlace}
+use Rattle.fm_check_walk.specs.inner.Risen.{IsAlikeBut}
+use Rattle.fm_types.specs.Typings.{known_state}
+use Rattle.fm_types.specs.inner.Places.{slot_at}
+use Rattle.fm_types.specs.declared.known_state.KnownState.{KnownState}
+use Rattle.fm_types.specs.declared.known_state.SlotPlace.{SlotPlace}
 use Rattle.fm_check_walk.specs.declared.risen.Rise.{Rise}
 use Rattle.fm_types.specs.Fits.{fits}
 use Rattle.fm_types.specs.States.{is_whole, state_fits, TypeState}

@@ -6,8 +6,9 @@ use Rattle.fm_check_walk.proofs.Outcomes.{ok_weaker}
 use Rattle.fm_check.proofs.RiseLemmas.{asked-alone, GoesOver-carried, ready, words_below}
 use Rattle.fm_check_walk.proofs.WalkLemmas.{state_seen}
 use Rattle.fm_check_walk.specs.declared.risen.Rise.{Rise}
-use Rattle.fm_check_walk.specs.declared.known_state.SlotPlace.{SlotPlace}
-use Rattle.fm_check_walk.specs.inner.Risen.{known_state, rise_of, words_taken}
+use Rattle.fm_types.specs.declared.known_state.SlotPlace.{SlotPlace}
+use Rattle.fm_check_walk.specs.inner.Risen.{rise_of, words_taken}
+use Rattle.fm_types.specs.Typings.{known_state}
 use Rattle.fm_check.specs.inner.Steps.{CarriesOnGuarded, GoesOverGuarded, IsReady}
 use Rattle.fm_check_walk.specs.inner.Walks.{Untypable, walked}
 use Rattle.fm_check_walk.specs.inner.Tasks.{task}
@@ -29,12 +30,10 @@ carry_on-requires-clause-ready c =
     let locals = c.in-Some-risen.places in
     let at = state_seen c.args.walk.now.states.items c.as_slice.result.now c.args.item (Some own) c.as_slice.ensures.value c.in-Some.ensures in
     let insn = (slice_index_or c.as_slice-2.result.now c.args.item c.index-as_slice-item.result).insn in
-    let size : length own.stack ≡ length c.in-Some.own.now.words.items = length-reverse c.in-Some.own.now.words.items in
-    let ok = c.in-Some.own.now.words.ok.0 in
-    let long = c.len.ensures in
+    let long = c.depth.ensures in
     let left = c.saturating_sub-below.ensures in
     let count : c.in_ok-words_taken.field-0 ≡ words_taken t.program.outline (use_by t.program t.number insn) insn = c.in_ok-words_taken.ensures in
-    let enough : c.saturating_sub-below.result ≡ words_below t insn own = omega (arith, size, ok, long, left, count) in
+    let enough : c.saturating_sub-below.result ≡ words_below t insn own = omega (arith, long, left, count) in
     let alone = asked-alone insn c.saturating_sub-below.result (words_below t insn own) own locals c.as_slice-in-Some-risen.result.now c.in_ok-rises.rises.items
     c.as_slice-in-Some-risen-2.result.now c.as_slice-in-Some-risen-2.ensures.value c.in_ok-rises.ensures c.as_slice-in-Some-risen.ensures enough
     (c.all_left_alone.ensures c.if-all_left_alone.true) in
@@ -54,12 +53,10 @@ returns-then-all_left_alone c =
     let at = state_seen c.args.walk.now.states.items c.as_slice.result.now c.args.item (Some own) c.as_slice.ensures.value c.in-Some.ensures in
     let i = (slice_index_or c.as_slice-2.result.now c.args.item c.index-as_slice-item.result).insn in
     let is = read_insn c.args.method.now.code.now c.as_slice-2.result.now c.args.item c.index-as_slice-item.result c.as_slice-2.ensures c.requires.inside in
-    let size : length own.stack ≡ length c.in-Some.own.now.words.items = length-reverse c.in-Some.own.now.words.items in
-    let ok = c.in-Some.own.now.words.ok.0 in
-    let long = c.len.ensures in
+    let long = c.depth.ensures in
     let left = c.saturating_sub-below.ensures in
     let count : c.in_ok-words_taken.field-0 ≡ words_taken t.program.outline (use_by t.program t.number i) i = c.in_ok-words_taken.ensures in
-    let enough : c.saturating_sub-below.result ≡ words_below t i own = omega (arith, size, ok, long, left, count) in
+    let enough : c.saturating_sub-below.result ≡ words_below t i own = omega (arith, long, left, count) in
     let alone = asked-alone i c.saturating_sub-below.result (words_below t i own) own known c.as_slice-in-Some-risen.result.now c.in_ok-rises.rises.items
     c.as_slice-in-Some-risen-2.result.now c.as_slice-in-Some-risen-2.ensures.value c.in_ok-rises.ensures c.as_slice-in-Some-risen.ensures enough
     (c.all_left_alone.ensures c.if-all_left_alone.true) in

@@ -5,13 +5,12 @@ use Rattle.fm_check_handlers.proofs.GivingLemmas.{all_brought, guarded-later}
 use Rattle.fm_check.proofs.ItemLemmas.{GoesOver-item, GoesOver-none, next_forced, read_insn, row_unmet_at}
 use Rattle.fm_check_walk.proofs.Outcomes.{ok_weaker}
 use Rattle.fm_check_walk.proofs.WalkLemmas.{state_copied, state_seen}
-use Rattle.fm_check_walk.specs.inner.Risen.{known_state}
 use Rattle.fm_check_handlers.specs.inner.Runs.{GivesAll, is_brought}
 use Rattle.fm_check.specs.inner.Steps.{GoesOverGuarded, BringsOn}
 use Rattle.fm_check_walk.specs.inner.Walks.{Untypable, walked}
 use Rattle.fm_check_walk.specs.inner.Tasks.{task}
 use Rattle.fm_check_rows.specs.Outcomes.{outcome}
-use Rattle.fm_types.specs.Typings.{type_state}
+use Rattle.fm_types.specs.Typings.{known_state, type_state}
 use Rattle.fm_check.proofs.steps.go_over_whole.Goals as goal
 
 pub returns-in_default : goal.returns-in_default

@@ -3,7 +3,7 @@ use Rattle.std.specs.List.{slice_index_or}
 use Rattle.fm_base.proofs.TestFacts.{match_true}
 use Rattle.fm_check_handlers.proofs.GivingLemmas.{guarded-first}
 use Rattle.fm_check.proofs.ItemLemmas.{popped-rise, Stands-taken, taken-inside, taken-met, takes-popped, Walking-more}
-use Rattle.fm_check_walk.specs.declared.known_state.SlotPlace.{SlotPlace}
+use Rattle.fm_types.specs.declared.known_state.SlotPlace.{SlotPlace}
 use Rattle.fm_check.specs.inner.Steps.{GoesOverGuarded, IsMetBut}
 use Rattle.fm_check_handlers.specs.inner.Runs.{IsGuarded, IsLaid}
 use Rattle.fm_check_walk.specs.inner.Walks.{Untypable, walked}

@@ -3,9 +3,9 @@ use Rattle.std.proofs.lemmas.List.{take_all}
 use Rattle.std.proofs.lemmas.List.Elements.{Contains-get_or}
 use Rattle.fm_check_handlers.proofs.GivingLemmas.{IsRaised-more, IsRaised-none}
 use Rattle.fm_check_walk.proofs.RisenLemmas.{nothing}
-use Rattle.fm_check_walk.specs.declared.known_state.SlotPlace.{SlotPlace}
+use Rattle.fm_types.specs.declared.known_state.SlotPlace.{SlotPlace}
 use Rattle.fm_check_walk.specs.declared.risen.Rise.{Rise}
-use Rattle.fm_check_walk.specs.inner.Risen.{known_state}
+use Rattle.fm_types.specs.Typings.{known_state}
 use Rattle.fm_check_handlers.specs.inner.Runs.{IsRaised}
 use Rattle.fm_check_walk.specs.inner.Tasks.{task}
 use Rattle.fm_check_handlers.proofs.catching.raise.Goals as goal

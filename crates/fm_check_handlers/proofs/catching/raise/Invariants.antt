@@ -1,5 +1,5 @@
 use Rattle.std.proofs.Common.{take}
-use Rattle.fm_check_walk.specs.inner.Risen.{known_state}
+use Rattle.fm_types.specs.Typings.{known_state}
 use Rattle.fm_check_handlers.specs.inner.Runs.{IsRaised}
 use Rattle.fm_check_walk.specs.inner.Tasks.{task}
 use Rattle.fm_check_handlers.proofs.catching.raise.Given as goal

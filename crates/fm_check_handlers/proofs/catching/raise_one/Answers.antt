@@ -1,8 +1,9 @@
 use Rattle.std.proofs.Common.{◌≡◌, ◌∙◌, sym, ap, subst, true, false, List}
 use Rattle.fm_check_handlers.proofs.GivingLemmas.{RaisesOne-none, RaisesOne-set}
 use Rattle.fm_check_walk.proofs.PlaceLemmas.{place_wanted}
-use Rattle.fm_check_walk.specs.declared.known_state.SlotPlace.{SlotPlace}
-use Rattle.fm_check_walk.specs.inner.Risen.{known_state, slot_at, with_slot}
+use Rattle.fm_types.specs.declared.known_state.SlotPlace.{SlotPlace}
+use Rattle.fm_types.specs.Typings.{known_state}
+use Rattle.fm_types.specs.inner.Places.{slot_at, with_slot}
 use Rattle.fm_check_handlers.specs.inner.Runs.{RaisesOne}
 use Rattle.fm_check_walk.specs.inner.Tasks.{task}
 use Rattle.fm_types.specs.Fits.{fits}
@@ -37,7 +38,7 @@ returns c =
     let joined : c.join.result ≡ join o (slot_at s c.args.rise.place) c.args.rise.slot =
     c.join.ensures ∙ ap (λ x. join o x c.args.rise.slot) own in
     let after : known_state c.set.new.self ≡ with_slot c.args.rise.place (join o (slot_at s c.args.rise.place) c.args.rise.slot) s =
-    c.set.ensures ∙ ap (λ x. with_slot c.args.rise.place x s) joined in
+    c.in_ok-set.ensures ∙ ap (λ x. with_slot c.args.rise.place x s) joined in
     let States : TypeState → Type 0 = λ x. RaisesOne t c.args.rise s x c.args.places.now.items c.push.new.self.items in
     let Places : List SlotPlace → Type 0 =
     λ xs. RaisesOne t c.args.rise s (with_slot c.args.rise.place (join o (slot_at s c.args.rise.place) c.args.rise.slot) s) c.args.places.now.items xs in

@@ -1,7 +1,8 @@
 use Rattle.std.proofs.Common.{◌∙◌, refl, ap, inr, map, List}
 use Rattle.fm_check_handlers.proofs.RunLemmas.{if_ok}
-use Rattle.fm_check_walk.specs.declared.known_state.SlotPlace.{SlotPlace}
-use Rattle.fm_check_walk.specs.inner.Risen.{known_state, rise_of}
+use Rattle.fm_types.specs.declared.known_state.SlotPlace.{SlotPlace}
+use Rattle.fm_check_walk.specs.inner.Risen.{rise_of}
+use Rattle.fm_types.specs.Typings.{known_state}
 use Rattle.fm_check_handlers.proofs.catching.raise_run.Goals as goal
 
 pub returns : goal.returns

@@ -1,9 +1,8 @@
 use Rattle.std.proofs.Common.{◌≡◌, ◌∙◌, sym, ap, ◌||◌, not, true, false, reverse}
 use Rattle.fm_check_walk.proofs.MergingLemmas.{all_fit-reverse, built-by_first, built-by_second, built-unfit, level-parts, locals-unfit, sizes-unfit, stack-decides}
 use Rattle.std.proofs.lemmas.List.{reverse-reverse}
-use Rattle.fm_check_walk.specs.inner.Risen.{known_state}
 use Rattle.fm_types.specs.States.{all_fit}
-use Rattle.fm_types.specs.Typings.{type_state}
+use Rattle.fm_types.specs.Typings.{known_state, type_state}
 use Rattle.fm_check_walk.proofs.merging.state_fits.Goals.{else-known-via-then-known+else-not-a, else-known-via-else-known}
 use Rattle.fm_check_walk.proofs.merging.state_fits.Goals as goal
 
@@ -27,10 +26,10 @@ returns-then-all_fit c =
       | else-known-via-else-known w ↦ built-by_second a.built b.built w.if-known.false
     ] in
     let level = level-parts a b (sym c.have_known_sizes.ensures ∙ c.if-not-have_known_sizes.false) in
-    let locals : all_fit o a.locals b.locals ≡ true = cc (c.as_slice.ensures.value, c.as_slice-2.ensures.value, c.all_fit.ensures, c.if-all_fit.true) in
+    let locals : all_fit o a.locals b.locals ≡ true = cc (c.as_slice.ensures.value, c.all_fit.ensures, c.if-all_fit.true) in
     c.all_fit-then-all_fit.ensures
-    ∙ ap (λ xs. all_fit o xs c.as_slice-then-all_fit-2.result.now) c.as_slice-then-all_fit.ensures
-    ∙ ap (λ ys. all_fit o (reverse a.stack) ys) (c.as_slice-then-all_fit-2.ensures.value ∙ sym (reverse-reverse c.args.known.now.words.items))
+    ∙ ap (λ xs. all_fit o xs c.args.known.now.words) c.as_slice-then-all_fit.ensures
+    ∙ ap (λ ys. all_fit o (reverse a.stack) ys) (sym (reverse-reverse c.args.known.now.words))
     ∙ all_fit-reverse o a.stack b.stack level.stack
     ∙ stack-decides o a b built locals
 
@@ -40,5 +39,5 @@ returns-else-all_fit c =
     let a = type_state c.args.a.now in
     let b = known_state c.args.known.now in
     let locals : all_fit o a.locals b.locals ≡ false =
-    cc (c.as_slice.ensures.value, c.as_slice-2.ensures.value, c.all_fit.ensures, c.if-all_fit.false) in
+    cc (c.as_slice.ensures.value, c.all_fit.ensures, c.if-all_fit.false) in
     c.if-all_fit.false ∙ locals-unfit o a b locals

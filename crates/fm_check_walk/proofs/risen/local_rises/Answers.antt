@@ -1,6 +1,6 @@
-use Rattle.std.proofs.Common.{◌≡◌, ◌∙◌, ◌+◌, sym, ap, List, [], ◌∷◌, ◌++◌, arith}
+use Rattle.std.proofs.Common.{◌≡◌, ◌∙◌, ◌+◌, sym, ap, ℕ, List, [], ◌∷◌, ◌++◌, arith}
 use Rattle.std.proofs.lemmas.List.FromFn.{map-range_with_len_more}
-use Rattle.fm_check_walk.specs.declared.known_state.SlotPlace.TheVariants as place
+use Rattle.fm_types.specs.declared.known_state.SlotPlace.TheVariants as place
 use Rattle.fm_check_walk.specs.declared.risen.Rise.{Rise}
 use Rattle.fm_check_walk.specs.inner.Risen.{local_rises, rise_of}
 use Rattle.fm_types.specs.States.{local_at}
@@ -13,7 +13,9 @@ loop-local-preserved c =
     let local = c.loop-local.local in
     let s = type_state c.args.state.now in
     let rise : Slot → Rise = λ x. record { place = place.Local local; slot = x } in
-    let slot : c.slot_in.result ≡ local_at s.locals local = c.slot_in.ensures ∙ ap (λ (xs : List Slot). local_at xs local) c.as_slice.ensures.value in
+    let slot : c.slot_in.result ≡ local_at s.locals local =
+    c.slot_in.ensures ∙ ap (λ (k : ℕ). local_at c.as_slice.result.now k) c.from-in-loop-local.ensures
+    ∙ ap (λ (xs : List Slot). local_at xs local) c.as_slice.ensures.value in
     let plain : 0 + local ≡ local = omega arith in
     c.in_ok-push.ensures.items
     ∙ ap (λ (xs : List Rise). xs ++ rise c.slot_in.result ∷ []) c.loop-local.invariant

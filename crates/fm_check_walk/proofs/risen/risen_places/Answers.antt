@@ -1,7 +1,7 @@
 use Rattle.std.proofs.Common.{rules, ◌≡◌, ◌∙◌, sym, subst, List, ◌++◌, map}
 use Rattle.fm_check_walk.proofs.RisenLemmas.{alike-from_places}
-use Rattle.fm_check_walk.specs.declared.known_state.SlotPlace.{SlotPlace}
-use Rattle.fm_check_walk.specs.declared.known_state.SlotPlace.TheVariants as place
+use Rattle.fm_types.specs.declared.known_state.SlotPlace.{SlotPlace}
+use Rattle.fm_types.specs.declared.known_state.SlotPlace.TheVariants as place
 use Rattle.fm_check_walk.specs.inner.Risen.{IsAlikeBut}
 use Rattle.fm_types.specs.Typings.{type_state}
 use Rattle.fm_check_walk.proofs.risen.risen_places.Goals as goal

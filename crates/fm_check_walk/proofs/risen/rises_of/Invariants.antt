@@ -1,5 +1,6 @@
 use Rattle.std.proofs.Common.{◌≡◌, map, take}
-use Rattle.fm_check_walk.specs.inner.Risen.{known_state, rise_of}
+use Rattle.fm_check_walk.specs.inner.Risen.{rise_of}
+use Rattle.fm_types.specs.Typings.{known_state}
 use Rattle.fm_check_walk.proofs.risen.rises_of.Given as goal
 
 abbrev pub invariant-loop-place : goal.invariant-loop-place

@@ -1,7 +1,7 @@
 use Rattle.std.proofs.Common.{Some}
 use Rattle.std.proofs.lemmas.List.{map-set}
 use Rattle.std.specs.Option.{option_map}
-use Rattle.fm_check_walk.specs.inner.Risen.{known_state}
+use Rattle.fm_types.specs.Typings.{known_state}
 use Rattle.fm_check_walk.proofs.walk.put.Goals as goal
 
 pub returns : goal.returns

@@ -5,7 +5,7 @@ use Rattle.fm_base.proofs.OptionFacts.{same_value, IsSomeAnd-at_some}
 use Rattle.fm_code.specs.declared.code_array.Code.{Code}
 use Rattle.fm_flow.specs.Flow.{IsFlowOf}
 use Rattle.fm_types.specs.Typed.{IsTypingOf}
-use Rattle.fm_types.specs.Typings.{states_of, type_state}
+use Rattle.fm_types.specs.Typings.{known_state, states_of}
 use Rattle.fm_world.specs.Programs.{code_at}
 use Rattle.fm_world.specs.declared.records.MethodInfo.{MethodInfo}
 use Rattle.fm_conn.proofs.CodedLemmas.{coded_at}
@@ -32,7 +32,7 @@ shape_of-requires-in-Coded-clause-asked c = record {
   number = c.requires.method;
   uses = c.requires.uses;
   few = few_items c.in-Coded.code c.args.flow.now (flow c);
-  one_each = sym (length-map c.args.typing.now.states (option_map type_state)) ∙ (typed c).one_each;
+  one_each = sym (length-map c.args.typing.now.states (option_map known_state)) ∙ (typed c).one_each;
 }
 
 pub shape_of-requires-in-Coded-clause-typed : goal.shape_of-requires-in-Coded-clause-typed

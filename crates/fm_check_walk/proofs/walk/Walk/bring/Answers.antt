@@ -1,11 +1,11 @@
 use Rattle.std.proofs.Common.{◌≡◌, ◌∙◌, false, sym, ap, subst, None, Some}
 use Rattle.std.specs.Option.{option_map}
 use Rattle.fm_check_walk.proofs.WalkLemmas.{Brings-first, Brings-fit, Brings-joined, few_locals, few_words, joined_level, no_join, state_copied, state_seen, too_large}
-use Rattle.fm_check_walk.specs.inner.Risen.{known_state, noted}
+use Rattle.fm_check_walk.specs.inner.Risen.{noted}
 use Rattle.fm_check_walk.specs.inner.Walks.{Brings, risen_at, Walked, walked, with_state}
 use Rattle.fm_check_walk.specs.inner.Tasks.{task}
 use Rattle.fm_types.specs.States.{state_fits, TypeState}
-use Rattle.fm_types.specs.Typings.{type_state}
+use Rattle.fm_types.specs.Typings.{known_state, type_state}
 use Rattle.fm_check_walk.proofs.walk.Walk.bring.Goals as goal
 
 pub returns-then-not-is_within : goal.returns-then-not-is_within

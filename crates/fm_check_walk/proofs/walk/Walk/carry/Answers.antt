@@ -3,7 +3,9 @@ use Rattle.fm_check_walk.proofs.PlaceLemmas.{place_wanted}
 use Rattle.fm_check_walk.proofs.CarryLemmas.{carried_first, carried_lost, carried_raised, carried_room}
 use Rattle.fm_check_walk.proofs.WalkLemmas.{state_seen}
 use Rattle.fm_check_walk.specs.inner.Ranks.{IsBounded}
-use Rattle.fm_check_walk.specs.inner.Risen.{HasPlace, is_lost, known_state, noted, slot_at, with_slot}
+use Rattle.fm_check_walk.specs.inner.Risen.{is_lost, noted}
+use Rattle.fm_types.specs.Typings.{known_state}
+use Rattle.fm_types.specs.inner.Places.{HasPlace, slot_at, with_slot}
 use Rattle.fm_check_walk.specs.inner.Walks.{CarriesOne, risen_at, Walked, walked, with_state}
 use Rattle.fm_check_walk.specs.inner.Tasks.{task}
 use Rattle.fm_types.specs.Fits.{fits}

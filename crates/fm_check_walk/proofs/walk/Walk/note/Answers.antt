@@ -1,7 +1,7 @@
 use Rattle.std.proofs.Common.{◌≡◌, ◌∙◌, ap, set, List, Option, None}
 use Rattle.std.proofs.lemmas.List.{get_or_default}
 use Rattle.fm_check_walk.proofs.WalkLemmas.{set_twice}
-use Rattle.fm_check_walk.specs.declared.known_state.SlotPlace.{SlotPlace}
+use Rattle.fm_types.specs.declared.known_state.SlotPlace.{SlotPlace}
 use Rattle.fm_check_walk.specs.inner.Risen.{noted}
 use Rattle.fm_check_walk.specs.inner.Walks.{risen_at, walked}
 use Rattle.fm_check_walk.proofs.walk.Walk.note.Goals as goal

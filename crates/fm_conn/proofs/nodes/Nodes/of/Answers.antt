@@ -2,7 +2,7 @@ use Rattle.std.proofs.Common.{◌≡◌, ◌∙◌, ◌++◌, ◌∷◌, [], len
 use Rattle.std.specs.List.{range_with_len}
 use Rattle.std.specs.Option.{option_map}
 use Rattle.std.specs.Slice.Iter.{iter_rest}
-use Rattle.fm_types.specs.Typings.{type_state}
+use Rattle.fm_types.specs.Typings.{known_state}
 use Rattle.fm_conn.proofs.TableLemmas.{first_of_none, next_more, starts_done, starts_more}
 use Rattle.fm_conn.specs.inner.NodeTables.{first_word, table_in, words_of_state}
 use Rattle.fm_conn.proofs.nodes.Nodes.of.Goals as goal
@@ -11,7 +11,7 @@ pub loop-state-init : goal.loop-state-init
 loop-state-init c =
     let none = c.new-words.ensures.items in
     record {
-      words = (λ k. none k ++ map words_of_state (map (option_map type_state) (c.into_iter-state-iterator.ensures.into_iter_gives.0 k)));
+      words = (λ k. none k ++ map words_of_state (map (option_map known_state) (c.into_iter-state-iterator.ensures.into_iter_gives.0 k)));
       starts = c.new-starts.ensures.items ∙ ap (λ words. map (first_word (table_in c.args.locals words)) (range_with_len 0 (length words))) (sym none);
       next = omega (arith, c.from-next.ensures, first_of_none c.args.locals, ap (λ words. first_word (table_in c.args.locals words) (length words)) none);
       few = omega (arith, c.from-next.ensures);
@@ -24,9 +24,9 @@ loop-state-preserved c =
     let pushed : c.push-in-loop-state.new.self.items ≡ words ++ w ∷ [] = c.in_ok-push-2.ensures.items ∙ ap (λ v. words ++ v ∷ []) c.new.ensures in
     record {
       words = (λ k. (pushed ∙ ap (λ v. words ++ v ∷ []) c.in_ok-references.ensures) k
-          ++ map words_of_state (map (option_map type_state) (iter_rest c.next.new.self)))
-          ∙ append_assoc words (words_of_state (option_map type_state c.in-Some.state.now) ∷ []) _
-          ∙ ap (λ list. words ++ map words_of_state (map (option_map type_state) list)) (sym c.in-Some.ensures.steps)
+          ++ map words_of_state (map (option_map known_state) (iter_rest c.next.new.self)))
+          ∙ append_assoc words (words_of_state (option_map known_state c.in-Some.state.now) ∷ []) _
+          ∙ ap (λ list. words ++ map words_of_state (map (option_map known_state) list)) (sym c.in-Some.ensures.steps)
           ∙ c.loop-state.invariant.words;
       starts = c.in_ok-push.ensures.items
           ∙ starts_more c.args.locals words w c.loop-state.starts.items c.loop-state.next c.loop-state.invariant.starts c.loop-state.invariant.next

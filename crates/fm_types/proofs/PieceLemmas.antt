@@ -1,0 +1,99 @@
+-- What is read of a list in pieces, and put into it.
+use Rattle.std.proofs.Common.{◌≡◌, refl, sym, ◌∙◌, ap, ℕ, zero, suc, ◌+◌, ◌-◌, ◌*◌, ◌<◌, ◌≤◌, List, [], ◌∷◌, ◌++◌, length, get_or, set, subst, arith}
+use Rattle.std.specs.List.{All}
+use Rattle.std.proofs.lemmas.List.{append-nil, append_assoc, get_or_append_left, get_or-append_right, get_or_past, length-append, length-set, set-append_left, set-append_right}
+use Rattle.fm_types.specs.declared.slots.Slot.{Slot}
+use Rattle.fm_types.specs.inner.Pieces.{AreEven, in_one}
+
+-- ---- where the slot of a number is
+
+-- it is the slot of the remainder in the piece of the quotient
+pub read_piece : (pieces : List (List Slot)) (q r i : ℕ) (d : Slot) → AreEven pieces → r < 32 → i ≡ 32 * q + r → get_or (in_one pieces) i d ≡ get_or (get_or pieces q []) r d
+read_piece [] q r i d even small is = refl
+read_piece (piece ∷ []) zero r i d even small is =
+    let same : i ≡ r = omega arith in
+    ap (λ (k : ℕ). get_or (piece ++ []) k d) same ∙ ap (λ (xs : List Slot). get_or xs r d) (append-nil piece)
+read_piece (piece ∷ []) (suc q) r i d even small is =
+    let short : length piece ≤ 32 = even.0 in
+    let size = ap length (append-nil piece) in
+    get_or_past (piece ++ []) i d (omega (arith, short, size, is))
+read_piece (piece ∷ next ∷ pieces) zero r i d even small is =
+    let size : length piece ≡ 32 = even.1 (omega arith) in
+    let same : i ≡ r = omega arith in
+    ap (λ (k : ℕ). get_or (piece ++ in_one (next ∷ pieces)) k d) same ∙ get_or_append_left piece (in_one (next ∷ pieces)) d r (omega (arith, size, small))
+read_piece (piece ∷ next ∷ pieces) (suc q) r i d even small is =
+    let size : length piece ≡ 32 = even.1 (omega arith) in
+    get_or-append_right piece (in_one (next ∷ pieces)) 32 i d size (omega (arith, is))
+    ∙ read_piece (next ∷ pieces) q r (i - 32) d even.2 small (omega (arith, is))
+
+-- a slot of the list is in a piece
+pub piece_there : (pieces : List (List Slot)) (q r i : ℕ) → AreEven pieces → r < 32 → i ≡ 32 * q + r → i < length (in_one pieces) → q < length pieces
+piece_there [] q r i even small is within = absurd (omega (arith, within))
+piece_there (piece ∷ pieces) zero r i even small is within = omega arith
+piece_there (piece ∷ []) (suc q) r i even small is within =
+    let short : length piece ≤ 32 = even.0 in
+    let size = ap length (append-nil piece) in
+    absurd (omega (arith, short, size, is, within))
+piece_there (piece ∷ next ∷ pieces) (suc q) r i even small is within =
+    let size : length piece ≡ 32 = even.1 (omega arith) in
+    let whole = length-append piece (in_one (next ∷ pieces)) in
+    let there = piece_there (next ∷ pieces) q r (i - 32) even.2 small (omega (arith, is)) (omega (arith, is, whole, size, within)) in
+    omega (arith, there)
+
+-- and the piece has it
+pub slot_there : (pieces : List (List Slot)) (q r i : ℕ) → AreEven pieces → r < 32 → i ≡ 32 * q + r → i < length (in_one pieces) → r < length (get_or pieces q [])
+slot_there [] q r i even small is within = absurd (omega (arith, within))
+slot_there (piece ∷ []) zero r i even small is within =
+    let size = ap length (append-nil piece) in
+    omega (arith, size, is, within)
+slot_there (piece ∷ []) (suc q) r i even small is within =
+    let short : length piece ≤ 32 = even.0 in
+    let size = ap length (append-nil piece) in
+    absurd (omega (arith, short, size, is, within))
+slot_there (piece ∷ next ∷ pieces) zero r i even small is within =
+    let size : length piece ≡ 32 = even.1 (omega arith) in
+    omega (arith, size, small)
+slot_there (piece ∷ next ∷ pieces) (suc q) r i even small is within =
+    let size : length piece ≡ 32 = even.1 (omega arith) in
+    let whole = length-append piece (in_one (next ∷ pieces)) in
+    slot_there (next ∷ pieces) q r (i - 32) even.2 small (omega (arith, is)) (omega (arith, is, whole, size, within))
+
+-- ---- a piece that changes
+
+-- a slot that is put into its piece is put into the list
+pub put_piece : (pieces : List (List Slot)) (q r i : ℕ) (s : Slot) → AreEven pieces → q < length pieces → r < length (get_or pieces q []) → i ≡ 32 * q + r
+    → in_one (set pieces q (set (get_or pieces q []) r s)) ≡ set (in_one pieces) i s
+put_piece [] q r i s even there within is = absurd (omega (arith, there))
+put_piece (piece ∷ pieces) zero r i s even there within is =
+    let same : r ≡ i = omega (arith, is) in
+    sym (set-append_left piece (in_one pieces) r s within) ∙ ap (λ (k : ℕ). set (piece ++ in_one pieces) k s) same
+put_piece (piece ∷ []) (suc q) r i s even there within is = absurd (omega (arith, there))
+put_piece (piece ∷ next ∷ pieces) (suc q) r i s even there within is =
+    let size : length piece ≡ 32 = even.1 (omega arith) in
+    ap (λ (xs : List Slot). piece ++ xs) (put_piece (next ∷ pieces) q r (i - 32) s even.2 (omega (arith, there)) within (omega (arith, is)))
+    ∙ sym (set-append_right piece (in_one (next ∷ pieces)) 32 i s size (omega (arith, is)))
+
+-- the pieces stay even where a piece is replaced by one as long
+pub AreEven-set : (pieces : List (List Slot)) (q : ℕ) (piece : List Slot) → AreEven pieces → length piece ≡ length (get_or pieces q []) → AreEven (set pieces q piece)
+AreEven-set [] q piece even size = tt
+AreEven-set (first ∷ pieces) zero piece even size =
+    let short : length first ≤ 32 = even.0 in
+    (omega (arith, short, size), λ some. let whole : length first ≡ 32 = even.1 some in omega (arith, whole, size), even.2)
+AreEven-set (first ∷ pieces) (suc q) piece even size =
+    let same = length-set pieces q piece in
+    (even.0, λ some. even.1 (omega (arith, same, some)), AreEven-set pieces q piece even.2 size)
+
+-- ---- pieces that are made one by one
+
+-- whole pieces and a last one are even
+pub AreEven-made : (pieces : List (List Slot)) (piece : List Slot) → All (λ (p : List Slot). length p ≡ 32) pieces → length piece ≤ 32 → AreEven (pieces ++ piece ∷ [])
+AreEven-made [] piece whole short = (short, λ some. absurd (omega (arith, some)), tt)
+AreEven-made (first ∷ pieces) piece whole short =
+    let size : length first ≡ 32 = whole 0 [] (omega arith) in
+    (omega (arith, size), λ some. size, AreEven-made pieces piece (λ k d inside. whole (suc k) d (omega arith)) short)
+
+-- one piece more
+pub in_one-push : (pieces : List (List Slot)) (piece : List Slot) → in_one (pieces ++ piece ∷ []) ≡ in_one pieces ++ piece
+in_one-push [] piece = append-nil piece
+in_one-push (first ∷ pieces) piece =
+    ap (λ (xs : List Slot). first ++ xs) (in_one-push pieces piece) ∙ sym (append_assoc first (in_one pieces) piece)

@@ -1,0 +1,3 @@
+-- What serves the proofs alone.
+pub mod Pieces
+pub mod Places
