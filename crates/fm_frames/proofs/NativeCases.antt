@@ -7,11 +7,11 @@ use Rattle.fm_types.specs.Fits.{fits_type}
 use Rattle.fm_types.specs.Named.{throwable_type}
 use Rattle.fm_world.specs.Programs.{Outline}
 use Rattle.fm_frames.specs.Effects.{acting, Effect, Exits, Free, FreeChain, going, int_word, making, OfOperand, OfPlace, Plain, printing, Put, SameOperands, SetChain, words}
-use Rattle.fm_frames.specs.NativeRows.{arguments_words, at_sign, builder_native, free_native, has_text, is_builder, linked, native_effect, native_words, object_native, on_builder, on_built, on_shown, shown_words, stream_native, string_native, text_kind, text_made, throwable_native, throwable_text, thrown_outside, type_name}
-use Rattle.fm_frames.specs.Natives.{a_boolean, a_text, AGiven, an_int, AnObject, AnyReceiver, AShown, BuilderReceiver, Given, native_type, Nothing, Receiver, Returned, TextReceiver, ThrowableReceiver}
+use Rattle.fm_frames.specs.NativeRows.{arguments_words, at_sign, builder_native, char_at, free_native, has_text, is_builder, linked, native_effect, native_words, object_native, on_builder, on_built, on_shown, shown_words, stream_native, string_native, text_kind, text_made, throwable_native, throwable_text, thrown_outside, type_name}
+use Rattle.fm_frames.specs.Natives.{a_boolean, a_char, a_text, AGiven, an_int, AnObject, AnyReceiver, AShown, BuilderReceiver, Given, native_type, Nothing, Receiver, Returned, TextReceiver, ThrowableReceiver}
 use Rattle.fm_frames.specs.declared.natives.Shown.{Shown}
 use Rattle.fm_frames.specs.declared.natives.Native.{Native}
-use Rattle.fm_frames.specs.declared.natives.Native.TheVariants.{ObjectInit, ObjectHashCode, ObjectEquals, ObjectToString, StringLength, CharAt, StringEquals, StringHashCode, CompareTo, StringToString, Substring, ValueOf, BuilderInit, Append, BuilderLength, BuilderToString, BufferInitOf, Exit, Print, Println, PrintlnNothing, Read, ThrowableInit, ThrowableInitOf, GetMessage, ThrowableToString, FreeMeFree, FreeMeLink, FreeMeFreeChain}
+use Rattle.fm_frames.specs.declared.natives.Native.TheVariants.{ObjectInit, ObjectHashCode, ObjectEquals, ObjectToString, StringLength, CharAt, StringEquals, StringHashCode, CompareTo, StringToString, Substring, ValueOf, BuilderInit, Append, BuilderLength, BuilderToString, BuilderCharAt, BufferInitOf, Exit, Print, Println, PrintlnNothing, Read, ThrowableInit, ThrowableInitOf, GetMessage, ThrowableToString, FreeMeFree, FreeMeLink, FreeMeFreeChain}
 use Rattle.fm_frames.specs.declared.natives.Shown.TheVariants.{Int as ShownInt, Long as ShownLong, Char as ShownChar, Boolean as ShownBoolean, Text as ShownText}
 use Rattle.fm_frames.specs.Operands.{on_any, on_held, on_inner, on_int, on_object, on_text}
 use Rattle.fm_frames.specs.Sights.{Looks, Sight, Thing}
@@ -139,6 +139,13 @@ pub record NativeLeaves (o : Outline) (s : List Sight) (native : Native) (Units 
 -- ---- all rows
 
 module _ (o : Outline) (s : List Sight) where
+  -- the unit at an index, or that it lies outside
+  char_leaves : (native : Native) (Units : List ℕ → Type 0) (A : Effect → Type 0) → NativeLeaves o s native Units A → Takes native 2 → Returns native (AGiven a_char)
+      → (units : List ℕ) (i : ℤ) → A (char_at o units i)
+  char_leaves native Units A l takes returns units i =
+      cond_both (int_lt i (pos 0) || not (int_lt i (pos (length units)))) (thrown_outside o) (words 2 (int_word (pos (slice_index_or units (unsigned_abs i) 0)))) A
+      (λ out. l.outside) (λ inside. l.number 2 ShownChar refl takes returns _)
+
   pub native_cases : (native : Native) (Units : List ℕ → Type 0) (A : Effect → Type 0) → KeepsUnits o s Units → NativeAsks o s native Units A
       → NativeLeaves o s native Units A → (byte : Option ℕ) → A (native_effect o native byte s)
   unfolding native_effect object_native string_native builder_native stream_native throwable_native free_native
@@ -149,9 +156,7 @@ module _ (o : Outline) (s : List Sight) where
       a.receiver_any 0 (refl, refl) _ (λ it seen. l.text_given 1 refl refl _ (keeps.append _ _ (keeps.name 0 it seen) (keeps.hash it.birth)))
   native_cases StringLength Units A keeps a l byte = a.receiver_text 0 (refl, refl) _ (λ units fit. l.number 1 ShownInt refl refl refl _)
   native_cases CharAt Units A keeps a l byte =
-      a.receiver_text 1 (refl, refl) _ (λ units fit. a.int 0 (refl, refl) _ (λ i.
-      cond_both (int_lt i (pos 0) || not (int_lt i (pos (length units)))) (thrown_outside o) (words 2 (int_word (pos (slice_index_or units (unsigned_abs i) 0)))) A
-      (λ out. l.outside) (λ inside. l.number 2 ShownChar refl refl refl _)))
+      a.receiver_text 1 (refl, refl) _ (λ units fit. a.int 0 (refl, refl) _ (char_leaves CharAt Units A l refl refl units))
   native_cases StringEquals Units A keeps a l byte =
       a.receiver_text 1 (refl, refl) _ (λ units fit. a.object 0 (refl, refl) _ _ (l.number 2 ShownBoolean refl refl refl _)
       (λ it seen. l.number 2 ShownBoolean refl refl refl _))
@@ -178,6 +183,9 @@ module _ (o : Outline) (s : List Sight) where
       a.built 0 (refl, refl) (λ units. words 1 (int_word (pos (length units)))) (λ it seen is units fit. l.number 1 ShownInt refl refl refl _)
   native_cases BuilderToString Units A keeps a l byte =
       a.built 0 (refl, refl) (λ units. making 1 (text_made o units)) (λ it seen is units fit. l.text_given 1 refl refl units fit)
+  native_cases BuilderCharAt Units A keeps a l byte =
+      a.built 1 (refl, refl) (λ units. on_int s 0 (λ i. char_at o units i))
+      (λ it seen is units fit. a.int 0 (refl, refl) (λ i. char_at o units i) (char_leaves BuilderCharAt Units A l refl refl units))
   native_cases BufferInitOf Units A keeps a l byte =
       a.builder 1 (refl, refl) _ (λ it seen is. a.text 0 (refl, refl) (λ units. acting 2 (has_text o 1 units))
       (λ units fit. l.text_put 2 1 it seen (inl is) refl refl units fit))

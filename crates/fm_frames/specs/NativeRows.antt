@@ -20,7 +20,7 @@ use Rattle.fm_frames.specs.Effects.{Effect, Plain, OfOperand, OfPlace, OfMade, S
 use Rattle.fm_frames.specs.Natives.{AnObject, AShown, Given, has_receiver, native_type}
 use Rattle.fm_frames.specs.declared.natives.Shown.{Shown}
 use Rattle.fm_frames.specs.declared.natives.Native.{Native}
-use Rattle.fm_frames.specs.declared.natives.Native.TheVariants.{ObjectInit, ObjectHashCode, ObjectEquals, ObjectToString, StringLength, CharAt, StringEquals, StringHashCode, CompareTo, StringToString, Substring, ValueOf, BuilderInit, Append, BuilderLength, BuilderToString, BufferInitOf, Exit, Print, Println, PrintlnNothing, Read, ThrowableInit, ThrowableInitOf, GetMessage, ThrowableToString, FreeMeFree, FreeMeLink, FreeMeFreeChain}
+use Rattle.fm_frames.specs.declared.natives.Native.TheVariants.{ObjectInit, ObjectHashCode, ObjectEquals, ObjectToString, StringLength, CharAt, StringEquals, StringHashCode, CompareTo, StringToString, Substring, ValueOf, BuilderInit, Append, BuilderLength, BuilderToString, BuilderCharAt, BufferInitOf, Exit, Print, Println, PrintlnNothing, Read, ThrowableInit, ThrowableInitOf, GetMessage, ThrowableToString, FreeMeFree, FreeMeLink, FreeMeFreeChain}
 use Rattle.fm_frames.specs.declared.natives.Shown.TheVariants.{Int as ShownInt, Long as ShownLong, Char as ShownChar, Boolean as ShownBoolean, Text as ShownText}
 use Rattle.fm_frames.specs.Operands.{on_any, on_held, on_inner, on_int, on_long, on_object, on_passing, on_text, on_text_or_null, thrown}
 use Rattle.fm_frames.specs.Sights.{Sight, Looks}
@@ -208,6 +208,7 @@ builder_native o (Append shown) s =
     on_built o s n (λ units. on_shown o shown s (λ added. record (acting (n + 1) (has_text o n (units ++ added))) { gives = OfOperand n ∷ [] }))
 builder_native o BuilderLength s = on_built o s 0 (λ units. words 1 (int_word (pos (length units))))
 builder_native o BuilderToString s = on_built o s 0 (λ units. making 1 (text_made o units))
+builder_native o BuilderCharAt s = on_built o s 1 (λ units. on_int s 0 (λ i. char_at o units i))
 builder_native o BufferInitOf s = on_builder o s 1 (λ it. on_text o s 0 (λ units. acting 2 (has_text o 1 units)))
 builder_native o row s = stuck
 
@@ -279,6 +280,7 @@ native_effect o BuilderInit byte s = builder_native o BuilderInit s
 native_effect o (Append shown) byte s = builder_native o (Append shown) s
 native_effect o BuilderLength byte s = builder_native o BuilderLength s
 native_effect o BuilderToString byte s = builder_native o BuilderToString s
+native_effect o BuilderCharAt byte s = builder_native o BuilderCharAt s
 native_effect o BufferInitOf byte s = builder_native o BufferInitOf s
 native_effect o Exit byte s = stream_native o Exit byte s
 native_effect o (Print shown) byte s = stream_native o (Print shown) byte s

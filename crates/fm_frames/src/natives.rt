@@ -34,6 +34,7 @@ pub enum Native {
     Append(Shown),
     BuilderLength,
     BuilderToString,
+    BuilderCharAt,
     BufferInitOf,
     Exit,
     Print(Shown),
@@ -51,7 +52,7 @@ pub enum Native {
 }
 
 // The built-in methods in the order of their rows.
-const NATIVES: [Native; 44] = [
+const NATIVES: [Native; 45] = [
     Native::ObjectInit,
     Native::ObjectHashCode,
     Native::ObjectEquals,
@@ -75,6 +76,7 @@ const NATIVES: [Native; 44] = [
     Native::Append(Shown::Text),
     Native::BuilderLength,
     Native::BuilderToString,
+    Native::BuilderCharAt,
     Native::BufferInitOf,
     Native::Exit,
     Native::Print(Shown::Int),

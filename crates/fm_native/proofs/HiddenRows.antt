@@ -1,21 +1,24 @@
 -- The effects of the rows of objects that have a text in a hidden field, by what their operands are.
-use Rattle.std.proofs.Common.{◌≡◌, ℕ, ◌+◌, pos, Bool, List, [], ◌∷◌, ◌++◌, length, Option, Result, Ok, Err, IfOk, option_map, ap, sym, ◌∙◌}
+use Rattle.std.proofs.Common.{◌≡◌, ℕ, ℤ, ◌+◌, ◌||◌, not, int_lt, pos, unsigned_abs, if◌then◌else◌, Bool, List, [], ◌∷◌, ◌++◌, length, Option, Result, Ok, Err, IfOk, option_map, ap, sym, ◌∙◌}
 use Rattle.std.specs.Global.{Vec}
+use Rattle.std.specs.List.{slice_index_or}
+use Rattle.std.proofs.Math.Bool.{or-not_self}
 use Rattle.fm_base.specs.declared.kinds.TypeRef.{TypeRef}
 use Rattle.fm_cells.specs.Stores.{Store}
 use Rattle.fm_cells.specs.declared.answers.Head.{Head}
 use Rattle.fm_frames.specs.Effects.{Effect, OfOperand, OfPlace, Plain, Put, acting, int_word, making, words}
-use Rattle.fm_frames.specs.NativeRows.{builder_native, has_text, is_builder, native_effect, on_shown, shown_words, text_kind, text_made, throwable_native, throwable_text}
+use Rattle.fm_frames.specs.NativeRows.{builder_native, char_at, has_text, is_builder, native_effect, on_shown, shown_words, text_kind, text_made, throwable_native, throwable_text, thrown_outside}
 use Rattle.fm_frames.specs.declared.natives.Shown.{Shown}
-use Rattle.fm_frames.specs.declared.natives.Native.TheVariants.{Append, BufferInitOf, BuilderInit, BuilderLength, BuilderToString, GetMessage, ThrowableInit, ThrowableInitOf, ThrowableToString}
+use Rattle.fm_frames.specs.declared.natives.Native.TheVariants.{Append, BufferInitOf, BuilderCharAt, BuilderInit, BuilderLength, BuilderToString, GetMessage, ThrowableInit, ThrowableInitOf, ThrowableToString}
 use Rattle.fm_frames.specs.Operands.{on_inner, on_inner_of, on_passing, on_text}
 use Rattle.fm_frames.specs.Sights.{inner_of, looks, Looks, Sight, type_numbered}
 use Rattle.fm_frames.specs.States.{null, State}
+use Rattle.fm_native.proofs.Rows.{on_place}
 use Rattle.fm_native.specs.declared.asked.Held.{Held}
 use Rattle.fm_native.specs.declared.asked.OperandRefusal.{OperandRefusal}
 use Rattle.fm_native.specs.declared.asked.Text.{Text}
 use Rattle.fm_native.specs.declared.hidden.Built.{Built}
-use Rattle.fm_native.specs.inner.Asked.{asked, AsksText, IsHeldAt, on_cell, on_found, refused, units_in}
+use Rattle.fm_native.specs.inner.Asked.{asked, AsksInt, AsksText, IsHeldAt, on_cell, on_found, refused, units_in}
 use Rattle.fm_native.specs.inner.Hidden.{AsksBuilt, AsksFitting, AsksInner, HidesText, is_throwable, units_so_far}
 use Rattle.fm_native.specs.inner.Shown.{AsksUnits}
 use Rattle.fm_world.specs.Programs.{Outline}
@@ -92,6 +95,21 @@ pub built-text : (o : Outline) (store : Store) (byte : Option ℕ) (s : List Sig
     → native_effect o BuilderToString byte s ≡ asked o 0 found (λ built. making 1 (text_made o (units_so_far store built.text)))
 unfolding native_effect builder_native
 built-text o store byte s found asks = asks (λ units. making 1 (text_made o units))
+
+pub built-char-refused : (o : Outline) (store : Store) (byte : Option ℕ) (s : List Sight) (r : OperandRefusal) → AsksBuilt o store s 1 (Err r)
+    → native_effect o BuilderCharAt byte s ≡ refused o 1 r
+unfolding native_effect builder_native
+built-char-refused o store byte s r asks = asks (on_place o s)
+
+pub built-char : (o : Outline) (store : Store) (byte : Option ℕ) (s : List Sight) (built : Built) (found : Result ℤ OperandRefusal) → AsksBuilt o store s 1 (Ok built)
+    → AsksInt o s 0 found → native_effect o BuilderCharAt byte s ≡ asked o 0 found (λ i. char_at o (units_so_far store built.text) i)
+unfolding native_effect builder_native
+built-char o store byte s built found asks asks-int = asks (on_place o s) ∙ asks-int (λ i. char_at o (units_so_far store built.text) i)
+
+-- each index lies outside where there is no unit
+pub none-there : (o : Outline) (i : ℤ) → char_at o [] i ≡ thrown_outside o
+none-there o i =
+    ap (λ b. if b then thrown_outside o else words 2 (int_word (pos (slice_index_or [] (unsigned_abs i) 0)))) (or-not_self (int_lt i (pos 0)))
 
 -- what follows of the text with which a StringBuffer begins
 abbrev begun_with : Outline → List Sight → Effect

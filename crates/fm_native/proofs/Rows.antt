@@ -84,7 +84,7 @@ compared-is o store byte s text found asks asks-other =
     asks (on_others o s) ∙ asks-other (λ others. words 2 (int_word (compared (units_in store text) others)))
 
 -- what follows of a text and a place in it
-abbrev on_place : Outline → List Sight → List ℕ → Effect
+abbrev pub on_place : Outline → List Sight → List ℕ → Effect
 on_place o s units = on_int s 0 (λ i. char_at o units i)
 
 pub char-refused : (o : Outline) (store : Store) (byte : Option ℕ) (s : List Sight) (r : OperandRefusal) → AsksText o store s 1 (Err r)

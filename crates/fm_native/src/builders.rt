@@ -1,19 +1,23 @@
 // The methods of StringBuilder and StringBuffer.
 
-ghost use Rattle.std.specs.Prelude.{OnOk};
+ghost use Rattle.std.specs.Prelude.{IfSome, OnOk};
 ghost use Rattle.fm_native.specs.Doing.{DoesRow};
 ghost use Rattle.fm_native.specs.Serving.{HoldsHidden};
 ghost use Rattle.fm_native.specs.Texts.{HoldsTexts};
-ghost use Rattle.fm_frames.specs.declared.natives.Native.TheVariants.{Append, BufferInitOf, BuilderInit, BuilderLength, BuilderToString};
-ghost use Rattle.fm_frames.specs.inner.Doings.{CanStep};
+ghost use Rattle.fm_native.specs.inner.Asked.{IsTextAt};
+ghost use Rattle.fm_native.specs.inner.Hidden.{units_so_far};
+ghost use Rattle.fm_frames.specs.NativeRows.{char_at};
+ghost use Rattle.fm_frames.specs.declared.natives.Native.TheVariants.{Append, BufferInitOf, BuilderCharAt, BuilderInit, BuilderLength, BuilderToString};
+ghost use Rattle.fm_frames.specs.inner.Doings.{CanStep, DoesIn};
 
-use crate::asked::{refuse, text_at};
+use crate::asked::{Text, int_at, refuse, text_at};
 use crate::contents::units_of;
 use crate::hidden::{builder_at, built_at, built_len, clear, joined, units_so_far};
 use crate::shown::units_at;
+use crate::strings::char_in;
 use fm_base::NoMemory;
 use fm_cells::Memory;
-use fm_frames::{Machine, Shown, Value};
+use fm_frames::{Machine, STRING_INDEX_EXCEPTION, Shown, Value};
 use fm_world::Program;
 use std::alloc::Global;
 
@@ -114,6 +118,40 @@ pub fn to_string<M: Memory>(
             let units = units_so_far(alloc, machine, built.text)?;
             machine.give_text(program, 1, &units)
         }
+        Err(refusal) => refuse(machine, program, refusal),
+    }
+}
+
+// The unit of what is built at a place, or the exception where there is none.
+fn built_char<M: Memory>(
+    machine: &mut Machine<M>,
+    program: &Program,
+    text: Option<Text>,
+    place: i32,
+) -> Result<(), NoMemory>
+    requires can { CanStep program.now machine.old }
+    requires text { IfSome text (IsTextAt machine.old.areas.store) }
+    ensures { OnOk result (DoesIn program.now M.choose machine.old machine.new
+        (char_at program.now.outline (units_so_far machine.old.areas.store text) place)) }
+{
+    match text {
+        Some(text) => char_in(machine, program, text, place),
+        None => machine.throw_new(program, STRING_INDEX_EXCEPTION),
+    }
+}
+
+/// charAt of what is built.
+pub fn char_at<M: Memory>(machine: &mut Machine<M>, program: &Program) -> Result<(), NoMemory>
+    requires can { CanStep program.now machine.old }
+    requires hidden { HoldsHidden program.now.outline machine.old.areas.store }
+    requires texts { HoldsTexts program.now.outline machine.old.areas.store }
+    ensures { OnOk result (DoesRow program.now M.choose machine.old machine.new BuilderCharAt) }
+{
+    match built_at(machine, program, 1) {
+        Ok(built) => match int_at(machine, program, 0) {
+            Ok(place) => built_char(machine, program, built.text, place),
+            Err(refusal) => refuse(machine, program, refusal),
+        },
         Err(refusal) => refuse(machine, program, refusal),
     }
 }

@@ -171,7 +171,7 @@ fn is_outside(place: i32, len: u32) -> bool
 }
 
 // The unit of a text at a place, or the exception where there is none.
-fn char_in<M: Memory>(
+pub(crate) fn char_in<M: Memory>(
     machine: &mut Machine<M>,
     program: &Program,
     text: Text,

@@ -103,6 +103,7 @@ builder_methods name =
     ∷ method (codes "append") (codes "(Ljava/lang/String;" ++ answer)
     ∷ method (codes "length") (codes "()I")
     ∷ method (codes "toString") (codes "()Ljava/lang/String;")
+    ∷ method (codes "charAt") (codes "(I)C")
     ∷ []
 
 -- a StringBuffer has the rows of a StringBuilder, and a constructor more
@@ -187,7 +188,7 @@ built_in_rows = free_me_row + length free_me_methods
 
 -- how many methods all classes have: those of a program come after them
 abbrev pub built_in_methods : ℕ
-built_in_methods = 86
+built_in_methods = 88
 
 -- ---- fields
 
