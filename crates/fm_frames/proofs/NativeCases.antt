@@ -1,17 +1,17 @@
 -- What holds of all that the rows of built-in methods can lead to holds of each of these rows: the only proof that goes through them one by one.
 -- A law over all of them gives what it has for each way in which rows ask for operands, and for each sort of effect that they end with.
-use Rattle.std.proofs.Common.{◌≡◌, ◌⊎◌, inl, inr, ℕ, ℤ, pos, ◌+◌, ◌-◌, ◌||◌, not, int_lt, unsigned_abs, Bool, true, false, List, [], ◌∷◌, ◌++◌, codes, length, drop, take, Option, Some, None, refl, slice_get, slice_index_or}
+use Rattle.std.proofs.Common.{◌≡◌, ◌⊎◌, inl, inr, ℕ, ℤ, pos, ◌+◌, ◌-◌, ◌||◌, not, int_lt, unsigned_abs, Bool, true, false, List, [], ◌∷◌, ◌++◌, codes, length, drop, take, replicate, Option, Some, None, refl, slice_get, slice_index_or}
 use Rattle.std.proofs.lemmas.Bool.{cond_both}
 use Rattle.std.specs.Fmt.{digits}
 use Rattle.fm_types.specs.Fits.{fits_type}
 use Rattle.fm_types.specs.Named.{throwable_type}
 use Rattle.fm_world.specs.Programs.{Outline}
 use Rattle.fm_frames.specs.Effects.{acting, Effect, Exits, Free, FreeChain, going, int_word, making, OfOperand, OfPlace, Plain, printing, Put, SameOperands, SetChain, words}
-use Rattle.fm_frames.specs.NativeRows.{arguments_words, at_sign, builder_native, char_at, free_native, has_text, is_builder, linked, native_effect, native_words, object_native, on_builder, on_built, on_shown, shown_words, stream_native, string_native, text_kind, text_made, throwable_native, throwable_text, thrown_outside, type_name}
+use Rattle.fm_frames.specs.NativeRows.{arguments_words, at_sign, builder_native, char_at, free_native, has_text, is_builder, linked, native_effect, native_words, object_native, on_builder, on_built, on_shown, resized, shown_words, stream_native, string_native, text_kind, text_made, throwable_native, throwable_text, thrown_outside, type_name, with_length}
 use Rattle.fm_frames.specs.Natives.{a_boolean, a_char, a_text, AGiven, an_int, AnObject, AnyReceiver, AShown, BuilderReceiver, Given, native_type, Nothing, Receiver, Returned, TextReceiver, ThrowableReceiver}
 use Rattle.fm_frames.specs.declared.natives.Shown.{Shown}
 use Rattle.fm_frames.specs.declared.natives.Native.{Native}
-use Rattle.fm_frames.specs.declared.natives.Native.TheVariants.{ObjectInit, ObjectHashCode, ObjectEquals, ObjectToString, StringLength, CharAt, StringEquals, StringHashCode, CompareTo, StringToString, Substring, ValueOf, BuilderInit, Append, BuilderLength, BuilderToString, BuilderCharAt, BufferInitOf, Exit, Print, Println, PrintlnNothing, Read, ThrowableInit, ThrowableInitOf, GetMessage, ThrowableToString, FreeMeFree, FreeMeLink, FreeMeFreeChain}
+use Rattle.fm_frames.specs.declared.natives.Native.TheVariants.{ObjectInit, ObjectHashCode, ObjectEquals, ObjectToString, StringLength, CharAt, StringEquals, StringHashCode, CompareTo, StringToString, Substring, ValueOf, BuilderInit, Append, BuilderLength, BuilderToString, BuilderCharAt, BuilderSetLength, BufferInitOf, Exit, Print, Println, PrintlnNothing, Read, ThrowableInit, ThrowableInitOf, GetMessage, ThrowableToString, FreeMeFree, FreeMeLink, FreeMeFreeChain}
 use Rattle.fm_frames.specs.declared.natives.Shown.TheVariants.{Int as ShownInt, Long as ShownLong, Char as ShownChar, Boolean as ShownBoolean, Text as ShownText}
 use Rattle.fm_frames.specs.Operands.{on_any, on_held, on_inner, on_int, on_object, on_text}
 use Rattle.fm_frames.specs.Sights.{Looks, Sight, Thing}
@@ -69,6 +69,7 @@ pub record KeepsUnits (o : Outline) (s : List Sight) (Units : List ℕ → Type 
   pub append : (units others : List ℕ) → Units units → Units others → Units (units ++ others)
   pub take : (count : ℕ) (units : List ℕ) → Units units → Units (take count units)
   pub drop : (count : ℕ) (units : List ℕ) → Units units → Units (drop count units)
+  pub zeros : (count : ℕ) → Units (replicate count 0)
   pub name : (n : ℕ) (it : Looks) → IsAt s n it → Units (type_name o it.type)
   pub colon : Units (codes ": ")
   pub hash : (birth : ℕ) → Units (at_sign ∷ digits 16 false birth)
@@ -80,6 +81,7 @@ any_units o s = record {
   append = λ units others fit fit_others. tt;
   take = λ count units fit. tt;
   drop = λ count units fit. tt;
+  zeros = λ count. tt;
   name = λ n it seen. tt;
   colon = tt;
   hash = λ birth. tt;
@@ -186,6 +188,12 @@ module _ (o : Outline) (s : List Sight) where
   native_cases BuilderCharAt Units A keeps a l byte =
       a.built 1 (refl, refl) (λ units. on_int s 0 (λ i. char_at o units i))
       (λ it seen is units fit. a.int 0 (refl, refl) (λ i. char_at o units i) (char_leaves BuilderCharAt Units A l refl refl units))
+  native_cases BuilderSetLength Units A keeps a l byte =
+      a.built 1 (refl, refl) (λ units. on_int s 0 (λ len. with_length o units len)) (λ it seen is units fit.
+      a.int 0 (refl, refl) (λ len. with_length o units len) (λ len.
+      cond_both (int_lt len (pos 0)) (thrown_outside o) (acting 2 (has_text o 1 (resized units (unsigned_abs len)))) A
+      (λ negative. l.outside) (λ whole. l.text_put 2 1 it seen (inl is) refl refl (resized units (unsigned_abs len))
+      (keeps.append _ _ (keeps.take (unsigned_abs len) units fit) (keeps.zeros (unsigned_abs len - length units))))))
   native_cases BufferInitOf Units A keeps a l byte =
       a.builder 1 (refl, refl) _ (λ it seen is. a.text 0 (refl, refl) (λ units. acting 2 (has_text o 1 units))
       (λ units fit. l.text_put 2 1 it seen (inl is) refl refl units fit))

@@ -20,7 +20,7 @@ use Rattle.fm_frames.specs.Effects.{Effect, Plain, OfOperand, OfPlace, OfMade, S
 use Rattle.fm_frames.specs.Natives.{AnObject, AShown, Given, has_receiver, native_type}
 use Rattle.fm_frames.specs.declared.natives.Shown.{Shown}
 use Rattle.fm_frames.specs.declared.natives.Native.{Native}
-use Rattle.fm_frames.specs.declared.natives.Native.TheVariants.{ObjectInit, ObjectHashCode, ObjectEquals, ObjectToString, StringLength, CharAt, StringEquals, StringHashCode, CompareTo, StringToString, Substring, ValueOf, BuilderInit, Append, BuilderLength, BuilderToString, BuilderCharAt, BufferInitOf, Exit, Print, Println, PrintlnNothing, Read, ThrowableInit, ThrowableInitOf, GetMessage, ThrowableToString, FreeMeFree, FreeMeLink, FreeMeFreeChain}
+use Rattle.fm_frames.specs.declared.natives.Native.TheVariants.{ObjectInit, ObjectHashCode, ObjectEquals, ObjectToString, StringLength, CharAt, StringEquals, StringHashCode, CompareTo, StringToString, Substring, ValueOf, BuilderInit, Append, BuilderLength, BuilderToString, BuilderCharAt, BuilderSetLength, BufferInitOf, Exit, Print, Println, PrintlnNothing, Read, ThrowableInit, ThrowableInitOf, GetMessage, ThrowableToString, FreeMeFree, FreeMeLink, FreeMeFreeChain}
 use Rattle.fm_frames.specs.declared.natives.Shown.TheVariants.{Int as ShownInt, Long as ShownLong, Char as ShownChar, Boolean as ShownBoolean, Text as ShownText}
 use Rattle.fm_frames.specs.Operands.{on_any, on_held, on_inner, on_int, on_long, on_object, on_passing, on_text, on_text_or_null, thrown}
 use Rattle.fm_frames.specs.Sights.{Sight, Looks}
@@ -200,6 +200,14 @@ on_built o s operand follows = on_builder o s operand (λ it. on_inner o operand
 abbrev pub has_text : Outline → ℕ → List ℕ → List Action
 has_text o operand units = text_made o units ∷ Put (OfOperand operand) 0 (text_kind o) (OfMade 0) ∷ []
 
+-- units that are cut at a length, or filled with U+0000 up to it
+abbrev pub resized : List ℕ → ℕ → List ℕ
+resized units len = take len units ++ replicate (len - length units) 0
+
+-- what is built at the first operand below the top gets a length
+abbrev pub with_length : Outline → List ℕ → ℤ → Effect
+with_length o units len = if int_lt len (pos 0) then thrown_outside o else acting 2 (has_text o 1 (resized units (unsigned_abs len)))
+
 -- the rows of StringBuilder and StringBuffer
 unfoldable pub builder_native : Outline → Native → List Sight → Effect
 builder_native o BuilderInit s = on_builder o s 0 (λ it. acting 1 (Put (OfOperand 0) 0 (text_kind o) (Plain null) ∷ []))
@@ -209,6 +217,7 @@ builder_native o (Append shown) s =
 builder_native o BuilderLength s = on_built o s 0 (λ units. words 1 (int_word (pos (length units))))
 builder_native o BuilderToString s = on_built o s 0 (λ units. making 1 (text_made o units))
 builder_native o BuilderCharAt s = on_built o s 1 (λ units. on_int s 0 (λ i. char_at o units i))
+builder_native o BuilderSetLength s = on_built o s 1 (λ units. on_int s 0 (λ len. with_length o units len))
 builder_native o BufferInitOf s = on_builder o s 1 (λ it. on_text o s 0 (λ units. acting 2 (has_text o 1 units)))
 builder_native o row s = stuck
 
@@ -281,6 +290,7 @@ native_effect o (Append shown) byte s = builder_native o (Append shown) s
 native_effect o BuilderLength byte s = builder_native o BuilderLength s
 native_effect o BuilderToString byte s = builder_native o BuilderToString s
 native_effect o BuilderCharAt byte s = builder_native o BuilderCharAt s
+native_effect o BuilderSetLength byte s = builder_native o BuilderSetLength s
 native_effect o BufferInitOf byte s = builder_native o BufferInitOf s
 native_effect o Exit byte s = stream_native o Exit byte s
 native_effect o (Print shown) byte s = stream_native o (Print shown) byte s

@@ -1,7 +1,7 @@
 -- The built-in methods, which are the variants of an enum of the code (src/natives.rt), by the numbers of their rows, with what each of them takes and gives.
 use Rattle.std.specs.Prelude.{ℕ, Bool, true, false, List, [], ◌∷◌, ◌++◌, Option, slice_get}
 use Rattle.fm_frames.specs.declared.natives.Native.{Native}
-use Rattle.fm_frames.specs.declared.natives.Native.TheVariants.{ObjectInit, ObjectHashCode, ObjectEquals, ObjectToString, StringLength, CharAt, StringEquals, StringHashCode, CompareTo, StringToString, Substring, ValueOf, BuilderInit, Append, BuilderLength, BuilderToString, BuilderCharAt, BufferInitOf, Exit, Print, Println, PrintlnNothing, Read, ThrowableInit, ThrowableInitOf, GetMessage, ThrowableToString, FreeMeFree, FreeMeLink, FreeMeFreeChain}
+use Rattle.fm_frames.specs.declared.natives.Native.TheVariants.{ObjectInit, ObjectHashCode, ObjectEquals, ObjectToString, StringLength, CharAt, StringEquals, StringHashCode, CompareTo, StringToString, Substring, ValueOf, BuilderInit, Append, BuilderLength, BuilderToString, BuilderCharAt, BuilderSetLength, BufferInitOf, Exit, Print, Println, PrintlnNothing, Read, ThrowableInit, ThrowableInitOf, GetMessage, ThrowableToString, FreeMeFree, FreeMeLink, FreeMeFreeChain}
 use Rattle.fm_frames.specs.declared.natives.Shown.{Shown}
 use Rattle.fm_frames.specs.declared.natives.Shown.TheVariants.{Int as ShownInt, Long as ShownLong, Char as ShownChar, Boolean as ShownBoolean, Text as ShownText}
 
@@ -13,7 +13,7 @@ natives =
     ∷ ValueOf ShownInt ∷ ValueOf ShownLong ∷ ValueOf ShownChar ∷ ValueOf ShownBoolean
     ∷ BuilderInit
     ∷ Append ShownInt ∷ Append ShownLong ∷ Append ShownChar ∷ Append ShownBoolean ∷ Append ShownText
-    ∷ BuilderLength ∷ BuilderToString ∷ BuilderCharAt ∷ BufferInitOf
+    ∷ BuilderLength ∷ BuilderToString ∷ BuilderCharAt ∷ BuilderSetLength ∷ BufferInitOf
     ∷ Exit
     ∷ Print ShownInt ∷ Print ShownLong ∷ Print ShownChar ∷ Print ShownBoolean ∷ Print ShownText
     ∷ Println ShownInt ∷ Println ShownLong ∷ Println ShownChar ∷ Println ShownBoolean ∷ Println ShownText ∷ PrintlnNothing
@@ -100,6 +100,7 @@ native_type (Append shown) = giving_own BuilderReceiver (AShown shown ∷ [])
 native_type BuilderLength = giving BuilderReceiver [] an_int
 native_type BuilderToString = giving BuilderReceiver [] a_text
 native_type BuilderCharAt = giving BuilderReceiver (an_int ∷ []) a_char
+native_type BuilderSetLength = taking BuilderReceiver (an_int ∷ [])
 native_type BufferInitOf = taking BuilderReceiver (a_text ∷ [])
 native_type Exit = taking NoReceiver (an_int ∷ [])
 native_type (Print shown) = taking AnyReceiver (AShown shown ∷ [])

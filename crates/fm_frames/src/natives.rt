@@ -35,6 +35,7 @@ pub enum Native {
     BuilderLength,
     BuilderToString,
     BuilderCharAt,
+    BuilderSetLength,
     BufferInitOf,
     Exit,
     Print(Shown),
@@ -52,7 +53,7 @@ pub enum Native {
 }
 
 // The built-in methods in the order of their rows.
-const NATIVES: [Native; 45] = [
+const NATIVES: [Native; 46] = [
     Native::ObjectInit,
     Native::ObjectHashCode,
     Native::ObjectEquals,
@@ -77,6 +78,7 @@ const NATIVES: [Native; 45] = [
     Native::BuilderLength,
     Native::BuilderToString,
     Native::BuilderCharAt,
+    Native::BuilderSetLength,
     Native::BufferInitOf,
     Native::Exit,
     Native::Print(Shown::Int),

@@ -27,7 +27,7 @@ use Rattle.fm_law_sound.proofs.InsnActs.{failures, Fits, quiet}
 use Rattle.fm_law_sound.proofs.KindsAgree.{hidden_place}
 use Rattle.fm_law_sound.proofs.MadeObjects.{length_few, no_text, text_fits}
 use Rattle.fm_law_sound.proofs.SeenObjects.{seen_at}
-use Rattle.fm_law_sound.proofs.TextUnits.{units-append, units-drop, units-each, units-hex, units-signed, units-take}
+use Rattle.fm_law_sound.proofs.TextUnits.{units-append, units-drop, units-each, units-hex, units-signed, units-take, units-zeros}
 
 -- ---- what is seen of an object
 
@@ -121,6 +121,7 @@ module _ (p : Program) (ready : IsMakeable p) (names : NamesAreUnits p.outline) 
     append = units-append;
     take = units-take;
     drop = units-drop;
+    zeros = units-zeros;
     name = λ n it at. (seen n it at).name;
     colon = (omega arith, (omega arith, tt));
     hash = λ birth. (omega arith, units-hex birth);

@@ -1,5 +1,5 @@
 -- Units of the texts that built-in methods make are those of chars.
-use Rattle.std.proofs.Common.{ℕ, ℤ, pos, negsuc, zero, suc, ◌+◌, ◌/◌, ◌%◌, ◌^◌, ◌<◌, ◌==◌, Bool, true, false, cond, List, [], ◌∷◌, ◌++◌, take, drop, nat_lt, slice_index_or, arith}
+use Rattle.std.proofs.Common.{ℕ, ℤ, pos, negsuc, zero, suc, ◌+◌, ◌/◌, ◌%◌, ◌^◌, ◌<◌, ◌==◌, Bool, true, false, cond, List, [], ◌∷◌, ◌++◌, take, drop, replicate, nat_lt, slice_index_or, arith}
 use Rattle.std.specs.Fmt.{decimal, digit_glyph, digits, digits_onto, signed_decimal}
 use Rattle.fm_law_sound.specs.Making.{AreUnits}
 
@@ -18,6 +18,10 @@ pub units-drop : (n : ℕ) (xs : List ℕ) → AreUnits xs → AreUnits (drop n 
 units-drop zero xs all = all
 units-drop (suc n) [] all = tt
 units-drop (suc n) (x ∷ xs) all = units-drop n xs all.1
+
+pub units-zeros : (count : ℕ) → AreUnits (replicate count 0)
+units-zeros zero = tt
+units-zeros (suc count) = (omega arith, units-zeros count)
 
 -- each place of a list has one
 pub units-each : (xs : List ℕ) → ((place : ℕ) → slice_index_or xs place 0 < 2 ^ 16) → AreUnits xs

@@ -7,10 +7,10 @@ use Rattle.fm_base.specs.declared.kinds.TypeRef.{TypeRef}
 use Rattle.fm_cells.specs.Stores.{Store}
 use Rattle.fm_cells.specs.declared.answers.Head.{Head}
 use Rattle.fm_frames.specs.Effects.{Effect, OfOperand, OfPlace, Plain, Put, acting, int_word, making, words}
-use Rattle.fm_frames.specs.NativeRows.{builder_native, char_at, has_text, is_builder, native_effect, on_shown, shown_words, text_kind, text_made, throwable_native, throwable_text, thrown_outside}
+use Rattle.fm_frames.specs.NativeRows.{builder_native, char_at, has_text, is_builder, native_effect, on_shown, shown_words, text_kind, text_made, throwable_native, throwable_text, thrown_outside, with_length}
 use Rattle.fm_frames.specs.declared.natives.Shown.{Shown}
-use Rattle.fm_frames.specs.declared.natives.Native.TheVariants.{Append, BufferInitOf, BuilderCharAt, BuilderInit, BuilderLength, BuilderToString, GetMessage, ThrowableInit, ThrowableInitOf, ThrowableToString}
-use Rattle.fm_frames.specs.Operands.{on_inner, on_inner_of, on_passing, on_text}
+use Rattle.fm_frames.specs.declared.natives.Native.TheVariants.{Append, BufferInitOf, BuilderCharAt, BuilderInit, BuilderLength, BuilderSetLength, BuilderToString, GetMessage, ThrowableInit, ThrowableInitOf, ThrowableToString}
+use Rattle.fm_frames.specs.Operands.{on_inner, on_inner_of, on_int, on_passing, on_text}
 use Rattle.fm_frames.specs.Sights.{inner_of, looks, Looks, Sight, type_numbered}
 use Rattle.fm_frames.specs.States.{null, State}
 use Rattle.fm_native.proofs.Rows.{on_place}
@@ -105,6 +105,20 @@ pub built-char : (o : Outline) (store : Store) (byte : Option ℕ) (s : List Sig
     → AsksInt o s 0 found → native_effect o BuilderCharAt byte s ≡ asked o 0 found (λ i. char_at o (units_so_far store built.text) i)
 unfolding native_effect builder_native
 built-char o store byte s built found asks asks-int = asks (on_place o s) ∙ asks-int (λ i. char_at o (units_so_far store built.text) i)
+
+-- what follows of what is built and a length
+abbrev on_length : Outline → List Sight → List ℕ → Effect
+on_length o s units = on_int s 0 (λ len. with_length o units len)
+
+pub resize-refused : (o : Outline) (store : Store) (byte : Option ℕ) (s : List Sight) (r : OperandRefusal) → AsksBuilt o store s 1 (Err r)
+    → native_effect o BuilderSetLength byte s ≡ refused o 1 r
+unfolding native_effect builder_native
+resize-refused o store byte s r asks = asks (on_length o s)
+
+pub resize-is : (o : Outline) (store : Store) (byte : Option ℕ) (s : List Sight) (built : Built) (found : Result ℤ OperandRefusal) → AsksBuilt o store s 1 (Ok built)
+    → AsksInt o s 0 found → native_effect o BuilderSetLength byte s ≡ asked o 0 found (λ len. with_length o (units_so_far store built.text) len)
+unfolding native_effect builder_native
+resize-is o store byte s built found asks asks-int = asks (on_length o s) ∙ asks-int (λ len. with_length o (units_so_far store built.text) len)
 
 -- each index lies outside where there is no unit
 pub none-there : (o : Outline) (i : ℤ) → char_at o [] i ≡ thrown_outside o

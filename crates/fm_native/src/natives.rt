@@ -57,6 +57,7 @@ fn quiet_method<M: Memory>(
         Native::BuilderLength => builders::length(machine, program),
         Native::BuilderToString => builders::to_string(alloc, machine, program),
         Native::BuilderCharAt => builders::char_at(machine, program),
+        Native::BuilderSetLength => builders::set_length(alloc, machine, program),
         Native::BufferInitOf => builders::init_of(alloc, machine, program),
         Native::ThrowableInit => throwables::init(machine, program),
         Native::ThrowableInitOf => throwables::init_of(machine, program),

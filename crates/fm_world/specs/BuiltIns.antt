@@ -104,6 +104,7 @@ builder_methods name =
     ∷ method (codes "length") (codes "()I")
     ∷ method (codes "toString") (codes "()Ljava/lang/String;")
     ∷ method (codes "charAt") (codes "(I)C")
+    ∷ method (codes "setLength") (codes "(I)V")
     ∷ []
 
 -- a StringBuffer has the rows of a StringBuilder, and a constructor more
@@ -188,7 +189,7 @@ built_in_rows = free_me_row + length free_me_methods
 
 -- how many methods all classes have: those of a program come after them
 abbrev pub built_in_methods : ℕ
-built_in_methods = 88
+built_in_methods = 90
 
 -- ---- fields
 

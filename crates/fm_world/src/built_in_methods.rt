@@ -8,7 +8,7 @@ const PUBLIC: u16 = 0x0001;
 const PUBLIC_STATIC: u16 = 0x0009;
 
 /// How many methods the built-in classes have: those of a program come after them.
-pub const BUILT_IN_METHODS: u32 = 88;
+pub const BUILT_IN_METHODS: u32 = 90;
 
 // Methods by their flags, names and descriptors, in rows that follow one another from the first one on.
 macro_rules! methods {
@@ -70,7 +70,7 @@ pub const STRING_METHODS: [BuiltInMethod; 11] = methods![STRING_ROW;
     PUBLIC_STATIC "valueOf" "(Z)Ljava/lang/String;",
 ];
 
-pub const STRING_BUILDER_METHODS: [BuiltInMethod; 9] = methods![BUILDER_ROW;
+pub const STRING_BUILDER_METHODS: [BuiltInMethod; 10] = methods![BUILDER_ROW;
     PUBLIC "<init>" "()V",
     PUBLIC "append" "(I)Ljava/lang/StringBuilder;",
     PUBLIC "append" "(J)Ljava/lang/StringBuilder;",
@@ -80,9 +80,10 @@ pub const STRING_BUILDER_METHODS: [BuiltInMethod; 9] = methods![BUILDER_ROW;
     PUBLIC "length" "()I",
     PUBLIC "toString" "()Ljava/lang/String;",
     PUBLIC "charAt" "(I)C",
+    PUBLIC "setLength" "(I)V",
 ];
 
-pub const STRING_BUFFER_METHODS: [BuiltInMethod; 10] = methods![BUILDER_ROW;
+pub const STRING_BUFFER_METHODS: [BuiltInMethod; 11] = methods![BUILDER_ROW;
     PUBLIC "<init>" "()V",
     PUBLIC "append" "(I)Ljava/lang/StringBuffer;",
     PUBLIC "append" "(J)Ljava/lang/StringBuffer;",
@@ -92,6 +93,7 @@ pub const STRING_BUFFER_METHODS: [BuiltInMethod; 10] = methods![BUILDER_ROW;
     PUBLIC "length" "()I",
     PUBLIC "toString" "()Ljava/lang/String;",
     PUBLIC "charAt" "(I)C",
+    PUBLIC "setLength" "(I)V",
     PUBLIC "<init>" "(Ljava/lang/String;)V",
 ];
 
