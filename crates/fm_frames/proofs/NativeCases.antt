@@ -8,12 +8,12 @@ use Rattle.fm_types.specs.Named.{throwable_type}
 use Rattle.fm_world.specs.Programs.{Outline}
 use Rattle.fm_frames.specs.Effects.{acting, Effect, Exits, Free, FreeChain, going, int_word, making, OfOperand, OfPlace, Plain, printing, Put, SameOperands, SetChain, words}
 use Rattle.fm_frames.specs.NativeRows.{arguments_words, at_sign, builder_native, char_at, free_native, has_text, is_builder, linked, native_effect, native_words, object_native, on_builder, on_built, on_shown, resized, shown_words, stream_native, string_native, text_kind, text_made, throwable_native, throwable_text, thrown_outside, type_name, with_length}
-use Rattle.fm_frames.specs.Natives.{a_boolean, a_char, a_text, AGiven, an_int, AnObject, AnyReceiver, AShown, BuilderReceiver, Given, native_type, Nothing, Receiver, Returned, TextReceiver, ThrowableReceiver}
+use Rattle.fm_frames.specs.Natives.{a_boolean, a_char, a_text, AGiven, an_int, AnObject, AnyReceiver, AShown, BuilderReceiver, Given, native_type, Nothing, Receiver, Returned, SomeChars, TextReceiver, ThrowableReceiver}
 use Rattle.fm_frames.specs.declared.natives.Shown.{Shown}
 use Rattle.fm_frames.specs.declared.natives.Native.{Native}
-use Rattle.fm_frames.specs.declared.natives.Native.TheVariants.{ObjectInit, ObjectHashCode, ObjectEquals, ObjectToString, StringLength, CharAt, StringEquals, StringHashCode, CompareTo, StringToString, Substring, ValueOf, BuilderInit, Append, BuilderLength, BuilderToString, BuilderCharAt, BuilderSetLength, BufferInitOf, Exit, Print, Println, PrintlnNothing, Read, ThrowableInit, ThrowableInitOf, GetMessage, ThrowableToString, FreeMeFree, FreeMeLink, FreeMeFreeChain}
+use Rattle.fm_frames.specs.declared.natives.Native.TheVariants.{ObjectInit, ObjectHashCode, ObjectEquals, ObjectToString, StringLength, CharAt, StringEquals, StringHashCode, CompareTo, StringToString, Substring, ValueOf, ValueOfChars, BuilderInit, Append, BuilderLength, BuilderToString, BuilderCharAt, BuilderSetLength, BufferInitOf, Exit, Print, Println, PrintlnNothing, Read, ThrowableInit, ThrowableInitOf, GetMessage, ThrowableToString, FreeMeFree, FreeMeLink, FreeMeFreeChain}
 use Rattle.fm_frames.specs.declared.natives.Shown.TheVariants.{Int as ShownInt, Long as ShownLong, Char as ShownChar, Boolean as ShownBoolean, Text as ShownText}
-use Rattle.fm_frames.specs.Operands.{on_any, on_held, on_inner, on_int, on_object, on_text}
+use Rattle.fm_frames.specs.Operands.{on_any, on_chars, on_held, on_inner, on_int, on_object, on_text}
 use Rattle.fm_frames.specs.Sights.{Looks, Sight, Thing}
 use Rattle.fm_frames.specs.States.{null}
 
@@ -103,6 +103,7 @@ pub record NativeAsks (o : Outline) (s : List Sight) (native : Native) (Units : 
   -- the arguments
   pub int : (n : ℕ) → IsArgument native n an_int → (k : ℤ → Effect) → ((z : ℤ) → A (k z)) → A (on_int s n k)
   pub text : (n : ℕ) → IsArgument native n a_text → (k : List ℕ → Effect) → ((units : List ℕ) → Units units → A (k units)) → A (on_text o s n k)
+  pub chars : (n : ℕ) → IsArgument native n SomeChars → (k : List ℕ → Effect) → ((units : List ℕ) → Units units → A (k units)) → A (on_chars o s n k)
   pub object : (n : ℕ) → IsArgument native n AnObject → (none : Effect) (k : Looks → Effect) → A none → ((it : Looks) → IsAt s n it → A (k it))
       → A (on_held none s n k)
   pub shown : (shown : Shown) → (native_type native).arguments ≡ AShown shown ∷ [] → (k : List ℕ → Effect)
@@ -173,6 +174,7 @@ module _ (o : Outline) (s : List Sight) where
       (λ out. l.outside) (λ inside. l.text_given 3 refl refl _
       (keeps.take (unsigned_abs end - unsigned_abs begin) (drop (unsigned_abs begin) units) (keeps.drop (unsigned_abs begin) units fit))))))
   native_cases (ValueOf shown) Units A keeps a l byte = a.shown shown refl _ (λ units fit. l.text_given (shown_words shown) refl refl units fit)
+  native_cases ValueOfChars Units A keeps a l byte = a.chars 0 (refl, refl) _ (λ units fit. l.text_given 1 refl refl units fit)
   native_cases BuilderInit Units A keeps a l byte = a.builder 0 (refl, refl) _ (λ it seen is. l.begun it seen (inl is) refl refl)
   native_cases (Append shown) Units A keeps a l byte =
       a.built (shown_words shown) (refl, refl)

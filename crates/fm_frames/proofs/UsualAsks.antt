@@ -7,6 +7,7 @@ use Rattle.fm_types.specs.Named.{built_in_type, throwable_type}
 use Rattle.fm_world.specs.BuiltIns.{string_name}
 use Rattle.fm_world.specs.Programs.{Outline}
 use Rattle.fm_frames.specs.Effects.{Effect, faulty, Faults, going, OfPlace}
+use Rattle.fm_frames.specs.Elements.{chars_type}
 use Rattle.fm_frames.specs.NativeRows.{is_builder, native_effect, on_built, on_shown, text_kind}
 use Rattle.fm_frames.specs.declared.natives.Native.{Native}
 use Rattle.fm_frames.specs.declared.natives.Shown.{Shown}
@@ -86,6 +87,8 @@ module _ (o : Outline) (s : List Sight) (Units : List ℕ → Type 0) (A : Effec
     message = λ n it seen is k no_text some. ask_inside n it seen (inr is) k no_text some;
     int = λ n is k some. by_int A s n k f.none some;
     text = λ n is k some. ask_text n k some;
+    chars = λ n is k some.
+        by_object A o chars_type s n (λ it. k it.units) null f.none (f.lost n) (λ it seen passes. some it.units (sees.seen n it seen));
     object = λ n is none k of_null some. by_held A none s n k of_null f.none (f.lost n) some;
     shown = λ shown is k some. ask_shown shown k some;
   }

@@ -1,5 +1,5 @@
 -- How values lie in the elements of objects and arrays, and how many elements a word holds.
-use Rattle.std.specs.Prelude.{ℕ, ◌==◌, Bool, pos, if◌then◌else◌}
+use Rattle.std.specs.Prelude.{ℕ, ◌==◌, ◌||◌, Bool, pos, if◌then◌else◌}
 use Rattle.fm_alu.specs.TwosComplement.{low_bits, signed}
 use Rattle.fm_base.specs.declared.kinds.Base.{Base}
 use Rattle.fm_base.specs.declared.kinds.Base.TheVariants as base
@@ -66,6 +66,14 @@ pack_of_base (base.OfClass class) = 1
 -- whether a type is String, whose objects keep their units as chars
 abbrev pub is_text_type : Outline → TypeRef → Bool
 is_text_type o t = same_type (built_in_type o string_name) t
+
+-- the type of arrays of chars
+abbrev pub chars_type : TypeRef
+chars_type = record { dims = 1; base = base.Char }
+
+-- whether the elements of objects of a type are seen as units: those of texts and of arrays of chars
+abbrev pub shows_units : Outline → TypeRef → Bool
+shows_units o t = is_text_type o t || same_type chars_type t
 
 -- of an object of the type: texts have four units in a word, objects and arrays of references one element
 abbrev pub pack_of : Outline → TypeRef → ℕ

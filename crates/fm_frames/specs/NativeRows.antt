@@ -17,12 +17,12 @@ use Rattle.fm_world.specs.BuiltIns.{string_name}
 use Rattle.fm_world.specs.Chains.{class_at}
 use Rattle.fm_world.specs.Programs.{Outline}
 use Rattle.fm_frames.specs.Effects.{Effect, Plain, OfOperand, OfPlace, OfMade, SameOperands, Action, Make, Put, Free, SetChain, FreeChain, Exits, words, acting, making, printing, going, stuck, int_word}
-use Rattle.fm_frames.specs.Natives.{AnObject, AShown, Given, has_receiver, native_type}
+use Rattle.fm_frames.specs.Natives.{AnObject, AShown, Given, has_receiver, native_type, SomeChars}
 use Rattle.fm_frames.specs.declared.natives.Shown.{Shown}
 use Rattle.fm_frames.specs.declared.natives.Native.{Native}
-use Rattle.fm_frames.specs.declared.natives.Native.TheVariants.{ObjectInit, ObjectHashCode, ObjectEquals, ObjectToString, StringLength, CharAt, StringEquals, StringHashCode, CompareTo, StringToString, Substring, ValueOf, BuilderInit, Append, BuilderLength, BuilderToString, BuilderCharAt, BuilderSetLength, BufferInitOf, Exit, Print, Println, PrintlnNothing, Read, ThrowableInit, ThrowableInitOf, GetMessage, ThrowableToString, FreeMeFree, FreeMeLink, FreeMeFreeChain}
+use Rattle.fm_frames.specs.declared.natives.Native.TheVariants.{ObjectInit, ObjectHashCode, ObjectEquals, ObjectToString, StringLength, CharAt, StringEquals, StringHashCode, CompareTo, StringToString, Substring, ValueOf, ValueOfChars, BuilderInit, Append, BuilderLength, BuilderToString, BuilderCharAt, BuilderSetLength, BufferInitOf, Exit, Print, Println, PrintlnNothing, Read, ThrowableInit, ThrowableInitOf, GetMessage, ThrowableToString, FreeMeFree, FreeMeLink, FreeMeFreeChain}
 use Rattle.fm_frames.specs.declared.natives.Shown.TheVariants.{Int as ShownInt, Long as ShownLong, Char as ShownChar, Boolean as ShownBoolean, Text as ShownText}
-use Rattle.fm_frames.specs.Operands.{on_any, on_held, on_inner, on_int, on_long, on_object, on_passing, on_text, on_text_or_null, thrown}
+use Rattle.fm_frames.specs.Operands.{on_any, on_chars, on_held, on_inner, on_int, on_long, on_object, on_passing, on_text, on_text_or_null, thrown}
 use Rattle.fm_frames.specs.Sights.{Sight, Looks}
 use Rattle.fm_frames.specs.States.{null}
 
@@ -78,6 +78,7 @@ shown_words ShownText = 1
 -- the number of the words of a value
 abbrev pub given_words : Given → ℕ
 given_words (AShown shown) = shown_words shown
+given_words SomeChars = 1
 given_words AnObject = 1
 
 -- of all arguments
@@ -175,6 +176,7 @@ string_native o CompareTo s = on_text o s 1 (λ units. on_text o s 0 (λ others.
 string_native o StringToString s = on_text o s 0 (λ units. words 1 (OfOperand 0 ∷ []))
 string_native o Substring s = on_text o s 2 (λ units. on_int s 1 (λ begin. on_int s 0 (λ end. part_of o units begin end)))
 string_native o (ValueOf shown) s = on_shown o shown s (λ units. making (shown_words shown) (text_made o units))
+string_native o ValueOfChars s = on_chars o s 0 (λ units. making 1 (text_made o units))
 string_native o row s = stuck
 
 -- ---- texts that are built
@@ -285,6 +287,7 @@ native_effect o CompareTo byte s = string_native o CompareTo s
 native_effect o StringToString byte s = string_native o StringToString s
 native_effect o Substring byte s = string_native o Substring s
 native_effect o (ValueOf shown) byte s = string_native o (ValueOf shown) s
+native_effect o ValueOfChars byte s = string_native o ValueOfChars s
 native_effect o BuilderInit byte s = builder_native o BuilderInit s
 native_effect o (Append shown) byte s = builder_native o (Append shown) s
 native_effect o BuilderLength byte s = builder_native o BuilderLength s

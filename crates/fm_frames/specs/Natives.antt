@@ -1,7 +1,7 @@
 -- The built-in methods, which are the variants of an enum of the code (src/natives.rt), by the numbers of their rows, with what each of them takes and gives.
 use Rattle.std.specs.Prelude.{ℕ, Bool, true, false, List, [], ◌∷◌, ◌++◌, Option, slice_get}
 use Rattle.fm_frames.specs.declared.natives.Native.{Native}
-use Rattle.fm_frames.specs.declared.natives.Native.TheVariants.{ObjectInit, ObjectHashCode, ObjectEquals, ObjectToString, StringLength, CharAt, StringEquals, StringHashCode, CompareTo, StringToString, Substring, ValueOf, BuilderInit, Append, BuilderLength, BuilderToString, BuilderCharAt, BuilderSetLength, BufferInitOf, Exit, Print, Println, PrintlnNothing, Read, ThrowableInit, ThrowableInitOf, GetMessage, ThrowableToString, FreeMeFree, FreeMeLink, FreeMeFreeChain}
+use Rattle.fm_frames.specs.declared.natives.Native.TheVariants.{ObjectInit, ObjectHashCode, ObjectEquals, ObjectToString, StringLength, CharAt, StringEquals, StringHashCode, CompareTo, StringToString, Substring, ValueOf, ValueOfChars, BuilderInit, Append, BuilderLength, BuilderToString, BuilderCharAt, BuilderSetLength, BufferInitOf, Exit, Print, Println, PrintlnNothing, Read, ThrowableInit, ThrowableInitOf, GetMessage, ThrowableToString, FreeMeFree, FreeMeLink, FreeMeFreeChain}
 use Rattle.fm_frames.specs.declared.natives.Shown.{Shown}
 use Rattle.fm_frames.specs.declared.natives.Shown.TheVariants.{Int as ShownInt, Long as ShownLong, Char as ShownChar, Boolean as ShownBoolean, Text as ShownText}
 
@@ -10,7 +10,7 @@ abbrev pub natives : List Native
 natives =
     ObjectInit ∷ ObjectHashCode ∷ ObjectEquals ∷ ObjectToString
     ∷ StringLength ∷ CharAt ∷ StringEquals ∷ StringHashCode ∷ CompareTo ∷ StringToString ∷ Substring
-    ∷ ValueOf ShownInt ∷ ValueOf ShownLong ∷ ValueOf ShownChar ∷ ValueOf ShownBoolean
+    ∷ ValueOf ShownInt ∷ ValueOf ShownLong ∷ ValueOf ShownChar ∷ ValueOf ShownBoolean ∷ ValueOfChars
     ∷ BuilderInit
     ∷ Append ShownInt ∷ Append ShownLong ∷ Append ShownChar ∷ Append ShownBoolean ∷ Append ShownText
     ∷ BuilderLength ∷ BuilderToString ∷ BuilderCharAt ∷ BuilderSetLength ∷ BufferInitOf
@@ -36,9 +36,10 @@ pub data Receiver : Type 0 where
   BuilderReceiver : Receiver
   ThrowableReceiver : Receiver
 
--- the type of an argument: of what is shown, or any object
+-- the type of an argument: of what is shown, an array of chars, or any object
 pub data Given : Type 0 where
   AShown : Shown → Given
+  SomeChars : Given
   AnObject : Given
 
 -- what a built-in method returns: nothing, a value, or an object of the class that declares it
@@ -95,6 +96,7 @@ native_type CompareTo = giving TextReceiver (a_text ∷ []) an_int
 native_type StringToString = giving TextReceiver [] a_text
 native_type Substring = giving TextReceiver (an_int ∷ an_int ∷ []) a_text
 native_type (ValueOf shown) = giving NoReceiver (AShown shown ∷ []) a_text
+native_type ValueOfChars = giving NoReceiver (SomeChars ∷ []) a_text
 native_type BuilderInit = taking BuilderReceiver []
 native_type (Append shown) = giving_own BuilderReceiver (AShown shown ∷ [])
 native_type BuilderLength = giving BuilderReceiver [] an_int

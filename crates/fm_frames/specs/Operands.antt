@@ -8,6 +8,7 @@ use Rattle.fm_world.specs.BuiltIns.{string_name}
 use Rattle.fm_world.specs.Members.{size_of}
 use Rattle.fm_world.specs.Programs.{class_of_type, Outline}
 use Rattle.fm_frames.specs.Effects.{Effect, Make, OfMade, OfPlace, Throws, Faults, faulty, going, stuck}
+use Rattle.fm_frames.specs.Elements.{chars_type}
 use Rattle.fm_frames.specs.Sights.{Sight, Word, Null, Thing, Gone, Looks, Inner, NoField, Missing, Text, Lost}
 use Rattle.fm_frames.specs.declared.values.Value.TheVariants as value
 use Rattle.fm_base.specs.declared.kinds.Kind.TheVariants as kind
@@ -108,6 +109,10 @@ on_object o t sights operand follows = on_passing o (λ it. fits_type o.classes 
 -- the units of a text
 abbrev pub on_text : Outline → List Sight → ℕ → (List ℕ → Effect) → Effect
 on_text o sights operand follows = on_object o (built_in_type o string_name) sights operand (λ it. follows it.units)
+
+-- the units of an array of chars
+abbrev pub on_chars : Outline → List Sight → ℕ → (List ℕ → Effect) → Effect
+on_chars o sights operand follows = on_object o chars_type sights operand (λ it. follows it.units)
 
 -- the units of a text, or of null those of the word null
 abbrev pub on_text_or_null : Outline → List Sight → ℕ → (List ℕ → Effect) → Effect

@@ -7,7 +7,7 @@ use Rattle.fm_cells.specs.Stores.{Store, object_at}
 use Rattle.fm_world.specs.Chains.{chain_of, class_at}
 use Rattle.fm_world.specs.Numbers.{type_of_class}
 use Rattle.fm_world.specs.Programs.{class_of_type, Outline}
-use Rattle.fm_frames.specs.Elements.{is_text_type}
+use Rattle.fm_frames.specs.Elements.{is_text_type, shows_units}
 use Rattle.fm_frames.specs.declared.values.Value.{Value}
 use Rattle.fm_frames.specs.declared.values.Value.TheVariants as value
 
@@ -18,7 +18,7 @@ pub data Inner : Type 0 where
   Text : List ℕ → Inner
   Lost : Inner
 
--- an object: its type, how many were made before it, how many elements it has, whether it lives for ever, of a text its units, and what its hidden
+-- an object: its type, how many were made before it, how many elements it has, whether it lives for ever, of a text or an array of chars its units, and what its hidden
 -- field leads to
 pub record Looks : Type 0 where
   pub type : TypeRef
@@ -41,9 +41,9 @@ pub data Sight : Type 0 where
 abbrev pub type_numbered : Outline → ℕ → TypeRef
 type_numbered o number = slice_index_or o.types number (type_of_class 0)
 
--- the units of an object that is a text
+-- the units of an object that is a text or an array of chars
 abbrev pub units_of : Outline → Object → List ℕ
-units_of o object = if is_text_type o (type_numbered o object.class) then object.elements else []
+units_of o object = if shows_units o (type_numbered o object.class) then object.elements else []
 
 -- whether objects of the type have a hidden field, as texts that are built and throwables do: it is their first
 abbrev pub has_hidden_field : Outline → TypeRef → Bool

@@ -1,9 +1,9 @@
 // What the code of a method has at an item.
 
-ghost use Rattle.std.specs.Prelude.{◌≡◌, ◌==◌, ◌^◌, ◌<◌, if◌then◌else◌, unwrap_or};
+ghost use Rattle.std.specs.Prelude.{◌≡◌, ◌==◌, ◌||◌, ◌^◌, ◌<◌, if◌then◌else◌, unwrap_or};
 ghost use Rattle.std.specs.Option.{option_copied};
 ghost use Rattle.fm_cells.specs.Sizes.{IsPack};
-ghost use Rattle.fm_frames.specs.Elements.{pack_of, pack_of_base};
+ghost use Rattle.fm_frames.specs.Elements.{chars_type, pack_of, pack_of_base};
 ghost use Rattle.fm_frames.specs.Runnable.{IsRunnable};
 ghost use Rattle.fm_frames.specs.Sights.{type_numbered};
 ghost use Rattle.fm_frames.specs.States.{Frame};
@@ -69,6 +69,34 @@ pub fn is_text(t: TypeRef) -> bool
         Base::OfClass(class) => class.0 == STRING.0,
         _ => false,
     }
+}
+
+/// The type of arrays of chars. Takes no memory.
+pub fn chars_type() -> TypeRef
+    ensures { result ≡ chars_type }
+{
+    TypeRef {
+        dims: 1,
+        base: Base::Char,
+    }
+}
+
+// Whether the type is that of arrays of chars.
+fn is_chars(t: TypeRef) -> bool
+    ensures { result ≡ same_type chars_type t }
+{
+    if t.dims != 1 {
+        return false;
+    }
+    matches!(t.base, Base::Char)
+}
+
+/// Whether the elements of objects of the type are seen as units: those of texts and of arrays of
+/// chars. Takes no memory.
+pub fn shows_units(t: TypeRef) -> bool
+    ensures { result ≡ (same_type (type_of_class 1) t || same_type chars_type t) }
+{
+    is_text(t) || is_chars(t)
 }
 
 // The same by the number of the class of texts.

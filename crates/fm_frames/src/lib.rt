@@ -40,7 +40,9 @@ pub use built_ins::{
     CLASS_CHANGE_ERROR, NEGATIVE_ARRAY_SIZE_EXCEPTION, NULL_POINTER_EXCEPTION, STRING,
     STRING_BUFFER, STRING_BUILDER, STRING_INDEX_EXCEPTION, THROWABLE,
 };
-pub use coded::{code_of, is_text, offset_of, pack_of, type_id, type_numbered};
+pub use coded::{
+    chars_type, code_of, is_text, offset_of, pack_of, shows_units, type_id, type_numbered,
+};
 pub use elements::{kept, read};
 pub use ends::Ended;
 pub use frames::{Cursor, Frames};

@@ -29,6 +29,7 @@ pub enum Native {
     StringToString,
     Substring,
     ValueOf(Shown),
+    ValueOfChars,
     // The rows of a StringBuilder, which a StringBuffer has too; the last one only a StringBuffer has.
     BuilderInit,
     Append(Shown),
@@ -53,7 +54,7 @@ pub enum Native {
 }
 
 // The built-in methods in the order of their rows.
-const NATIVES: [Native; 46] = [
+const NATIVES: [Native; 47] = [
     Native::ObjectInit,
     Native::ObjectHashCode,
     Native::ObjectEquals,
@@ -69,6 +70,7 @@ const NATIVES: [Native; 46] = [
     Native::ValueOf(Shown::Long),
     Native::ValueOf(Shown::Char),
     Native::ValueOf(Shown::Boolean),
+    Native::ValueOfChars,
     Native::BuilderInit,
     Native::Append(Shown::Int),
     Native::Append(Shown::Long),

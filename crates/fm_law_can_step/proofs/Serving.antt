@@ -11,7 +11,7 @@ use Rattle.fm_base.specs.declared.kinds.TypeRef.{TypeRef}
 use Rattle.fm_cells.specs.Objects.{Object}
 use Rattle.fm_cells.specs.Stores.{object_at}
 use Rattle.fm_frames.specs.ArrayRows.{element_kind}
-use Rattle.fm_frames.specs.Elements.{is_text_type, pack_of, pack_of_base}
+use Rattle.fm_frames.specs.Elements.{is_text_type, pack_of, pack_of_base, shows_units}
 use Rattle.fm_frames.specs.NativeRows.{text_kind, text_type, type_name}
 use Rattle.fm_frames.specs.Sights.{type_numbered}
 use Rattle.fm_frames.specs.States.{State}
@@ -22,6 +22,7 @@ use Rattle.fm_law_can_step.specs.Ready.{CanRun, IsGoing}
 use Rattle.fm_law_sound.proofs.HiddenFields.{text_first}
 use Rattle.fm_law_sound.proofs.MadeObjects.{no_text}
 use Rattle.fm_law_sound.proofs.NestedArrays.{array_kind}
+use Rattle.fm_law_sound.proofs.ShownUnits.{shown_fit}
 use Rattle.fm_law_sound.proofs.TextUnits.{units-each}
 use Rattle.fm_law_sound.specs.Making.{HaveTextFirst, is_built, IsMakeable}
 use Rattle.fm_law_sound.specs.Sound.{IsObjectIn}
@@ -34,11 +35,12 @@ use Rattle.fm_world.specs.Programs.{kind_at, Program}
 -- ---- texts
 
 held_text : (p : Program) (x : State) → CanRun p → IsGoing p x → (cell : ℕ) (object : Object) → object_at x.areas.store cell ≡ Some object
-    → is_text_type p.outline (type_numbered p.outline object.class) ≡ true → IsText object
-held_text p x can going cell object held text =
+    → shows_units p.outline (type_numbered p.outline object.class) ≡ true → IsText object
+held_text p x can going cell object held shows =
     let h : IsObjectIn p.outline object = going.sound.1.areas.heap cell object held in
     record {
-      units = All-from_recursion (λ unit. unit < 2 ^ 16) object.elements (units-each object.elements (h.of_type.units text));
+      units = All-from_recursion (λ unit. unit < 2 ^ 16) object.elements (units-each object.elements
+          (shown_fit p.outline object (type_numbered p.outline object.class) h.of_type shows));
       short = object_short p x can going cell object held;
     }
 

@@ -33,7 +33,7 @@ use Rattle.fm_frames.proofs.BuiltInTypes.{buffer_there, builder_there, named_cla
 use Rattle.fm_frames.proofs.Programs.{completed-are, string_number}
 use Rattle.fm_frames.specs.CallRows.{native_of}
 use Rattle.fm_frames.specs.NativeRows.{text_type}
-use Rattle.fm_frames.specs.Natives.{AGiven, AnObject, AShown, BuilderReceiver, from_top, Given, has_receiver, native_of_row, native_type, Nothing, OwnObject, Receiver, Returned, TextReceiver, ThrowableReceiver}
+use Rattle.fm_frames.specs.Natives.{AGiven, AnObject, AShown, BuilderReceiver, from_top, Given, has_receiver, native_of_row, native_type, Nothing, OwnObject, Receiver, Returned, SomeChars, TextReceiver, ThrowableReceiver}
 use Rattle.fm_frames.specs.declared.natives.Native.{Native}
 use Rattle.fm_frames.specs.declared.natives.Shown.{Shown}
 use Rattle.fm_frames.specs.declared.natives.Shown.TheVariants.{Boolean as ShownBoolean, Char as ShownChar, Int as ShownInt, Long as ShownLong, Text as ShownText}
@@ -63,6 +63,7 @@ shown_text ShownText = string_text
 
 abbrev given_text : Given → List ℕ
 given_text (AShown shown) = shown_text shown
+given_text SomeChars = codes "[C"
 given_text AnObject = object_text
 
 abbrev arguments_text : List Given → List ℕ
@@ -108,6 +109,7 @@ read_given (AShown ShownLong) rest = refl
 read_given (AShown ShownChar) rest = refl
 read_given (AShown ShownBoolean) rest = refl
 read_given (AShown ShownText) rest = refl
+read_given SomeChars rest = refl
 read_given AnObject rest = refl
 
 read_arguments : (arguments : List Given) (rest : List ℕ)
@@ -124,6 +126,7 @@ read_returned buffer (AGiven (AShown ShownLong)) = refl
 read_returned buffer (AGiven (AShown ShownChar)) = refl
 read_returned buffer (AGiven (AShown ShownBoolean)) = refl
 read_returned buffer (AGiven (AShown ShownText)) = refl
+read_returned buffer (AGiven SomeChars) = refl
 read_returned buffer (AGiven AnObject) = refl
 read_returned true OwnObject = refl
 read_returned false OwnObject = refl
@@ -226,6 +229,7 @@ module _ (o : Outline) (more : List DeclaredClass) (classes : o.classes ≡ buil
   given_is (AShown ShownChar) = refl
   given_is (AShown ShownBoolean) = refl
   given_is (AShown ShownText) = one_class string_name 1 string_here
+  given_is SomeChars = refl
   given_is AnObject = one_class object_name 0 object_here
 
   given_alone : (given : Given) → reverse (local_slots (declared_kind o.classes (field_of given))) ≡ given_asked o given
@@ -266,6 +270,7 @@ module _ (o : Outline) (more : List DeclaredClass) (classes : o.classes ≡ buil
   result_given_is (AShown ShownChar) = refl
   result_given_is (AShown ShownBoolean) = refl
   result_given_is (AShown ShownText) = result_class string_name 1 string_here
+  result_given_is SomeChars = refl
   result_given_is AnObject = result_class object_name 0 object_here
 
   returned_is : (class : ℕ) (buffer : Bool) → (class == 3) ≡ buffer → (result : Returned) → declares_own class result ≡ true

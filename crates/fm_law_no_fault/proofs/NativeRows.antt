@@ -14,14 +14,14 @@ use Rattle.fm_types.proofs.Order.{type-refl}
 use Rattle.fm_world.specs.Programs.{Outline}
 use Rattle.fm_frames.specs.Acts.{cell_of}
 use Rattle.fm_frames.specs.Effects.{acting, Effect, Exits, Falls, faulty, int_word, Next, OfMade, OfOperand, OfPlace, Put, SameOperands, Source, Throws, words}
-use Rattle.fm_frames.specs.Elements.{is_text_type}
+use Rattle.fm_frames.specs.Elements.{chars_type, is_text_type}
 use Rattle.fm_frames.specs.NativeRows.{arguments_words, given_words, native_words, has_text, native_effect, on_shown, shown_words, text_kind, text_type, thrown_outside}
-use Rattle.fm_frames.specs.Natives.{a_boolean, a_text, AGiven, an_int, AnObject, AnyReceiver, AShown, BuilderReceiver, from_top, Given, has_one, has_receiver, native_type, Nothing, Receiver, Returned, TextReceiver, ThrowableReceiver}
+use Rattle.fm_frames.specs.Natives.{a_boolean, a_text, AGiven, an_int, AnObject, AnyReceiver, AShown, BuilderReceiver, from_top, Given, has_one, has_receiver, native_type, Nothing, Receiver, Returned, SomeChars, TextReceiver, ThrowableReceiver}
 use Rattle.fm_frames.specs.declared.natives.Native.{Native}
 use Rattle.fm_frames.specs.declared.natives.Shown.{Shown}
 use Rattle.fm_frames.specs.declared.natives.Native.TheVariants.{Append, GetMessage, StringToString, ThrowableInitOf}
 use Rattle.fm_frames.specs.declared.natives.Shown.TheVariants.{Boolean as ShownBoolean, Char as ShownChar, Int as ShownInt, Long as ShownLong, Text as ShownText}
-use Rattle.fm_frames.specs.Operands.{on_any, on_inner, on_inner_of, on_int, on_passing, on_text, on_text_or_null, thrown}
+use Rattle.fm_frames.specs.Operands.{on_any, on_inner, on_inner_of, on_int, on_object, on_passing, on_text_or_null, thrown}
 use Rattle.fm_frames.specs.Sights.{has_hidden_field, inner_of, Inner, led_to, Looks, looks, Lost, Missing, NoField, Sight, sights, Text, text_in, Thing, type_numbered}
 use Rattle.fm_frames.specs.States.{Areas, word_at}
 use Rattle.fm_frames.proofs.NativeCases.{any_units, is_int, IsArgument, IsReceiver, native_cases, NativeAsks, NativeLeaves, Returns, Takes}
@@ -53,6 +53,7 @@ asked_count o (AShown ShownLong) = refl
 asked_count o (AShown ShownChar) = refl
 asked_count o (AShown ShownBoolean) = refl
 asked_count o (AShown ShownText) = refl
+asked_count o SomeChars = refl
 asked_count o AnObject = refl
 
 receiver_asked : (o : Outline) (has : Bool) (arguments : List Given)
@@ -155,12 +156,12 @@ module _ (r : Row) (t : TypeRef) where
     asked : (n : ℕ) (given : Given) (w : Slot) → IsArgument row n given → given_asked o given ≡ w ∷ [] → slice_get (arguments_asked o row) n ≡ Some w
     asked n given w is one = argument_found Slot (given_asked o) (asked_count o) (native_type row).arguments n given w is one
 
-    -- an argument that is a text
-    ask_argument : (n : ℕ) → slice_get (arguments_asked o row) n ≡ Some (slot.Ref (text_type o)) → (k : List ℕ → Effect) → ((units : List ℕ) → N row (k units))
-        → N row (on_text o seen n k)
-    ask_argument n at k each =
+    -- an argument whose units are seen: a text, or an array of chars
+    ask_argument : (named : TypeRef) (n : ℕ) → slice_get (arguments_asked o row) n ≡ Some (slot.Ref named) → (k : List ℕ → Effect)
+        → ((units : List ℕ) → N row (k units)) → N row (on_object o named seen n (λ it. k it.units))
+    ask_argument named n at k each =
         wanted_object o r.areas.store r.own r.news r.steps.tree (N row) (arguments_asked o row) r.before.stack h.rest h.taken_is r.frame.stack r.stack n
-        (text_type o) at (λ it. k it.units) (null_native row) (λ it found fits_it. each it.units)
+        named at (λ it. k it.units) (null_native row) (λ it found fits_it. each it.units)
 
     ask_text_or_null : (n : ℕ) → slice_get (arguments_asked o row) n ≡ Some (slot.Ref (text_type o)) → (k : List ℕ → Effect)
         → ((units : List ℕ) → N row (k units)) → N row (on_text_or_null o seen n k)
@@ -258,7 +259,8 @@ module _ (r : Row) (t : TypeRef) where
       throwable = λ n is k each. ask_passing row h ThrowableReceiver refl n is k each;
       message = λ n it found may k no_text some. ask_inner row n it found (r.cells.built_in.throwables it.type may) k (by_message k no_text some);
       int = λ n is k each. ask_int row h n (asked row h n an_int slot.Int is refl) k each;
-      text = λ n is k each. ask_argument row h n (asked row h n a_text (slot.Ref (text_type o)) is refl) k (λ units. each units tt);
+      text = λ n is k each. ask_argument row h (text_type o) n (asked row h n a_text (slot.Ref (text_type o)) is refl) k (λ units. each units tt);
+      chars = λ n is k each. ask_argument row h chars_type n (asked row h n SomeChars (slot.Ref chars_type) is refl) k (λ units. each units tt);
       object = λ n is none k of_null each.
           wanted_held o r.areas.store r.own r.news r.steps.tree (N row) (arguments_asked o row) r.before.stack h.rest h.taken_is r.frame.stack r.stack n _
           (asked row h n AnObject (object_slot o) is refl) none k (λ is_null. of_null) (λ it found fits_it. each it found);

@@ -21,9 +21,9 @@ use Rattle.fm_world.specs.Programs.{class_of_type, IsTypeIn, kind_at, Outline, P
 use Rattle.fm_world.specs.declared.declarations.Constant.TheVariants as constant
 use Rattle.fm_world.specs.declared.uses.Use.TheVariants as resolved
 use Rattle.fm_frames.specs.CallRows.{native_of}
-use Rattle.fm_frames.specs.Elements.{is_text_type}
+use Rattle.fm_frames.specs.Elements.{chars_type, is_text_type}
 use Rattle.fm_frames.specs.NativeRows.{text_kind, text_type}
-use Rattle.fm_frames.specs.Natives.{AGiven, AnObject, AShown, BuilderReceiver, from_top, Given, has_receiver, native_type, Nothing, OwnObject, Receiver, Returned, TextReceiver, ThrowableReceiver}
+use Rattle.fm_frames.specs.Natives.{AGiven, AnObject, AShown, BuilderReceiver, from_top, Given, has_receiver, native_type, Nothing, OwnObject, Receiver, Returned, SomeChars, TextReceiver, ThrowableReceiver}
 use Rattle.fm_frames.specs.declared.natives.Native.{Native}
 use Rattle.fm_frames.specs.declared.natives.Shown.{Shown}
 use Rattle.fm_frames.specs.declared.natives.Shown.TheVariants.{Boolean as ShownBoolean, Char as ShownChar, Int as ShownInt, Long as ShownLong, Text as ShownText}
@@ -85,6 +85,7 @@ shown_asked o ShownText = slot.Ref (text_type o) ∷ []
 -- the words of a value
 abbrev pub given_asked : Outline → Given → List Slot
 given_asked o (AShown shown) = shown_asked o shown
+given_asked o SomeChars = slot.Ref chars_type ∷ []
 given_asked o AnObject = object_slot o ∷ []
 
 -- the words of a built-in method's arguments, the topmost first

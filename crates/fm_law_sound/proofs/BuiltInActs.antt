@@ -8,7 +8,7 @@ use Rattle.fm_world.specs.Numbers.{type_of_class}
 use Rattle.fm_world.specs.Programs.{kind_at, Outline, Program}
 use Rattle.fm_frames.specs.Acts.{cell_of}
 use Rattle.fm_frames.specs.Effects.{acting, Effect, Exits, going, int_word, printing, SameOperands, words}
-use Rattle.fm_frames.specs.Elements.{is_text_type}
+use Rattle.fm_frames.specs.Elements.{is_text_type, shows_units}
 use Rattle.fm_frames.specs.NativeRows.{has_text, native_effect, shown_words, text_kind, text_type, type_name}
 use Rattle.fm_frames.specs.declared.natives.Native.{Native}
 use Rattle.fm_frames.specs.declared.natives.Native.TheVariants.{ThrowableInitOf}
@@ -27,11 +27,12 @@ use Rattle.fm_law_sound.proofs.InsnActs.{failures, Fits, quiet}
 use Rattle.fm_law_sound.proofs.KindsAgree.{hidden_place}
 use Rattle.fm_law_sound.proofs.MadeObjects.{length_few, no_text, text_fits}
 use Rattle.fm_law_sound.proofs.SeenObjects.{seen_at}
+use Rattle.fm_law_sound.proofs.ShownUnits.{shown_fit}
 use Rattle.fm_law_sound.proofs.TextUnits.{units-append, units-drop, units-each, units-hex, units-signed, units-take, units-zeros}
 
 -- ---- what is seen of an object
 
--- the units of a text, and of the text to which the hidden field leads
+-- the units of a text or an array of chars, and of the text to which the hidden field leads
 record HasUnits (o : Outline) (it : Looks) : Type 0 where
   units : AreUnits it.units
   inner : (units : List ℕ) → it.inner ≡ Text units → AreUnits units
@@ -42,7 +43,8 @@ units_if true elements each = units-each elements (each refl)
 units_if false elements each = tt
 
 text_units : (o : Outline) (object : Object) → IsObjectIn o object → AreUnits (units_of o object)
-text_units o object h = units_if (is_text_type o (type_numbered o object.class)) object.elements h.of_type.units
+text_units o object h =
+    units_if (shows_units o (type_numbered o object.class)) object.elements (shown_fit o object (type_numbered o object.class) h.of_type)
 
 text_if : (b : Bool) (elements units : List ℕ) → (b ≡ true → (place : ℕ) → slice_index_or elements place 0 < 2 ^ 16)
     → cond b (Text elements) Lost ≡ Text units → AreUnits units

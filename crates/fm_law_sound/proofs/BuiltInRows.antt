@@ -8,7 +8,7 @@ use Rattle.fm_types.specs.declared.slots.Slot.TheVariants as slot
 use Rattle.fm_world.specs.Programs.{Outline}
 use Rattle.fm_frames.specs.Effects.{acting, Effect, Free, FreeChain, int_word, OfMade, OfOperand, OfPlace, Put, SameOperands, SetChain, Source, words}
 use Rattle.fm_frames.specs.NativeRows.{arguments_words, given_words, has_text, native_effect, native_words, shown_words, text_kind}
-use Rattle.fm_frames.specs.Natives.{a_boolean, a_text, AGiven, AnObject, AShown, from_top, Given, has_receiver, native_type, Nothing, Returned}
+use Rattle.fm_frames.specs.Natives.{a_boolean, a_text, AGiven, AnObject, AShown, from_top, Given, has_receiver, native_type, Nothing, Returned, SomeChars}
 use Rattle.fm_frames.specs.declared.natives.Native.{Native}
 use Rattle.fm_frames.specs.declared.natives.Shown.{Shown}
 use Rattle.fm_frames.specs.declared.natives.Native.TheVariants.{Append, FreeMeFree, FreeMeFreeChain, FreeMeLink, GetMessage, StringToString, ThrowableInitOf}
@@ -32,6 +32,7 @@ given_count (AShown ShownLong) = refl
 given_count (AShown ShownChar) = refl
 given_count (AShown ShownBoolean) = refl
 given_count (AShown ShownText) = refl
+given_count SomeChars = refl
 given_count AnObject = refl
 
 receiver_count : (has : Bool) (arguments : List Given)

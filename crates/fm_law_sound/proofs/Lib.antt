@@ -24,6 +24,7 @@ pub mod MadeObjects
 pub mod NestedArrays
 pub mod InsnActs
 pub mod StartActs
+pub mod ShownUnits
 pub mod BuiltInActs
 pub mod TextUnits
 pub mod FewWords

@@ -5,7 +5,7 @@ use Rattle.fm_types.specs.declared.slots.Slot.TheVariants as slot
 use Rattle.fm_world.specs.Programs.{Outline}
 use Rattle.fm_frames.specs.Acts.{value_of}
 use Rattle.fm_frames.specs.Effects.{Effect, Next, Falls, Throws, Exits, Faults, Source}
-use Rattle.fm_frames.specs.Natives.{AGiven, AnObject, AShown, from_top, Given, has_receiver, native_type, Nothing, OwnObject, Returned}
+use Rattle.fm_frames.specs.Natives.{AGiven, AnObject, AShown, from_top, Given, has_receiver, native_type, Nothing, OwnObject, Returned, SomeChars}
 use Rattle.fm_frames.specs.declared.natives.Native.{Native}
 use Rattle.fm_frames.specs.declared.natives.Shown.{Shown}
 use Rattle.fm_frames.specs.declared.natives.Shown.TheVariants.{Boolean as ShownBoolean, Char as ShownChar, Int as ShownInt, Long as ShownLong, Text as ShownText}
@@ -29,6 +29,7 @@ shown_slots ShownText = reference ∷ []
 -- the words of a value: those of an object are a reference
 abbrev pub given_slots : Given → List Slot
 given_slots (AShown shown) = shown_slots shown
+given_slots SomeChars = reference ∷ []
 given_slots AnObject = reference ∷ []
 
 -- with the receiver below them, where there is one

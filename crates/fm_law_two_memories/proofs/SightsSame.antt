@@ -1,15 +1,19 @@
 -- What is seen of a value on the one memory is seen of the same value on the other.
-use Rattle.std.proofs.Common.{◌≡◌, ℕ, zero, suc, inl, inr, Bool, true, false, cond, List, [], ◌∷◌, Some, refl, sym, ◌∙◌, ap, subst, slice_index_or}
+use Rattle.std.proofs.Common.{◌≡◌, ℕ, zero, suc, inl, inr, Bool, true, false, cond, List, [], ◌∷◌, Some, refl, sym, ◌∙◌, ap, subst, slice_index_or, ⊎_elim}
 use Rattle.std.specs.List.{AllByRecursion, AllZip}
+use Rattle.std.proofs.lemmas.Bool.{or_cases}
+use Rattle.std.proofs.lemmas.Grind.{same_number_lists}
 use Rattle.std.proofs.lemmas.Option.{same_Some}
 use Rattle.fm_cells.specs.Objects.{Object}
 use Rattle.fm_cells.specs.Soundness.{IsOrderly}
 use Rattle.fm_cells.specs.Stores.{object_at, Store}
+use Rattle.fm_world.specs.Chains.{same_type}
 use Rattle.fm_world.specs.Programs.{Outline}
-use Rattle.fm_frames.specs.Elements.{is_text_type}
+use Rattle.fm_frames.specs.Elements.{chars_type, is_text_type, shows_units}
 use Rattle.fm_frames.specs.Sights.{has_hidden_field, inner_of, led_to, looks, NoField, sight, sight_of_cell, sight_of_object, sights, text_in, Text, Lost, Thing, type_numbered, units_of}
 use Rattle.fm_frames.specs.declared.values.Value.{Value}
 use Rattle.fm_frames.specs.declared.values.Value.TheVariants as value
+use Rattle.fm_law_sound.proofs.ShownUnits.{chars_kind}
 use Rattle.fm_law_two_memories.specs.Hidden.{HiddenComesFirst}
 use Rattle.fm_law_two_memories.specs.Pairing.{AreAlike, ArePaired, AreTwins, Gone, HasTwin, SameCell, SameElement, SameFound, SameValue}
 use Rattle.fm_law_two_memories.specs.Seeing.{IsSeen, IsThere}
@@ -31,13 +35,24 @@ module _ (gone : Gone) (o : Outline) (one other : Store) (paired : ArePaired gon
     type_same : type_numbered o second.class ≡ type_numbered o object.class
     type_same = ap (type_numbered o) alike.class
 
-    units_by : (b : Bool) → is_text_type o (type_numbered o object.class) ≡ b
-        → cond (is_text_type o (type_numbered o object.class)) second.elements [] ≡ cond (is_text_type o (type_numbered o object.class)) object.elements []
-    units_by true is = ap (λ xs. cond (is_text_type o (type_numbered o object.class)) xs []) (alike.units is)
+    -- numbers are the same
+    chars_alike : same_type chars_type (type_numbered o object.class) ≡ true → second.elements ≡ object.elements
+    chars_alike same =
+        same_number_lists second.elements object.elements alike.len
+        (λ place within. subst (λ k. SameElement gone one other k (slice_index_or object.elements place 0) (slice_index_or second.elements place 0))
+        (chars_kind o (type_numbered o object.class) place same) (alike.elements place))
+
+    shown_alike : shows_units o (type_numbered o object.class) ≡ true → second.elements ≡ object.elements
+    shown_alike shows = ⊎_elim alike.units chars_alike
+        (or_cases (is_text_type o (type_numbered o object.class)) (same_type chars_type (type_numbered o object.class)) shows)
+
+    units_by : (b : Bool) → shows_units o (type_numbered o object.class) ≡ b
+        → cond (shows_units o (type_numbered o object.class)) second.elements [] ≡ cond (shows_units o (type_numbered o object.class)) object.elements []
+    units_by true is = ap (λ xs. cond (shows_units o (type_numbered o object.class)) xs []) (shown_alike is)
     units_by false is = ap (λ b. cond b second.elements []) is ∙ sym (ap (λ b. cond b object.elements []) is)
 
     pub units_same : units_of o second ≡ units_of o object
-    units_same = ap (λ t. cond (is_text_type o t) second.elements []) type_same ∙ units_by (is_text_type o (type_numbered o object.class)) refl
+    units_same = ap (λ t. cond (shows_units o t) second.elements []) type_same ∙ units_by (shows_units o (type_numbered o object.class)) refl
 
     text_by : (b : Bool) → is_text_type o (type_numbered o object.class) ≡ b
         → cond (is_text_type o (type_numbered o object.class)) (Text second.elements) Lost

@@ -1,5 +1,5 @@
 -- What is seen of an operand that is to be an object, a text or a number, by what the machine holds.
-use Rattle.std.proofs.Common.{◌≡◌, ℕ, zero, suc, ◌^◌, ◌<◌, ℤ, Bool, true, false, ◌==◌, if◌then◌else◌, List, [], length, take, Option, Some, None, Result, Ok, Err, slice_get, option_map, unwrap_or, refl, ap, sym, ◌∙◌, subst, lit<, arith}
+use Rattle.std.proofs.Common.{◌≡◌, ℕ, zero, suc, ◌^◌, ◌<◌, ℤ, Bool, true, false, ◌==◌, ◌||◌, if◌then◌else◌, List, [], length, take, Option, Some, None, Result, Ok, Err, slice_get, option_map, unwrap_or, refl, ap, sym, ◌∙◌, subst, lit<, arith}
 use Rattle.std.specs.List.{All}
 use Rattle.std.proofs.lemmas.Bool.{ne_eqb}
 use Rattle.std.proofs.lemmas.List.{take_all, length-take-le}
@@ -13,7 +13,7 @@ use Rattle.fm_cells.specs.declared.answers.Cell.{Cell}
 use Rattle.fm_cells.specs.declared.answers.Head.{Head}
 use Rattle.fm_frames.proofs.Refusals.{cell-no-int, cell-no-long, object-in}
 use Rattle.fm_frames.specs.Effects.{Effect, faulty}
-use Rattle.fm_frames.specs.Elements.{is_text_type}
+use Rattle.fm_frames.specs.Elements.{chars_type, is_text_type, shows_units}
 use Rattle.fm_frames.specs.NativeRows.{text_type}
 use Rattle.fm_frames.specs.Operands.{on_held_of, on_int_of, on_long_of, thrown_null}
 use Rattle.fm_frames.specs.Sights.{looks, Looks, sight, sight_of_cell, sight_of_object, sights, Sight, type_numbered, units_of}
@@ -29,9 +29,10 @@ use Rattle.fm_native.specs.Texts.{HoldsTexts}
 use Rattle.fm_native.specs.declared.asked.Held.{Held}
 use Rattle.fm_native.specs.declared.asked.OperandRefusal.{OperandRefusal}
 use Rattle.fm_native.specs.declared.asked.OperandRefusal.TheVariants as refusal
-use Rattle.fm_native.specs.inner.Asked.{asked, asked_by, AsksHeld, AsksInt, AsksLong, AsksText, IsHeldAt, IsTextAt, on_cell, on_found, text_of, units_in}
+use Rattle.fm_native.specs.inner.Asked.{asked, asked_by, AsksHeld, AsksInt, AsksLong, AsksUnitsOf, IsHeldAt, IsTextAt, on_cell, on_found, text_of, units_in}
 use Rattle.fm_types.specs.Fits.{fits_type}
 use Rattle.fm_world.specs.Chains.{same_type}
+use Rattle.fm_world.specs.Numbers.{type_of_class}
 use Rattle.fm_world.specs.Programs.{Outline}
 
 -- ---- objects
@@ -95,33 +96,38 @@ held-at x operand cell head e =
 
 -- ---- texts
 
--- what follows of an object that is to be a text
-abbrev pub text_follows : Outline → ℕ → (List ℕ → Effect) → Looks → Effect
-text_follows o operand follows it = if fits_type o.classes it.type (text_type o) then follows it.units else faulty operand
+-- what follows of an object that is to be of a type whose units are seen
+abbrev pub units_follow : Outline → TypeRef → ℕ → (List ℕ → Effect) → Looks → Effect
+units_follow o named operand follows it = if fits_type o.classes it.type named then follows it.units else faulty operand
 
-pub text-refused : (o : Outline) (store : Store) (s : List Sight) (operand : ℕ) (r : OperandRefusal) → AsksHeld o store s operand (Err r) → AsksText o store s operand (Err r)
-text-refused o store s operand r asks follows = asks (thrown_null o) (text_follows o operand follows)
+-- the same of a text
+abbrev pub text_follows : Outline → ℕ → (List ℕ → Effect) → Looks → Effect
+text_follows o operand follows it = units_follow o (text_type o) operand follows it
+
+pub units-refused : (o : Outline) (store : Store) (named : TypeRef) (s : List Sight) (operand : ℕ) (r : OperandRefusal) → AsksHeld o store s operand (Err r)
+    → AsksUnitsOf o store named s operand (Err r)
+units-refused o store named s operand r asks follows = asks (thrown_null o) (units_follow o named operand follows)
 
 -- an object that was found is what follows
-object-follows : (o : Outline) (store : Store) (s : List Sight) (operand : ℕ) (held : Held) (object : Object) → AsksHeld o store s operand (Ok held)
-    → object_at store held.cell.0 ≡ Some object → (follows : List ℕ → Effect)
-    → on_held_of (thrown_null o) operand (slice_get s operand) (text_follows o operand follows)
-    ≡ (if fits_type o.classes (type_numbered o object.class) (text_type o) then follows (units_of o object) else faulty operand)
+object-follows : (o : Outline) (store : Store) (named : TypeRef) (s : List Sight) (operand : ℕ) (held : Held) (object : Object)
+    → AsksHeld o store s operand (Ok held) → object_at store held.cell.0 ≡ Some object → (follows : List ℕ → Effect)
+    → on_held_of (thrown_null o) operand (slice_get s operand) (units_follow o named operand follows)
+    ≡ (if fits_type o.classes (type_numbered o object.class) named then follows (units_of o object) else faulty operand)
 unfolding looks
-object-follows o store s operand held object asks at follows =
-    asks (thrown_null o) (text_follows o operand follows) ∙ ap (on_found o store (text_follows o operand follows)) at
+object-follows o store named s operand held object asks at follows =
+    asks (thrown_null o) (units_follow o named operand follows) ∙ ap (on_found o store (units_follow o named operand follows)) at
 
-pub text-unfit : (o : Outline) (store : Store) (s : List Sight) (operand : ℕ) (held : Held) (object : Object) → AsksHeld o store s operand (Ok held)
-    → object_at store held.cell.0 ≡ Some object → fits_type o.classes (type_numbered o object.class) (text_type o) ≡ false
-    → AsksText o store s operand (Err (refusal.Unfit held.cell))
-text-unfit o store s operand held object asks at unfit follows =
-    object-follows o store s operand held object asks at follows ∙ ap (λ b. if b then follows (units_of o object) else faulty operand) unfit
+pub units-unfit : (o : Outline) (store : Store) (named : TypeRef) (s : List Sight) (operand : ℕ) (held : Held) (object : Object)
+    → AsksHeld o store s operand (Ok held) → object_at store held.cell.0 ≡ Some object → fits_type o.classes (type_numbered o object.class) named ≡ false
+    → AsksUnitsOf o store named s operand (Err (refusal.Unfit held.cell))
+units-unfit o store named s operand held object asks at unfit follows =
+    object-follows o store named s operand held object asks at follows ∙ ap (λ b. if b then follows (units_of o object) else faulty operand) unfit
 
--- the units of an object, by whether it is a text
-pub units-are : (o : Outline) (store : Store) (held : Held) (object : Object) (is_text : Bool) → object_at store held.cell.0 ≡ Some object
-    → head_of object ≡ held.head → is_text_type o (type_numbered o object.class) ≡ is_text → units_of o object ≡ units_in store (text_of is_text held)
-units-are o store held object is_text at head_is told =
-    ap (λ b. if b then object.elements else []) told ∙ by_test is_text where
+-- the units of an object, by whether they are seen
+pub units-are : (o : Outline) (store : Store) (held : Held) (object : Object) (shows : Bool) → object_at store held.cell.0 ≡ Some object
+    → head_of object ≡ held.head → shows_units o (type_numbered o object.class) ≡ shows → units_of o object ≡ units_in store (text_of shows held)
+units-are o store held object shows at head_is told =
+    ap (λ b. if b then object.elements else []) told ∙ by_test shows where
       elements : object.elements ≡ elements_at store held.cell.0
       elements = sym (ap (λ found. unwrap_or (option_map (λ (object : Object). object.elements) found) []) at)
 
@@ -132,24 +138,25 @@ units-are o store held object is_text at head_is told =
       by_test true = sym (take_all held.head.len object.elements (omega (arith, all))) ∙ ap (take held.head.len) elements
       by_test false = refl
 
-pub text-found : (o : Outline) (store : Store) (s : List Sight) (operand : ℕ) (held : Held) (object : Object) (is_text : Bool) → AsksHeld o store s operand (Ok held)
-    → object_at store held.cell.0 ≡ Some object → head_of object ≡ held.head → fits_type o.classes (type_numbered o object.class) (text_type o) ≡ true
-    → is_text_type o (type_numbered o object.class) ≡ is_text → AsksText o store s operand (Ok (text_of is_text held))
-text-found o store s operand held object is_text asks at head_is fits told follows =
-    object-follows o store s operand held object asks at follows ∙ ap (λ b. if b then follows (units_of o object) else faulty operand) fits
-    ∙ ap follows (units-are o store held object is_text at head_is told)
+pub units-found : (o : Outline) (store : Store) (named : TypeRef) (s : List Sight) (operand : ℕ) (held : Held) (object : Object) (shows : Bool)
+    → AsksHeld o store s operand (Ok held) → object_at store held.cell.0 ≡ Some object → head_of object ≡ held.head
+    → fits_type o.classes (type_numbered o object.class) named ≡ true → shows_units o (type_numbered o object.class) ≡ shows
+    → AsksUnitsOf o store named s operand (Ok (text_of shows held))
+units-found o store named s operand held object shows asks at head_is fits told follows =
+    object-follows o store named s operand held object asks at follows ∙ ap (λ b. if b then follows (units_of o object) else faulty operand) fits
+    ∙ ap follows (units-are o store held object shows at head_is told)
 
-pub text-known : (o : Outline) (store : Store) (held : Held) (object : Object) (is_text : Bool) → HoldsTexts o store → object_at store held.cell.0 ≡ Some object
-    → head_of object ≡ held.head → is_text_type o (type_numbered o object.class) ≡ is_text → IsTextAt store (text_of is_text held)
-text-known o store held object is_text texts at head_is told =
-    by_test is_text told where
+pub text-known : (o : Outline) (store : Store) (held : Held) (object : Object) (shows : Bool) → HoldsTexts o store → object_at store held.cell.0 ≡ Some object
+    → head_of object ≡ held.head → shows_units o (type_numbered o object.class) ≡ shows → IsTextAt store (text_of shows held)
+text-known o store held object shows texts at head_is told =
+    by_test shows told where
       all : length object.elements ≡ held.head.len
       all = ap (λ (h : Head). h.len) head_is
 
       elements : elements_at store held.cell.0 ≡ object.elements
       elements = ap (λ found. unwrap_or (option_map (λ (object : Object). object.elements) found) []) at
 
-      by_test : (b : Bool) → is_text_type o (type_numbered o object.class) ≡ b → IsTextAt store (text_of b held)
+      by_test : (b : Bool) → shows_units o (type_numbered o object.class) ≡ b → IsTextAt store (text_of b held)
       by_test true is =
           let known = texts.texts held.cell.0 object at is in
           record {
@@ -159,14 +166,28 @@ text-known o store held object is_text texts at head_is told =
           }
       by_test false is = record { len = refl; within = lit< tt; units = All-nil (λ unit. unit < 2 ^ 16) }
 
--- whether the object is below the class of texts, as the code found it out
+-- whether the object fits a type, as the code found it out
+pub fits-named : (o : Outline) (t named : TypeRef) (held : Held) (object : Object) (told : Bool) → head_of object ≡ held.head
+    → t ≡ type_numbered o held.head.class → told ≡ fits_type o.classes t named → fits_type o.classes (type_numbered o object.class) named ≡ told
+fits-named o t named held object told head_is t_is is =
+    let class : object.class ≡ held.head.class = ap (λ (h : Head). h.class) head_is in
+    ap (λ n. fits_type o.classes (type_numbered o n) named) class ∙ ap (λ u. fits_type o.classes u named) (sym t_is) ∙ sym is
+
+-- whether it is below the class of texts
 pub fits-told : (o : Outline) (t text : TypeRef) (held : Held) (object : Object) (told : Bool) → head_of object ≡ held.head
     → t ≡ type_numbered o held.head.class → text ≡ text_type o → told ≡ fits_type o.classes t text
     → fits_type o.classes (type_numbered o object.class) (text_type o) ≡ told
 fits-told o t text held object told head_is t_is text_is is =
+    ap (fits_type o.classes (type_numbered o object.class)) (sym text_is) ∙ fits-named o t text held object told head_is t_is is
+
+-- whether its units are seen
+pub units-told : (o : Outline) (t : TypeRef) (held : Held) (object : Object) (told : Bool) → head_of object ≡ held.head
+    → t ≡ type_numbered o held.head.class → text_type o ≡ type_of_class 1 → told ≡ (same_type (type_of_class 1) t || same_type chars_type t)
+    → shows_units o (type_numbered o object.class) ≡ told
+units-told o t held object told head_is t_is text_is is =
     let class : object.class ≡ held.head.class = ap (λ (h : Head). h.class) head_is in
-    ap (λ n. fits_type o.classes (type_numbered o n) (text_type o)) class
-    ∙ (λ i. fits_type o.classes (sym t_is i) (sym text_is i)) ∙ sym is
+    ap (λ n. shows_units o (type_numbered o n)) class
+    ∙ (λ i. same_type (text_is i) (sym t_is i) || same_type chars_type (sym t_is i)) ∙ sym is
 
 -- whether it is a text
 pub is_text-told : (o : Outline) (t text : TypeRef) (held : Held) (object : Object) (told : Bool) → head_of object ≡ held.head

@@ -5,7 +5,7 @@ use Rattle.fm_cells.specs.Answers.{head_of}
 use Rattle.fm_cells.specs.Objects.{Object}
 use Rattle.fm_cells.specs.Stores.{object_at, Store}
 use Rattle.fm_frames.specs.Effects.{Effect, faulty, int_word, words}
-use Rattle.fm_frames.specs.Elements.{is_text_type}
+use Rattle.fm_frames.specs.Elements.{shows_units}
 use Rattle.fm_frames.specs.NativeRows.{text_type}
 use Rattle.fm_frames.specs.Sights.{looks, Looks, sights, Sight, type_numbered, units_of}
 use Rattle.fm_frames.specs.declared.looks.Look.{Look}
@@ -56,13 +56,13 @@ null-text-unfit o store s operand held object asks at unfit follows =
     asks (follows (codes "null")) (text_follows o operand follows) ∙ ap (on_found o store (text_follows o operand follows)) at
     ∙ ap (λ b. if b then follows (units_of o object) else faulty operand) unfit
 
-pub null-text-found : (o : Outline) (store : Store) (s : List Sight) (operand : ℕ) (held : Held) (object : Object) (is_text : Bool) → AsksHeldOrNull o store s operand (Ok (Some held))
+pub null-text-found : (o : Outline) (store : Store) (s : List Sight) (operand : ℕ) (held : Held) (object : Object) (shows : Bool) → AsksHeldOrNull o store s operand (Ok (Some held))
     → object_at store held.cell.0 ≡ Some object → head_of object ≡ held.head → fits_type o.classes (type_numbered o object.class) (text_type o) ≡ true
-    → is_text_type o (type_numbered o object.class) ≡ is_text → AsksTextOrNull o store s operand (Ok (Some (text_of is_text held)))
+    → shows_units o (type_numbered o object.class) ≡ shows → AsksTextOrNull o store s operand (Ok (Some (text_of shows held)))
 unfolding looks
-null-text-found o store s operand held object is_text asks at head_is fits told follows =
+null-text-found o store s operand held object shows asks at head_is fits told follows =
     asks (follows (codes "null")) (text_follows o operand follows) ∙ ap (on_found o store (text_follows o operand follows)) at
-    ∙ ap (λ b. if b then follows (units_of o object) else faulty operand) fits ∙ ap follows (units-are o store held object is_text at head_is told)
+    ∙ ap (λ b. if b then follows (units_of o object) else faulty operand) fits ∙ ap follows (units-are o store held object shows at head_is told)
 
 -- ---- what a text is compared with
 
@@ -87,11 +87,11 @@ other-unfit o store s held object asks at unfit text =
     asks no_other (equal_follows o (units_in store text)) ∙ ap (on_found o store (equal_follows o (units_in store text))) at
     ∙ ap (λ b. words 2 (int_word (if b && bytes_eq (units_of o object) (units_in store text) then pos 1 else pos 0))) unfit
 
-pub other-found : (o : Outline) (store : Store) (s : List Sight) (held : Held) (object : Object) (is_text : Bool) → AsksHeldOrNull o store s 0 (Ok (Some held))
+pub other-found : (o : Outline) (store : Store) (s : List Sight) (held : Held) (object : Object) (shows : Bool) → AsksHeldOrNull o store s 0 (Ok (Some held))
     → object_at store held.cell.0 ≡ Some object → head_of object ≡ held.head → fits_type o.classes (type_numbered o object.class) (text_type o) ≡ true
-    → is_text_type o (type_numbered o object.class) ≡ is_text → AsksOther o store s (Ok (Some (text_of is_text held)))
+    → shows_units o (type_numbered o object.class) ≡ shows → AsksOther o store s (Ok (Some (text_of shows held)))
 unfolding looks
-other-found o store s held object is_text asks at head_is fits told text =
+other-found o store s held object shows asks at head_is fits told text =
     asks no_other (equal_follows o (units_in store text)) ∙ ap (on_found o store (equal_follows o (units_in store text))) at
     ∙ ap (λ b. words 2 (int_word (if b && bytes_eq (units_of o object) (units_in store text) then pos 1 else pos 0))) fits
-    ∙ ap (λ us. words 2 (int_word (if bytes_eq us (units_in store text) then pos 1 else pos 0))) (units-are o store held object is_text at head_is told)
+    ∙ ap (λ us. words 2 (int_word (if bytes_eq us (units_in store text) then pos 1 else pos 0))) (units-are o store held object shows at head_is told)

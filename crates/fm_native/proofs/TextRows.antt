@@ -2,15 +2,15 @@
 use Rattle.std.proofs.Common.{◌≡◌, ℕ, ◌+◌, ℤ, pos, Bool, true, false, if◌then◌else◌, List, [], Option, Result, Ok, Err, refl, ◌∙◌}
 use Rattle.std.specs.Global.{Vec}
 use Rattle.fm_cells.specs.Stores.{Store}
-use Rattle.fm_frames.specs.Effects.{Effect, int_word, printing, words}
-use Rattle.fm_frames.specs.NativeRows.{equal_to, native_effect, shown_words, stream_native, string_native}
+use Rattle.fm_frames.specs.Effects.{Effect, int_word, making, printing, words}
+use Rattle.fm_frames.specs.NativeRows.{equal_to, native_effect, shown_words, stream_native, string_native, text_made}
 use Rattle.fm_frames.specs.declared.natives.Shown.{Shown}
-use Rattle.fm_frames.specs.declared.natives.Native.TheVariants.{PrintlnNothing, StringEquals, Substring}
+use Rattle.fm_frames.specs.declared.natives.Native.TheVariants.{PrintlnNothing, StringEquals, Substring, ValueOfChars}
 use Rattle.fm_frames.specs.Operands.{on_int}
 use Rattle.fm_frames.specs.Sights.{Sight}
 use Rattle.fm_native.specs.declared.asked.OperandRefusal.{OperandRefusal}
 use Rattle.fm_native.specs.declared.asked.Text.{Text}
-use Rattle.fm_native.specs.inner.Asked.{asked, AsksInt, AsksOther, AsksText, equals_other, part_up_to, refused, units_in}
+use Rattle.fm_native.specs.inner.Asked.{asked, AsksChars, AsksInt, AsksOther, AsksText, equals_other, part_up_to, refused, units_in}
 use Rattle.fm_native.specs.inner.Shown.{AsksUnits, print_row, shown_bytes}
 use Rattle.fm_world.specs.Programs.{Outline}
 
@@ -46,6 +46,13 @@ pub part-begun : (o : Outline) (store : Store) (byte : Option ℕ) (s : List Sig
 unfolding native_effect string_native
 part-begun o store byte s text found asks asks-begin =
     asks (λ units. from_begin o s units) ∙ asks-begin (λ begin. part_up_to o s (units_in store text) begin)
+
+-- ---- valueOf of chars
+
+pub chars-text : (o : Outline) (store : Store) (byte : Option ℕ) (s : List Sight) (found : Result Text OperandRefusal) → AsksChars o store s 0 found
+    → native_effect o ValueOfChars byte s ≡ asked o 0 found (λ chars. making 1 (text_made o (units_in store chars)))
+unfolding native_effect string_native
+chars-text o store byte s found asks = asks (λ units. making 1 (text_made o units))
 
 -- ---- what is printed
 

@@ -5,13 +5,15 @@
 
 ghost use Rattle.std.specs.Prelude.{◌≡◌, ◌<◌, ◌^◌, ℕ, IfErr, IfOk, IfSome, OnOk};
 ghost use Rattle.fm_native.specs.Texts.{HoldsTexts};
-ghost use Rattle.fm_native.specs.inner.Asked.{refused, text_of, units_in, AsksHeld, AsksHeldOrNull, AsksInt, AsksLong, AsksText, AsksTextOrNull, IsAt, IsHeldAt, IsTextAt};
+ghost use Rattle.fm_native.specs.inner.Asked.{refused, text_of, units_in, AsksChars, AsksHeld, AsksHeldOrNull, AsksInt, AsksLong, AsksText, AsksTextOrNull, AsksUnitsOf, IsAt, IsHeldAt, IsTextAt};
 ghost use Rattle.fm_frames.specs.Runnable.{IsRunnable};
 ghost use Rattle.fm_frames.specs.inner.Doings.{seen, CanStep, DoesIn};
 
-use fm_base::{NoMemory, TypeId};
+use fm_base::{NoMemory, TypeId, TypeRef};
 use fm_cells::{Cell, Head, Memory};
-use fm_frames::{Look, Machine, NULL_POINTER_EXCEPTION, STRING, is_text, type_numbered};
+use fm_frames::{
+    Look, Machine, NULL_POINTER_EXCEPTION, STRING, chars_type, shows_units, type_numbered,
+};
 use fm_types::fits_type;
 use fm_world::{Program, type_of_class};
 
@@ -22,7 +24,7 @@ pub struct Held {
     pub head: Head,
 }
 
-/// A text that an operand leads to: its cell, and how many units it has.
+/// A text or an array of chars that an operand leads to: its cell, and how many units it has.
 #[derive(Clone, Copy, Debug)]
 pub struct Text {
     pub cell: Cell,
@@ -113,14 +115,38 @@ pub fn held_or_null_at<M: Memory>(
 }
 
 // The text of a held cell; none of the elements of an object that isn't one are its units.
-pub(crate) fn text_of(held: Held, is_text: bool) -> Text
-    ensures { result ≡ text_of is_text held }
+pub(crate) fn text_of(held: Held, shows_units: bool) -> Text
+    ensures { result ≡ text_of shows_units held }
 {
-    let len = if is_text { held.head.len } else { 0 };
+    let len = if shows_units { held.head.len } else { 0 };
     Text {
         cell: held.cell,
         len,
     }
+}
+
+// The object that an operand leads to, whose units are seen: a text or an array of chars, whose type
+// fits this one.
+fn units_held_at<M: Memory>(
+    machine: &Machine<M>,
+    program: &Program,
+    place: usize,
+    named: TypeRef,
+) -> Result<Text, OperandRefusal>
+    requires runnable { IsRunnable program.now }
+    requires texts { HoldsTexts program.now.outline machine.now.areas.store }
+    ensures value { AsksUnitsOf program.now.outline machine.now.areas.store named
+        (seen program.now machine.now) place result }
+    ensures text { IfOk result (IsTextAt machine.now.areas.store) }
+    ensures at { IfErr result (IsAt program.now.outline machine.now place) }
+{
+    let held = held_at(machine, program, place)?;
+    let t = type_numbered(program, TypeId(held.head.class));
+    let fits = fits_type(program, t, named);
+    if fits {
+        return Ok(text_of(held, shows_units(t)));
+    }
+    Err(OperandRefusal::Unfit(held.cell))
 }
 
 /// The text that an operand leads to. Takes no memory.
@@ -136,13 +162,23 @@ pub fn text_at<M: Memory>(
     ensures text { IfOk result (IsTextAt machine.now.areas.store) }
     ensures at { IfErr result (IsAt program.now.outline machine.now place) }
 {
-    let held = held_at(machine, program, place)?;
-    let t = type_numbered(program, TypeId(held.head.class));
-    let fits = fits_type(program, t, type_of_class(STRING));
-    if fits {
-        return Ok(text_of(held, is_text(t)));
-    }
-    Err(OperandRefusal::Unfit(held.cell))
+    units_held_at(machine, program, place, type_of_class(STRING))
+}
+
+/// The array of chars that an operand leads to, as a text of its units. Takes no memory.
+pub fn chars_at<M: Memory>(
+    machine: &Machine<M>,
+    program: &Program,
+    place: usize,
+) -> Result<Text, OperandRefusal>
+    requires runnable { IsRunnable program.now }
+    requires texts { HoldsTexts program.now.outline machine.now.areas.store }
+    ensures value { AsksChars program.now.outline machine.now.areas.store
+        (seen program.now machine.now) place result }
+    ensures text { IfOk result (IsTextAt machine.now.areas.store) }
+    ensures at { IfErr result (IsAt program.now.outline machine.now place) }
+{
+    units_held_at(machine, program, place, chars_type())
 }
 
 /// The text that an operand leads to; none where it is null. Takes no memory.
@@ -164,7 +200,7 @@ pub fn text_or_null_at<M: Memory>(
     let t = type_numbered(program, TypeId(held.head.class));
     let fits = fits_type(program, t, type_of_class(STRING));
     if fits {
-        return Ok(Some(text_of(held, is_text(t))));
+        return Ok(Some(text_of(held, shows_units(t))));
     }
     Err(OperandRefusal::Unfit(held.cell))
 }

@@ -52,6 +52,7 @@ fn quiet_method<M: Memory>(
         Native::StringToString => strings::to_string(machine, program),
         Native::Substring => strings::substring(alloc, machine, program),
         Native::ValueOf(shown) => strings::value_of(alloc, machine, program, shown),
+        Native::ValueOfChars => strings::value_of_chars(alloc, machine, program),
         Native::BuilderInit => builders::init(machine, program),
         Native::Append(shown) => builders::append(alloc, machine, program, shown),
         Native::BuilderLength => builders::length(machine, program),

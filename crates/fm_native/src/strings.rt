@@ -5,17 +5,21 @@ ghost use Rattle.fm_native.specs.Doing.{DoesRow};
 ghost use Rattle.fm_native.specs.Texts.{HoldsTexts};
 ghost use Rattle.fm_native.specs.inner.Asked.{units_in, AsksOther, equals_other, part_up_to, IsAt, IsTextAt};
 ghost use Rattle.fm_frames.specs.NativeRows.{char_at, part_of};
-ghost use Rattle.fm_frames.specs.declared.natives.Native.TheVariants.{CharAt, CompareTo, StringEquals, StringHashCode, StringLength, StringToString, Substring, ValueOf};
+ghost use Rattle.fm_frames.specs.declared.natives.Native.TheVariants.{CharAt, CompareTo, StringEquals, StringHashCode, StringLength, StringToString, Substring, ValueOf, ValueOfChars};
 ghost use Rattle.fm_frames.specs.Runnable.{IsRunnable};
 ghost use Rattle.fm_frames.specs.inner.Doings.{seen, CanStep, DoesIn};
 
-use crate::asked::{OperandRefusal, Text, held_or_null_at, int_at, refuse, text_at, text_of};
+use crate::asked::{
+    OperandRefusal, Text, chars_at, held_or_null_at, int_at, refuse, text_at, text_of,
+};
 use crate::contents::{unit_at, units_of};
 use crate::shown::units_at;
 use crate::units::{compare_units, hash_units};
 use fm_base::{NoMemory, TypeId};
 use fm_cells::Memory;
-use fm_frames::{Machine, STRING, STRING_INDEX_EXCEPTION, Shown, Value, is_text, type_numbered};
+use fm_frames::{
+    Machine, STRING, STRING_INDEX_EXCEPTION, Shown, Value, shows_units, type_numbered,
+};
 use fm_types::fits_type;
 use fm_world::{Program, type_of_class};
 use std::alloc::Global;
@@ -65,7 +69,7 @@ fn other_on_top<M: Memory>(
     let t = type_numbered(program, TypeId(held.head.class));
     let fits = fits_type(program, t, type_of_class(STRING));
     if fits {
-        return Ok(Some(text_of(held, is_text(t))));
+        return Ok(Some(text_of(held, shows_units(t))));
     }
     Ok(None)
 }
@@ -300,6 +304,25 @@ pub fn value_of<M: Memory>(
     let found = units_at(alloc, machine, program, shown)?;
     match found {
         Ok(units) => machine.give_text(program, shown.words(), &units),
+        Err(refusal) => refuse(machine, program, refusal),
+    }
+}
+
+/// valueOf of an array of chars: a new text of them; null throws.
+pub fn value_of_chars<M: Memory>(
+    alloc: Global,
+    machine: &mut Machine<M>,
+    program: &Program,
+) -> Result<(), NoMemory>
+    requires can { CanStep program.now machine.old }
+    requires texts { HoldsTexts program.now.outline machine.old.areas.store }
+    ensures { OnOk result (DoesRow program.now M.choose machine.old machine.new ValueOfChars) }
+{
+    match chars_at(machine, program, 0) {
+        Ok(chars) => {
+            let units = units_of(alloc, machine, chars)?;
+            machine.give_text(program, 1, &units)
+        }
         Err(refusal) => refuse(machine, program, refusal),
     }
 }

@@ -89,6 +89,7 @@ string_methods =
     ∷ static_method (codes "valueOf") (codes "(J)Ljava/lang/String;")
     ∷ static_method (codes "valueOf") (codes "(C)Ljava/lang/String;")
     ∷ static_method (codes "valueOf") (codes "(Z)Ljava/lang/String;")
+    ∷ static_method (codes "valueOf") (codes "([C)Ljava/lang/String;")
     ∷ []
 
 -- the methods of a class that builds texts; its name is in the result type of append
@@ -189,7 +190,7 @@ built_in_rows = free_me_row + length free_me_methods
 
 -- how many methods all classes have: those of a program come after them
 abbrev pub built_in_methods : ℕ
-built_in_methods = 90
+built_in_methods = 91
 
 -- ---- fields
 

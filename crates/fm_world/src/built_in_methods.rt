@@ -8,7 +8,7 @@ const PUBLIC: u16 = 0x0001;
 const PUBLIC_STATIC: u16 = 0x0009;
 
 /// How many methods the built-in classes have: those of a program come after them.
-pub const BUILT_IN_METHODS: u32 = 90;
+pub const BUILT_IN_METHODS: u32 = 91;
 
 // Methods by their flags, names and descriptors, in rows that follow one another from the first one on.
 macro_rules! methods {
@@ -56,7 +56,7 @@ pub const OBJECT_METHODS: [BuiltInMethod; 4] = methods![0;
     PUBLIC "toString" "()Ljava/lang/String;",
 ];
 
-pub const STRING_METHODS: [BuiltInMethod; 11] = methods![STRING_ROW;
+pub const STRING_METHODS: [BuiltInMethod; 12] = methods![STRING_ROW;
     PUBLIC "length" "()I",
     PUBLIC "charAt" "(I)C",
     PUBLIC "equals" "(Ljava/lang/Object;)Z",
@@ -68,6 +68,7 @@ pub const STRING_METHODS: [BuiltInMethod; 11] = methods![STRING_ROW;
     PUBLIC_STATIC "valueOf" "(J)Ljava/lang/String;",
     PUBLIC_STATIC "valueOf" "(C)Ljava/lang/String;",
     PUBLIC_STATIC "valueOf" "(Z)Ljava/lang/String;",
+    PUBLIC_STATIC "valueOf" "([C)Ljava/lang/String;",
 ];
 
 pub const STRING_BUILDER_METHODS: [BuiltInMethod; 10] = methods![BUILDER_ROW;

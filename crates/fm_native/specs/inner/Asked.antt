@@ -2,13 +2,14 @@
 use Rattle.std.specs.Prelude.{◌≡◌, ℕ, ◌<◌, ◌^◌, ℤ, pos, Bool, false, List, codes, take, length, Option, Some, None, Result, Ok, Err, if◌then◌else◌}
 use Rattle.std.specs.List.{All}
 use Rattle.std.specs.Str.{bytes_eq}
+use Rattle.fm_base.specs.declared.kinds.TypeRef.{TypeRef}
 use Rattle.fm_cells.specs.Answers.{head_of}
 use Rattle.fm_cells.specs.Objects.{Object}
 use Rattle.fm_cells.specs.Stores.{elements_at, object_at, Store}
 use Rattle.fm_frames.specs.Acts.{cell_of, value_of}
 use Rattle.fm_frames.specs.Effects.{Effect, Faults, OfPlace, faulty, going, int_word, stuck, words}
 use Rattle.fm_frames.specs.NativeRows.{equal_to, part_of, text_kind}
-use Rattle.fm_frames.specs.Operands.{on_held, on_int, on_long, on_text, on_text_or_null, thrown_null}
+use Rattle.fm_frames.specs.Operands.{on_chars, on_held, on_int, on_long, on_object, on_text, on_text_or_null, thrown_null}
 use Rattle.fm_frames.specs.Sights.{Sight, looks, Looks}
 use Rattle.fm_frames.specs.States.{State, word_at}
 use Rattle.fm_frames.specs.Steps.{stack_of}
@@ -92,8 +93,18 @@ abbrev pub units_in : Store → Text → List ℕ
 units_in store text = take text.len (elements_at store text.cell.0)
 
 -- the text of a held cell; an object of another type that fits has no units
-abbrev pub text_of : (is_text : Bool) → Held → Text
-text_of is_text held = record { cell = held.cell; len = (if is_text then held.head.len else 0) }
+abbrev pub text_of : (shows_units : Bool) → Held → Text
+text_of shows_units held = record { cell = held.cell; len = (if shows_units then held.head.len else 0) }
+
+-- an object whose type fits this one was asked for by its units, and this is what was found
+abbrev pub AsksUnitsOf : Outline → Store → TypeRef → List Sight → ℕ → Result Text OperandRefusal → Type 0
+AsksUnitsOf o store named s operand found =
+    (follows : List ℕ → Effect) → on_object o named s operand (λ it. follows it.units) ≡ asked o operand found (λ text. follows (units_in store text))
+
+-- an array of chars was asked for at an operand, and this is what was found
+abbrev pub AsksChars : Outline → Store → List Sight → ℕ → Result Text OperandRefusal → Type 0
+AsksChars o store s operand found =
+    (follows : List ℕ → Effect) → on_chars o s operand follows ≡ asked o operand found (λ text. follows (units_in store text))
 
 -- a text was asked for at an operand, and this is what was found
 abbrev pub AsksText : Outline → Store → List Sight → ℕ → Result Text OperandRefusal → Type 0

@@ -1,55 +1,12 @@
-use Rattle.std.proofs.Common.{◌≡◌, Ok, Err, false, true, sym, ◌∙◌, subst, rules}
-use Rattle.fm_native.proofs.Asks.{fits-told, is_text-told, text-found, text-known, text-refused, text-unfit}
+use Rattle.std.proofs.Common.{sym, ◌∙◌, subst}
+use Rattle.fm_frames.specs.inner.Doings.{seen}
 use Rattle.fm_native.proofs.BuiltIns.{text-is}
 use Rattle.fm_native.proofs.asked.text_at.Goals as goal
-use Rattle.fm_frames.specs.inner.Doings.{seen}
-use Rattle.fm_native.specs.inner.Asked.{AsksText, IsTextAt}
-use Rattle.fm_world.specs.Numbers.{type_of_class}
-
-pub returns-in_err-held-clause-value : goal.returns-in_err-held-clause-value
-returns-in_err-held-clause-value g c =
-    let p = c.args.program.now in
-    let x = c.args.machine.now in
-    let told : c.from_residual.result ≡ Err c.in_err-held.field-0.0 = search rules in
-    subst (AsksText p.outline x.areas.store (seen p x) c.args.place) (sym told)
-    (text-refused p.outline x.areas.store (seen p x) c.args.place c.in_err-held.field-0.0 c.in_err-held.ensures.value)
-
-pub returns-then-fits-clause-value : goal.returns-then-fits-clause-value
-returns-then-fits-clause-value g c =
-    let p = c.args.program.now in
-    let o = p.outline in
-    let x = c.args.machine.now in
-    let known = c.in_ok-held.ensures.held in
-    let named = sym (text-is p c.requires.runnable) in
-    let fits =
-    fits-told o c.type_numbered-t.result c.type_of_class.result c.in_ok-held.held known.object true known.head_is c.type_numbered-t.ensures.value
-    (c.type_of_class.ensures ∙ named) c.if-fits.ensures in
-    let text =
-    is_text-told o c.type_numbered-t.result (type_of_class 1) c.in_ok-held.held known.object c.is_text.result known.head_is
-    c.type_numbered-t.ensures.value named c.is_text.ensures in
-    subst (λ t. AsksText o x.areas.store (seen p x) c.args.place (Ok t)) (sym c.text_of.ensures)
-    (text-found o x.areas.store (seen p x) c.args.place c.in_ok-held.held known.object c.is_text.result c.in_ok-held.ensures.value known.at known.head_is fits
-    text)
-
-pub returns-then-fits-clause-text : goal.returns-then-fits-clause-text
-returns-then-fits-clause-text g c =
-    let p = c.args.program.now in
-    let o = p.outline in
-    let x = c.args.machine.now in
-    let known = c.in_ok-held.ensures.held in
-    let text =
-    is_text-told o c.type_numbered-t.result (type_of_class 1) c.in_ok-held.held known.object c.is_text.result known.head_is
-    c.type_numbered-t.ensures.value (sym (text-is p c.requires.runnable)) c.is_text.ensures in
-    subst (IsTextAt x.areas.store) (sym c.text_of.ensures)
-    (text-known o x.areas.store c.in_ok-held.held known.object c.is_text.result c.requires.texts known.at known.head_is text)
+use Rattle.fm_native.specs.inner.Asked.{AsksUnitsOf}
 
 pub returns-clause-value : goal.returns-clause-value
 returns-clause-value g c =
     let p = c.args.program.now in
-    let o = p.outline in
     let x = c.args.machine.now in
-    let known = c.in_ok-held.ensures.held in
-    let unfit =
-    fits-told o c.type_numbered-t.result c.type_of_class.result c.in_ok-held.held known.object false known.head_is c.type_numbered-t.ensures.value
-    (c.type_of_class.ensures ∙ sym (text-is p c.requires.runnable)) c.if-fits.ensures in
-    text-unfit o x.areas.store (seen p x) c.args.place c.in_ok-held.held known.object c.in_ok-held.ensures.value known.at unfit
+    subst (λ t. AsksUnitsOf p.outline x.areas.store t (seen p x) c.args.place c.units_held_at.result)
+    (c.type_of_class.ensures ∙ sym (text-is p c.requires.runnable)) c.units_held_at.ensures.value

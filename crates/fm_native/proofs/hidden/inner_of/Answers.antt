@@ -1,10 +1,13 @@
-use Rattle.std.proofs.Common.{◌≡◌, ◌==◌, false, true, sym, ◌∙◌, arith}
+use Rattle.std.proofs.Common.{◌≡◌, ◌==◌, ◌||◌, false, true, ap, sym, ◌∙◌, arith}
 use Rattle.std.proofs.lemmas.Bool.{ne_eqb}
+use Rattle.fm_frames.specs.Elements.{chars_type}
+use Rattle.fm_frames.specs.Sights.{type_numbered}
 use Rattle.fm_native.proofs.Asks.{is_text-told, text-known}
 use Rattle.fm_native.proofs.BuiltIns.{text-is}
 use Rattle.fm_native.proofs.HiddenSteps.{lost-at}
 use Rattle.fm_native.proofs.Hidings.{head-held, inner-found, inner-gone, inner-lost, inner-none}
 use Rattle.fm_native.proofs.hidden.inner_of.Goals as goal
+use Rattle.fm_world.specs.Chains.{same_type}
 use Rattle.fm_world.specs.Numbers.{type_of_class}
 
 pub returns-then-cell-eq0-clause-value : goal.returns-then-cell-eq0-clause-value
@@ -43,7 +46,8 @@ returns-then-fits-clause-text g c =
     let text =
     is_text-told o c.type_numbered.result (type_of_class 1) (record { cell = record { 0 = c.element.result }; head = c.in-Some.head }) object true head_is
     c.type_numbered.ensures.value (sym (text-is p c.requires.runnable)) c.if-fits.ensures in
-    text-known o store (record { cell = record { 0 = c.element.result }; head = c.in-Some.head }) object true c.requires.texts at head_is text
+    text-known o store (record { cell = record { 0 = c.element.result }; head = c.in-Some.head }) object true c.requires.texts at head_is
+    (ap (λ b. b || same_type chars_type (type_numbered o object.class)) text)
 
 pub returns-clause-value : goal.returns-clause-value
 returns-clause-value g c =

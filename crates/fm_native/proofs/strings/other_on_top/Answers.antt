@@ -1,11 +1,10 @@
 use Rattle.std.proofs.Common.{◌≡◌, Ok, Err, Some, IfSome, false, true, sym, ◌∙◌, subst, rules}
 use Rattle.fm_frames.specs.inner.Doings.{seen}
-use Rattle.fm_native.proofs.Asks.{fits-told, is_text-told, text-known}
+use Rattle.fm_native.proofs.Asks.{fits-told, text-known, units-told}
 use Rattle.fm_native.proofs.BuiltIns.{text-is}
 use Rattle.fm_native.proofs.Nulls.{other-found, other-none, other-refused, other-unfit}
 use Rattle.fm_native.proofs.strings.other_on_top.Goals as goal
 use Rattle.fm_native.specs.inner.Asked.{AsksHeldOrNull, AsksOther, IsHeldAt, IsTextAt}
-use Rattle.fm_world.specs.Numbers.{type_of_class}
 
 pub returns-in_err-held-clause-value : goal.returns-in_err-held-clause-value
 returns-in_err-held-clause-value g c =
@@ -35,10 +34,10 @@ returns-then-fits-clause-value g c =
     fits-told o c.type_numbered-t.result c.type_of_class.result c.in-Some.held known.object true known.head_is c.type_numbered-t.ensures.value
     (c.type_of_class.ensures ∙ named) c.if-fits.ensures in
     let text =
-    is_text-told o c.type_numbered-t.result (type_of_class 1) c.in-Some.held known.object c.is_text.result known.head_is
-    c.type_numbered-t.ensures.value named c.is_text.ensures in
+    units-told o c.type_numbered-t.result c.in-Some.held known.object c.shows_units.result known.head_is
+    c.type_numbered-t.ensures.value (text-is p c.requires.runnable) c.shows_units.ensures in
     subst (λ t. AsksOther o x.areas.store (seen p x) (Ok (Some t))) (sym c.text_of.ensures)
-    (other-found o x.areas.store (seen p x) c.in-Some.held known.object c.is_text.result asks known.at known.head_is fits text)
+    (other-found o x.areas.store (seen p x) c.in-Some.held known.object c.shows_units.result asks known.at known.head_is fits text)
 
 pub returns-then-fits-clause-text : goal.returns-then-fits-clause-text
 returns-then-fits-clause-text g c =
@@ -47,10 +46,10 @@ returns-then-fits-clause-text g c =
     let x = c.args.machine.now in
     let known = subst (λ found. IfSome found (IsHeldAt x.areas.store x 0)) c.in-Some.is c.in_ok-held.ensures.held in
     let text =
-    is_text-told o c.type_numbered-t.result (type_of_class 1) c.in-Some.held known.object c.is_text.result known.head_is
-    c.type_numbered-t.ensures.value (sym (text-is p c.requires.runnable)) c.is_text.ensures in
+    units-told o c.type_numbered-t.result c.in-Some.held known.object c.shows_units.result known.head_is
+    c.type_numbered-t.ensures.value (text-is p c.requires.runnable) c.shows_units.ensures in
     subst (IsTextAt x.areas.store) (sym c.text_of.ensures)
-    (text-known o x.areas.store c.in-Some.held known.object c.is_text.result c.requires.texts known.at known.head_is text)
+    (text-known o x.areas.store c.in-Some.held known.object c.shows_units.result c.requires.texts known.at known.head_is text)
 
 pub returns-clause-value : goal.returns-clause-value
 returns-clause-value g c =
