@@ -5,7 +5,7 @@ use Rattle.std.proofs.lemmas.Iterator.Adapters.{position_from-zero}
 use Rattle.fm_base.specs.declared.kinds.TypeRef.{TypeRef}
 use Rattle.fm_code.specs.declared.code_array.Code.{Code}
 use Rattle.fm_types.specs.Named.{built_in_type}
-use Rattle.fm_world.specs.BuiltIns.{built_in, string_name}
+use Rattle.fm_world.specs.BuiltIns.{built_in, built_in_classes, string_name}
 use Rattle.fm_world.specs.Chains.{same_type}
 use Rattle.fm_world.specs.Descriptors.{class_number}
 use Rattle.fm_world.specs.Members.{method_at}
@@ -98,7 +98,7 @@ unfolding class_info
 class-size o class = refl
 
 -- each built-in class is there
-pub built_in-inside : (p : Program) (class : ℕ) → IsRunnable p → class < 28 → class < length p.outline.classes
+pub built_in-inside : (p : Program) (class : ℕ) → IsRunnable p → class < built_in_classes → class < length p.outline.classes
 unfolding built_in
 built_in-inside p class runnable within =
     let P : List DeclaredClass → Type 0 = λ classes. class < length classes in

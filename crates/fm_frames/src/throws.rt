@@ -11,6 +11,7 @@ ghost use Rattle.fm_frames.specs.inner.Catching.{caught_as, placed, IsCaughtAt};
 ghost use Rattle.fm_frames.specs.inner.Doings.{AreFramesIn, CanStep, DoesIn};
 ghost use Rattle.fm_types.specs.Named.{built_in_type};
 ghost use Rattle.fm_types.specs.Typed.{type_of_use};
+ghost use Rattle.fm_world.specs.BuiltIns.{built_in_classes};
 ghost use Rattle.fm_world.specs.Chains.{is_sub};
 ghost use Rattle.fm_world.specs.Members.{methods_of};
 ghost use Rattle.fm_world.specs.Numbers.{type_of_class};
@@ -196,7 +197,7 @@ impl<M: Memory> Machine<M> {
     /// Throws a new object of a built-in class, without a message.
     pub fn throw_new(&mut self, program: &Program, class: ClassId) -> Result<(), NoMemory>
         requires can { CanStep program.now self.old }
-        requires built_in { class.0 < 28 }
+        requires built_in { class.0 < built_in_classes }
         ensures { OnOk result ((name : List ℕ) → built_in_type program.now.outline name ≡ type_of_class class.0
             → DoesIn program.now M.choose self.old self.new (thrown program.now.outline name)) }
     {

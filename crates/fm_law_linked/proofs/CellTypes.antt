@@ -40,7 +40,7 @@ use Rattle.fm_types.proofs.LeastJoins.{same_type-refl}
 use Rattle.fm_types.proofs.Order.{below_objects-fits, level-fits}
 use Rattle.fm_types.specs.Fits.{AreTree, depth_with, fits_type, is_object_base, is_seen_as_object, object_of}
 use Rattle.fm_types.specs.Named.{built_in_type}
-use Rattle.fm_world.specs.BuiltIns.{built_in, cloneable_name, object_name, sealed_names, serializable_name, string_name}
+use Rattle.fm_world.specs.BuiltIns.{built_in, built_in_classes, cloneable_name, object_name, sealed_names, serializable_name, string_name}
 use Rattle.fm_world.specs.Causes.{bad_parent_at, bad_parents, bad_superclass, may_be_completed, is_bad_superclass, own_name}
 use Rattle.fm_world.specs.Chains.{array_supers, chain_of, class_at, completion_of, interfaces_of, is_above_arrays, is_among, is_base_above_arrays, is_sub, is_sub_base, parent_of, upwards}
 use Rattle.fm_world.specs.Declarations.{declared_from, declared_of, name_at, no_class}
@@ -58,42 +58,42 @@ use Rattle.fm_law_no_fault.specs.CellsResolved.{PlacesFit}
 -- ---- what holds of each class: the built-in ones by computation, and those of files by what is refused
 
 -- a class that is given, one of a file, or none
-by_class : (given : List ClassDef) (P : DeclaredClass → Type 0) (class : ℕ) → (class < 28 → P (class_at built_in class))
+by_class : (given : List ClassDef) (P : DeclaredClass → Type 0) (class : ℕ) → (class < built_in_classes → P (class_at built_in class))
     → ((j n : ℕ) (c : ClassDef) → slice_get given j ≡ Some c → P (declared_of n c)) → P no_class → P (class_at (classes_of given) class)
 unfolding classes_of built_in
 by_class given P class own file past = by_place (cases_lt class (length built_in)) where
   more : List DeclaredClass
   more = declared_from 0 given
 
-  by_file : (o : Option ClassDef) → slice_get given (class - 28) ≡ o → 28 ≤ class → P (class_at (built_in ++ more) class)
+  by_file : (o : Option ClassDef) → slice_get given (class - built_in_classes) ≡ o → built_in_classes ≤ class → P (class_at (built_in ++ more) class)
   by_file None e later =
-      let end = past_none given (class - 28) e in
+      let end = past_none given (class - built_in_classes) e in
       let many = length-append built_in more in
       let declared = length-declared 0 given in
       subst P (sym (get_or_past (built_in ++ more) class no_class (omega (arith, end, many, declared, later)))) past
   by_file (Some c) e later =
-      let here = class_of_file given (class - 28) c e in
-      let place : class ≡ 28 + (class - 28) = omega (arith, later) in
-      subst P (sym (ap (class_at (built_in ++ more)) place ∙ here.declared)) (file (class - 28) here.number c e)
+      let here = class_of_file given (class - built_in_classes) c e in
+      let place : class ≡ built_in_classes + (class - built_in_classes) = omega (arith, later) in
+      subst P (sym (ap (class_at (built_in ++ more)) place ∙ here.declared)) (file (class - built_in_classes) here.number c e)
 
   by_place : (class < length built_in) ⊎ (length built_in ≤ class) → P (class_at (built_in ++ more) class)
   by_place (inl within) = subst P (sym (get_or_append_left built_in more no_class class within)) (own within)
-  by_place (inr later) = by_file (slice_get given (class - 28)) refl later
+  by_place (inr later) = by_file (slice_get given (class - built_in_classes)) refl later
 
 -- a table of the built-in classes that is false throughout
-pub table_false : (test : ℕ → Bool) → map test (numbers_below 28) ≡ replicate 28 false → (class : ℕ) → class < 28 → test class ≡ false
+pub table_false : (test : ℕ → Bool) → map test (numbers_below built_in_classes) ≡ replicate built_in_classes false → (class : ℕ) → class < built_in_classes → test class ≡ false
 table_false test table class within =
-    sym (get_or-map-range_with_len test 0 28 class class true within (zero-add class)) ∙ ap (λ row. get_or row class true) table
-    ∙ get_or-replicate 28 class false true within
+    sym (get_or-map-range_with_len test 0 built_in_classes class class true within (zero-add class)) ∙ ap (λ row. get_or row class true) table
+    ∙ get_or-replicate built_in_classes class false true within
 
 -- a class of a program that is one of the built-in ones
-pub built_in_at : (given : List ClassDef) (class : ℕ) → class < 28 → class_at (classes_of given) class ≡ class_at built_in class
+pub built_in_at : (given : List ClassDef) (class : ℕ) → class < built_in_classes → class_at (classes_of given) class ≡ class_at built_in class
 unfolding classes_of
 built_in_at given class within = get_or_append_left built_in (declared_from 0 given) no_class class (let count = count_is in omega (arith, within, count))
 
 -- ---- what is above arrays counts as Object
 
-above_table : map (λ k. is_above_arrays built_in k && not (is_interface_at built_in k || (k == 0))) (numbers_below 28) ≡ replicate 28 false
+above_table : map (λ k. is_above_arrays built_in k && not (is_interface_at built_in k || (k == 0))) (numbers_below built_in_classes) ≡ replicate built_in_classes false
 unfolding built_in
 above_table = refl
 
@@ -128,9 +128,9 @@ file_alone given none j c at is = by_number (class_number built_in (own_name c))
       let may = (and_parts (may_be_completed (class_at built_in k).name) _ (named_completes given none j c at k e)).0 in
       false≢true (sym (super_alone (own_name c) is) ∙ sym (ap may_be_completed same) ∙ may)
 
-pub above_built_in : (given : List ClassDef) → refused_built_ins given ≡ [] → (class : ℕ) → is_above_arrays (classes_of given) class ≡ true → class < 28
+pub above_built_in : (given : List ClassDef) → refused_built_ins given ≡ [] → (class : ℕ) → is_above_arrays (classes_of given) class ≡ true → class < built_in_classes
 above_built_in given none class =
-    by_class given (λ c. list_any (bytes_eq c.name) array_supers ≡ true → class < 28) class (λ within is. within)
+    by_class given (λ c. list_any (bytes_eq c.name) array_supers ≡ true → class < built_in_classes) class (λ within is. within)
     (λ j n c at is. absurd (file_alone given none j c at is))
     (λ is. absurd (false≢true is))
 
@@ -189,7 +189,7 @@ abbrev is_string : Option (List ℕ) → Bool
 is_string None = false
 is_string (Some name) = bytes_eq name string_name
 
-string_table : map (λ k. is_string (class_at built_in k).superclass) (numbers_below 28) ≡ replicate 28 false
+string_table : map (λ k. is_string (class_at built_in k).superclass) (numbers_below built_in_classes) ≡ replicate built_in_classes false
 unfolding built_in
 string_table = refl
 
@@ -291,13 +291,13 @@ texts_are p runnable given same spelled none t fits =
 
 -- ---- hidden fields
 
-hidden_table : map (λ k. (class_at built_in k).hidden && not ((k == 2) || ((k == 3) || (k == 7)))) (numbers_below 28) ≡ replicate 28 false
+hidden_table : map (λ k. (class_at built_in k).hidden && not ((k == 2) || ((k == 3) || (k == 7)))) (numbers_below built_in_classes) ≡ replicate built_in_classes false
 unfolding built_in
 hidden_table = refl
 
 hidden_built_in : (given : List ClassDef) (class : ℕ) → (class_at (classes_of given) class).hidden ≡ true → ((class == 2) || ((class == 3) || (class == 7))) ≡ true
 hidden_built_in given class is =
-    let within = by_class given (λ c. c.hidden ≡ true → class < 28) class (λ here hidden. here) (λ j n c at hidden. absurd (false≢true hidden))
+    let within = by_class given (λ c. c.hidden ≡ true → class < built_in_classes) class (λ here hidden. here) (λ j n c at hidden. absurd (false≢true hidden))
     (λ hidden. absurd (false≢true hidden)) is in
     one_of (class_at built_in class).hidden ((class == 2) || ((class == 3) || (class == 7)))
     (table_false (λ k. (class_at built_in k).hidden && not ((k == 2) || ((k == 3) || (k == 7)))) hidden_table class within)

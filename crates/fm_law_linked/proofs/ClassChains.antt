@@ -19,7 +19,7 @@ use Rattle.fm_law_no_fault.proofs.BelowClasses.{parent_among}
 use Rattle.fm_types.specs.Fits.{AreTree, object_of}
 use Rattle.fm_world.proofs.Completions.{count_is}
 use Rattle.fm_world.proofs.Displays.{parent_of-within}
-use Rattle.fm_world.specs.BuiltIns.{built_in}
+use Rattle.fm_world.specs.BuiltIns.{built_in, built_in_classes}
 use Rattle.fm_world.specs.Causes.{bad_parent_at, bad_parents, bad_superclass, is_array_name, is_bad_superclass, missing_at, missing_classes, MissingClass, missing, refused, refused_if, refused_where}
 use Rattle.fm_world.specs.Chains.{chain_of, class_at, completion_of, is_among, parent_of, superclass_in}
 use Rattle.fm_world.specs.Declarations.{declared_from, name_at}
@@ -40,19 +40,19 @@ record HasParent (classes : List DeclaredClass) (class : ℕ) : Type 0 where
 abbrev some_parent : ℕ → Bool
 some_parent k = nat_eq k 0 || is_some (parent_of built_in k)
 
-parents_table : map some_parent (numbers_below 28) ≡ replicate 28 true
+parents_table : map some_parent (numbers_below built_in_classes) ≡ replicate built_in_classes true
 unfolding built_in
 parents_table = refl
 
 built_in_parent : (given : List ClassDef) → refused_built_ins given ≡ [] → (k : ℕ) → k < length built_in → nat_eq k 0 ≡ false → HasParent (classes_of given) k
 built_in_parent given apart k within other = by_completion (completion_of (classes_of given) (class_at (classes_of given) k)) refl where
-  inside : k < 28
+  inside : k < built_in_classes
   inside = let count = count_is in omega (arith, within, count)
 
   found : is_some (parent_of built_in k) ≡ true
   found =
       second_of (nat_eq k 0) (is_some (parent_of built_in k)) other
-      (sym (get_or-map-range_with_len some_parent 0 28 k k true inside (zero-add k)) ∙ ap (λ row. get_or row k true) parents_table ∙ get_or-replicate 28 k true true inside)
+      (sym (get_or-map-range_with_len some_parent 0 built_in_classes k k true inside (zero-add k)) ∙ ap (λ row. get_or row k true) parents_table ∙ get_or-replicate built_in_classes k true true inside)
 
   by_parent : completion_of (classes_of given) (class_at (classes_of given) k) ≡ None → (p : Option ℕ) → parent_of built_in k ≡ p → HasParent (classes_of given) k
   by_parent plain None e = absurd (false≢true (sym (ap is_some e) ∙ found))

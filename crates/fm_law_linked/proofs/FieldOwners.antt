@@ -27,7 +27,7 @@ use Rattle.fm_link_supers.specs.inner.Hierarchy.{AreSound}
 use Rattle.fm_law_linked.proofs.GivenFiles.{class_of_file}
 use Rattle.fm_types.proofs.ClassTree.{interface-within}
 use Rattle.fm_types.specs.Fits.{is_seen_as_object, object_of}
-use Rattle.fm_world.specs.BuiltIns.{built_in}
+use Rattle.fm_world.specs.BuiltIns.{built_in, built_in_classes}
 use Rattle.fm_world.specs.Causes.{field_flags}
 use Rattle.fm_world.specs.Chains.{chain_of, class_at, first_found, is_among, superinterfaces_of}
 use Rattle.fm_world.specs.Declarations.{declared_field, declared_from, declared_of, no_class, no_field}
@@ -123,17 +123,17 @@ field_of classes name descriptor class field is = by_place (position test (class
 abbrev has_fields : ℕ → Bool
 has_fields k = is_interface_at built_in k && nat_lt 0 (length (class_at built_in k).fields)
 
-bare_table : map has_fields (numbers_below 28) ≡ replicate 28 false
+bare_table : map has_fields (numbers_below built_in_classes) ≡ replicate built_in_classes false
 unfolding built_in
 bare_table = refl
 
 built_in_bare : (more : List DeclaredClass) (k j : ℕ) → k < length built_in → is_interface_at (built_in ++ more) k ≡ true
     → j < length (class_at (built_in ++ more) k).fields → ⊥
 built_in_bare more k j within is inside =
-    let inner : k < 28 = let count = count_is in omega (arith, within, count) in
+    let inner : k < built_in_classes = let count = count_is in omega (arith, within, count) in
     let same : class_at (built_in ++ more) k ≡ class_at built_in k = get_or_append_left built_in more no_class k within in
     let table : has_fields k ≡ false =
-    sym (get_or-map-range_with_len has_fields 0 28 k k true inner (zero-add k)) ∙ ap (λ row. get_or row k true) bare_table ∙ get_or-replicate 28 k false true inner in
+    sym (get_or-map-range_with_len has_fields 0 built_in_classes k k true inner (zero-add k)) ∙ ap (λ row. get_or row k true) bare_table ∙ get_or-replicate built_in_classes k false true inner in
     let here : is_interface_at built_in k ≡ true = sym (ap (λ (c : DeclaredClass). is_interface c.flags) same) ∙ is in
     let many : length (class_at (built_in ++ more) k).fields ≡ length (class_at built_in k).fields = ap (λ (c : DeclaredClass). length c.fields) same in
     false≢true

@@ -19,7 +19,7 @@ use Rattle.fm_types.proofs.ClassTree.{among_one, among-trans, interface-within}
 use Rattle.fm_types.specs.Fits.{AreTree}
 use Rattle.fm_world.proofs.Acyclic.{superinterfaces_of-listed}
 use Rattle.fm_world.proofs.Displays.{class_number-within}
-use Rattle.fm_world.specs.BuiltIns.{built_in}
+use Rattle.fm_world.specs.BuiltIns.{built_in, built_in_classes}
 use Rattle.fm_world.specs.Chains.{chain_of, class_at, completion_of, interfaces_of, interfaces_within, is_among, listed_interfaces, superinterfaces_of, upwards}
 use Rattle.fm_world.specs.Declarations.{declared_from, no_class}
 use Rattle.fm_world.specs.Descriptors.{class_number}
@@ -91,7 +91,7 @@ module _ (classes : List DeclaredClass) (sound : AreSound classes) where
 abbrev bare : ℕ → Bool
 bare k = is_interface_at built_in k && nat_lt 0 (length (class_at built_in k).methods)
 
-marker_table : map bare (numbers_below 28) ≡ replicate 28 false
+marker_table : map bare (numbers_below built_in_classes) ≡ replicate built_in_classes false
 unfolding built_in
 marker_table = refl
 
@@ -99,7 +99,7 @@ marker_table = refl
 pub marker_bare : (given : List ClassDef) (class place : ℕ) → class < length built_in → is_interface_at (classes_of given) class ≡ true
     → place < length (class_at (classes_of given) class).methods → ⊥
 marker_bare given class place within is inside =
-    let low : class < 28 = let count = count_is in omega (arith, within, count) in
+    let low : class < built_in_classes = let count = count_is in omega (arith, within, count) in
     let same = built_in_at given class low in
     let many = ap (λ (c : DeclaredClass). length c.methods) same in
     let here : is_interface_at built_in class ≡ true = sym (ap (λ (c : DeclaredClass). is_interface c.flags) same) ∙ is in
@@ -109,7 +109,7 @@ marker_bare given class place within is inside =
 abbrev lacks : ℕ → Bool
 lacks k = list_any (λ name. is_none (class_number built_in name)) (class_at built_in k).interfaces
 
-lacks_table : map lacks (numbers_below 28) ≡ replicate 28 false
+lacks_table : map lacks (numbers_below built_in_classes) ≡ replicate built_in_classes false
 unfolding built_in
 lacks_table = refl
 
@@ -132,7 +132,7 @@ listed_low more (name ∷ names) none i among =
 low_listed : (given : List ClassDef) (class i : ℕ) → class < length built_in → is_among i (listed_interfaces (classes_of given) class) ≡ true → i < length built_in
 unfolding classes_of
 low_listed given class i within among =
-    let low : class < 28 = let count = count_is in omega (arith, within, count) in
+    let low : class < built_in_classes = let count = count_is in omega (arith, within, count) in
     let more = declared_from 0 given in
     listed_low more (class_at built_in class).interfaces (table_false lacks lacks_table class low) i
     (sym (ap (λ (c : DeclaredClass). is_among i (filter_map (class_number (built_in ++ more)) c.interfaces)) (get_or_append_left built_in more no_class class within)) ∙ among)

@@ -20,7 +20,7 @@ use Rattle.fm_link_supers.proofs.ParentRefusals.{length-declared, nil_left, nil_
 use Rattle.fm_types.proofs.ClassTree.{among_one, among_own}
 use Rattle.fm_world.proofs.Completions.{class_same, count_is, fails_at, interface-declared, number_first, self_built_in}
 use Rattle.fm_world.proofs.Displays.{class_number-within}
-use Rattle.fm_world.specs.BuiltIns.{built_in}
+use Rattle.fm_world.specs.BuiltIns.{built_in, built_in_classes}
 use Rattle.fm_world.specs.Causes.{Duplicate, duplicates, own_name, refused}
 use Rattle.fm_world.specs.Chains.{chain_of, class_at, completing_of, completion_of, given_number, is_among, parent_of, self_of, upwards}
 use Rattle.fm_world.specs.Declarations.{declared_from, no_class}
@@ -70,7 +70,7 @@ first_named earlier (d ∷ given) none i n (suc j) c at =
     ap (λ b. cond b (Some i) (position_from (has_name (own_name c)) (i + 1) (declared_from (n + 1) given))) (turned (own_name c) (own_name d) apart.0)
     ∙ first_named (own_name d ∷ earlier) given rest (i + 1) (n + 1) j c at ∙ ap (λ k. Some k) (let e : i + 1 + j ≡ i + suc j = omega arith in e)
 
-files_table : map (λ k. is_some (class_at built_in k).file) (numbers_below 28) ≡ replicate 28 false
+files_table : map (λ k. is_some (class_at built_in k).file) (numbers_below built_in_classes) ≡ replicate built_in_classes false
 unfolding built_in
 files_table = refl
 
@@ -86,10 +86,10 @@ completion_is given new j b c at is =
     let found = position-Some (λ (d : DeclaredClass). bytes_eq d.name (own_name c)) built_in b no_class is in
     let same : class_at (classes_of given) b ≡ class_at built_in b = class_same built_in (declared_from 0 given) b found.0 in
     let name : (class_at built_in b).name ≡ own_name c = (bytes_eq-Decides (class_at built_in b).name (own_name c)).0 found.1 in
-    let low : b < 28 = let inside = found.0 in omega (arith, inside, count_is) in
+    let low : b < built_in_classes = let inside = found.0 in omega (arith, inside, count_is) in
     ap (completion_of (classes_of given)) same
     ∙ ap (λ x. cond x (given_number (classes_of given) (class_at built_in b).name) None)
-    (not_some (class_at built_in b).file (fails_at (λ k. is_some (class_at built_in k).file) 28 files_table b low))
+    (not_some (class_at built_in b).file (fails_at (λ k. is_some (class_at built_in k).file) built_in_classes files_table b low))
     ∙ number_given given (class_at built_in b).name
     ∙ ap (λ n. position_from (has_name n) (length built_in) (declared_from 0 given)) name ∙ first_named [] given new (length built_in) 0 j c at
 

@@ -20,7 +20,7 @@ use Rattle.fm_types.specs.Named.{built_in_type, throwable_type}
 use Rattle.fm_types.specs.States.{local_slots, stack_slots}
 use Rattle.fm_types.specs.declared.slots.Slot.{Slot}
 use Rattle.fm_types.specs.declared.slots.Slot.TheVariants as slot
-use Rattle.fm_world.specs.BuiltIns.{built_in, object_name, string_name}
+use Rattle.fm_world.specs.BuiltIns.{built_in, built_in_classes, object_name, string_name}
 use Rattle.fm_world.proofs.Completions.{count_is, self_built_in}
 use Rattle.fm_world.specs.Chains.{chain_of, is_among, self_of}
 use Rattle.fm_world.specs.Declarations.{no_method}
@@ -175,7 +175,7 @@ fits_row m (Some row) =
     && (same_bool (is_static m.method.flags) (not (has_receiver row)) && (declares m.class (native_type row).receiver && declares_own m.class (native_type row).result))
 
 abbrev fits_it : OwnedMethod → Bool
-fits_it m = nat_lt m.class 28 && fits_row m (option_and_then native_of_row m.method.row)
+fits_it m = nat_lt m.class built_in_classes && fits_row m (option_and_then native_of_row m.method.row)
 
 abbrev all_fit : List OwnedMethod → Bool
 all_fit [] = true
@@ -300,14 +300,14 @@ module _ (p : Program) (runnable : IsRunnable p) (tree : AreTree p.outline.class
 
   -- the table has it below Throwable
   abbrev is_thrown : ℕ → Bool
-  is_thrown class = nat_lt class 28 && is_among 7 (chain_of built_in class)
+  is_thrown class = nat_lt class built_in_classes && is_among 7 (chain_of built_in class)
 
   thrown_below : (classes : List ℕ) → list_all is_thrown classes ≡ true → AllByRecursion (λ class. is_among 7 (chain_of (built_in ++ given) class) ≡ true) classes
   thrown_below [] e = tt
   thrown_below (class ∷ classes) e =
       let both = and_parts (is_thrown class) (list_all is_thrown classes) e in
-      let here = and_parts (nat_lt class 28) (is_among 7 (chain_of built_in class)) both.0 in
-      (below_throwable given (completed-are given runnable.completed) class (ltb-true class 28 here.0) here.1, thrown_below classes both.1)
+      let here = and_parts (nat_lt class built_in_classes) (is_among 7 (chain_of built_in class)) both.0 in
+      (below_throwable given (completed-are given runnable.completed) class (ltb-true class built_in_classes here.0) here.1, thrown_below classes both.1)
 
   all_below : AllByRecursion (λ class. is_among 7 (chain_of (built_in ++ given) class) ≡ true) throwables
   unfolding built_in chain_of
@@ -357,7 +357,7 @@ module _ (p : Program) (runnable : IsRunnable p) (tree : AreTree p.outline.class
       ap fits_it (ap (λ classes. method_at classes method) runnable.classes ∙ method_same given method inside) ∙ fits_at (methods_of built_in) method table_fits
 
   -- a built-in class completes no other one
-  own_objects : (class : ℕ) → class < 28 → self_of out.classes class ≡ class
+  own_objects : (class : ℕ) → class < built_in_classes → self_of out.classes class ≡ class
   own_objects class early = ap (λ classes. self_of classes class) runnable.classes ∙ self_built_in given class (omega (arith, early, count_is))
 
   asked_by : (method : ℕ) (row : Native) → self_of out.classes (here method).class ≡ (here method).class → fits_row (here method) (Some row) ≡ true
@@ -384,6 +384,6 @@ module _ (p : Program) (runnable : IsRunnable p) (tree : AreTree p.outline.class
   built_ins_asked rows method row native = by_place (cases_lt method (length (methods_of built_in))) where
     by_place : (method < length (methods_of built_in)) ⊎ (length (methods_of built_in) ≤ method) → TakesAsAsked out method row
     by_place (inl inside) =
-        let parts = and_parts (nat_lt (here method).class 28) (fits_row (here method) (option_and_then native_of_row (here method).method.row)) (fits_here method inside) in
-        asked_by method row (own_objects (here method).class (ltb-true (here method).class 28 parts.0)) (sym (ap (fits_row (here method)) native) ∙ parts.1)
+        let parts = and_parts (nat_lt (here method).class built_in_classes) (fits_row (here method) (option_and_then native_of_row (here method).method.row)) (fits_here method inside) in
+        asked_by method row (own_objects (here method).class (ltb-true (here method).class built_in_classes parts.0)) (sym (ap (fits_row (here method)) native) ∙ parts.1)
     by_place (inr past) = absurd (none-some row (sym (ap (option_and_then native_of_row) (rows method past)) ∙ native))

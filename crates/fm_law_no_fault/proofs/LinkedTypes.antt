@@ -15,7 +15,7 @@ use Rattle.fm_types.specs.Fits.{fits_type}
 use Rattle.fm_types.specs.Named.{built_in_type, throwable_type}
 use Rattle.fm_types.specs.declared.slots.Slot.TheVariants as slot
 use Rattle.fm_world.proofs.Completions.{among_completed, count_is, none_completed}
-use Rattle.fm_world.specs.BuiltIns.{built_in}
+use Rattle.fm_world.specs.BuiltIns.{built_in, built_in_classes}
 use Rattle.fm_world.specs.Chains.{chain_of, class_at, is_among}
 use Rattle.fm_world.specs.Descriptors.{class_number, kind_with, of_class}
 use Rattle.fm_world.specs.Lookups.{is_interface_at}
@@ -97,12 +97,12 @@ module _ (given : List DeclaredClass) where
 
   module _ (completed : AreCompleted (built_in ++ given)) where
     -- what the table has below Throwable is below it
-    pub below_throwable : (class : ℕ) → class < 28 → is_among 7 (chain_of built_in class) ≡ true → is_among 7 (chain_of all class) ≡ true
+    pub below_throwable : (class : ℕ) → class < built_in_classes → is_among 7 (chain_of built_in class) ≡ true → is_among 7 (chain_of all class) ≡ true
     below_throwable class early among = among_completed given completed class 7 (omega (arith, early, count_is)) among
 
     -- ---- places
 
-    unhidden : (class : ℕ) → class < 28 → list_any (λ above. (class_at all above).hidden) (chain_of built_in class) ≡ false → list_any is_hidden (chain_of all class) ≡ false
+    unhidden : (class : ℕ) → class < built_in_classes → list_any (λ above. (class_at all above).hidden) (chain_of built_in class) ≡ false → list_any is_hidden (chain_of all class) ≡ false
     unhidden class early none =
         none_completed given completed is_hidden (λ k f within is. (completed k f within is).not_hidden) class (omega (arith, early, count_is)) none
 
@@ -145,7 +145,7 @@ module _ (p : Program) (runnable : IsRunnable p) where
   abbrev given : List DeclaredClass
   given = runnable.given
 
-  throws : (name : List ℕ) (class : ℕ) → ((more : List DeclaredClass) → class_number (built_in ++ more) name ≡ Some class) → class < 28
+  throws : (name : List ℕ) (class : ℕ) → ((more : List DeclaredClass) → class_number (built_in ++ more) name ≡ Some class) → class < built_in_classes
       → is_among 7 (chain_of built_in class) ≡ true → fits_type o.classes (built_in_type o name) (throwable_type o) ≡ true
   throws name class found early among =
       ap (λ t. fits_type o.classes t (throwable_type o)) (named_class p name class runnable found)

@@ -10,7 +10,7 @@ use Rattle.fm_types.proofs.ClassTree.{among_one, chain_past_end}
 use Rattle.fm_types.specs.Fits.{AreTree, fits_type}
 use Rattle.fm_types.specs.Named.{built_in_type}
 use Rattle.fm_world.proofs.Completions.{count_is, kinds_completed}
-use Rattle.fm_world.specs.BuiltIns.{built_in, string_name}
+use Rattle.fm_world.specs.BuiltIns.{built_in, built_in_classes, string_name}
 use Rattle.fm_world.specs.Chains.{chain_of, is_among}
 use Rattle.fm_world.specs.Descriptors.{class_number, declared_kind, kind_with, of_class, typed}
 use Rattle.fm_world.specs.Lookups.{is_interface_at}
@@ -82,7 +82,7 @@ module _ (p : Program) (runnable : IsRunnable p) (tree : AreTree p.outline.class
   text_is : kind.Ref (type_of_class 1) ≡ text_kind o
   text_is = ap (λ t. kind.Ref t) (sym (string-is o runnable.given runnable.classes))
 
-  first_is : (name : List ℕ) (above : ℕ) → above < 28 → (above == 0) ≡ false
+  first_is : (name : List ℕ) (above : ℕ) → above < built_in_classes → (above == 0) ≡ false
       → ((given : List DeclaredClass) → class_number (built_in ++ given) name ≡ Some above)
       → ((given : List DeclaredClass) → is_interface_at (built_in ++ given) above ≡ false)
       → ((given : List DeclaredClass) → AreCompleted (built_in ++ given) → kinds_of (built_in ++ given) above ≡ hidden_kinds given) → (t : TypeRef)

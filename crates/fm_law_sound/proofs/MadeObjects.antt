@@ -17,7 +17,7 @@ use Rattle.fm_types.proofs.LeastJoins.{same_type-eq, same_type-refl}
 use Rattle.fm_types.specs.Named.{built_in_type}
 use Rattle.fm_types.specs.ObjectRows.{has_objects}
 use Rattle.fm_world.proofs.Completions.{count_is, kinds_completed}
-use Rattle.fm_world.specs.BuiltIns.{built_in}
+use Rattle.fm_world.specs.BuiltIns.{built_in, built_in_classes}
 use Rattle.fm_world.specs.Chains.{chain_of, class_at, same_type}
 use Rattle.fm_world.specs.Descriptors.{class_number}
 use Rattle.fm_world.specs.Members.{kinds_of, size_of}
@@ -170,7 +170,7 @@ module _ (p : Program) (ready : IsMakeable p) where
   abbrev o : Outline
   o = p.outline
 
-  pub class_fits : (class len : ℕ) (content : List ℕ) → class < 28 → ((given : List DeclaredClass) → IsPlain (built_in ++ given) class)
+  pub class_fits : (class len : ℕ) (content : List ℕ) → class < built_in_classes → ((given : List DeclaredClass) → IsPlain (built_in ++ given) class)
       → HasLength o (type_of_class class) len → ContentFits o (type_of_class class) len content → MakeFits o (type_of_class class) len content
   class_fits class len content early plain length_fits content_fits =
       let number : type_number o.types (type_of_class class) ≡ Some class = ready.class_types class (built_in-inside p class ready.runnable early) in
@@ -183,7 +183,7 @@ module _ (p : Program) (ready : IsMakeable p) where
         content_fits = content_fits;
       }
 
-  thrown_by : (name : List ℕ) (class : ℕ) → class < 28 → ((given : List DeclaredClass) → class_number (built_in ++ given) name ≡ Some class)
+  thrown_by : (name : List ℕ) (class : ℕ) → class < built_in_classes → ((given : List DeclaredClass) → class_number (built_in ++ given) name ≡ Some class)
       → ((given : List DeclaredClass) → IsPlain (built_in ++ given) class)
       → MakeFits o (built_in_type o name) (size_of_type o (built_in_type o name)) []
   thrown_by name class early found plain =

@@ -7,7 +7,7 @@ use Rattle.fm_base.proofs.ListFacts.{slice_get-append_left}
 use Rattle.fm_base.specs.declared.kinds.TypeRef.{TypeRef}
 use Rattle.fm_cells.specs.Stores.{Store}
 use Rattle.fm_types.specs.Named.{built_in_type}
-use Rattle.fm_world.specs.BuiltIns.{built_in}
+use Rattle.fm_world.specs.BuiltIns.{built_in, built_in_classes}
 use Rattle.fm_world.specs.Chains.{chain_of}
 use Rattle.fm_world.specs.Descriptors.{class_number}
 use Rattle.fm_world.specs.Members.{kinds_of, size_of}
@@ -46,7 +46,7 @@ module _ (p : Program) (ready : IsMakeable p) (store : Store) (f : Frame) where
   no_length class size false = sym (ap (λ all. size_of all class) ready.runnable.classes ∙ size ready.runnable.given (completed-are ready.runnable.given ready.runnable.completed))
 
   -- an object without elements of a built-in class
-  fixed_fits : (name : List ℕ) (class : ℕ) → class < 28 → ((given : List DeclaredClass) → class_number (built_in ++ given) name ≡ Some class)
+  fixed_fits : (name : List ℕ) (class : ℕ) → class < built_in_classes → ((given : List DeclaredClass) → class_number (built_in ++ given) name ≡ Some class)
       → ((given : List DeclaredClass) → IsPlain (built_in ++ given) class)
       → ((given : List DeclaredClass) → AreCompleted (built_in ++ given) → size_of (built_in ++ given) class ≡ 0)
       → MakeFits o (built_in_type o name) 0 []

@@ -12,7 +12,7 @@ use Rattle.fm_base.specs.declared.kinds.Kind.TheVariants as kind
 use Rattle.fm_base.specs.declared.kinds.TypeRef.{TypeRef}
 use Rattle.fm_types.specs.Fits.{AreTree, fits_base, fits_type}
 use Rattle.fm_types.specs.Named.{built_in_type}
-use Rattle.fm_world.specs.BuiltIns.{built_in}
+use Rattle.fm_world.specs.BuiltIns.{built_in, built_in_classes}
 use Rattle.fm_world.specs.Chains.{chain_of, class_at, is_among}
 use Rattle.fm_world.specs.Declarations.{no_class}
 use Rattle.fm_world.specs.Descriptors.{class_number}
@@ -50,11 +50,11 @@ hides classes class = (class_at classes class).hidden
 abbrev is_one : ℕ → Bool
 is_one class = (class == 2) || ((class == 3) || (class == 7))
 
-built_in_ones : agree_below (hides built_in) is_one 28 ≡ true
+built_in_ones : agree_below (hides built_in) is_one built_in_classes ≡ true
 unfolding built_in
 built_in_ones = refl
 
-built_in_count : length built_in ≡ 28
+built_in_count : length built_in ≡ built_in_classes
 unfolding built_in
 built_in_count = refl
 
@@ -86,7 +86,7 @@ module _ (p : Program) (runnable : IsRunnable p) (tree : AreTree p.outline.class
         let same : hides o.classes above ≡ hides built_in above =
         ap (λ (all : List DeclaredClass). hides all above) runnable.classes
         ∙ ap (λ (c : DeclaredClass). c.hidden) (get_or_append_left built_in runnable.given no_class above within) in
-        sym (agree_below_at (hides built_in) is_one 28 above built_in_ones (subst (λ n. above < n) built_in_count within)) ∙ sym same ∙ hidden
+        sym (agree_below_at (hides built_in) is_one built_in_classes above built_in_ones (subst (λ n. above < n) built_in_count within)) ∙ sym same ∙ hidden
 
   module _ (t : TypeRef) (class above : ℕ) (is : class_of_type t ≡ Some class) (among : is_among above (chain_of p.outline.classes class) ≡ true) where
     -- the type fits the built-in class of that number

@@ -15,7 +15,7 @@ use Rattle.fm_link_supers.proofs.InterfaceLemmas.{any_ends, any_within, goes_dee
 use Rattle.fm_link_supers.proofs.NamedParentLemmas.{number_given}
 use Rattle.fm_world.proofs.Acyclic.{none_passes, none_passes_after}
 use Rattle.fm_world.proofs.Completions.{class_same, completing, concrete-declared, count_is, fails_at, goes_up_ends, interface-declared, IsBelow, named_itself, number_first, number_same, parent_completed, parent_plain, self_built_in, table_below}
-use Rattle.fm_world.specs.BuiltIns.{built_in, object_name}
+use Rattle.fm_world.specs.BuiltIns.{built_in, built_in_classes, object_name}
 use Rattle.fm_world.specs.Causes.{BuiltIn, built_in_named, completes, goes_deep, goes_up, is_there_and, may_be_completed, may_have_fields, own_name, refused, Refusal, refused_if, refused_where, same_name}
 use Rattle.fm_world.specs.Chains.{chain_of, class_at, completion_of, given_number, listed_interfaces, parent_of, self_of}
 use Rattle.fm_world.specs.Declarations.{declared_field, declared_from, declared_of, no_class}
@@ -61,23 +61,23 @@ abbrev pub is_other_than_object : Option ℕ → Bool
 is_other_than_object None = true
 is_other_than_object (Some k) = not (nat_eq k 0)
 
-closed_table : map (lacks built_in) (numbers_below 28) ≡ replicate 28 false
+closed_table : map (lacks built_in) (numbers_below built_in_classes) ≡ replicate built_in_classes false
 unfolding built_in
 closed_table = refl
 
-deep_table : map (λ k. list_any (goes_deep 28 built_in) (listed_interfaces built_in k)) (numbers_below 28) ≡ replicate 28 false
+deep_table : map (λ k. list_any (goes_deep built_in_classes built_in) (listed_interfaces built_in k)) (numbers_below built_in_classes) ≡ replicate built_in_classes false
 unfolding built_in
 deep_table = refl
 
-interfaces_table : map (λ k. list_any (λ i. not (is_interface_at built_in i)) (listed_interfaces built_in k)) (numbers_below 28) ≡ replicate 28 false
+interfaces_table : map (λ k. list_any (λ i. not (is_interface_at built_in i)) (listed_interfaces built_in k)) (numbers_below built_in_classes) ≡ replicate built_in_classes false
 unfolding built_in
 interfaces_table = refl
 
-parents_table : map (λ k. is_there_and (is_interface_at built_in) (parent_of built_in k)) (numbers_below 28) ≡ replicate 28 false
+parents_table : map (λ k. is_there_and (is_interface_at built_in) (parent_of built_in k)) (numbers_below built_in_classes) ≡ replicate built_in_classes false
 unfolding built_in
 parents_table = refl
 
-markers_table : map (λ k. is_interface_at built_in k && is_other_than_object (parent_of built_in k)) (numbers_below 28) ≡ replicate 28 false
+markers_table : map (λ k. is_interface_at built_in k && is_other_than_object (parent_of built_in k)) (numbers_below built_in_classes) ≡ replicate built_in_classes false
 unfolding built_in
 markers_table = refl
 
@@ -90,7 +90,7 @@ unfolding built_in
 object_flags = refl
 
 closed : (k : ℕ) → k < length built_in → lacks built_in k ≡ false
-closed k within = fails_at (lacks built_in) 28 closed_table k (omega (arith, within, count_is))
+closed k within = fails_at (lacks built_in) built_in_classes closed_table k (omega (arith, within, count_is))
 
 -- ---- what no refusal leaves of one class
 
@@ -118,7 +118,7 @@ module _ (more : List DeclaredClass) (completed : AreCompleted (built_in ++ more
   parent_is_class : (k : ℕ) → k < length built_in → (o : Option ℕ) → completing more k ≡ o → is_there_and (is_interface_at classes) (parent_of classes k) ≡ false
   parent_is_class k within None is =
       ap (is_there_and (is_interface_at classes)) (parent_plain more k within is) ∙ there_same built_in more (parent_of built_in k) (table_below more k within)
-      ∙ fails_at (λ i. is_there_and (is_interface_at built_in) (parent_of built_in i)) 28 parents_table k (omega (arith, within, count_is))
+      ∙ fails_at (λ i. is_there_and (is_interface_at built_in) (parent_of built_in i)) built_in_classes parents_table k (omega (arith, within, count_is))
   parent_is_class k within (Some f) is =
       ap (is_there_and (is_interface_at classes)) (parent_completed more completed k f within is) ∙ (completed k f within is).is_class
 
@@ -128,14 +128,14 @@ module _ (more : List DeclaredClass) (completed : AreCompleted (built_in ++ more
   marker_is k within None is =
       ap (λ b. b && is_other_than_object (parent_of classes k)) (interface_same built_in more k within)
       ∙ ap (λ o. is_interface_at built_in k && is_other_than_object o) (parent_plain more k within is)
-      ∙ fails_at (λ i. is_interface_at built_in i && is_other_than_object (parent_of built_in i)) 28 markers_table k (omega (arith, within, count_is))
+      ∙ fails_at (λ i. is_interface_at built_in i && is_other_than_object (parent_of built_in i)) built_in_classes markers_table k (omega (arith, within, count_is))
   marker_is k within (Some f) is = ap (λ b. b && is_other_than_object (parent_of classes k)) (completed k f within is).completes_class
 
   pub built_in_fit : (k : ℕ) → k < length built_in → IsFit (built_in ++ more) k
   built_in_fit k within =
       let n = length classes in
-      let few : 28 ≤ n = let l = length-append built_in more in omega (arith, l, count_is) in
-      let low : k < 28 = omega (arith, within, count_is) in
+      let few : built_in_classes ≤ n = let l = length-append built_in more in omega (arith, l, count_is) in
+      let low : k < built_in_classes = omega (arith, within, count_is) in
       let listed = listed_same built_in more k within (closed k within) in
       let own = listed_interfaces built_in k in
       let own_within = listed_within built_in k in
@@ -144,13 +144,13 @@ module _ (more : List DeclaredClass) (completed : AreCompleted (built_in ++ more
         deep =
             ap (list_any (goes_deep n classes)) listed
             ∙ any_within (length built_in) (goes_deep n classes) (goes_deep n built_in) (deep_same built_in more closed n) own own_within
-            ∙ any_ends (goes_deep 28 built_in) (goes_deep n built_in) (λ i e. goes_deep_later built_in n 28 i few e) own
-            (fails_at (λ i. list_any (goes_deep 28 built_in) (listed_interfaces built_in i)) 28 deep_table k low);
+            ∙ any_ends (goes_deep built_in_classes built_in) (goes_deep n built_in) (λ i e. goes_deep_later built_in n built_in_classes i few e) own
+            (fails_at (λ i. list_any (goes_deep built_in_classes built_in) (listed_interfaces built_in i)) built_in_classes deep_table k low);
         only =
             ap (list_any (λ i. not (is_interface_at classes i))) listed
             ∙ any_within (length built_in) (λ i. not (is_interface_at classes i)) (λ i. not (is_interface_at built_in i))
             (λ i h. ap not (interface_same built_in more i h)) own own_within
-            ∙ fails_at (λ i. list_any (λ j. not (is_interface_at built_in j)) (listed_interfaces built_in i)) 28 interfaces_table k low;
+            ∙ fails_at (λ i. list_any (λ j. not (is_interface_at built_in j)) (listed_interfaces built_in i)) built_in_classes interfaces_table k low;
         parent = parent_is_class k within (completing more k) refl;
         marker = marker_is k within (completing more k) refl;
       }
@@ -197,15 +197,15 @@ declared_at n (d ∷ given) (suc j) c at = let later = declared_at (n + 1) given
 abbrev may_be : ℕ → Bool
 may_be k = may_be_completed (class_at built_in k).name
 
-classes_table : map (λ k. may_be k && is_interface_at built_in k) (numbers_below 28) ≡ replicate 28 false
+classes_table : map (λ k. may_be k && is_interface_at built_in k) (numbers_below built_in_classes) ≡ replicate built_in_classes false
 unfolding built_in
 classes_table = refl
 
-supers_table : map (λ k. may_be k && is_none (class_at built_in k).superclass) (numbers_below 28) ≡ replicate 28 false
+supers_table : map (λ k. may_be k && is_none (class_at built_in k).superclass) (numbers_below built_in_classes) ≡ replicate built_in_classes false
 unfolding built_in
 supers_table = refl
 
-fields_table : map (λ k. may_be k && (not (is_below_throwable k) && may_have_fields (class_at built_in k))) (numbers_below 28) ≡ replicate 28 false
+fields_table : map (λ k. may_be k && (not (is_below_throwable k) && may_have_fields (class_at built_in k))) (numbers_below built_in_classes) ≡ replicate built_in_classes false
 unfolding built_in chain_of
 fields_table = refl
 
@@ -339,7 +339,7 @@ pub are_completed : (given : List ClassDef) → refused_built_ins given ≡ [] �
 unfolding classes_of
 are_completed given none class completing within is =
     let classes = classes_of given in
-    let low : class < 28 = omega (arith, within, count_is) in
+    let low : class < built_in_classes = omega (arith, within, count_is) in
     let by = completed_by given none class completing within is in
     let c = by.file in
     let b = class_at built_in class in
@@ -354,16 +354,16 @@ are_completed given none class completing within is =
     (may_have_fields b || not (list_any (λ (f : Member). is_instance f.flags) c.fields)) halves.1 in
     let plain_fields = λ (above : is_below_throwable class ≡ false). second_not (not (is_below_throwable class)) (may_have_fields b) (ap not above)
     (second_not (may_be class) (not (is_below_throwable class) && may_have_fields b) parts.0
-    (fails_at (λ k. may_be k && (not (is_below_throwable k) && may_have_fields (class_at built_in k))) 28 fields_table class low)) in
+    (fails_at (λ k. may_be k && (not (is_below_throwable k) && may_have_fields (class_at built_in k))) built_in_classes fields_table class low)) in
     record {
       completes_class =
           ap (λ (d : DeclaredClass). is_interface d.flags) same
           ∙ second_not (may_be class) (is_interface_at built_in class) parts.0
-          (fails_at (λ k. may_be k && is_interface_at built_in k) 28 classes_table class low);
+          (fails_at (λ k. may_be k && is_interface_at built_in k) built_in_classes classes_table class low);
       has_superclass =
           ap (λ (d : DeclaredClass). is_some d.superclass) same
           ∙ some_not b.superclass
-          (second_not (may_be class) (is_none b.superclass) parts.0 (fails_at (λ k. may_be k && is_none (class_at built_in k).superclass) 28 supers_table class low));
+          (second_not (may_be class) (is_none b.superclass) parts.0 (fails_at (λ k. may_be k && is_none (class_at built_in k).superclass) built_in_classes supers_table class low));
       superclass =
           ap (λ (d : DeclaredClass). d.superclass) here ∙ same_names b.superclass (class_name_at c.pool.entries c.super_class) rest.0
           ∙ sym (ap (λ (d : DeclaredClass). d.superclass) same);

@@ -11,7 +11,7 @@ use Rattle.fm_cells.specs.Stores.{live_words, object_at, opened, Store}
 use Rattle.fm_code.specs.declared.code_array.Code.{Code}
 use Rattle.fm_world.proofs.Completions.{count_is}
 use Rattle.fm_types.specs.Named.{class_of_method, throwable_type}
-use Rattle.fm_world.specs.BuiltIns.{built_in}
+use Rattle.fm_world.specs.BuiltIns.{built_in, built_in_classes}
 use Rattle.fm_world.specs.Members.{methods_of}
 use Rattle.fm_world.specs.Numbers.{type_of_class}
 use Rattle.fm_world.specs.Programs.{IsTypeIn, Program}
@@ -51,7 +51,7 @@ CaughtAt p (Leaves e) = IsEndIn p e
 
 module _ (p : Program) (runnable : IsRunnable p) where
   -- the built-in classes are there
-  class_there : (class : ℕ) → class < 28 → class < length p.outline.classes
+  class_there : (class : ℕ) → class < built_in_classes → class < length p.outline.classes
   class_there class low = omega (arith, low, count_is, ap length runnable.classes, length-append built_in runnable.given)
 
   -- a type that has a number is of a class that is there, and so is that of what is thrown

@@ -17,7 +17,7 @@ use Rattle.fm_types.specs.States.{state_fits, TypeState}
 use Rattle.fm_types.specs.Typed.{caught_type, entry_state, FitsAt, IsTypingOf, MeetsItem, state_at, Typed}
 use Rattle.fm_types.specs.declared.slots.Slot.{Slot}
 use Rattle.fm_types.specs.declared.slots.Slot.TheVariants as slot
-use Rattle.fm_world.specs.BuiltIns.{built_in}
+use Rattle.fm_world.specs.BuiltIns.{built_in, built_in_classes}
 use Rattle.fm_world.specs.Chains.{chain_of}
 use Rattle.fm_world.specs.Descriptors.{of_class}
 use Rattle.fm_world.specs.Lookups.{resolved_field, resolved_method}
@@ -245,7 +245,7 @@ pub joined_related : joined (of_number 13) (of_number 18) ≡ of_number 11
 unfolding built_in chain_of resolved_field resolved_method fields_of methods_of texts_of types_of classes_of outline_of uses_of codes_of program_of used_indices join join_type
 joined_related = refl
 
-pub joined_level : joined (array 1 (of_class 30)) (array 1 (of_class 29)) ≡ array 1 (of_class 29)
+pub joined_level : joined (array 1 (of_class (built_in_classes + 2))) (array 1 (of_class (built_in_classes + 1))) ≡ array 1 (of_class (built_in_classes + 1))
 unfolding built_in chain_of resolved_field resolved_method fields_of methods_of texts_of types_of classes_of outline_of uses_of codes_of program_of used_indices join join_type
 joined_level = refl
 

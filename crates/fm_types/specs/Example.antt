@@ -1,5 +1,5 @@
 -- A method that is typed, with a state for each of its items, one that isn't, and joins that a reader can go over by hand.
-use Rattle.std.specs.Prelude.{ℕ, true, List, [], ◌∷◌, codes, Option, Some, None}
+use Rattle.std.specs.Prelude.{ℕ, ◌+◌, true, List, [], ◌∷◌, codes, Option, Some, None}
 use Rattle.fm_base.specs.declared.kinds.Base.{Base}
 use Rattle.fm_code.specs.declared.class_file.ClassDef.{ClassDef}
 use Rattle.fm_code.specs.declared.class_file.MemberAttr.TheVariants as attribute
@@ -12,12 +12,12 @@ use Rattle.fm_types.specs.Joins.{join}
 use Rattle.fm_types.specs.States.{TypeState}
 use Rattle.fm_types.specs.declared.slots.Slot.{Slot}
 use Rattle.fm_types.specs.declared.slots.Slot.TheVariants as slot
-use Rattle.fm_world.specs.BuiltIns.{built_in_methods}
+use Rattle.fm_world.specs.BuiltIns.{built_in_classes, built_in_methods}
 use Rattle.fm_world.specs.Descriptors.{of_class}
 use Rattle.fm_world.specs.Example.{class_with, example_lower, example_upper, item, main_entries}
 use Rattle.fm_world.specs.Programs.{Program, program_of}
 
--- ---- a class M with a main of this code, beside A and B below A; M is class 28, A 29 and B 30
+-- ---- a class M with a main of this code, beside A and B below A; M is the first class after the built-in ones, A the second and B the third
 
 -- the main is the method after the built-in ones
 abbrev pub main_number : ℕ
@@ -54,7 +54,7 @@ strings = slot.Ref (record { dims = 1; base = of_class 1 })
 
 -- that of B
 abbrev pub of_b : Slot
-of_b = slot.Ref (record { dims = 0; base = of_class 30 })
+of_b = slot.Ref (record { dims = 0; base = of_class (built_in_classes + 2) })
 
 -- that of Throwable
 abbrev pub of_throwable : Slot

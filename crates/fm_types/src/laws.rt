@@ -1,11 +1,12 @@
 // Laws of the definitions, each as the contract of a function that does nothing.
 
-ghost use Rattle.std.specs.Prelude.{◌≡◌};
+ghost use Rattle.std.specs.Prelude.{◌≡◌, ◌+◌};
 ghost use Rattle.fm_base.specs.declared.kinds.Base.TheVariants as base;
 ghost use Rattle.fm_types.specs.Example.{array, joined, main_number, of_number, program_with, typed_code, untyped_code};
 ghost use Rattle.fm_types.specs.Laws.{FitsIsReflexive, FitsIsTransitive, JoinIsLeast, RowsKeepLongs, RowsKeepOrder};
 ghost use Rattle.fm_types.specs.Typed.{Typed};
 ghost use Rattle.fm_types.specs.declared.slots.Slot.TheVariants as slot;
+ghost use Rattle.fm_world.specs.BuiltIns.{built_in_classes};
 ghost use Rattle.fm_world.specs.Descriptors.{of_class};
 
 /// What fits what is an order over the classes of a linked program.
@@ -39,7 +40,8 @@ pub fn law_example()
 /// and of one with itself; of arrays that aren't level; of null and a type; of different kinds.
 pub fn law_join_examples()
     ensures related { joined (of_number 13) (of_number 18) ≡ of_number 11 }
-    ensures level { joined (array 1 (of_class 30)) (array 1 (of_class 29)) ≡ array 1 (of_class 29) }
+    ensures level { joined (array 1 (of_class (built_in_classes + 2))) (array 1 (of_class (built_in_classes + 1)))
+        ≡ array 1 (of_class (built_in_classes + 1)) }
     ensures interfaces { joined (of_number 26) (of_number 27) ≡ of_number 0 }
     ensures same_interface { joined (of_number 26) (of_number 26) ≡ of_number 26 }
     ensures unlike { joined (array 1 base.Int) (array 2 (of_class 1)) ≡ of_number 0 }

@@ -18,7 +18,7 @@ use Rattle.fm_code.specs.AccessFlags.{is_abstract, is_interface}
 use Rattle.fm_code.specs.declared.access_flags.TheConstants.{ACC_ABSTRACT, ACC_INTERFACE}
 use Rattle.fm_code.specs.declared.class_file.ClassDef.{ClassDef}
 use Rattle.fm_base.specs.declared.kinds.Kind.{Kind}
-use Rattle.fm_world.specs.BuiltIns.{built_in}
+use Rattle.fm_world.specs.BuiltIns.{built_in, built_in_classes}
 use Rattle.fm_world.specs.Causes.{goes_up, own_name}
 use Rattle.fm_world.specs.Chains.{chain_of, class_at, completion_of, is_among, parent_of, self_of, upwards}
 use Rattle.fm_world.specs.Declarations.{declared_flags, no_class}
@@ -66,7 +66,7 @@ same_at f g d n same k within =
 
 -- ---- the table by itself
 
-pub count_is : length built_in ≡ 28
+pub count_is : length built_in ≡ built_in_classes
 unfolding built_in
 count_is = refl
 
@@ -79,30 +79,30 @@ abbrev lacks_superclass : List DeclaredClass → Option (List ℕ) → Bool
 lacks_superclass own None = false
 lacks_superclass own (Some name) = is_none (class_number own name)
 
-named_table : map (λ k. named_parent built_in (class_at built_in k)) (numbers_below 28) ≡ map (parent_of built_in) (numbers_below 28)
+named_table : map (λ k. named_parent built_in (class_at built_in k)) (numbers_below built_in_classes) ≡ map (parent_of built_in) (numbers_below built_in_classes)
 unfolding built_in
 named_table = refl
 
-there_table : map (λ k. lacks_superclass built_in (class_at built_in k).superclass) (numbers_below 28) ≡ replicate 28 false
+there_table : map (λ k. lacks_superclass built_in (class_at built_in k).superclass) (numbers_below built_in_classes) ≡ replicate built_in_classes false
 unfolding built_in
 there_table = refl
 
-ends_table : map (λ k. goes_up 14 built_in (Some k)) (numbers_below 28) ≡ replicate 28 false
+ends_table : map (λ k. goes_up 14 built_in (Some k)) (numbers_below built_in_classes) ≡ replicate built_in_classes false
 unfolding built_in
 ends_table = refl
 
-chains_table : map (λ k. upwards 14 built_in (Some k)) (numbers_below 28) ≡ map (chain_of built_in) (numbers_below 28)
+chains_table : map (λ k. upwards 14 built_in (Some k)) (numbers_below built_in_classes) ≡ map (chain_of built_in) (numbers_below built_in_classes)
 unfolding built_in chain_of
 chains_table = refl
 
 abbrev pub is_past_table : ℕ → Bool
 is_past_table k = not (nat_lt k (length built_in))
 
-inside_table : map (λ k. list_any is_past_table (chain_of built_in k)) (numbers_below 28) ≡ replicate 28 false
+inside_table : map (λ k. list_any is_past_table (chain_of built_in k)) (numbers_below built_in_classes) ≡ replicate built_in_classes false
 unfolding built_in chain_of
 inside_table = refl
 
-numbers_table : map (λ k. class_number built_in (class_at built_in k).name) (numbers_below 28) ≡ map (λ k. Some k) (numbers_below 28)
+numbers_table : map (λ k. class_number built_in (class_at built_in k).name) (numbers_below built_in_classes) ≡ map (λ k. Some k) (numbers_below built_in_classes)
 unfolding built_in
 numbers_table = refl
 
@@ -111,12 +111,12 @@ before_past k h = ltb-true k (length built_in) (not-false (nat_lt k (length buil
 
 -- above a class of the table alone are classes of the table
 pub all_inside : (k : ℕ) → k < length built_in → list_any is_past_table (chain_of built_in k) ≡ false
-all_inside k within = fails_at (λ i. list_any is_past_table (chain_of built_in i)) 28 inside_table k (omega (arith, within, count_is))
+all_inside k within = fails_at (λ i. list_any is_past_table (chain_of built_in i)) built_in_classes inside_table k (omega (arith, within, count_is))
 
 -- a built-in class is found by its name
 pub named_itself : (k : ℕ) → k < length built_in → class_number built_in (class_at built_in k).name ≡ Some k
 named_itself k within =
-    same_at (λ i. class_number built_in (class_at built_in i).name) (λ i. Some i) None 28 numbers_table k (omega (arith, within, count_is))
+    same_at (λ i. class_number built_in (class_at built_in i).name) (λ i. Some i) None built_in_classes numbers_table k (omega (arith, within, count_is))
 
 -- a built-in class completes no other one
 pub self_built_in : (more : List DeclaredClass) (k : ℕ) → k < length built_in → self_of (built_in ++ more) k ≡ k
@@ -168,8 +168,8 @@ module _ (more : List DeclaredClass) where
   named_same : (k : ℕ) → k < length built_in → named_parent classes (class_at built_in k) ≡ parent_of built_in k
   named_same k within =
       by_name (class_at built_in k).superclass
-      (fails_at (λ i. lacks_superclass built_in (class_at built_in i).superclass) 28 there_table k (omega (arith, within, count_is)))
-      ∙ same_at (λ i. named_parent built_in (class_at built_in i)) (parent_of built_in) None 28 named_table k (omega (arith, within, count_is)) where
+      (fails_at (λ i. lacks_superclass built_in (class_at built_in i).superclass) built_in_classes there_table k (omega (arith, within, count_is)))
+      ∙ same_at (λ i. named_parent built_in (class_at built_in i)) (parent_of built_in) None built_in_classes named_table k (omega (arith, within, count_is)) where
         by_name : (o : Option (List ℕ)) → lacks_superclass built_in o ≡ false → option_and_then (class_number classes) o ≡ option_and_then (class_number built_in) o
         by_name None e = refl
         by_name (Some name) e = number_same built_in more name e
@@ -177,7 +177,7 @@ module _ (more : List DeclaredClass) where
   pub table_below : (k : ℕ) → k < length built_in → IsBelow (length built_in) (parent_of built_in k)
   table_below k within =
       subst (IsBelow (length built_in))
-      (same_at (λ i. named_parent built_in (class_at built_in i)) (parent_of built_in) None 28 named_table k (omega (arith, within, count_is)))
+      (same_at (λ i. named_parent built_in (class_at built_in i)) (parent_of built_in) None built_in_classes named_table k (omega (arith, within, count_is)))
       (named_below built_in (class_at built_in k))
 
   -- what completes a class is of a file
@@ -259,10 +259,10 @@ module _ (more : List DeclaredClass) where
     pub chain_completed : (k : ℕ) → k < length built_in → chain_of classes k ≡ with_completions (chain_of built_in k)
     unfolding chain_of
     chain_completed k within =
-        let low : k < 28 = omega (arith, within, count_is) in
+        let low : k < built_in_classes = omega (arith, within, count_is) in
         let few : 14 + 14 ≤ suc (length classes) = let l = length-append built_in more in omega (arith, l, count_is) in
-        upwards_is 14 (suc (length classes)) (Some k) within few (fails_at (λ i. goes_up 14 built_in (Some i)) 28 ends_table k low)
-        ∙ ap with_completions (same_at (λ i. upwards 14 built_in (Some i)) (chain_of built_in) [] 28 chains_table k low)
+        upwards_is 14 (suc (length classes)) (Some k) within few (fails_at (λ i. goes_up 14 built_in (Some i)) built_in_classes ends_table k low)
+        ∙ ap with_completions (same_at (λ i. upwards 14 built_in (Some i)) (chain_of built_in) [] built_in_classes chains_table k low)
 
     up_ends : (bound n : ℕ) (o : Option ℕ) → IsBelow (length built_in) o → bound + bound ≤ n → goes_up bound built_in o ≡ false → goes_up n classes o ≡ false
     up_ends bound zero None below few ends = refl
@@ -279,9 +279,9 @@ module _ (more : List DeclaredClass) where
               ap (goes_up (suc n) classes) (parent_completed k f below is) ∙ ap (goes_up n classes) (parent_above k f below is) ∙ rest n (omega (arith, few))
 
     -- no chain of a built-in class leads into a cycle
-    pub goes_up_ends : (k n : ℕ) → k < length built_in → 28 ≤ n → goes_up n classes (Some k) ≡ false
+    pub goes_up_ends : (k n : ℕ) → k < length built_in → built_in_classes ≤ n → goes_up n classes (Some k) ≡ false
     goes_up_ends k n within enough =
-        up_ends 14 n (Some k) within (omega (arith, enough)) (fails_at (λ i. goes_up 14 built_in (Some i)) 28 ends_table k (omega (arith, within, count_is)))
+        up_ends 14 n (Some k) within (omega (arith, enough)) (fails_at (λ i. goes_up 14 built_in (Some i)) built_in_classes ends_table k (omega (arith, within, count_is)))
 
     -- what is among the table's superclasses is among the superclasses
     among_more : (x : ℕ) (xs : List ℕ) → is_among x xs ≡ true → is_among x (with_completions xs) ≡ true

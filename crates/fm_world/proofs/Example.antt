@@ -4,7 +4,7 @@ use Rattle.std.specs.List.{filter_map, list_all, list_any, range_with_len}
 use Rattle.std.specs.Option.{option_map}
 use Rattle.fm_world.specs.Rows.{hidden_kinds, row_of}
 use Rattle.fm_world.specs.Descriptors.{class_number}
-use Rattle.fm_world.specs.BuiltIns.{built_in, built_in_methods, built_in_rows, free_me_row, throwable_row}
+use Rattle.fm_world.specs.BuiltIns.{built_in, built_in_classes, built_in_methods, built_in_rows, free_me_row, throwable_row}
 use Rattle.fm_world.specs.Causes.{BuiltIn, Duplicate, BadParent, MissingClass, MissingField, NotImplemented, NoMain}
 use Rattle.fm_world.specs.Chains.{chain_of, distinct, superinterfaces_of, interfaces_of, is_sub}
 use Rattle.fm_world.specs.Example.{array_types, call_of_k, call_of_to_string, call_on_array, castable, not_castable, example, example_main, example_upper, first_method, main_uses, refusal, with_completion, with_cycle, with_interfaces, with_private, with_static_field, with_free_me}
@@ -15,7 +15,7 @@ use Rattle.fm_world.specs.Numbers.{types_of, texts_of}
 use Rattle.fm_world.specs.Programs.{classes_of, outline_of, uses_of, codes_of, program_of, targets}
 use Rattle.fm_world.specs.Uses.{used_indices}
 
-pub classes_are : length built_in ≡ 28
+pub classes_are : length built_in ≡ built_in_classes
 unfolding built_in
 classes_are = refl
 
@@ -27,11 +27,11 @@ pub accepted : refusals example (codes "M") ≡ []
 unfolding refusals refused_duplicates refused_built_ins refused_missing_classes refused_parents refused_fields refused_methods refused_not_implemented refused_main select special_target built_in classes_of chain_of superinterfaces_of interfaces_of methods_of fields_of resolved_field resolved_method used_indices
 accepted = refl
 
-pub uses_are : slice_get (program_of example (codes "M")).uses 28 ≡ Some main_uses
+pub uses_are : slice_get (program_of example (codes "M")).uses built_in_classes ≡ Some main_uses
 unfolding program_of outline_of types_of texts_of uses_of codes_of built_in classes_of chain_of superinterfaces_of interfaces_of methods_of fields_of resolved_field resolved_method used_indices
 uses_are = refl
 
-pub types_are : drop 31 (program_of example (codes "M")).outline.types ≡ array_types
+pub types_are : drop (built_in_classes + 3) (program_of example (codes "M")).outline.types ≡ array_types
 unfolding program_of outline_of types_of texts_of uses_of codes_of built_in classes_of chain_of superinterfaces_of interfaces_of methods_of fields_of resolved_field resolved_method used_indices
 types_are = refl
 
@@ -43,11 +43,11 @@ pub main_is : (program_of example (codes "M")).outline.main ≡ built_in_methods
 unfolding program_of outline_of types_of texts_of uses_of codes_of built_in classes_of chain_of superinterfaces_of interfaces_of methods_of fields_of resolved_field resolved_method used_indices
 main_is = refl
 
-pub chain_is : chain_of (classes_of example) 30 ≡ 30 ∷ 29 ∷ 0 ∷ []
+pub chain_is : chain_of (classes_of example) (built_in_classes + 2) ≡ (built_in_classes + 2) ∷ (built_in_classes + 1) ∷ 0 ∷ []
 unfolding built_in classes_of chain_of
 chain_is = refl
 
-pub size_is : size_of (classes_of example) 30 ≡ 2
+pub size_is : size_of (classes_of example) (built_in_classes + 2) ≡ 2
 unfolding built_in chain_of classes_of size_of
 size_is = refl
 
@@ -55,7 +55,7 @@ pub slot_is : slot_of (classes_of example) 4 ≡ 1
 unfolding built_in chain_of classes_of fields_of slot_of
 slot_is = refl
 
-pub selected_is : select (classes_of example) 30 (built_in_methods + 2) ≡ Some (built_in_methods + 4)
+pub selected_is : select (classes_of example) (built_in_classes + 2) (built_in_methods + 2) ≡ Some (built_in_methods + 4)
 unfolding built_in classes_of chain_of methods_of select
 selected_is = refl
 
@@ -103,7 +103,7 @@ pub hidden_is : option_map (kinds_of built_in) (class_number built_in (codes "ja
 unfolding built_in chain_of kinds_of
 hidden_is = refl
 
-pub interfaces_are : superinterfaces_of (classes_of with_interfaces) 30 ≡ 29 ∷ 26 ∷ 28 ∷ []
+pub interfaces_are : superinterfaces_of (classes_of with_interfaces) (built_in_classes + 2) ≡ (built_in_classes + 1) ∷ 26 ∷ built_in_classes ∷ []
 unfolding built_in classes_of superinterfaces_of
 interfaces_are = refl
 
@@ -111,19 +111,19 @@ pub not_implemented : slice_get (refusals with_interfaces (codes "C")) 0 ≡ Som
 unfolding refusals refused_duplicates refused_built_ins refused_missing_classes refused_parents refused_fields refused_methods refused_not_implemented refused_main select special_target built_in classes_of chain_of superinterfaces_of interfaces_of methods_of fields_of resolved_field resolved_method used_indices
 not_implemented = refl
 
-pub passed_over : select (classes_of with_private) 30 built_in_methods ≡ Some built_in_methods
+pub passed_over : select (classes_of with_private) (built_in_classes + 2) built_in_methods ≡ Some built_in_methods
 unfolding built_in classes_of chain_of methods_of select
 passed_over = refl
 
-pub itself : select (classes_of with_private) 30 (built_in_methods + 1) ≡ Some (built_in_methods + 1)
+pub itself : select (classes_of with_private) (built_in_classes + 2) (built_in_methods + 1) ≡ Some (built_in_methods + 1)
 unfolding built_in classes_of chain_of methods_of select
 itself = refl
 
-pub special : special_target (classes_of with_private) 30 (Some 28) built_in_methods ≡ built_in_methods + 1
+pub special : special_target (classes_of with_private) (built_in_classes + 2) (Some built_in_classes) built_in_methods ≡ built_in_methods + 1
 unfolding built_in classes_of chain_of methods_of special_target
 special = refl
 
-pub completed : chain_of (classes_of with_completion) 2 ≡ 2 ∷ 28 ∷ 0 ∷ []
+pub completed : chain_of (classes_of with_completion) 2 ≡ 2 ∷ built_in_classes ∷ 0 ∷ []
 unfolding built_in classes_of chain_of
 completed = refl
 
@@ -131,7 +131,7 @@ pub added : select (classes_of with_completion) 2 built_in_methods ≡ Some buil
 unfolding built_in classes_of chain_of methods_of select
 added = refl
 
-pub constructors_are : constructor_path (classes_of with_completion) 2 ≡ 2 ∷ 28 ∷ []
+pub constructors_are : constructor_path (classes_of with_completion) 2 ≡ 2 ∷ built_in_classes ∷ []
 unfolding built_in classes_of
 constructors_are = refl
 

@@ -239,6 +239,10 @@ marker name = record {
   file = None;
 }
 
+-- how many there are: the classes of a program come after them
+abbrev pub built_in_classes : ℕ
+built_in_classes = 28
+
 -- the classes by the numbers that they have in each program
 unfoldable pub built_in : List DeclaredClass
 built_in =

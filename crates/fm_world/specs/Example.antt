@@ -12,7 +12,7 @@ use Rattle.fm_code.specs.declared.code_array.Item.{Item}
 use Rattle.fm_code.specs.declared.instructions.Insn.{Insn}
 use Rattle.fm_code.specs.declared.instructions.Insn.TheVariants as insn
 use Rattle.fm_code.specs.declared.operations.Elem.TheVariants as elem
-use Rattle.fm_world.specs.BuiltIns.{built_in, built_in_methods}
+use Rattle.fm_world.specs.BuiltIns.{built_in, built_in_classes, built_in_methods}
 use Rattle.fm_world.specs.Members.{methods_of}
 use Rattle.fm_world.specs.Causes.{Cause, Refusal}
 use Rattle.fm_world.specs.Descriptors.{of_class}
@@ -125,23 +125,24 @@ example = example_main ∷ example_upper ∷ example_lower ∷ []
 
 -- ---- what they are linked to
 
--- 28 classes are built in, with 2 fields: M is class 28 with the first method after the built-in ones, A is 29 with the next two, B is 30 with the two after them
+-- the built-in classes have 2 fields: M is the first class after them, with the first method after theirs, A the second one with the next two, and B the third one with the
+-- two after them
 abbrev pub main_uses : List Use
 main_uses =
-    resolved.Unused ∷ resolved.Unused ∷ resolved.OfType (record { 0 = 28 }) ∷ resolved.Unused ∷ resolved.OfType (record { 0 = 0 })
-    ∷ resolved.Unused ∷ resolved.OfType (record { 0 = 30 }) ∷ resolved.Unused ∷ resolved.Unused ∷ resolved.Unused
-    ∷ method_use 30 (built_in_methods + 3) ∷ resolved.Unused ∷ resolved.OfType (record { 0 = 29 }) ∷ resolved.Unused ∷ resolved.Unused
-    ∷ method_use 29 (built_in_methods + 2) ∷ resolved.Unused ∷ resolved.Unused ∷ resolved.Unused ∷ field_use 30 2
+    resolved.Unused ∷ resolved.Unused ∷ resolved.OfType (record { 0 = built_in_classes }) ∷ resolved.Unused ∷ resolved.OfType (record { 0 = 0 })
+    ∷ resolved.Unused ∷ resolved.OfType (record { 0 = built_in_classes + 2 }) ∷ resolved.Unused ∷ resolved.Unused ∷ resolved.Unused
+    ∷ method_use (built_in_classes + 2) (built_in_methods + 3) ∷ resolved.Unused ∷ resolved.OfType (record { 0 = built_in_classes + 1 }) ∷ resolved.Unused ∷ resolved.Unused
+    ∷ method_use (built_in_classes + 1) (built_in_methods + 2) ∷ resolved.Unused ∷ resolved.Unused ∷ resolved.Unused ∷ field_use (built_in_classes + 2) 2
     ∷ resolved.Unused ∷ resolved.OfText 0 ∷ resolved.Unused ∷ resolved.Unused ∷ resolved.Unused
     ∷ resolved.Unused ∷ resolved.Unused ∷ []
 
 -- the types after those of the classes: String[] for the arguments, A[] and int[]
 abbrev pub array_types : List TypeRef
-array_types = record { dims = 1; base = of_class 1 } ∷ record { dims = 1; base = of_class 29 } ∷ record { dims = 1; base = base.Int } ∷ []
+array_types = record { dims = 1; base = of_class 1 } ∷ record { dims = 1; base = of_class (built_in_classes + 1) } ∷ record { dims = 1; base = base.Int } ∷ []
 
 -- the method that the main class calls, by the class that it names
 abbrev pub call_of_k : Call
-call_of_k = record { kind = call.Virtual; named = record { dims = 0; base = of_class 29 }; method = method_id (built_in_methods + 2); caller = class_id 28 }
+call_of_k = record { kind = call.Virtual; named = record { dims = 0; base = of_class (built_in_classes + 1) }; method = method_id (built_in_methods + 2); caller = class_id built_in_classes }
 
 -- the number of the first method of a built-in class
 abbrev pub first_method : ℕ → ℕ
@@ -149,11 +150,11 @@ first_method class = length (methods_of (take class built_in))
 
 -- a call of toString on an Object, and on an array of ints: toString is method 3
 abbrev pub call_of_to_string : Call
-call_of_to_string = record { kind = call.Virtual; named = record { dims = 0; base = of_class 0 }; method = method_id 3; caller = class_id 28 }
+call_of_to_string = record { kind = call.Virtual; named = record { dims = 0; base = of_class 0 }; method = method_id 3; caller = class_id built_in_classes }
 
 -- a call of toString on an array
 abbrev pub call_on_array : Call
-call_on_array = record { kind = call.Virtual; named = record { dims = 1; base = base.Int }; method = method_id 3; caller = class_id 28 }
+call_on_array = record { kind = call.Virtual; named = record { dims = 1; base = base.Int }; method = method_id 3; caller = class_id built_in_classes }
 
 -- ---- casts: Object is class 0, String 1, Throwable 7, NullPointerException 18, Cloneable 26 and Serializable 27
 

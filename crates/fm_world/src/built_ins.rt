@@ -42,6 +42,9 @@ pub struct BuiltInMethod {
     pub row: u16,
 }
 
+/// How many classes are built in: those of a program come after them.
+pub const BUILT_IN_CLASSES: u32 = 28;
+
 /// The built-in classes, by the numbers that they have in each program. Takes no memory.
 pub fn built_in_classes() -> &'static [BuiltInClass]
     ensures { map class_of_row result.now ≡ built_in }

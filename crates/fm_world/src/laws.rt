@@ -5,9 +5,10 @@ ghost use Rattle.std.specs.List.{filter_map, flat_map, list_all, list_any, range
 ghost use Rattle.std.specs.Option.{option_map};
 ghost use Rattle.fm_code.specs.declared.class_file.ClassDef.{ClassDef};
 ghost use Rattle.fm_world.specs.Acyclic.{IsAcyclic};
-ghost use Rattle.fm_world.specs.BuiltIns.{builder_row, built_in, built_in_methods, built_in_rows, free_me_row, string_row, throwable_row};
+ghost use Rattle.fm_world.specs.BuiltIns.{builder_row, built_in, built_in_classes, built_in_methods, built_in_rows, free_me_row, string_row, throwable_row};
 ghost use Rattle.fm_world.specs.Numbers.{type_number, type_of_class, types_of};
 ghost use Rattle.fm_world.specs.declared.built_in_methods.TheConstants.{BUILDER_ROW, BUILT_IN_METHODS, FREE_ME_ROW, STRING_ROW, THROWABLE_ROW};
+ghost use Rattle.fm_world.specs.declared.built_ins.TheConstants.{BUILT_IN_CLASSES};
 ghost use Rattle.fm_world.specs.declared.declarations.DeclaredClass.{DeclaredClass};
 ghost use Rattle.fm_world.specs.inner.Tables.{IsLinear};
 ghost use Rattle.fm_world.specs.Rows.{hidden_kinds, row_of};
@@ -25,8 +26,9 @@ ghost use Rattle.fm_world.specs.Programs.{Program, classes_of, program_of, targe
 /// first occur; the row of `FreeMe.free`; the constructor of the last throwable has the row of that of
 /// `Throwable`; an object of a throwable has one hidden field, which leads to a text.
 pub fn law_built_in()
-    ensures classes { length built_in ≡ 28 }
+    ensures classes { length built_in ≡ built_in_classes }
     ensures methods { length (methods_of built_in) ≡ built_in_methods }
+    ensures counted_classes { BUILT_IN_CLASSES ≡ built_in_classes }
     ensures counted { BUILT_IN_METHODS ≡ built_in_methods }
     ensures begin { STRING_ROW ∷ BUILDER_ROW ∷ THROWABLE_ROW ∷ FREE_ME_ROW ∷ []
         ≡ string_row ∷ builder_row ∷ throwable_row ∷ free_me_row ∷ [] }
@@ -48,19 +50,19 @@ pub fn law_built_in()
 /// completes StringBuilder is right above it, whose objects have its methods, and whose name leads to
 /// its constructors; FreeMe has no such file.
 pub fn law_lookup_examples()
-    ensures interfaces { superinterfaces_of (classes_of with_interfaces) 30
-        ≡ 29 ∷ 26 ∷ 28 ∷ [] }
+    ensures interfaces { superinterfaces_of (classes_of with_interfaces) (built_in_classes + 2)
+        ≡ (built_in_classes + 1) ∷ 26 ∷ built_in_classes ∷ [] }
     ensures not_implemented { slice_get (refusals with_interfaces (codes "C")) 0
         ≡ Some (refusal NotImplemented (codes "J.m()V") (codes "C")) }
-    ensures passed_over { select (classes_of with_private) 30 built_in_methods
+    ensures passed_over { select (classes_of with_private) (built_in_classes + 2) built_in_methods
         ≡ Some built_in_methods }
-    ensures itself { select (classes_of with_private) 30 (built_in_methods + 1)
+    ensures itself { select (classes_of with_private) (built_in_classes + 2) (built_in_methods + 1)
         ≡ Some (built_in_methods + 1) }
-    ensures special { special_target (classes_of with_private) 30 (Some 28) built_in_methods
+    ensures special { special_target (classes_of with_private) (built_in_classes + 2) (Some built_in_classes) built_in_methods
         ≡ built_in_methods + 1 }
-    ensures completed { chain_of (classes_of with_completion) 2 ≡ 2 ∷ 28 ∷ 0 ∷ [] }
+    ensures completed { chain_of (classes_of with_completion) 2 ≡ 2 ∷ built_in_classes ∷ 0 ∷ [] }
     ensures added { select (classes_of with_completion) 2 built_in_methods ≡ Some built_in_methods }
-    ensures constructors { constructor_path (classes_of with_completion) 2 ≡ 2 ∷ 28 ∷ [] }
+    ensures constructors { constructor_path (classes_of with_completion) 2 ≡ 2 ∷ built_in_classes ∷ [] }
     ensures accepted { refusals with_completion (codes "M")
         ≡ refusal NoMain (codes "M") (codes "M") ∷ [] }
     ensures refused { slice_get (refusals with_free_me (codes "M")) 0 ≡ Some (refusal BuiltIn
@@ -71,14 +73,16 @@ pub fn law_lookup_examples()
 /// is refused, and names, numbers and targets are as a reader counts them.
 pub fn law_example()
     ensures accepted { refusals example (codes "M") ≡ [] }
-    ensures uses { slice_get (program_of example (codes "M")).uses 28 ≡ Some main_uses }
-    ensures types { drop 31 (program_of example (codes "M")).outline.types ≡ array_types }
+    ensures uses { slice_get (program_of example (codes "M")).uses built_in_classes ≡ Some main_uses }
+    ensures types { drop (built_in_classes + 3) (program_of example (codes "M")).outline.types ≡ array_types }
     ensures texts { (program_of example (codes "M")).outline.texts ≡ codes "hi" ∷ [] }
     ensures main { (program_of example (codes "M")).outline.main ≡ built_in_methods }
-    ensures chain { chain_of (classes_of example) 30 ≡ 30 ∷ 29 ∷ 0 ∷ [] }
-    ensures size { size_of (classes_of example) 30 ≡ 2 }
+    ensures chain { chain_of (classes_of example) (built_in_classes + 2)
+        ≡ (built_in_classes + 2) ∷ (built_in_classes + 1) ∷ 0 ∷ [] }
+    ensures size { size_of (classes_of example) (built_in_classes + 2) ≡ 2 }
     ensures slot { slot_of (classes_of example) 4 ≡ 1 }
-    ensures selected { select (classes_of example) 30 (built_in_methods + 2) ≡ Some (built_in_methods + 4) }
+    ensures selected { select (classes_of example) (built_in_classes + 2) (built_in_methods + 2)
+        ≡ Some (built_in_methods + 4) }
     ensures targets { targets (program_of example (codes "M")) call_of_k
         ≡ (built_in_methods + 2) ∷ (built_in_methods + 4) ∷ [] }
     ensures of_object { targets (program_of example (codes "M")) call_of_to_string

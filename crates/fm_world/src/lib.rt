@@ -23,7 +23,9 @@ mod types;
 mod uses;
 
 pub use built_in_methods::{BUILDER_ROW, BUILT_IN_METHODS, FREE_ME_ROW, STRING_ROW, THROWABLE_ROW};
-pub use built_ins::{BuiltInClass, BuiltInField, BuiltInMethod, built_in_class, built_in_classes};
+pub use built_ins::{
+    BUILT_IN_CLASSES, BuiltInClass, BuiltInField, BuiltInMethod, built_in_class, built_in_classes,
+};
 pub use calls::{Call, CallKind};
 pub use declarations::{Constant, DeclaredClass, DeclaredField, DeclaredMethod};
 pub use known_targets::{KnownTargets, TargetList};

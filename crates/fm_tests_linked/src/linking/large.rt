@@ -8,7 +8,7 @@ use crate::linking::add_read;
 use fm_base::ClassId;
 use fm_code::ClassDef;
 use fm_link::link;
-use fm_world::Program;
+use fm_world::{BUILT_IN_CLASSES, Program};
 use std::alloc::Global;
 use std::test::Fail;
 
@@ -155,11 +155,11 @@ fn is_below_last(alloc: Global, classes: &[ClassDef], others: u32) -> Result<boo
 fn is_below(program: &Program, others: u32) -> bool
     requires { others < 5000 }
 {
-    if program.classes() != 29 + others {
+    if program.classes() != BUILT_IN_CLASSES + 1 + others {
         return false;
     }
-    let lowest = ClassId(28);
-    let last = ClassId(28 + others);
+    let lowest = ClassId(BUILT_IN_CLASSES);
+    let last = ClassId(BUILT_IN_CLASSES + others);
     program.is_subclass(lowest, last) && !program.is_subclass(last, lowest)
 }
 

@@ -9,7 +9,7 @@ ghost use Rattle.fm_world.specs.Programs.{IsTypeIn};
 use crate::linking::linked_program;
 use fm_base::{Base, ClassId, FieldId, MethodId, NoMemory, TypeId, TypeRef};
 use fm_test_classes::{ClassSample, MAIN, MethodSample, RETURNS};
-use fm_world::{BUILT_IN_METHODS, Call, CallKind, Program, Use};
+use fm_world::{BUILT_IN_CLASSES, BUILT_IN_METHODS, Call, CallKind, Program, Use};
 use std::alloc::Global;
 use std::test::Fail;
 
@@ -159,12 +159,12 @@ const T: ClassSample<'static> = ClassSample {
     ..A
 };
 
-// 28 classes, BUILT_IN_METHODS methods and 2 fields are built in; those of the files follow, M and its main first.
+// BUILT_IN_CLASSES classes, BUILT_IN_METHODS methods and 2 fields are built in; those of the files follow, M and its main first.
 const FILES: [ClassSample<'static>; 9] = [M, A, B, C, I, J, K, E, T];
 
-const MAIN_CLASS: ClassId = ClassId(28);
+const MAIN_CLASS: ClassId = ClassId(BUILT_IN_CLASSES);
 
-const CLASS_E: ClassId = ClassId(35);
+const CLASS_E: ClassId = ClassId(BUILT_IN_CLASSES + 7);
 
 // x of T.
 const OF_T: FieldId = FieldId(4);
@@ -198,32 +198,32 @@ const OBJECT: TypeRef = TypeRef {
 
 const A_TYPE: TypeRef = TypeRef {
     dims: 0,
-    base: Base::OfClass(ClassId(29)),
+    base: Base::OfClass(ClassId(BUILT_IN_CLASSES + 1)),
 };
 
 const B_TYPE: TypeRef = TypeRef {
     dims: 0,
-    base: Base::OfClass(ClassId(30)),
+    base: Base::OfClass(ClassId(BUILT_IN_CLASSES + 2)),
 };
 
 const C_TYPE: TypeRef = TypeRef {
     dims: 0,
-    base: Base::OfClass(ClassId(31)),
+    base: Base::OfClass(ClassId(BUILT_IN_CLASSES + 3)),
 };
 
 const I_TYPE: TypeRef = TypeRef {
     dims: 0,
-    base: Base::OfClass(ClassId(32)),
+    base: Base::OfClass(ClassId(BUILT_IN_CLASSES + 4)),
 };
 
 const J_TYPE: TypeRef = TypeRef {
     dims: 0,
-    base: Base::OfClass(ClassId(33)),
+    base: Base::OfClass(ClassId(BUILT_IN_CLASSES + 5)),
 };
 
 const K_TYPE: TypeRef = TypeRef {
     dims: 0,
-    base: Base::OfClass(ClassId(34)),
+    base: Base::OfClass(ClassId(BUILT_IN_CLASSES + 6)),
 };
 
 const CLONEABLE: TypeRef = TypeRef {
@@ -369,12 +369,12 @@ fn are_resolved(program: &Program) -> bool {
 // Whether the program has these numbers.
 fn has_numbers(program: &Program) -> bool {
     // M's own class, its superclass, and what it doesn't use
-    program.classes() == 37
+    program.classes() == BUILT_IN_CLASSES + 9
         && program.methods() == BUILT_IN_METHODS + 7
         && program.fields() == 5
         && program.main_class() == MAIN_CLASS
         && program.main() == MethodId(BUILT_IN_METHODS)
-        && program.use_of(MAIN_CLASS, 0x02) == Use::OfType(TypeId(28))
+        && program.use_of(MAIN_CLASS, 0x02) == Use::OfType(TypeId(BUILT_IN_CLASSES))
         && program.use_of(MAIN_CLASS, 0x04) == Use::OfType(TypeId(0))
         && program.use_of(MAIN_CLASS, 0x15) == Use::Unused
 }
