@@ -81,7 +81,7 @@ descriptor_of buffer row = codes "(" ++ arguments_text (native_type row).argumen
 
 -- the classes of what can be thrown
 abbrev throwables : List ℕ
-throwables = 7 ∷ 9 ∷ 10 ∷ 11 ∷ 12 ∷ 13 ∷ 14 ∷ 15 ∷ 16 ∷ 17 ∷ 18 ∷ 19 ∷ 20 ∷ 21 ∷ 22 ∷ 23 ∷ 24 ∷ 25 ∷ []
+throwables = 7 ∷ 9 ∷ 10 ∷ 11 ∷ 12 ∷ 13 ∷ 14 ∷ 15 ∷ 16 ∷ 17 ∷ 18 ∷ 19 ∷ 20 ∷ 21 ∷ 22 ∷ 23 ∷ 24 ∷ 25 ∷ 28 ∷ []
 
 -- which classes declare methods with the receiver
 abbrev declares : ℕ → Receiver → Bool

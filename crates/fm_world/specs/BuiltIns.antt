@@ -190,7 +190,7 @@ built_in_rows = free_me_row + length free_me_methods
 
 -- how many methods all classes have: those of a program come after them
 abbrev pub built_in_methods : ℕ
-built_in_methods = 91
+built_in_methods = 93
 
 -- ---- fields
 
@@ -241,7 +241,7 @@ marker name = record {
 
 -- how many there are: the classes of a program come after them
 abbrev pub built_in_classes : ℕ
-built_in_classes = 28
+built_in_classes = 29
 
 -- the classes by the numbers that they have in each program
 unfoldable pub built_in : List DeclaredClass
@@ -274,4 +274,5 @@ built_in =
     ∷ throwable_under (codes "java/lang/LinkageError") (codes "java/lang/IncompatibleClassChangeError")
     ∷ marker cloneable_name
     ∷ marker serializable_name
+    ∷ throwable_under (codes "java/lang/Exception") (codes "java/lang/CloneNotSupportedException")
     ∷ []

@@ -8,7 +8,7 @@ const PUBLIC: u16 = 0x0001;
 const PUBLIC_STATIC: u16 = 0x0009;
 
 /// How many methods the built-in classes have: those of a program come after them.
-pub const BUILT_IN_METHODS: u32 = 91;
+pub const BUILT_IN_METHODS: u32 = 93;
 
 // Methods by their flags, names and descriptors, in rows that follow one another from the first one on.
 macro_rules! methods {

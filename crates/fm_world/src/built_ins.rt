@@ -43,7 +43,7 @@ pub struct BuiltInMethod {
 }
 
 /// How many classes are built in: those of a program come after them.
-pub const BUILT_IN_CLASSES: u32 = 28;
+pub const BUILT_IN_CLASSES: u32 = 29;
 
 /// The built-in classes, by the numbers that they have in each program. Takes no memory.
 pub fn built_in_classes() -> &'static [BuiltInClass]
@@ -107,7 +107,7 @@ const CLONEABLE: BuiltInClass = BuiltInClass {
     methods: &[],
 };
 
-static CLASSES: [BuiltInClass; 28] = [
+static CLASSES: [BuiltInClass; 29] = [
     BuiltInClass {
         name: "java/lang/Object",
         superclass: None,
@@ -273,5 +273,9 @@ static CLASSES: [BuiltInClass; 28] = [
     BuiltInClass {
         name: "java/io/Serializable",
         ..CLONEABLE
+    },
+    BuiltInClass {
+        name: "java/lang/CloneNotSupportedException",
+        ..EXCEPTION
     },
 ];

@@ -38,7 +38,7 @@ pub fn law_built_in()
         ≡ Some free_me_row }
     ensures throwable { row_of (codes "java/lang/Throwable") (codes "<init>") (codes "()V")
         ≡ Some throwable_row }
-    ensures last_throwable { row_of (codes "java/lang/IncompatibleClassChangeError")
+    ensures last_throwable { row_of (codes "java/lang/CloneNotSupportedException")
         (codes "<init>") (codes "()V") ≡ Some throwable_row }
     ensures hidden { option_map (kinds_of built_in)
         (class_number built_in (codes "java/lang/NullPointerException")) ≡ Some hidden_kinds }
