@@ -10,7 +10,6 @@ use Rattle.fm_base.specs.declared.ids.TypeId.{TypeId}
 use Rattle.fm_base.specs.declared.kinds.Base.{Base}
 use Rattle.fm_base.specs.declared.kinds.Base.TheVariants as base
 use Rattle.fm_base.specs.declared.kinds.TypeRef.{TypeRef}
-use Rattle.fm_code.specs.AccessFlags.{has_flag}
 use Rattle.fm_code.specs.Profile.{IsSupported}
 use Rattle.fm_code.specs.Spells.{HasSpelling}
 use Rattle.fm_code.specs.declared.class_file.ClassDef.{ClassDef}
@@ -47,7 +46,6 @@ use Rattle.fm_world.specs.Lookups.{any_flags, constructor_name, is_interface_at,
 use Rattle.fm_world.specs.Members.{is_instance, method_at, OwnedMethod}
 use Rattle.fm_world.specs.Numbers.{type_of_class}
 use Rattle.fm_world.specs.Programs.{class_of_type, classes_of, Outline, outline_of, program_of}
-use Rattle.fm_world.specs.declared.TheConstants.{ACC_SUPER}
 use Rattle.fm_world.specs.declared.declarations.DeclaredClass.{DeclaredClass}
 use Rattle.fm_world.specs.declared.uses.Use.TheVariants as resolved
 use Rattle.fm_link_refusals.proofs.Among.{among_either}
@@ -180,7 +178,7 @@ module _ (given : List ClassDef) (main : List ℕ) (spelled : AllByRecursion Has
   unfolding special_target
   constructor_itself own method None is = refl
   constructor_itself own method (Some c) is =
-      ap (λ b. cond (not b && has_flag (class_at (classes_of given) own).flags ACC_SUPER && is_among c (superclasses_of (classes_of given) own))
+      ap (λ b. cond (not b && is_among c (superclasses_of (classes_of given) own))
       (unwrap_or (first_found (own_instance (classes_of given) method) (superclasses_of (classes_of given) own)) method) method) is
 
   constructed_class : (method index : ℕ) (m : MethodId) (t : TypeId) (named : TypeRef) → IsNamed (program_of given main) method (insn.Special index) (resolved.OfMethod m t)

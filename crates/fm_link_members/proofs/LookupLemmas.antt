@@ -7,7 +7,7 @@ use Rattle.std.proofs.lemmas.List.{get_or-map as get_or-map_within, length-map}
 use Rattle.std.proofs.lemmas.List.FromFn.{get_or-map-range_with_len}
 use Rattle.std.proofs.lemmas.List.Quantifiers.{position-Some}
 use Rattle.std.proofs.lemmas.Option.{get_or_from_slice_get, slice_get-get_or, slice_get_within}
-use Rattle.fm_code.specs.AccessFlags.{has_flag, is_private}
+use Rattle.fm_code.specs.AccessFlags.{is_private}
 use Rattle.fm_code.specs.ConstantPool.{MemberName}
 use Rattle.fm_world.proofs.Displays.{class_number-within, parent_of-within}
 use Rattle.fm_world.specs.BuiltIns.{object_name}
@@ -16,7 +16,6 @@ use Rattle.fm_world.specs.Declarations.{no_method}
 use Rattle.fm_world.specs.Descriptors.{class_number, class_type}
 use Rattle.fm_world.specs.Lookups.{any_flags, class_searched, constructor_name, constructor_path, field_path, is_interface_at, is_selectable, method_path, object_number, own_instance, resolved_field, resolved_method, searches_above, select, special_target}
 use Rattle.fm_world.specs.Members.{field_among, fields_of, is_instance, method_among, method_at, methods_of, own_field, own_method}
-use Rattle.fm_world.specs.declared.TheConstants.{ACC_SUPER}
 use Rattle.fm_world.specs.declared.declarations.DeclaredClass.{DeclaredClass}
 use Rattle.fm_world.specs.inner.Layers.{HasRoom}
 use Rattle.fm_world.specs.inner.Tables.{chain_from, numbers_below}
@@ -412,11 +411,8 @@ searches-is : (texts : List (List ℕ)) (classes : List DeclaredClass) (m : Meth
     → searches_in m h caller named method ≡ searches_above classes caller named (method_at classes method).method.name
 searches-is texts classes m h are is caller None method within m_within = refl
 searches-is texts classes m h are is caller (Some named) method within m_within =
-    ap (λ b. not b && has_flag (class_at h.classes.now caller).flags ACC_SUPER && is_superclass_in h caller named) is_constructor
-    ∙ ap (λ cs. not (bytes_eq (method_at classes method).method.name constructor_name) && has_flag (class_at cs caller).flags ACC_SUPER
-    && is_superclass_in h caller named) is.classes_are
-    ∙ ap (λ b. not (bytes_eq (method_at classes method).method.name constructor_name) && has_flag (class_at classes caller).flags ACC_SUPER && b)
-    (superclass-is classes h is caller named within) where
+    ap (λ b. not b && is_superclass_in h caller named) is_constructor
+    ∙ ap (λ b. not (bytes_eq (method_at classes method).method.name constructor_name) && b) (superclass-is classes h is caller named within) where
       row : MemberRow
       row = get_or m.members.rows.items method no_row
 

@@ -8,7 +8,7 @@ ghost use Rattle.fm_link_members.specs.inner.MemberRows.{AreFieldRows, AreMethod
 ghost use Rattle.fm_link_members.specs.inner.MemberTables.{flags_of, own_in, AreDistinct, AreFields, AreMethods, AreSignatures, MarksInterfaces};
 ghost use Rattle.fm_link_members.specs.inner.FoundMembers.{above_in, constructor_in, field_found_in, field_in, first_along, interface_method_in, is_constructor_in, is_marked, method_above_in, method_found_in, method_in, own_static_in, searches_in, selected_in, special_in, static_among_in};
 ghost use Rattle.fm_link_members.specs.inner.NearestSteps.{is_signed};
-ghost use Rattle.fm_world.specs.Chains.{chain_of, class_at, first_found};
+ghost use Rattle.fm_world.specs.Chains.{chain_of, first_found};
 ghost use Rattle.fm_world.specs.Descriptors.{class_number};
 ghost use Rattle.fm_world.specs.Lookups.{class_searched, constructor_name, resolved_field, resolved_method, select, special_target};
 ghost use Rattle.fm_world.specs.Members.{method_among, methods_of};
@@ -21,7 +21,7 @@ use fm_base::NoMemory;
 use fm_code::{ACC_PRIVATE, ACC_STATIC, has_flag};
 use fm_link_names::at;
 use fm_link_supers::{Hierarchy, is_interface_at, list_at};
-use fm_world::{ACC_SUPER, DeclaredClass};
+use fm_world::DeclaredClass;
 use std::alloc::Global;
 
 /// The fields by name and descriptor.
@@ -510,11 +510,7 @@ impl Methods {
         ensures { result ≡ searches_in self.now hierarchy.now caller named method }
     {
         match named {
-            Some(named) => {
-                !self.is_constructor(method)
-                    && has_flag(flags_at(hierarchy.classes, caller), ACC_SUPER)
-                    && hierarchy.is_superclass(caller, named)
-            }
+            Some(named) => !self.is_constructor(method) && hierarchy.is_superclass(caller, named),
             None => false,
         }
     }
@@ -527,15 +523,5 @@ impl Methods {
             Some(row) => row.name == self.constructor,
             None => false,
         }
-    }
-}
-
-// The flags of a class.
-fn flags_at(classes: &[DeclaredClass], class: u32) -> u16
-    ensures { result ≡ (class_at classes.now class).flags }
-{
-    match classes.get(class as usize) {
-        Some(class) => class.flags,
-        None => 0,
     }
 }

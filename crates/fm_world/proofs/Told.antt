@@ -1,5 +1,5 @@
 -- What the records hold, field by field, and the cases of the selected method.
-use Rattle.std.proofs.Common.{length, [], ◌∷◌, filter, ◌⊎◌, inl, inr, ◌&&◌, not, Bool, unwrap_or, Option, None, nat_lt, arith, ◌≡◌, refl, ◌∙◌, ap, ℕ, ◌<◌, true, false, List, Some, if◌then◌else◌}
+use Rattle.std.proofs.Common.{length, [], ◌∷◌, filter, ◌⊎◌, inl, inr, ◌&&◌, Bool, unwrap_or, Option, None, nat_lt, arith, ◌≡◌, refl, ◌∙◌, ap, ℕ, ◌<◌, true, false, List, Some, if◌then◌else◌}
 use Rattle.std.specs.List.{range_with_len}
 use Rattle.std.proofs.lemmas.Bool.{eq-eqb, ne_eqb, lt-ltb, le-ltb}
 use Rattle.fm_base.specs.declared.kinds.TypeRef.{TypeRef}
@@ -70,10 +70,6 @@ is_sub-flatter classes a b flatter =
     ap (λ t. if t then is_sub_base classes a.base b.base else (nat_lt b.dims a.dims && is_base_above_arrays classes b.base))
     (ne_eqb a.dims b.dims (λ same. omega (arith, same, flatter)))
     ∙ ap (λ t. t && is_base_above_arrays classes b.base) (le-ltb b.dims a.dims (omega (arith, flatter)))
-
--- the second of three tests, where the first one fails
-pub all_three : {first second b : Bool} → first ≡ false → second ≡ b → (third : Bool) → (not first && second && third) ≡ (b && third)
-all_three {first} {second} {b} one two third = ap (λ f. not f && second && third) one ∙ ap (λ s. s && third) two
 
 -- ---- the cases of a special call
 

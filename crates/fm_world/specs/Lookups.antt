@@ -2,7 +2,7 @@
 use Rattle.std.specs.Prelude.{ℕ, ◌&&◌, not, ◌==◌, Bool, true, false, List, [], ◌∷◌, ◌++◌, codes, Option, Some, None, unwrap_or, option_to_list, option_and_then, if◌then◌else◌}
 use Rattle.std.specs.List.{flat_map}
 use Rattle.std.specs.Str.{bytes_eq}
-use Rattle.fm_code.specs.AccessFlags.{has_flag, is_private, is_static, is_interface, is_abstract}
+use Rattle.fm_code.specs.AccessFlags.{is_private, is_static, is_interface, is_abstract}
 use Rattle.fm_code.specs.ConstantPool.{MemberName}
 use Rattle.fm_code.specs.Names.{FieldType}
 use Rattle.fm_world.specs.BuiltIns.{object_name}
@@ -10,7 +10,6 @@ use Rattle.fm_world.specs.Chains.{class_at, chain_of, completing_of, superclasse
 use Rattle.fm_world.specs.declared.declarations.DeclaredClass.{DeclaredClass}
 use Rattle.fm_world.specs.Descriptors.{class_number, class_type}
 use Rattle.fm_world.specs.Members.{field_among, method_among, own_method, method_at, is_instance}
-use Rattle.fm_world.specs.declared.TheConstants.{ACC_SUPER}
 
 -- the number of Object
 abbrev pub object_number : List DeclaredClass → Option ℕ
@@ -78,12 +77,12 @@ select classes class method =
     let m = (method_at classes method).method in
     if is_private m.flags then Some method else method_among classes is_selectable m.name m.descriptor (chain_of classes class)
 
--- a special call searches from the caller's superclass: where it calls no constructor, the caller has ACC_SUPER, and a superclass of the
--- caller is named (JVMS 6.5.invokespecial)
+-- a special call searches from the caller's superclass where it calls no constructor and names a superclass of the caller, whether the caller has
+-- the flag ACC_SUPER or not (JVMS 4.1, 6.5.invokespecial)
 abbrev pub searches_above : List DeclaredClass → ℕ → Option ℕ → List ℕ → Bool
 searches_above classes caller None name = false
 searches_above classes caller (Some named) name =
-    not (bytes_eq name constructor_name) && has_flag (class_at classes caller).flags ACC_SUPER && is_among named (superclasses_of classes caller)
+    not (bytes_eq name constructor_name) && is_among named (superclasses_of classes caller)
 
 -- the class's own method of the name and descriptor of this one that isn't static, private ones counted
 abbrev pub own_instance : List DeclaredClass → ℕ → ℕ → Option ℕ

@@ -41,6 +41,3 @@ pub use records::{Body, ClassInfo, FieldInfo, MethodInfo};
 pub use shared::Shared;
 pub use types::{base_of_elem, type_of_class};
 pub use uses::Use;
-
-/// A class's special calls search from its superclass (JVMS 4.1).
-pub const ACC_SUPER: u16 = 0x0020;

@@ -3,8 +3,7 @@
 ghost use Rattle.std.specs.Prelude.{◌≡◌, ◌<◌, [], ◌∷◌, option_to_list, IfOk, length, map, Some, true, unwrap_or};
 ghost use Rattle.std.specs.Option.{option_map};
 ghost use Rattle.std.specs.Str.{bytes_eq};
-ghost use Rattle.fm_code.specs.AccessFlags.{has_flag};
-ghost use Rattle.fm_world.specs.Chains.{class_at, first_found, superclasses_of};
+ghost use Rattle.fm_world.specs.Chains.{first_found, superclasses_of};
 ghost use Rattle.fm_world.specs.Lookups.{constructor_name, own_instance, searches_above, special_target};
 ghost use Rattle.fm_base.specs.declared.ids.ClassId.{ClassId};
 ghost use Rattle.fm_base.specs.declared.ids.MethodId.{MethodId};
@@ -13,7 +12,6 @@ ghost use Rattle.fm_world.specs.Programs.{class_of_type, takes_arrays, takes_cla
 ghost use Rattle.fm_world.specs.inner.KnownTargets.{selected_methods};
 ghost use Rattle.fm_world.specs.inner.Marks.{selected_of, selected_of_arrays};
 
-use crate::ACC_SUPER;
 use crate::calls::{Call, CallKind};
 use crate::found_methods::{mark, marked_methods};
 use crate::program::{Program, is_listed};
@@ -178,11 +176,7 @@ impl Program {
         if self.is_constructor(m) {
             return false;
         }
-        if self.has_super_flag(caller) {
-            is_listed(named.0, self.superclasses(caller))
-        } else {
-            false
-        }
+        is_listed(named.0, self.superclasses(caller))
     }
 
     // Whether the method is a constructor.
@@ -192,14 +186,6 @@ impl Program {
             ≡ bytes_eq (method_at self.now.outline.classes m.0).method.name constructor_name }
     {
         self.method(m).name.as_slice() == b"<init>".as_slice()
-    }
-
-    // Whether special calls of the class can begin above it.
-    fn has_super_flag(&self, c: ClassId) -> bool
-        requires { c.0 < length self.now.outline.classes }
-        ensures { result ≡ has_flag (class_at self.now.outline.classes c.0).flags ACC_SUPER }
-    {
-        has_flag(self.class(c).flags, ACC_SUPER)
     }
 
     // The nearest method of the same name and descriptor that isn't static, from the superclass of the

@@ -2,10 +2,9 @@
 use Rattle.std.specs.Prelude.{ℕ, ◌-◌, ◌==◌, ◌&&◌, not, Bool, false, List, drop, Option, Some, None, slice_get, if◌then◌else◌}
 use Rattle.std.specs.List.{slice_index_or}
 use Rattle.std.specs.Option.{option_and_then, unwrap_or}
-use Rattle.fm_code.specs.AccessFlags.{has_flag, is_private, is_static}
-use Rattle.fm_world.specs.Chains.{class_at, first_found}
+use Rattle.fm_code.specs.AccessFlags.{is_private, is_static}
+use Rattle.fm_world.specs.Chains.{first_found}
 use Rattle.fm_world.specs.Lookups.{is_interface_at}
-use Rattle.fm_world.specs.declared.TheConstants.{ACC_SUPER}
 use Rattle.fm_link_supers.specs.declared.hierarchy.Hierarchy.{Hierarchy}
 use Rattle.fm_link_members.specs.declared.lookups.Fields.{Fields}
 use Rattle.fm_link_members.specs.declared.lookups.Methods.{Methods}
@@ -75,8 +74,7 @@ is_constructor_in m method = named (slice_get m.members.rows.items method) where
 -- a special call searches from the caller's superclass
 abbrev pub searches_in : Methods → Hierarchy → ℕ → Option ℕ → ℕ → Bool
 searches_in m h caller None method = false
-searches_in m h caller (Some named) method =
-    not (is_constructor_in m method) && has_flag (class_at h.classes.now caller).flags ACC_SUPER && is_superclass_in h caller named
+searches_in m h caller (Some named) method = not (is_constructor_in m method) && is_superclass_in h caller named
 
 -- ---- what the public calls return
 

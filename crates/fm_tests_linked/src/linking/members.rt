@@ -1,7 +1,7 @@
 // What names of members are resolved to, and which methods a call can lead to: A has a field x
 // and a method m, B below it hides x and has a private m, C below B has a static m and
-// implements I, and E below C has an m again. No class that has objects implements J, K is
-// abstract, and T is a throwable with a field x.
+// implements I, and E below C has an m again, but not the flag ACC_SUPER. No class that has objects
+// implements J, K is abstract, and T is a throwable with a field x.
 
 ghost use Rattle.std.specs.Prelude.{◌≡◌, true};
 ghost use Rattle.fm_world.specs.Programs.{IsTypeIn};
@@ -145,6 +145,7 @@ const K: ClassSample<'static> = ClassSample {
 };
 
 const E: ClassSample<'static> = ClassSample {
+    flags: b"\0\x01",
     this_class: b"\0\x15",
     super_class: b"\0\x0d",
     methods: &[METHOD],
@@ -163,6 +164,8 @@ const T: ClassSample<'static> = ClassSample {
 const FILES: [ClassSample<'static>; 9] = [M, A, B, C, I, J, K, E, T];
 
 const MAIN_CLASS: ClassId = ClassId(BUILT_IN_CLASSES);
+
+const CLASS_C: ClassId = ClassId(BUILT_IN_CLASSES + 3);
 
 const CLASS_E: ClassId = ClassId(BUILT_IN_CLASSES + 7);
 
@@ -239,7 +242,7 @@ const SERIALIZABLE: TypeRef = TypeRef {
 // A call by its kind, the named type, the method and the caller's class, and what it can lead to.
 type Row = (CallKind, TypeRef, MethodId, ClassId, &'static [MethodId]);
 
-const CALLS: [Row; 13] = [
+const CALLS: [Row; 15] = [
     // objects of B and C have the m of A: a private and a static method don't count
     (CallKind::Virtual, A_TYPE, OF_A, MAIN_CLASS, &[OF_A, OF_E]),
     (CallKind::Virtual, C_TYPE, OF_A, MAIN_CLASS, &[OF_A, OF_E]),
@@ -279,8 +282,11 @@ const CALLS: [Row; 13] = [
         &[OF_OBJECT, OF_STRING],
     ),
     (CallKind::Static, C_TYPE, OF_C, MAIN_CLASS, &[OF_C]),
-    // from E on upwards the m of B is the nearest that isn't static
+    // above C, and above E, the m of B is the nearest that isn't static
+    (CallKind::Special, A_TYPE, OF_A, CLASS_C, &[OF_B]),
     (CallKind::Special, A_TYPE, OF_A, CLASS_E, &[OF_B]),
+    // the own class is none of its superclasses
+    (CallKind::Special, C_TYPE, OF_A, CLASS_C, &[OF_A]),
 ];
 
 // What a call can lead to; nothing where it names what isn't there.
