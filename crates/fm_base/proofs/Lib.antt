@@ -9,3 +9,4 @@ pub mod SplitLemmas
 pub mod TestFacts
 pub mod TextsLemmas
 pub mod UnitFronts
+pub mod Utf16Lemmas

@@ -1,6 +1,8 @@
--- Texts in modified UTF-8, and the 16-bit units that they stand for (JVMS 4.4.7).
-use Rattle.std.specs.Prelude.{◌≡◌, ℕ, ◌+◌, ◌-◌, ◌*◌, ◌/◌, ◌%◌, ◌<◌, ◌&&◌, Bool, nat_lt, nat_le, List, [], ◌∷◌, if◌then◌else◌}
+-- Texts in modified UTF-8, and the 16-bit units that they stand for (JVMS 4.4.7); and the bytes as which units are printed.
+use Rattle.std.specs.Prelude.{◌≡◌, ℕ, ◌+◌, ◌-◌, ◌*◌, ◌/◌, ◌%◌, ◌<◌, ◌&&◌, Bool, nat_lt, nat_le, List, [], ◌∷◌, map, Option, unwrap_or, if◌then◌else◌}
+use Rattle.std.specs.Char.Utf16.{utf16_chars}
 use Rattle.std.specs.List.{flat_map, AllByRecursion}
+use Rattle.std.specs.Str.{encode_utf8_all}
 
 -- the shortest bytes of a unit: one for 1 to 127, two for 0 and for 128 to 2,047, and three above
 abbrev pub unit_bytes : ℕ → List ℕ
@@ -41,3 +43,11 @@ units bytes = (parted bytes).units
 pub record IsModifiedUtf8 (bytes : List ℕ) : Type 0 where
   pub in_range : AllByRecursion (λ unit. unit < 65536) (units bytes)
   pub shortest : bytes ≡ flat_map unit_bytes (units bytes)
+
+-- the character of one unit or of a surrogate pair; for a unit of such a pair without the other, `?` (63)
+abbrev pub shown : Option ℕ → ℕ
+shown character = unwrap_or character 63
+
+-- the characters that units spell, in UTF-8
+unfoldable pub utf8 : List ℕ → List ℕ
+utf8 text = encode_utf8_all (map shown (utf16_chars text))

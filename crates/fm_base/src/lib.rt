@@ -17,6 +17,7 @@ mod modified_utf8;
 mod numbers;
 mod rows;
 mod sequence;
+mod surrogates;
 mod texts;
 
 pub use error::NoMemory;
@@ -28,4 +29,5 @@ pub use modified_utf8::{is_modified_utf8, split_unit};
 pub use numbers::number_at;
 pub use rows::Row;
 pub use sequence::Seq;
+pub use surrogates::{is_surrogate_pair, lone_character, pair_character};
 pub use texts::{Name, Units, law_units};

@@ -1,44 +1,25 @@
 -- Names as their characters, one after the other.
-use Rattle.std.proofs.Common.{◌&&◌, ◌≡◌, ℕ, ◌<◌, true, false, Option, Some, List, [], ◌∷◌, ◌++◌, refl, sym, ap, ◌∙◌, arith, map}
+use Rattle.std.proofs.Common.{◌≡◌, ℕ, ◌<◌, false, Option, Some, List, [], ◌∷◌, ◌++◌, refl, ap, ◌∙◌, arith, map}
 use Rattle.std.proofs.lemmas.Bool.{lt-leb, lt-ltb}
 use Rattle.std.proofs.lemmas.Str.{utf16_chars-nil, utf16_chars_lone}
 use Rattle.std.specs.Char.{encode_utf8}
-use Rattle.std.specs.Char.Utf16.{is_high_surrogate, is_low_surrogate, lone_unit_char, surrogate_pair_char, utf16_chars}
+use Rattle.std.specs.Char.Utf16.{lone_unit_char, utf16_chars}
 use Rattle.std.specs.List.{AllByRecursion}
 use Rattle.std.specs.Str.{encode_utf8_all}
-use Rattle.fm_base.specs.Texts.{Parted, goes_on, parted, unit_of, units}
-use Rattle.fm_cli.specs.Printed.{printed, shown}
+use Rattle.fm_base.specs.Texts.{Parted, goes_on, parted, shown, unit_of, units, utf8}
 use Rattle.fm_base.proofs.SplitLemmas.{begins_unit}
-
--- the characters of units, by the first one or by a pair
-pub no_units : (us : List ℕ) → us ≡ [] → utf16_chars us ≡ []
-unfolding utf16_chars
-no_units us none = ap utf16_chars none
-
-pub with_pair : (us after rest : List ℕ) (u v : ℕ) → us ≡ u ∷ after → after ≡ v ∷ rest → true ≡ (is_high_surrogate u && is_low_surrogate v) →
-    utf16_chars us ≡ Some (surrogate_pair_char u v) ∷ utf16_chars rest
-unfolding utf16_chars
-with_pair us after rest u v is next pair = ap utf16_chars (is ∙ ap (λ vs. u ∷ vs) next) ∙ rw (← pair) refl
-
-pub without_pair : (us after rest : List ℕ) (u v : ℕ) → us ≡ u ∷ after → after ≡ v ∷ rest → false ≡ (is_high_surrogate u && is_low_surrogate v) →
-    utf16_chars us ≡ lone_unit_char u ∷ utf16_chars after
-unfolding utf16_chars
-without_pair us after rest u v is next apart =
-    ap utf16_chars (is ∙ ap (λ vs. u ∷ vs) next) ∙ (rw (← apart) refl ∙ ap (λ vs. lone_unit_char u ∷ utf16_chars vs) (sym next))
-
-pub with_last : (us after : List ℕ) (u : ℕ) → us ≡ u ∷ after → after ≡ [] → utf16_chars us ≡ lone_unit_char u ∷ utf16_chars after
-unfolding utf16_chars
-with_last us after u is last = ap utf16_chars (is ∙ ap (λ vs. u ∷ vs) last) ∙ ap (λ vs. lone_unit_char u ∷ utf16_chars vs) (sym last)
+use Rattle.fm_base.proofs.Utf16Lemmas.{utf8_next, utf8_none}
+use Rattle.fm_cli.specs.Printed.{printed}
 
 -- what is printed of a name, by its first character
 pub printed_none : (name : List ℕ) → utf16_chars (units name) ≡ [] → printed name ≡ []
 unfolding printed
-printed_none name none = ap (λ cs. encode_utf8_all (map shown cs)) none
+printed_none name none = utf8_none (units name) none
 
 pub printed_next : (name after : List ℕ) (character : Option ℕ) → utf16_chars (units name) ≡ character ∷ utf16_chars (units after) →
     printed name ≡ encode_utf8 (shown character) ++ printed after
 unfolding printed
-printed_next name after character next = ap (λ cs. encode_utf8_all (map shown cs)) next
+printed_next name after character next = utf8_next (units name) (units after) character next
 
 -- a name of the characters below 128 alone is printed as it is
 abbrev IsAscii : List ℕ → Type 0
@@ -63,7 +44,7 @@ bytes_ascii [] ascii = refl
 bytes_ascii (b ∷ name) (low, ascii) = rw (lt-ltb b 128 low) (ap (λ rest. b ∷ rest) (bytes_ascii name ascii))
 
 pub printed_ascii : (name : List ℕ) → AllByRecursion (λ byte. byte < 128) name → printed name ≡ name
-unfolding printed
+unfolding printed utf8
 printed_ascii name ascii =
     ap (λ (p : Parted). encode_utf8_all (map shown (utf16_chars p.units))) (parted_ascii name ascii)
     ∙ (ap encode_utf8_all (chars_ascii name ascii) ∙ bytes_ascii name ascii)

@@ -1,11 +1,11 @@
 // Names of class files as text that can be printed.
 
-ghost use Rattle.std.specs.Prelude.{◌≡◌, ◌<◌, ◌∷◌, [], ◌&&◌, IfOk, IsTrue, MatchOption, Some, length, string_bytes};
-ghost use Rattle.std.specs.Char.Utf16.{is_high_surrogate, is_low_surrogate, lone_unit_char, surrogate_pair_char, utf16_chars};
+ghost use Rattle.std.specs.Prelude.{◌≡◌, ◌<◌, ◌∷◌, [], IfOk, MatchOption, length, string_bytes};
+ghost use Rattle.std.specs.Char.Utf16.{utf16_chars};
 ghost use Rattle.fm_base.specs.Texts.{units};
 ghost use Rattle.fm_cli.specs.Printed.{printed};
 
-use fm_base::{Name, NoMemory, split_unit};
+use fm_base::{Name, NoMemory, is_surrogate_pair, lone_character, pair_character, split_unit};
 use std::alloc::Global;
 
 /// The text in UTF-8 of a name in modified UTF-8 (JVMS 4.4.7), with `?` for each unit of a surrogate
@@ -31,32 +31,9 @@ fn split_character(bytes: &[u8]) -> Option<(Option<char>, &[u8])>
 {
     let (unit, after) = split_unit(bytes)?;
     if let Some((next, after_next)) = split_unit(after) {
-        if is_pair(unit, next) {
+        if is_surrogate_pair(unit, next) {
             return Some((pair_character(unit, next), after_next));
         }
     }
     Some((lone_character(unit), after))
-}
-
-// Whether two units are a surrogate pair.
-fn is_pair(high: u32, low: u32) -> bool
-    ensures { result ≡ (is_high_surrogate high && is_low_surrogate low) }
-{
-    0xD800 <= high && high < 0xDC00 && 0xDC00 <= low && low < 0xE000
-}
-
-// The character of a surrogate pair.
-fn pair_character(high: u32, low: u32) -> Option<char>
-    requires { IsTrue (is_high_surrogate high && is_low_surrogate low) }
-    ensures { result ≡ Some (surrogate_pair_char high low) }
-{
-    char::from_u32(0x1_0000 + (high - 0xD800) * 0x400 + (low - 0xDC00))
-}
-
-// The character of a unit that is in no pair, or None for one of a pair.
-fn lone_character(unit: u32) -> Option<char>
-    requires { unit < 0x11_0000 }
-    ensures { result ≡ lone_unit_char unit }
-{
-    char::from_u32(unit)
 }

@@ -1,10 +1,10 @@
 -- The rows of the built-in methods (the Java SE library's classes, as far as they are built in).
-use Rattle.std.specs.Prelude.{ℕ, ◌+◌, ◌-◌, ◌==◌, ◌&&◌, ◌||◌, ℤ, pos, negsuc, ◌+ℤ◌, ◌-ℤ◌, ◌*ℤ◌, int_lt, nat_lt, not, Bool, true, false, List, [], ◌∷◌, ◌++◌, codes, length, map, replicate, take, drop, Option, Some, None, unsigned_abs, if◌then◌else◌}
+use Rattle.std.specs.Prelude.{ℕ, ◌+◌, ◌-◌, ◌==◌, ◌&&◌, ◌||◌, ℤ, pos, negsuc, ◌+ℤ◌, ◌-ℤ◌, ◌*ℤ◌, int_lt, not, Bool, true, false, List, [], ◌∷◌, ◌++◌, codes, length, map, replicate, take, drop, Option, Some, None, unsigned_abs, if◌then◌else◌}
 use Rattle.std.specs.Fmt.{digits, signed_decimal}
 use Rattle.std.specs.List.{slice_index_or}
 use Rattle.std.specs.Str.{bytes_eq}
 use Rattle.fm_alu.specs.TwosComplement.{low_bits, signed}
-use Rattle.fm_base.specs.Texts.{units}
+use Rattle.fm_base.specs.Texts.{units, utf8}
 use Rattle.fm_base.specs.declared.characters.TheConstants.{CLASS_LETTER, DOT, LEFT_BRACKET, LINE_FEED, SEMICOLON, SLASH}
 use Rattle.fm_base.specs.declared.kinds.Base.{Base}
 use Rattle.fm_base.specs.declared.kinds.Base.TheVariants as base
@@ -99,12 +99,6 @@ on_shown o ShownLong s follows = on_long s 1 (λ n. follows (signed_decimal n))
 on_shown o ShownChar s follows = on_int s 0 (λ n. follows (low_bits 16 n ∷ []))
 on_shown o ShownBoolean s follows = on_int s 0 (λ n. follows (if unsigned_abs n == 0 then codes "false" else codes "true"))
 on_shown o ShownText s follows = on_text_or_null o s 0 follows
-
--- a unit is printed as a byte, and one that is no ASCII character as a question mark
-abbrev pub printed_units : List ℕ → List ℕ
-printed_units units = map (λ unit. if nat_lt unit 128 then unit else question_mark) units where
-  question_mark : ℕ
-  question_mark = 63
 
 -- ---- objects
 
@@ -233,8 +227,8 @@ byte_read (Some byte) = record (words 1 (int_word (pos byte))) { reads = true }
 -- the rows of System, PrintStream and InputStream, with the next byte of the input
 unfoldable pub stream_native : Outline → Native → Option ℕ → List Sight → Effect
 stream_native o Exit byte s = on_int s 0 (λ n. going 1 (Exits n))
-stream_native o (Print shown) byte s = on_shown o shown s (λ units. printing (shown_words shown + 1) (printed_units units))
-stream_native o (Println shown) byte s = on_shown o shown s (λ units. printing (shown_words shown + 1) (printed_units units ++ LINE_FEED ∷ []))
+stream_native o (Print shown) byte s = on_shown o shown s (λ units. printing (shown_words shown + 1) (utf8 units))
+stream_native o (Println shown) byte s = on_shown o shown s (λ units. printing (shown_words shown + 1) (utf8 units ++ LINE_FEED ∷ []))
 stream_native o PrintlnNothing byte s = printing 1 (LINE_FEED ∷ [])
 stream_native o Read byte s = byte_read byte
 stream_native o row byte s = stuck

@@ -12,15 +12,15 @@ use Rattle.fm_code.proofs.EdgesLemmas.{Contains-first, Contains-later}
 use Rattle.fm_base.proofs.ContainsFacts.{Contains-cons_cases}
 use Rattle.fm_base.proofs.ListFacts.{AllByRecursion-at, AllByRecursion-get_or, AllByRecursion-weaker}
 use Rattle.fm_base.proofs.OptionFacts.{IsSomeAnd-at_some, Some-from_some_and}
-use Rattle.fm_base.specs.Texts.{IsModifiedUtf8, unit_bytes, units}
+use Rattle.fm_base.proofs.Utf16Lemmas.{no_units, with_last, with_pair, without_pair}
+use Rattle.fm_base.specs.Texts.{IsModifiedUtf8, shown, unit_bytes, units, utf8}
 use Rattle.fm_code.specs.ConstantPool.{class_name_at, entry_at, EntryIsValid}
 use Rattle.fm_code.specs.Profile.{IsSupportedName, NameIsSupported}
 use Rattle.fm_code.specs.Spells.{HasSpelling}
 use Rattle.fm_code.specs.declared.class_file.ClassDef.{ClassDef}
 use Rattle.fm_code.specs.declared.constant_pool.Entry.TheVariants as entry
 use Rattle.fm_pool.proofs.GrownPool.{class_entry, utf8_entry}
-use Rattle.fm_cli.proofs.PrintedLemmas.{no_units, with_last, with_pair, without_pair}
-use Rattle.fm_cli.specs.Printed.{printed, shown}
+use Rattle.fm_cli.specs.Printed.{printed}
 use Rattle.fm_world.specs.Causes.{duplicates, own_name, Refusal, refused_if}
 use Rattle.fm_world.specs.Linking.{refusals, refused_duplicates}
 use Rattle.fm_law_spelled.specs.Names.{AreNew, NamesAreApart}
@@ -84,7 +84,7 @@ pub record IsClean (name : List ℕ) : Type 0 where
   pub supported : IsSupportedName name
 
 pub printed_apart : (a b : List ℕ) → IsClean a → IsClean b → printed a ≡ printed b → a ≡ b
-unfolding printed
+unfolding printed utf8
 printed_apart a b x y same =
     let cs = encodes_same (map shown (utf16_chars (units a))) (map shown (utf16_chars (units b))) same in
     let us : units a ≡ units b =

@@ -1,19 +1,17 @@
 // Numbers, characters and truth values as the units of a text, and a text as it is printed.
 
-ghost use Rattle.std.specs.Prelude.{◌≡◌, ◌==◌, ◌++◌, ◌∷◌, [], codes, IfOk, if◌then◌else◌};
+ghost use Rattle.std.specs.Prelude.{◌≡◌, ◌==◌, ◌<◌, ◌∷◌, [], codes, length, IfOk, MatchOption, if◌then◌else◌};
+ghost use Rattle.std.specs.Char.Utf16.{utf16_chars};
 ghost use Rattle.std.specs.Int.RustNames.{unsigned_abs};
 ghost use Rattle.std.specs.Fmt.{signed_decimal};
 ghost use Rattle.fm_alu.specs.TwosComplement.{low_bits};
-ghost use Rattle.fm_frames.specs.NativeRows.{printed_units};
+ghost use Rattle.fm_base.specs.Texts.{utf8};
 
 use fm_alu::convert;
-use fm_base::NoMemory;
+use fm_base::{NoMemory, is_surrogate_pair, lone_character, pair_character};
 use fm_code::Conv;
 use itoa::Buffer;
 use std::alloc::Global;
-
-// What is printed in place of a unit that is no ASCII character.
-const QUESTION_MARK: u8 = b'?';
 
 /// The units of a text of ASCII characters.
 pub fn ascii_units(alloc: Global, bytes: &[u8]) -> Result<Vec<u16>, NoMemory>
@@ -56,24 +54,50 @@ pub fn boolean_units(alloc: Global, n: i32) -> Result<Vec<u16>, NoMemory>
     }
 }
 
-// The byte by which a unit is printed.
-fn printed_byte(unit: u16) -> u8
-    ensures { printed_units (unit ∷ []) ≡ result ∷ [] }
+/// A text as it is printed: its characters in UTF-8, with `?` for each half of a surrogate pair without
+/// the other.
+pub fn printed_bytes(alloc: Global, units: &[u16]) -> Result<Vec<u8>, NoMemory>
+    ensures { IfOk result (λ bytes. bytes.items ≡ utf8 units.now) }
 {
-    if unit < 128 {
-        unit as u8
-    } else {
-        QUESTION_MARK
+    let mut text = String::with_capacity(alloc, units.len())?;
+    let mut rest = units;
+    while let Some((character, after)) = split_character(rest) {
+        text.push(character.unwrap_or('?'))?;
+        rest = after;
     }
+    Ok(text.into_bytes())
 }
 
-/// A text as it is printed: a unit that is no ASCII character as a question mark.
-pub fn printed_bytes(alloc: Global, units: &[u16]) -> Result<Vec<u8>, NoMemory>
-    ensures { IfOk result (λ bytes. bytes.items ≡ printed_units units.now) }
+// The first character, or None in its place for half of a surrogate pair without the other, and the
+// units after it.
+fn split_character(units: &[u16]) -> Option<(Option<char>, &[u16])>
+    ensures { MatchOption result (utf16_chars units.now ≡ [])
+        (λ first. (utf16_chars units.now ≡ first.0 ∷ utf16_chars first.1.now)
+        × (length first.1.now < length units.now)) }
 {
-    let mut bytes = Vec::with_capacity(alloc, units.len())?;
-    for unit in units {
-        bytes.push(printed_byte(*unit))?;
+    let (unit, after) = split_unit(units)?;
+    if let Some((next, after_next)) = split_unit(after) {
+        if is_surrogate_pair(unit, next) {
+            return Some((pair_character(unit, next), after_next));
+        }
     }
-    Ok(bytes)
+    Some((lone_character(unit), after))
+}
+
+// The first unit, and those after it.
+fn split_unit(units: &[u16]) -> Option<(u32, &[u16])>
+    ensures { MatchOption result (units.now ≡ [])
+        (λ first. (units.now ≡ first.0 ∷ first.1.now) × (first.0 < 0x11_0000)
+        × (length first.1.now < length units.now)) }
+{
+    let (unit, after) = units.split_first()?;
+    Some((number_of(*unit), after))
+}
+
+// The number of a unit.
+fn number_of(unit: u16) -> u32
+    ensures value { result ≡ unit }
+    ensures bound { result < 0x11_0000 }
+{
+    u32::from(unit)
 }

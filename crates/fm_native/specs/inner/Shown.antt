@@ -1,9 +1,10 @@
 -- What rows require of what is shown, as the code finds it out.
 use Rattle.std.specs.Prelude.{◌≡◌, ℕ, Bool, false, true, List, [], ◌∷◌, ◌++◌, Result}
 use Rattle.std.specs.Global.{Vec}
+use Rattle.fm_base.specs.Texts.{utf8}
 use Rattle.fm_base.specs.declared.characters.TheConstants.{LINE_FEED}
 use Rattle.fm_frames.specs.Effects.{Effect}
-use Rattle.fm_frames.specs.NativeRows.{on_shown, printed_units}
+use Rattle.fm_frames.specs.NativeRows.{on_shown}
 use Rattle.fm_frames.specs.declared.natives.Native.{Native}
 use Rattle.fm_frames.specs.declared.natives.Shown.{Shown}
 use Rattle.fm_frames.specs.declared.natives.Native.TheVariants.{Print, Println}
@@ -25,8 +26,8 @@ AsksUnits o s shown operand found =
 
 -- the units as they are printed, and the end of the line where it is asked for
 abbrev pub shown_bytes : List ℕ → (ends_line : Bool) → List ℕ
-shown_bytes units false = printed_units units
-shown_bytes units true = printed_units units ++ LINE_FEED ∷ []
+shown_bytes units false = utf8 units
+shown_bytes units true = utf8 units ++ LINE_FEED ∷ []
 
 -- the row of print or println
 abbrev pub print_row : Shown → (ends_line : Bool) → Native

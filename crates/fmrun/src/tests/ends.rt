@@ -3,7 +3,8 @@
 
 use crate::tests::samples::{
     CALLS_ONCE, CALLS_OTHER, CATCHES, DIVISOR_OF_START, DUP_OF_FREED, END_OF_RANGE, EXIT_PLACE,
-    EXITS, FREES, KEEPS_TEXT, LENGTH_PLACE, MAKES_NEST, PRINTS_LENGTH, STARTS, with_byte,
+    EXITS, FREES, KEEPS_TEXT, LENGTH_PLACE, MAKES_NEST, PRINTS_LENGTH, PRINTS_TEXT, SECOND_HALF,
+    STARTS, with_byte,
 };
 use crate::tests::split_words;
 use crate::top_call::fmrun_run;
@@ -284,6 +285,29 @@ fn orders<'a>(starts: &'a [u8], calls_other: &'a [u8], makes_nest: &'a [u8]) -> 
     ]
 }
 
+// A surrogate pair is printed as one character, and each half of one without the other as a question
+// mark.
+fn prints<'a>(file: &'a [u8]) -> [End<'a>; 2] {
+    let pair = End {
+        words: "M M.class",
+        file,
+        place: SECOND_HALF,
+        byte: 0xb8,
+        status: 0,
+        printed: b"\xc3\xa9\xf0\x9f\x98\x80\n",
+        reported: b"returned; steps 4, objects 4, frees 0, freed words 0, live words 9, \
+            peak words 9, cells made 4\n",
+    };
+    [
+        pair,
+        End {
+            byte: 0xa0,
+            printed: b"\xc3\xa9??\n",
+            ..pair
+        },
+    ]
+}
+
 // Whether the run ends so.
 fn ends_so(alloc: Global, end: End<'_>) -> Result<bool, NoMemory> {
     let file = with_byte(alloc, end.file, end.place, end.byte)?;
@@ -303,6 +327,16 @@ fn an_exit_has_its_own_status_or_86(rt: HostRuntime) -> Result<(), Fail> {
     let alloc = rt.alloc();
     let file = EXITS.bytes(alloc)?;
     for end in exits(&file) {
+        assert!(rt; ends_so(alloc, end)?, "{}", end.byte);
+    }
+    Ok(())
+}
+
+#[test]
+fn a_pair_is_printed_as_one_character(rt: HostRuntime) -> Result<(), Fail> {
+    let alloc = rt.alloc();
+    let file = PRINTS_TEXT.bytes(alloc)?;
+    for end in prints(&file) {
         assert!(rt; ends_so(alloc, end)?, "{}", end.byte);
     }
     Ok(())

@@ -157,6 +157,40 @@ pub const PRINTS_LENGTH: ClassSample<'static> = ClassSample {
     ..PRINTS_SUM
 };
 
+// Main prints a letter and a surrogate pair, whose second half has its second byte at this place.
+pub const SECOND_HALF: usize = 218;
+
+pub const PRINTS_TEXT: ClassSample<'static> = ClassSample {
+    pool_count: b"\0\x16",
+    more_pool: &[
+        b"\x01\0\x10java/lang/System", // 8
+        b"\x07\0\x08", // 9: Class 8
+        b"\x01\0\x03out", // 10
+        b"\x01\0\x15Ljava/io/PrintStream;", // 11
+        b"\x0c\0\x0a\0\x0b", // 12: NameAndType 10 11
+        b"\x09\0\x09\0\x0c", // 13: Fieldref 9 12
+        b"\x01\0\x13java/io/PrintStream", // 14
+        b"\x07\0\x0e", // 15: Class 14
+        b"\x01\0\x07println", // 16
+        b"\x01\0\x15(Ljava/lang/String;)V", // 17
+        b"\x0c\0\x10\0\x11", // 18: NameAndType 16 17
+        b"\x0a\0\x0f\0\x12", // 19: Methodref 15 18
+        b"\x01\0\x08\xc3\xa9\xed\xa0\xbd\xed\xb8\x80", // 20
+        b"\x08\0\x14", // 21: String 20
+    ],
+    methods: &[MethodSample {
+        attribute_length: b"\0\0\0\x15",
+        max_stack: b"\0\x02",
+        code_length: b"\0\0\0\x09",
+        code: &[
+            b"\xb2\0\x0d\x12\x15\xb6\0\x13", // 0: println(the text)
+            b"\xb1", // 8: return
+        ],
+        ..MAIN
+    }],
+    ..RETURNS
+};
+
 // Main prints 1, 2 and 3.
 pub const PRINTS_THREE: ClassSample<'static> = ClassSample {
     methods: &[MethodSample {

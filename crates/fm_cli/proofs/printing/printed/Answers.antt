@@ -1,6 +1,7 @@
 use Rattle.std.proofs.Common.{sym, ◌∙◌, ap, ◌≡◌, ◌++◌, string_bytes, append-nil, append_assoc}
 use Rattle.std.specs.Char.{encode_utf8}
-use Rattle.fm_cli.specs.Printed.{printed, shown}
+use Rattle.fm_base.specs.Texts.{shown}
+use Rattle.fm_cli.specs.Printed.{printed}
 use Rattle.fm_cli.proofs.PrintedLemmas.{printed_next, printed_none}
 use Rattle.fm_cli.proofs.printing.printed.Goals as goal
 

@@ -1,6 +1,9 @@
-use Rattle.std.proofs.Common.{◌≡◌, take}
-use Rattle.fm_frames.specs.NativeRows.{printed_units}
+use Rattle.std.proofs.Common.{◌≡◌, ◌++◌, length, string_bytes}
+use Rattle.fm_base.specs.Texts.{utf8}
 use Rattle.fm_native.proofs.spelling.printed_bytes.Given as goal
 
-abbrev pub invariant-loop-unit : goal.invariant-loop-unit
-invariant-loop-unit l = l.bytes.items ≡ printed_units (take l.unit-index l.units)
+abbrev pub invariant-loop-character : goal.invariant-loop-character
+invariant-loop-character l = utf8 l.units ≡ string_bytes l.text ++ utf8 l.rest
+
+abbrev pub decreases-loop-character : goal.decreases-loop-character
+decreases-loop-character l = length l.rest

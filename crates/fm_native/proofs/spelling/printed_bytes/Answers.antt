@@ -1,0 +1,22 @@
+use Rattle.std.proofs.Common.{sym, ◌∙◌, ap, ℕ, ◌≡◌, ◌++◌, string_bytes, append-nil, append_assoc}
+use Rattle.std.specs.Char.{encode_utf8}
+use Rattle.std.specs.Global.{Vec}
+use Rattle.fm_base.specs.Texts.{shown, utf8}
+use Rattle.fm_base.proofs.Utf16Lemmas.{utf8_next, utf8_none}
+use Rattle.fm_native.proofs.spelling.printed_bytes.Goals as goal
+
+pub loop-character-preserved : goal.loop-character-preserved
+loop-character-preserved c =
+    let text = string_bytes c.loop-character.text in
+    let after = utf8 c.in-Some.after.now in
+    let next = utf8_next c.loop-character.rest.now c.in-Some.after.now c.in-Some.character c.in-Some.ensures.0 in
+    let bytes : string_bytes c.push.new.self ≡ text ++ encode_utf8 (shown c.in-Some.character)
+    = c.in_ok-push.ensures.bytes ∙ ap (λ character. text ++ encode_utf8 character) c.unwrap_or.ensures in
+    c.loop-character.invariant ∙ ap (λ rest. text ++ rest) next ∙ sym (append_assoc text (encode_utf8 (shown c.in-Some.character)) after)
+    ∙ ap (λ front. front ++ after) (sym bytes)
+
+pub returns : goal.returns
+returns c =
+    let none = utf8_none c.loop-character.rest.now c.in_default.ensures in
+    let all = sym (c.loop-character.invariant ∙ ap (λ rest. string_bytes c.loop-character.text ++ rest) none ∙ append-nil (string_bytes c.loop-character.text)) in
+    ap (λ (bytes : Vec ℕ). bytes.items) c.into_bytes.ensures.value ∙ all
