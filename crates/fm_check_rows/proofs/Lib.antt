@@ -2,5 +2,4 @@ pub mod WordLemmas
 pub mod PieceLemmas
 pub mod MarkLemmas
 pub mod NameLemmas
-pub mod OwnerLemmas
 pub mod UseLemmas

@@ -22,7 +22,8 @@ mod put;
 mod switch_list;
 
 pub use access_flags::{
-    ACC_ABSTRACT, ACC_INTERFACE, ACC_NATIVE, ACC_PRIVATE, ACC_STATIC, has_flag,
+    ACC_ABSTRACT, ACC_INTERFACE, ACC_NATIVE, ACC_PRIVATE, ACC_PROTECTED, ACC_PUBLIC, ACC_STATIC,
+    has_flag, is_package_private,
 };
 pub use class_file::{ClassDef, MAGIC, Member, MemberAttr, Raw};
 pub use code_array::{Code, CodeAttr, Handler, Item, Line, MAX_CODE_BYTES, Var};

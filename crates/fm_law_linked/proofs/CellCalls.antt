@@ -31,7 +31,7 @@ use Rattle.fm_law_linked.proofs.NamedMethods.{virtual_of_class}
 use Rattle.fm_law_linked.proofs.Numbers.{owner_there}
 use Rattle.fm_law_linked.proofs.Selves.{self_twice, selves_there}
 use Rattle.fm_law_linked.proofs.SpecialCalls.{member_class, number_named}
-use Rattle.fm_law_sound.proofs.FoundMethods.{own_method_found}
+use Rattle.fm_world.proofs.OwnedMethods.{own_method_found}
 use Rattle.fm_law_sound.specs.Resolved.{IsNamed}
 use Rattle.fm_types.proofs.ClassTree.{among_own, among-trans, object-within}
 use Rattle.fm_types.specs.CallRows.{is_constructor, is_initializer, names_own_or_above}

@@ -14,6 +14,7 @@ pub mod NamedFields
 pub mod Steps
 pub mod Constructors
 pub mod SpecialCalls
+pub mod Overriding
 pub mod SelectedMethods
 pub mod Selves
 pub mod ConcreteCodes

@@ -21,7 +21,8 @@ use Rattle.fm_law_linked.proofs.ConcreteCodes.{concrete_coded}
 use Rattle.fm_link_supers.proofs.ParentRefusals.{nil_right}
 use Rattle.fm_law_linked.proofs.Rows.{all_methods, row_past}
 use Rattle.fm_law_linked.proofs.Steps.{concrete_there}
-use Rattle.fm_law_sound.proofs.FoundMethods.{found_among, IsFound, own_method_found}
+use Rattle.fm_world.proofs.OverridingLemmas.{found_among}
+use Rattle.fm_world.proofs.OwnedMethods.{IsFound, own_method_found}
 use Rattle.fm_law_sound.specs.Resolved.{MainIsReady}
 use Rattle.fm_types.specs.CallRows.{is_constructor}
 use Rattle.fm_types.specs.Named.{parameters_of, this_class}

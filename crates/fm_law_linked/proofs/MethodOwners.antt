@@ -33,12 +33,14 @@ use Rattle.fm_law_linked.proofs.ClassChains.{below_object}
 use Rattle.fm_law_linked.proofs.FieldOwners.{all_inside, binary_found, found_among}
 use Rattle.fm_law_linked.proofs.GivenFiles.{class_of_file, none_implemented, none_missing}
 use Rattle.fm_law_linked.proofs.InterfaceCalls.{binary_type}
+use Rattle.fm_law_linked.proofs.Overriding.{own_overrides}
 use Rattle.fm_law_linked.proofs.InterfaceSets.{in_interfaces, interfaces_above, interfaces_up, IsBrought, low_interfaces, marker_bare}
 use Rattle.fm_law_linked.proofs.SelectedMethods.{completed_left, files_counted, methods_at, OfClass, own_abstract, owned}
 use Rattle.fm_law_linked.proofs.Selves.{completing_above, completing_self, interface_self, named_self, no_duplicate_refused, objects_self, self_above}
 use Rattle.fm_link_supers.proofs.BuiltInParents.{completed_by, plain_completion, self_has_objects}
 use Rattle.fm_law_linked.proofs.SpecialCalls.{file_implemented}
-use Rattle.fm_law_sound.proofs.FoundMethods.{own_method_found}
+use Rattle.fm_world.proofs.OwnedMethods.{own_method_found}
+use Rattle.fm_world.proofs.OverridingLemmas.{overriding_own}
 use Rattle.fm_law_sound.proofs.MadeObjects.{IsPlain}
 use Rattle.fm_types.proofs.ClassTree.{among_one, among_own, among-trans, interface-within, object-within, seen_above, seen-object}
 use Rattle.fm_types.proofs.Order.{below_objects-fits, level-fits}
@@ -49,8 +51,8 @@ use Rattle.fm_world.specs.Chains.{chain_of, class_at, completing_of, first_found
 use Rattle.fm_world.specs.Declarations.{declared_method, declared_of, no_method}
 use Rattle.fm_world.specs.Descriptors.{class_number, class_type}
 use Rattle.fm_world.specs.Linking.{refusals, refused_built_ins, refused_duplicates, refused_parents}
-use Rattle.fm_world.specs.Lookups.{any_flags, class_searched, constructor_name, constructor_path, is_abstract_method, is_interface_at, is_selectable, method_path, object_number, resolved_method, select}
-use Rattle.fm_world.specs.Members.{first_method, method_among, method_at, methods_from, methods_of, own_method, OwnedMethod}
+use Rattle.fm_world.specs.Lookups.{any_flags, class_searched, constructor_name, constructor_path, is_abstract_method, is_interface_at, is_selectable, method_path, object_number, overriding, own_selectable, resolved_method, select}
+use Rattle.fm_world.specs.Members.{first_method, method_at, methods_from, methods_of, own_method, OwnedMethod}
 use Rattle.fm_world.specs.Numbers.{type_of_class}
 use Rattle.fm_world.specs.Programs.{class_of_type, classes_of, IsTypeIn}
 use Rattle.fm_world.specs.Uses.{class_items}
@@ -403,11 +405,13 @@ module _ (given : List ClassDef) (main : List ℕ) (spelled : AllByRecursion Has
     m = (method_at (classes_of given) method).method
 
     by_private : (b : Bool) → is_private m.flags ≡ b
-        → is_some (cond b (Some method) (method_among (classes_of given) is_selectable m.name m.descriptor (chain_of (classes_of given) class))) ≡ true
+        → is_some (cond b (Some method) (first_found (overriding (classes_of given) (method_at (classes_of given) method)) (chain_of (classes_of given) class))) ≡ true
     by_private true e = refl
     by_private false e =
-        found_some (own_method (classes_of given) is_selectable m.name m.descriptor) (chain_of (classes_of given) class) owner among
-        (own_passes (classes_of given) is_selectable owner method own (ap (λ s. not s && not (is_private m.flags)) static ∙ ap not e))
+        found_some (overriding (classes_of given) (method_at (classes_of given) method)) (chain_of (classes_of given) class) owner among
+        (ap (λ b. is_some (cond b (own_selectable (classes_of given) (method_at (classes_of given) method) owner) None))
+        (own_overrides (classes_of given) tree (method_at (classes_of given) method) owner (ap (λ (n : OwnedMethod). n.class) own.at))
+        ∙ own_passes (classes_of given) is_selectable owner method own (ap (λ s. not s && not (is_private m.flags)) static ∙ ap not e))
 
   -- what is selected for objects of a superclass, or another method, is selected
   select_up : (class above method : ℕ) → is_among above (chain_of classes class) ≡ true → is_some (select classes above method) ≡ true
@@ -418,7 +422,7 @@ module _ (given : List ClassDef) (main : List ℕ) (spelled : AllByRecursion Has
     m = (method_at (classes_of given) method).method
 
     find : ℕ → Option ℕ
-    find = own_method (classes_of given) is_selectable m.name m.descriptor
+    find = overriding (classes_of given) (method_at (classes_of given) method)
 
     by_found : (o : Option ℕ) → first_found find (chain_of (classes_of given) above) ≡ o → is_some o ≡ true
         → is_some (first_found find (chain_of (classes_of given) class)) ≡ true
@@ -503,15 +507,16 @@ module _ (given : List ClassDef) (main : List ℕ) (spelled : AllByRecursion Has
     self = self_of (classes_of given)
 
     by_private : (b : Bool)
-        → cond b (Some method) (method_among (classes_of given) is_selectable m.name m.descriptor (chain_of (classes_of given) r.class)) ≡ Some target
+        → cond b (Some method) (first_found (overriding (classes_of given) (method_at (classes_of given) method)) (chain_of (classes_of given) r.class)) ≡ Some target
         → fits_type (classes_of given) of (type_of_class (self_of (classes_of given) (method_at (classes_of given) target).class)) ≡ true
     by_private true h =
         ap (λ n. fits_type (classes_of given) of (type_of_class (self (method_at (classes_of given) n).class))) (sym (same_Some method target h))
         ∙ ap (λ (n : OwnedMethod). fits_type (classes_of given) of (type_of_class (self n.class))) own.at
         ∙ r.fits (self owner) (self_reached r.class owner completes_none reached)
     by_private false h =
-        let path = found_among (own_method (classes_of given) is_selectable m.name m.descriptor) (chain_of (classes_of given) r.class) target h in
-        let found = own_method_found (classes_of given) is_selectable m.name m.descriptor path.0 target path.1.1 in
+        let its = method_at (classes_of given) method in
+        let path = found_among (overriding (classes_of given) its) (chain_of (classes_of given) r.class) target h in
+        let found = own_method_found (classes_of given) is_selectable m.name m.descriptor path.0 target (overriding_own (classes_of given) its path.0 target path.1.1).1 in
         ap (λ k. fits_type (classes_of given) of (type_of_class (self k))) found.owner
         ∙ r.fits (self path.0) (self_reached r.class path.0 completes_none (inl path.1.0))
 

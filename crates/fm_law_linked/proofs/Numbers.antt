@@ -16,9 +16,9 @@ use Rattle.fm_code.specs.declared.constant_pool.Entry.TheVariants as entry
 use Rattle.fm_frames.specs.Runnable.{IsUseIn}
 use Rattle.fm_link_records.proofs.CodeLaws.{AreCodes-all}
 use Rattle.fm_link_records.proofs.UseLaws.{resolved_by}
-use Rattle.fm_check_rows.proofs.OwnerLemmas.{owner_within}
 use Rattle.fm_check_rows.proofs.UseLemmas.{uses_name_members}
 use Rattle.fm_check_rows.specs.Members.{NamesMember}
+use Rattle.fm_world.proofs.OwnedMethods.{owner_within}
 use Rattle.fm_world.specs.BuiltIns.{built_in}
 use Rattle.fm_world.specs.Chains.{same_type}
 use Rattle.fm_world.specs.Declarations.{no_method}

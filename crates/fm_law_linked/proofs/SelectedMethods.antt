@@ -1,13 +1,14 @@
 -- No abstract method is selected for an object: each one that is left over is refused (JVMS 5.4.5).
 use Rattle.std.proofs.Common.{◌≡◌, refl, sym, ◌∙◌, ap, subst, ℕ, zero, suc, ◌+◌, ◌-◌, ◌<◌, ◌≤◌, ◌⊎◌, inl, inr, ◌&&◌, not, Bool, true, false, cond, List, [], ◌∷◌, ◌++◌, length, map, slice_get, get_or, take, position, Option, Some, None, option_map, unwrap_or, length-append, zero-add, arith}
-use Rattle.std.specs.Prelude.{option_to_list}
+use Rattle.std.specs.Prelude.{is_none, is_some, option_to_list}
 use Rattle.std.specs.List.{AllByRecursion, flat_map, list_any}
 use Rattle.std.specs.Str.{bytes_eq}
-use Rattle.std.proofs.lemmas.Bool.{and_parts, cases_lt, false≢true, not-true, or_parts}
+use Rattle.std.proofs.lemmas.Bool.{and_parts, cases_lt, not-true, or_parts}
 use Rattle.std.proofs.lemmas.List.{get_or-append-add, get_or-map, get_or_append_left, length-map}
 use Rattle.std.proofs.lemmas.List.Quantifiers.{position-Some}
 use Rattle.std.proofs.lemmas.List.Sums.{sum_by-cons}
 use Rattle.std.proofs.lemmas.Option.{none-some, same_Some}
+use Rattle.std.proofs.lemmas.Slice.Eq.{bytes_eq-Decides}
 use Rattle.fm_base.proofs.ListFacts.{AllByRecursion-append, AllByRecursion-get_or}
 use Rattle.fm_base.specs.declared.kinds.TypeRef.{TypeRef}
 use Rattle.fm_code.specs.AccessFlags.{is_abstract, is_interface, is_private, is_static}
@@ -29,21 +30,23 @@ use Rattle.fm_law_linked.proofs.ClassChains.{completed_above}
 use Rattle.fm_law_linked.proofs.FieldOwners.{found_among}
 use Rattle.fm_law_linked.proofs.GivenFiles.{class_of_file}
 use Rattle.fm_law_linked.proofs.Numbers.{owner_there}
+use Rattle.fm_law_linked.proofs.Overriding.{down_overrides, own_overrides, package_same, selected_again}
 use Rattle.fm_law_linked.proofs.Rows.{all_methods}
 use Rattle.fm_law_linked.proofs.SpecialCalls.{file_implemented}
 use Rattle.fm_law_linked.proofs.Steps.{none_abstract, private_there, table_concrete}
-use Rattle.fm_law_sound.proofs.FoundMethods.{IsFound, own_method_found}
+use Rattle.fm_world.proofs.OwnedMethods.{IsFound, own_method_found}
+use Rattle.fm_world.proofs.OverridingLemmas.{either_none, overriding_own}
 use Rattle.fm_law_sound.proofs.MadeObjects.{IsPlain}
 use Rattle.fm_law_sound.specs.Sound.{HasObjects}
 use Rattle.fm_types.proofs.ClassTree.{among_one, chain_past_end}
-use Rattle.fm_types.specs.Fits.{object_of}
+use Rattle.fm_types.specs.Fits.{AreTree, object_of}
 use Rattle.fm_world.specs.BuiltIns.{built_in}
 use Rattle.fm_world.specs.Causes.{abstract_call, abstract_from, abstract_methods, declared_name, is_left_over, left_over, method_text, NotImplemented, refused}
-use Rattle.fm_world.specs.Chains.{chain_of, class_at, completion_of, first_found, interfaces_of, is_among, parent_of, self_of, upwards}
-use Rattle.fm_world.specs.Declarations.{declared_from, declared_method, declared_of, no_method}
+use Rattle.fm_world.specs.Chains.{chain_of, class_at, completion_of, first_found, given_number, interfaces_of, is_among, parent_of, self_of, upwards}
+use Rattle.fm_world.specs.Declarations.{declared_from, declared_method, declared_of, no_class, no_method}
 use Rattle.fm_world.specs.Linking.{refused_built_ins, refused_not_implemented}
-use Rattle.fm_world.specs.Lookups.{is_abstract_method, is_selectable, select}
-use Rattle.fm_world.specs.Members.{first_method, method_among, method_at, methods_from, methods_of, own_method, owned_methods, OwnedMethod}
+use Rattle.fm_world.specs.Lookups.{can_override, is_abstract_method, is_selectable, overriding, own_selectable, select}
+use Rattle.fm_world.specs.Members.{first_method, method_at, methods_from, methods_of, own_method, owned_methods, OwnedMethod}
 use Rattle.fm_world.specs.Programs.{class_of_type, classes_of, outline_of}
 use Rattle.fm_world.specs.Uses.{class_items}
 use Rattle.fm_world.specs.inner.Completions.{AreCompleted}
@@ -166,18 +169,17 @@ left_none classes c class above target concrete plain left among own =
     refused_not (is_left_over classes class target) (refused NotImplemented c (method_text (declared_name classes target)))
     (none_at (left_over_by classes c class) (abstract_methods classes above) target here own)
 
--- a method that is found for objects of a class is selected for itself
-found_itself : (classes : List DeclaredClass) (name descriptor : List ℕ) (class above target : ℕ)
-    → IsFound classes is_selectable name descriptor above target
-    → method_among classes is_selectable name descriptor (chain_of classes class) ≡ Some target
+-- a method that overrides itself first is selected for itself
+selected_itself : (classes : List DeclaredClass) (class target : ℕ) → is_private (method_at classes target).method.flags ≡ false
+    → first_found (overriding classes (method_at classes target)) (chain_of classes class) ≡ Some target
     → select classes class target ≡ Some target
 unfolding select
-found_itself classes name descriptor class above target found is =
-    let m = (method_at classes target).method in
-    let parts = and_parts (not (is_static m.flags)) (not (is_private m.flags)) found.flags in
-    ap (λ b. cond b (Some target) (method_among classes is_selectable m.name m.descriptor (chain_of classes class))) (not-true (is_private m.flags) parts.1)
-    ∙ ap (λ n. method_among classes is_selectable n m.descriptor (chain_of classes class)) found.name_is
-    ∙ ap (λ d. method_among classes is_selectable name d (chain_of classes class)) found.descriptor_is ∙ is
+selected_itself classes class target other is =
+    ap (λ b. cond b (Some target) (first_found (overriding classes (method_at classes target)) (chain_of classes class))) other ∙ is
+
+-- what is selectable isn't private
+not_private : (flags : ℕ) → is_selectable flags ≡ true → is_private flags ≡ false
+not_private flags passes = not-true (is_private flags) (and_parts (not (is_static flags)) (not (is_private flags)) passes).1
 
 -- ---- objects of built-in classes
 
@@ -200,9 +202,9 @@ module _ (given : List ClassDef) (apart : refused_built_ins given ≡ []) (none_
       (flat_map (abstract_call classes by.file (length built_in + by.place)) (class_items by.file))
       (file_implemented given by.place by.file none_refused by.at)
 
-  module _ (name descriptor : List ℕ) where
+  module _ (tree : AreTree (classes_of given)) (m : OwnedMethod) where
     abbrev find : ℕ → Option ℕ
-    find = own_method (classes_of given) is_selectable name descriptor
+    find = overriding (classes_of given) m
 
     abbrev first : List DeclaredClass
     first = declared_from 0 given
@@ -210,6 +212,21 @@ module _ (given : List ClassDef) (apart : refused_built_ins given ≡ []) (none_
     completed : AreCompleted (built_in ++ declared_from 0 given)
     unfolding classes_of
     completed = are_completed given apart
+
+    -- what completes a class has its name
+    completion_named : (class f : ℕ) → completion_of (classes_of given) (class_at (classes_of given) class) ≡ Some f
+        → (class_at (classes_of given) class).name ≡ (class_at (classes_of given) f).name
+    completion_named class f is = by_file (is_none (class_at (classes_of given) class).file) is where
+      test : DeclaredClass → Bool
+      test c = bytes_eq c.name (class_at (classes_of given) class).name && is_some c.file
+
+      by_file : (b : Bool) → cond b (given_number (classes_of given) (class_at (classes_of given) class).name) None ≡ Some f
+          → (class_at (classes_of given) class).name ≡ (class_at (classes_of given) f).name
+      by_file false h = absurd (none-some f h)
+      by_file true h =
+          let there = (position-Some test (classes_of given) f no_class h).1 in
+          let named = (and_parts (bytes_eq (class_at (classes_of given) f).name (class_at (classes_of given) class).name) (is_some (class_at (classes_of given) f).file) there).0 in
+          sym ((bytes_eq-Decides (class_at (classes_of given) f).name (class_at (classes_of given) class).name).0 named)
 
     -- what is found in the class that completes another one, where that one has none
     at_completion : (class f target : ℕ) → class < length built_in → completion_of (classes_of given) (class_at (classes_of given) class) ≡ Some f
@@ -219,21 +236,55 @@ module _ (given : List ClassDef) (apart : refused_built_ins given ≡ []) (none_
       classes : List DeclaredClass
       classes = classes_of given
 
-      found : method_among (classes_of given) is_selectable name descriptor (chain_of (classes_of given) class) ≡ Some target
-      found =
+      parts : (can_override (classes_of given) m f ≡ true) × (own_selectable (classes_of given) m f ≡ Some target)
+      parts = overriding_own (classes_of given) m f target some
+
+      its : OwnedMethod
+      its = method_at (classes_of given) target
+
+      found : IsFound (classes_of given) is_selectable m.method.name m.method.descriptor f target
+      found = own_method_found (classes_of given) is_selectable m.method.name m.method.descriptor f target parts.1
+
+      above : is_among f (chain_of (classes_of given) class) ≡ true
+      above = completed_above given apart class f within is
+
+      -- the class has none of its own: it would have overridden the method too
+      no_own : (o : Option ℕ) → own_selectable (classes_of given) m class ≡ o → o ≡ None
+      no_own None e = refl
+      no_own (Some k) e =
+          let can = down_overrides (classes_of given) tree m class f above
+          (package_same (classes_of given) class f (completion_named class f is)) parts.0 in
+          absurd (none-some k (sym none ∙ ap (λ b. cond b (own_selectable (classes_of given) m class) None) can ∙ e))
+
+      named : (x : ℕ) → own_selectable (classes_of given) its x ≡ own_selectable (classes_of given) m x
+      named x =
+          ap (λ a. own_method (classes_of given) is_selectable a its.method.descriptor x) found.name_is
+          ∙ ap (λ a. own_method (classes_of given) is_selectable m.method.name a x) found.descriptor_is
+
+      here : overriding (classes_of given) its class ≡ None
+      here =
+          ap (λ o. cond (can_override (classes_of given) its class) o None) (named class ∙ no_own (own_selectable (classes_of given) m class) refl)
+          ∙ either_none (can_override (classes_of given) its class)
+
+      there : overriding (classes_of given) its f ≡ Some target
+      there =
+          ap (λ b. cond b (own_selectable (classes_of given) its f) None) (own_overrides (classes_of given) tree its f found.owner) ∙ named f ∙ parts.1
+
+      itself : first_found (overriding (classes_of given) its) (chain_of (classes_of given) class) ≡ Some target
+      itself =
           let rest = with_completions first completed (upwards (length built_in) built_in (parent_of built_in class)) in
-          ap (first_found find) (chain_completed first completed class within)
-          ∙ ap (λ o. first_found find ((class ∷ option_to_list o) ++ rest)) is ∙ second_found find class f rest target none some
+          ap (first_found (overriding (classes_of given) its)) (chain_completed first completed class within)
+          ∙ ap (λ o. first_found (overriding (classes_of given) its) ((class ∷ option_to_list o) ++ rest)) is
+          ∙ second_found (overriding (classes_of given) its) class f rest target here there
 
       by_flag : (b : Bool) → is_abstract_method classes target ≡ b → is_abstract_method classes target ≡ false
       by_flag false e = e
       by_flag true e =
           let by = completed_by given apart class f within is in
           let plain = plain_completion (class_at built_in class) by.file by.completes_it in
-          let kept = left_none classes by.file class f target plain.1 plain.0 (completed_left class f within is) (completed_above given apart class f within is)
-          (own_abstract classes is_selectable name descriptor f target some e) in
-          sym (ap (is_open classes) (found_itself classes name descriptor class f target (own_method_found classes is_selectable name descriptor f target some) found))
-          ∙ kept
+          let kept = left_none classes by.file class f target plain.1 plain.0 (completed_left class f within is) above
+          (own_abstract classes is_selectable m.method.name m.method.descriptor f target parts.1 e) in
+          sym (ap (is_open classes) (selected_itself classes class target (not_private its.method.flags found.flags) itself)) ∙ kept
 
     along : (xs : List ℕ) → list_any is_past_table xs ≡ false → (target : ℕ) → first_found find (with_completions first completed xs) ≡ Some target
         → is_abstract_method (classes_of given) target ≡ false
@@ -263,42 +314,51 @@ module _ (given : List ClassDef) (apart : refused_built_ins given ≡ []) (none_
               → is_abstract_method (classes_of given) target ≡ false
           by_own within later None none h = by_completion within none later (completing first class) refl h
           by_own within later (Some t) there h =
-              let found = own_method_found (classes_of given) is_selectable name descriptor class target (there ∙ h) in
+              let found = own_method_found (classes_of given) is_selectable m.method.name m.method.descriptor class target
+              (overriding_own (classes_of given) m class target (there ∙ h)).1 in
               built_in_concrete given target (let owner = found.owner in omega (arith, owner, within))
 
-    -- what is found for objects of a built-in class isn't abstract
+    -- what overrides the method for objects of a built-in class isn't abstract
     pub low_concrete : (class target : ℕ) → class < length built_in
-        → method_among (classes_of given) is_selectable name descriptor (chain_of (classes_of given) class) ≡ Some target
+        → first_found (overriding (classes_of given) m) (chain_of (classes_of given) class) ≡ Some target
         → is_abstract_method (classes_of given) target ≡ false
     unfolding classes_of
     low_concrete class target within is =
         along (chain_of built_in class) (all_inside class within) target
         (sym (ap (first_found find) (chain_completed first completed class within)) ∙ is)
 
--- what is found for objects of a class, of a file or built in, isn't abstract
-found_concrete : (given : List ClassDef) → refused_built_ins given ≡ [] → refused_not_implemented given ≡ [] → (name descriptor : List ℕ) (class above target : ℕ)
+-- what overrides a method for objects of a class, of a file or built in, isn't abstract
+found_concrete : (given : List ClassDef) → refused_built_ins given ≡ [] → refused_not_implemented given ≡ [] → AreTree (classes_of given)
+    → (m : OwnedMethod) (class target : ℕ)
     → (length built_in ≤ class → IsPlain (classes_of given) class)
-    → is_among above (chain_of (classes_of given) class) ≡ true
-    → own_method (classes_of given) is_selectable name descriptor above ≡ Some target
-    → method_among (classes_of given) is_selectable name descriptor (chain_of (classes_of given) class) ≡ Some target
+    → first_found (overriding (classes_of given) m) (chain_of (classes_of given) class) ≡ Some target
     → is_abstract_method (classes_of given) target ≡ false
-found_concrete given apart none_refused name descriptor class above target objects among own is =
+found_concrete given apart none_refused tree m class target objects is =
     by_flag (is_abstract_method classes target) refl where
       classes : List DeclaredClass
       classes = classes_of given
 
-      found : IsFound (classes_of given) is_selectable name descriptor above target
-      found = own_method_found (classes_of given) is_selectable name descriptor above target own
+      path : (above : ℕ) × ((is_among above (chain_of (classes_of given) class) ≡ true) × (overriding (classes_of given) m above ≡ Some target))
+      path = found_among (overriding (classes_of given) m) (chain_of (classes_of given) class) target is
+
+      own : own_selectable (classes_of given) m path.0 ≡ Some target
+      own = (overriding_own (classes_of given) m path.0 target path.1.1).1
+
+      found : IsFound (classes_of given) is_selectable m.method.name m.method.descriptor path.0 target
+      found = own_method_found (classes_of given) is_selectable m.method.name m.method.descriptor path.0 target own
 
       past : length classes ≤ class → ⊥
       past h =
-          let same : above ≡ class = among_one above class (sym (ap (is_among above) (chain_past_end classes class h)) ∙ among) in
+          let same : path.0 ≡ class = among_one path.0 class (sym (ap (is_among path.0) (chain_past_end classes class h)) ∙ path.1.0) in
           let owner = owner_there given target in
           let its = found.owner in
           omega (arith, same, owner, its, h)
 
       long : length classes ≡ length built_in + length given
       long = files_counted given
+
+      itself : select classes class target ≡ Some target
+      itself = selected_itself classes class target (not_private (method_at classes target).method.flags found.flags) (selected_again classes tree m class target is)
 
       of_file : (j : ℕ) → class ≡ length built_in + j → is_abstract_method classes target ≡ true → (o : Option ClassDef) → slice_get given j ≡ o
           → is_abstract_method classes target ≡ false
@@ -312,13 +372,13 @@ found_concrete given apart none_refused name descriptor class above target objec
           (ap (λ k. left_over classes c (self_of classes k) ++ flat_map (abstract_call classes c k) (class_items c)) place
           ∙ file_implemented given j c none_refused e) in
           let concrete = concrete-declared c (sym (ap (λ (d : DeclaredClass). is_abstract d.flags) here) ∙ its.0) in
-          let kept = left_none classes c class above target concrete.0
-          (sym (interface-declared c) ∙ sym (ap (λ (d : DeclaredClass). is_interface d.flags) here) ∙ its.1) left among
-          (own_abstract classes is_selectable name descriptor above target own abstract) in
-          sym (ap (is_open classes) (found_itself classes name descriptor class above target found is)) ∙ kept
+          let kept = left_none classes c class path.0 target concrete.0
+          (sym (interface-declared c) ∙ sym (ap (λ (d : DeclaredClass). is_interface d.flags) here) ∙ its.1) left path.1.0
+          (own_abstract classes is_selectable m.method.name m.method.descriptor path.0 target own abstract) in
+          sym (ap (is_open classes) itself) ∙ kept
 
       by_place : is_abstract_method classes target ≡ true → (class < length built_in) ⊎ (length built_in ≤ class) → is_abstract_method classes target ≡ false
-      by_place abstract (inl low) = low_concrete given apart none_refused name descriptor class target low is
+      by_place abstract (inl low) = low_concrete given apart none_refused tree m class target low is
       by_place abstract (inr later) = of_file (class - length built_in) (omega (arith, later)) abstract (slice_get given (class - length built_in)) refl
 
       by_flag : (b : Bool) → is_abstract_method classes target ≡ b → is_abstract_method classes target ≡ false
@@ -327,25 +387,22 @@ found_concrete given apart none_refused name descriptor class above target objec
 
 -- ---- what is selected
 
-selected_concrete : (given : List ClassDef) → AllByRecursion HasSpelling given → refused_built_ins given ≡ [] → refused_not_implemented given ≡ [] → (class method target : ℕ)
+selected_concrete : (given : List ClassDef) → AllByRecursion HasSpelling given → refused_built_ins given ≡ [] → refused_not_implemented given ≡ []
+    → AreTree (classes_of given) → (class method target : ℕ)
     → (length built_in ≤ class → IsPlain (classes_of given) class)
     → select (classes_of given) class method ≡ Some target
     → is_abstract_method (classes_of given) target ≡ false
 unfolding select
-selected_concrete given spelled apart none_refused class method target objects is = by_private (is_private m.flags) refl is where
-  classes : List DeclaredClass
-  classes = classes_of given
+selected_concrete given spelled apart none_refused tree class method target objects is =
+    by_private (is_private (method_at (classes_of given) method).method.flags) refl is where
+      classes : List DeclaredClass
+      classes = classes_of given
 
-  m : DeclaredMethod
-  m = (method_at (classes_of given) method).method
-
-  by_private : (b : Bool) → is_private m.flags ≡ b
-      → cond b (Some method) (method_among classes is_selectable m.name m.descriptor (chain_of classes class)) ≡ Some target
-      → is_abstract_method classes target ≡ false
-  by_private true e same = sym (ap (is_abstract_method classes) (same_Some method target same)) ∙ private_there given spelled method e
-  by_private false e found =
-      let path = found_among (own_method classes is_selectable m.name m.descriptor) (chain_of classes class) target found in
-      found_concrete given apart none_refused m.name m.descriptor class path.0 target objects path.1.0 path.1.1 found
+      by_private : (b : Bool) → is_private (method_at (classes_of given) method).method.flags ≡ b
+          → cond b (Some method) (first_found (overriding classes (method_at classes method)) (chain_of classes class)) ≡ Some target
+          → is_abstract_method classes target ≡ false
+      by_private true e same = sym (ap (is_abstract_method classes) (same_Some method target same)) ∙ private_there given spelled method e
+      by_private false e found = found_concrete given apart none_refused tree (method_at classes method) class target objects found
 
 -- what is required of the class of a type, if it has one
 abbrev pub OfClass : List DeclaredClass → Option ℕ → Type 0
@@ -359,18 +416,18 @@ object_first given past =
 
 -- no abstract method is selected for an object, be it an array
 pub selected_there : (given : List ClassDef) (main : List ℕ) → AllByRecursion HasSpelling given → refused_built_ins given ≡ []
-    → refused_not_implemented given ≡ [] → (t : TypeRef) (method target : ℕ) → HasObjects (outline_of given main) t
+    → refused_not_implemented given ≡ [] → AreTree (classes_of given) → (t : TypeRef) (method target : ℕ) → HasObjects (outline_of given main) t
     → select (outline_of given main).classes (unwrap_or (class_of_type t) (object_of (outline_of given main).classes)) method ≡ Some target
     → is_abstract_method (outline_of given main).classes target ≡ false
 unfolding outline_of
-selected_there given main spelled apart none_refused t method target objects is = by_class (class_of_type t) refl where
+selected_there given main spelled apart none_refused tree t method target objects is = by_class (class_of_type t) refl where
   classes : List DeclaredClass
   classes = classes_of given
 
   by_class : (o : Option ℕ) → class_of_type t ≡ o → is_abstract_method classes target ≡ false
   by_class None e =
-      selected_concrete given spelled apart none_refused (object_of classes) method target (λ past. absurd (object_first given past))
+      selected_concrete given spelled apart none_refused tree (object_of classes) method target (λ past. absurd (object_first given past))
       (sym (ap (λ c. select classes (unwrap_or c (object_of classes)) method) e) ∙ is)
   by_class (Some class) e =
-      selected_concrete given spelled apart none_refused class method target (λ past. subst (OfClass classes) e objects)
+      selected_concrete given spelled apart none_refused tree class method target (λ past. subst (OfClass classes) e objects)
       (sym (ap (λ c. select classes (unwrap_or c (object_of classes)) method) e) ∙ is)

@@ -19,7 +19,7 @@ use Rattle.fm_frames.specs.Steps.{is_start}
 use Rattle.fm_law_sound.specs.Going.{StartsClass}
 use Rattle.fm_law_sound.specs.Resolved.{CallsAreResolved}
 use Rattle.fm_law_sound.proofs.BuiltInMethods.{start_is_given}
-use Rattle.fm_law_sound.proofs.FoundMethods.{IsFound, own_method_found}
+use Rattle.fm_world.proofs.OwnedMethods.{IsFound, own_method_found}
 
 -- ---- which methods start classes
 

@@ -9,7 +9,6 @@ use Rattle.std.proofs.lemmas.Option.{slice_get-get_or, slice_get_past}
 use Rattle.fm_world.specs.Chains.{distinct, first_found, interfaces_within, is_among, parent_of, superinterfaces_of}
 use Rattle.fm_world.specs.Declarations.{no_class}
 use Rattle.fm_world.specs.Descriptors.{class_number}
-use Rattle.fm_world.specs.Lookups.{any_flags}
 use Rattle.fm_world.specs.declared.declarations.DeclaredClass.{DeclaredClass}
 use Rattle.fm_world.specs.inner.Layers.{value_at, HasRoom}
 use Rattle.fm_world.specs.inner.Tables.{IsLinear, chain_from, numbers_below}
@@ -28,12 +27,6 @@ use Rattle.fm_link_members.specs.inner.MemberTables.{is_own, nearest_in, own_by,
 use Rattle.fm_link_members.specs.inner.NearestSteps.{or_else}
 
 -- ---- the first that is found
-
-pub first_found-same : (f g : ℕ → Option ℕ) (xs : List ℕ) → ((x : ℕ) → f x ≡ g x) → first_found f xs ≡ first_found g xs
-first_found-same f g [] same = refl
-first_found-same f g (x ∷ xs) same =
-    first_found-cons f x xs ∙ ap (λ o. or_else o (first_found f xs)) (same x) ∙ ap (or_else (g x)) (first_found-same f g xs same)
-    ∙ sym (first_found-cons g x xs)
 
 or_else-assoc : (a b c : Option ℕ) → or_else (or_else a b) c ≡ or_else a (or_else b c)
 or_else-assoc None b c = refl
@@ -116,12 +109,12 @@ own_in-some : (n : Nearest) (rows : List MemberRow) (signature class member : �
     → own_in n rows signature class ≡ cond b (Some member) None
 own_in-some n rows signature class member row b e is test = rw (e, is, test) refl
 
-pub own_in-is : (classes : List DeclaredClass) (m : Members) (signatures : List ℕ) (n : Nearest) → IsLinear classes → AreSections classes m
-    → AreNearest classes m.rows.items signatures any_flags n → (signature class : ℕ) → HasRoom n.layers signature
-    → own_in n m.rows.items signature class ≡ own_by m.rows.items signatures any_flags signature class
-own_in-is classes m signatures n linear sections are signature class room = by_class (cases_lt class (length classes)) where
+pub own_in-is : (classes : List DeclaredClass) (m : Members) (signatures : List ℕ) (passes : ℕ → Bool) (n : Nearest) → IsLinear classes → AreSections classes m
+    → AreNearest classes m.rows.items signatures passes n → (signature class : ℕ) → HasRoom n.layers signature
+    → own_in n m.rows.items signature class ≡ own_by m.rows.items signatures passes signature class
+own_in-is classes m signatures passes n linear sections are signature class room = by_class (cases_lt class (length classes)) where
   find : ℕ → Option ℕ
-  find = own_by m.rows.items signatures any_flags signature
+  find = own_by m.rows.items signatures passes signature
 
   rest : List ℕ
   rest = chain_from classes (parent_of classes class)
@@ -129,7 +122,7 @@ own_in-is classes m signatures n linear sections are signature class room = by_c
   no_own : length classes ≤ class → (o : Option ℕ) → find class ≡ o → None ≡ o
   no_own past None e = refl
   no_own past (Some k) e =
-      let row = row_of_own m.rows.items signatures any_flags signature class k e in
+      let row = row_of_own m.rows.items signatures passes signature class k e in
       absurd (omega (arith, past, (sections.outside class k row.within row.class_is).0))
 
   split : class < length classes → nearest_in n class signature ≡ or_else (find class) (first_found find rest)
@@ -140,14 +133,14 @@ own_in-is classes m signatures n linear sections are signature class room = by_c
   inherited within None e h = own_in-none n m.rows.items signature class h
   inherited within (Some k) e h =
       let found = found_at find rest k e in
-      let row = row_of_own m.rows.items signatures any_flags signature found.place k found.is in
+      let row = row_of_own m.rows.items signatures passes signature found.place k found.is in
       own_in-some n m.rows.items signature class k (get_or m.rows.items k no_row) false h (slice_get-get_or m.rows.items k no_row row.within)
       (ap (λ c. nat_eq c class) row.class_is ∙ not_above classes linear class found.place within found.among)
 
   by_own : class < length classes → (o : Option ℕ) → find class ≡ o → own_in n m.rows.items signature class ≡ o
   by_own within None e = inherited within (first_found find rest) refl (split within ∙ ap (λ o. or_else o (first_found find rest)) e)
   by_own within (Some k) e =
-      let row = row_of_own m.rows.items signatures any_flags signature class k e in
+      let row = row_of_own m.rows.items signatures passes signature class k e in
       own_in-some n m.rows.items signature class k (get_or m.rows.items k no_row) true
       (split within ∙ ap (λ o. or_else o (first_found find rest)) e) (slice_get-get_or m.rows.items k no_row row.within)
       (eq-eqb (get_or m.rows.items k no_row).class class row.class_is)

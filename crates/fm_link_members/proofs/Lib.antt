@@ -11,3 +11,4 @@ pub mod SignatureLemmas
 pub mod SignatureSteps
 pub mod StaticLemmas
 pub mod OwnerLemmas
+pub mod OverridingLemmas

@@ -7,20 +7,20 @@ use Rattle.std.proofs.lemmas.List.{get_or-map as get_or-map_within, length-map}
 use Rattle.std.proofs.lemmas.List.FromFn.{get_or-map-range_with_len}
 use Rattle.std.proofs.lemmas.List.Quantifiers.{position-Some}
 use Rattle.std.proofs.lemmas.Option.{get_or_from_slice_get, slice_get-get_or, slice_get_within}
-use Rattle.fm_code.specs.AccessFlags.{is_private}
 use Rattle.fm_code.specs.ConstantPool.{MemberName}
 use Rattle.fm_world.proofs.Displays.{class_number-within, parent_of-within}
 use Rattle.fm_world.specs.BuiltIns.{object_name}
 use Rattle.fm_world.specs.Chains.{chain_of, class_at, completing_of, first_found, interfaces_of, is_among, parent_of, superclasses_of, superinterfaces_of}
 use Rattle.fm_world.specs.Declarations.{no_method}
 use Rattle.fm_world.specs.Descriptors.{class_number, class_type}
-use Rattle.fm_world.specs.Lookups.{any_flags, class_searched, constructor_name, constructor_path, field_path, is_interface_at, is_selectable, method_path, object_number, own_instance, resolved_field, resolved_method, searches_above, select, special_target}
+use Rattle.fm_world.specs.Lookups.{any_flags, class_searched, constructor_name, constructor_path, field_path, is_interface_at, method_path, object_number, own_instance, resolved_field, resolved_method, searches_above, special_target}
 use Rattle.fm_world.specs.Members.{field_among, fields_of, is_instance, method_among, method_at, methods_of, own_field, own_method}
 use Rattle.fm_world.specs.declared.declarations.DeclaredClass.{DeclaredClass}
 use Rattle.fm_world.specs.inner.Layers.{HasRoom}
-use Rattle.fm_world.specs.inner.Tables.{chain_from, numbers_below}
+use Rattle.fm_world.specs.inner.Tables.{chain_from, numbers_below, IsLinear}
 use Rattle.fm_link_supers.proofs.ParentTables.{list_in-row}
-use Rattle.fm_link_members.proofs.FoundLemmas.{first_found-append, first_found-distinct, first_found-none, first_found-same, first_found-without, interfaces_listed, or_else-None, own_in-is, row_of_own}
+use Rattle.fm_link_members.proofs.FoundLemmas.{first_found-append, first_found-distinct, first_found-none, first_found-without, interfaces_listed, or_else-None, own_in-is, row_of_own}
+use Rattle.fm_world.proofs.OverridingLemmas.{first_found-same}
 use Rattle.fm_link_members.proofs.NearestLemmas.{first_found-cons}
 use Rattle.fm_link_members.proofs.StartLemmas.{first_along-is}
 use Rattle.fm_link_supers.proofs.SuperclassLemmas.{superclass-is}
@@ -32,11 +32,11 @@ use Rattle.fm_link_members.specs.declared.lookups.Fields.{Fields}
 use Rattle.fm_link_members.specs.declared.lookups.Methods.{Methods}
 use Rattle.fm_link_members.specs.declared.members.MemberRow.{MemberRow}
 use Rattle.fm_link_members.specs.declared.members.Nearest.{Nearest}
-use Rattle.fm_link_members.specs.inner.FoundMembers.{above_in, constructor_in, field_found_in, field_in, first_along, interface_method_in, is_constructor_in, is_marked, method_found_in, method_in, own_method_in, searches_in, selected_in, special_in}
+use Rattle.fm_link_members.specs.inner.FoundMembers.{above_in, constructor_in, field_found_in, field_in, first_along, interface_method_in, is_constructor_in, is_marked, method_found_in, method_in, own_method_in, searches_in, special_in}
 use Rattle.fm_link_supers.specs.inner.Hierarchy.{completing_in, distinct_path, is_superclass_in, IsHierarchy}
 use Rattle.fm_link_supers.specs.inner.ListTables.{list_in}
 use Rattle.fm_link_members.specs.inner.MemberRows.{field_alike, method_alike, no_row, row_alike, Owned}
-use Rattle.fm_link_members.specs.inner.MemberTables.{has_key, nearest_in, number_of_key, own_by, signature_of, start_in, AreFields, AreMethods, AreNearest, IsStart}
+use Rattle.fm_link_members.specs.inner.MemberTables.{has_key, nearest_in, number_of_key, own_by, own_in, signature_of, start_in, AreFields, AreMethods, AreNearest, IsStart}
 use Rattle.fm_link_members.specs.inner.NearestSteps.{or_else}
 
 -- ---- fields
@@ -91,7 +91,7 @@ field_in-is texts classes f h are is name descriptor signature n d there_n there
           ap (λ list. first_along f.nearest rows f.starts class list signature)
           (list_in-row (distinct_path classes) (length classes) class h.paths.items is.paths within)
           ∙ first_along-is f.nearest rows f.starts f.signatures.of_members.items class (distinct_path classes class) signature
-          (λ x. own_in-is classes f.members f.signatures.of_members.items f.nearest is.linear (AreSections-fields texts classes f.members are.rows)
+          (λ x. own_in-is classes f.members f.signatures.of_members.items any_flags f.nearest is.linear (AreSections-fields texts classes f.members are.rows)
           are.nearest signature x room) (are.starts class signature within)
           ∙ path
           ∙ first_found-same find (own_field classes n d) (field_path classes class) by_name
@@ -149,7 +149,7 @@ own_method_in-is : (texts : List (List ℕ)) (classes : List DeclaredClass) (m :
     → slice_get texts descriptor ≡ Some d → signature_of m.members.rows.items name descriptor ≡ Some signature → (class : ℕ)
     → own_method_in m signature class ≡ own_method classes any_flags n d class
 own_method_in-is texts classes m h are is name descriptor signature n d there_n there_d found class =
-    own_in-is classes m.members m.signatures.of_members.items m.nearest is.linear (AreSections-methods texts classes m.members are.rows) are.nearest
+    own_in-is classes m.members m.signatures.of_members.items any_flags m.nearest is.linear (AreSections-methods texts classes m.members are.rows) are.nearest
     signature class
     (are.nearest.room signature (position-Some (has_key name descriptor) m.members.rows.items signature no_row found).0)
     ∙ method_by_signature texts classes m are any_flags name descriptor signature n d there_n there_d found class
@@ -343,19 +343,22 @@ methods_within texts classes m are method within =
           ∙ length-map (methods_of classes) method_alike,
     )
 
--- a table of nearest methods returns by the signature of a method what its name and descriptor are looked up for
-pub nearest_by_method : (texts : List (List ℕ)) (classes : List DeclaredClass) (m : Methods) → AreMethods texts classes m → (passes : ℕ → Bool)
-    (n : Nearest) → AreNearest classes m.members.rows.items m.signatures.of_members.items passes n → (class method : ℕ) → class < length classes
-    → method < length (methods_of classes)
-    → nearest_in n class (get_or m.signatures.of_members.items method 0)
-    ≡ method_among classes passes (method_at classes method).method.name (method_at classes method).method.descriptor (chain_of classes class)
-nearest_by_method texts classes m are passes n nearest class method within m_within =
-    nearest.nearest class signature within
-    (nearest.room signature (position-Some (has_key row.name row.descriptor) m.members.rows.items signature no_row of_row).0)
-    ∙ first_found-same (own_by m.members.rows.items m.signatures.of_members.items passes signature)
-    (own_method classes passes (method_at classes method).method.name (method_at classes method).method.descriptor) (chain_of classes class)
-    (method_by_signature texts classes m are passes row.name row.descriptor signature (method_at classes method).method.name
-    (method_at classes method).method.descriptor name_there descriptor_there of_row) where
+-- the signature of a method is the number of one
+signature_low : (texts : List (List ℕ)) (classes : List DeclaredClass) (m : Methods) → AreMethods texts classes m → (method : ℕ)
+    → method < length (methods_of classes) → get_or m.signatures.of_members.items method 0 < length m.members.rows.items
+signature_low texts classes m are method within =
+    let row = get_or m.members.rows.items method no_row in
+    (position-Some (has_key row.name row.descriptor) m.members.rows.items (get_or m.signatures.of_members.items method 0) no_row
+    (signature_at m.members.rows.items m.signatures are.signatures method (methods_within texts classes m are method within))).0
+
+-- a class's own method by the signature of a method is the one by its name and descriptor
+pub own_by_method : (texts : List (List ℕ)) (classes : List DeclaredClass) (m : Methods) → AreMethods texts classes m → (passes : ℕ → Bool) (method : ℕ)
+    → method < length (methods_of classes) → (class : ℕ)
+    → own_by m.members.rows.items m.signatures.of_members.items passes (get_or m.signatures.of_members.items method 0) class
+    ≡ own_method classes passes (method_at classes method).method.name (method_at classes method).method.descriptor class
+own_by_method texts classes m are passes method m_within =
+    method_by_signature texts classes m are passes row.name row.descriptor signature (method_at classes method).method.name
+    (method_at classes method).method.descriptor name_there descriptor_there of_row where
       row : MemberRow
       row = get_or m.members.rows.items method no_row
 
@@ -379,6 +382,31 @@ nearest_by_method texts classes m are passes n nearest class method within m_wit
       descriptor_there = slice_get-get_or texts row.descriptor [] (are.rows.rows.descriptors method row there)
           ∙ ap (λ (o : Owned). Some o.descriptor) (method_row texts classes m are method m_within)
 
+-- a table of nearest methods returns by the signature of a method what its name and descriptor are looked up for
+pub nearest_by_method : (texts : List (List ℕ)) (classes : List DeclaredClass) (m : Methods) → AreMethods texts classes m → (passes : ℕ → Bool)
+    (n : Nearest) → AreNearest classes m.members.rows.items m.signatures.of_members.items passes n → (class method : ℕ) → class < length classes
+    → method < length (methods_of classes)
+    → nearest_in n class (get_or m.signatures.of_members.items method 0)
+    ≡ method_among classes passes (method_at classes method).method.name (method_at classes method).method.descriptor (chain_of classes class)
+nearest_by_method texts classes m are passes n nearest class method within m_within =
+    let signature = get_or m.signatures.of_members.items method 0 in
+    nearest.nearest class signature within (nearest.room signature (signature_low texts classes m are method m_within))
+    ∙ first_found-same (own_by m.members.rows.items m.signatures.of_members.items passes signature)
+    (own_method classes passes (method_at classes method).method.name (method_at classes method).method.descriptor) (chain_of classes class)
+    (own_by_method texts classes m are passes method m_within)
+
+-- so is a class's own method in such a table
+pub own_in_by_method : (texts : List (List ℕ)) (classes : List DeclaredClass) (m : Methods) → AreMethods texts classes m → IsLinear classes
+    → (passes : ℕ → Bool) (n : Nearest) → AreNearest classes m.members.rows.items m.signatures.of_members.items passes n → (method : ℕ)
+    → method < length (methods_of classes) → (class : ℕ)
+    → own_in n m.members.rows.items (get_or m.signatures.of_members.items method 0) class
+    ≡ own_method classes passes (method_at classes method).method.name (method_at classes method).method.descriptor class
+own_in_by_method texts classes m are linear passes n nearest method within class =
+    own_in-is classes m.members m.signatures.of_members.items passes n linear (AreSections-methods texts classes m.members are.rows) nearest
+    (get_or m.signatures.of_members.items method 0) class
+    (nearest.room (get_or m.signatures.of_members.items method 0) (signature_low texts classes m are method within))
+    ∙ own_by_method texts classes m are passes method within class
+
 pub signature_there : (texts : List (List ℕ)) (classes : List DeclaredClass) (m : Methods) → AreMethods texts classes m → (method : ℕ)
     → method < length (methods_of classes)
     → slice_get m.signatures.of_members.items method ≡ Some (get_or m.signatures.of_members.items method 0)
@@ -388,17 +416,6 @@ signature_there texts classes m are method within =
       methods_within texts classes m are method within,
       count_of_signatures m.members.rows.items m.signatures are.signatures,
     ))
-
-pub selected-is : (texts : List (List ℕ)) (classes : List DeclaredClass) (m : Methods) (class method : ℕ) → AreMethods texts classes m
-    → class < length classes → method < length (methods_of classes) → selected_in m class method ≡ select classes class method
-unfolding select
-selected-is texts classes m class method are within m_within =
-    ap (λ (o : Owned). cond (is_private o.flags) (Some method)
-    (option_and_then (nearest_in m.selectable class) (slice_get m.signatures.of_members.items method)))
-    (method_row texts classes m are method m_within)
-    ∙ ap (λ o. cond (is_private (method_at classes method).method.flags) (Some method) o)
-    (ap (option_and_then (nearest_in m.selectable class)) (signature_there texts classes m are method m_within)
-    ∙ nearest_by_method texts classes m are is_selectable m.selectable are.selectable class method within m_within)
 
 -- ---- special calls
 

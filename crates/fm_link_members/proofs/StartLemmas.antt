@@ -9,7 +9,8 @@ use Rattle.fm_world.specs.Chains.{first_found, interfaces_of, superinterfaces_of
 use Rattle.fm_world.specs.Lookups.{any_flags, is_interface_at}
 use Rattle.fm_world.specs.declared.declarations.DeclaredClass.{DeclaredClass}
 use Rattle.fm_link_supers.proofs.ParentTables.{list_in-row}
-use Rattle.fm_link_members.proofs.FoundLemmas.{first_found-same, row_of_own}
+use Rattle.fm_link_members.proofs.FoundLemmas.{row_of_own}
+use Rattle.fm_world.proofs.OverridingLemmas.{first_found-same}
 use Rattle.fm_link_members.proofs.NearestLemmas.{first_found-cons}
 use Rattle.fm_link_supers.specs.declared.hierarchy.Hierarchy.{Hierarchy}
 use Rattle.fm_link_members.specs.declared.members.MemberRow.{MemberRow}

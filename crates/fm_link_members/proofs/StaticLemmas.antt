@@ -8,7 +8,8 @@ use Rattle.fm_world.specs.Chains.{chain_of, first_found}
 use Rattle.fm_world.specs.Members.{first_method, method_among, methods_of, own_method}
 use Rattle.fm_world.specs.declared.declarations.DeclaredClass.{DeclaredClass}
 use Rattle.fm_link_supers.proofs.ParentTables.{list_in-row}
-use Rattle.fm_link_members.proofs.FoundLemmas.{first_found-none, first_found-same, row_of_own}
+use Rattle.fm_link_members.proofs.FoundLemmas.{first_found-none, row_of_own}
+use Rattle.fm_world.proofs.OverridingLemmas.{first_found-same}
 use Rattle.fm_link_members.proofs.LookupLemmas.{method_by_signature}
 use Rattle.fm_link_members.proofs.NearestLemmas.{own_by-section}
 use Rattle.fm_link_members.proofs.SectionLemmas.{own_method-position}

@@ -4,5 +4,6 @@ pub mod MemberTables
 pub mod NearestSteps
 pub mod FoundMembers
 pub mod MemberSteps
+pub mod Overriding
 pub mod Owners
 pub mod SearchStarts

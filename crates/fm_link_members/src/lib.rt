@@ -6,6 +6,7 @@ mod asked;
 mod lookups;
 mod member_rows;
 mod members;
+mod overriding;
 mod owners;
 mod search_starts;
 

@@ -6,7 +6,7 @@ ghost use Rattle.fm_code.specs.ConstantPool.{MemberName};
 ghost use Rattle.fm_link_supers.specs.inner.Hierarchy.{IsHierarchy};
 ghost use Rattle.fm_link_members.specs.inner.MemberRows.{AreFieldRows, AreMethodRows};
 ghost use Rattle.fm_link_members.specs.inner.MemberTables.{flags_of, own_in, AreDistinct, AreFields, AreMethods, AreSignatures, MarksInterfaces};
-ghost use Rattle.fm_link_members.specs.inner.FoundMembers.{above_in, constructor_in, field_found_in, field_in, first_along, interface_method_in, is_constructor_in, is_marked, method_above_in, method_found_in, method_in, own_static_in, searches_in, selected_in, special_in, static_among_in};
+ghost use Rattle.fm_link_members.specs.inner.FoundMembers.{above_in, constructor_in, field_found_in, field_in, first_along, interface_method_in, is_constructor_in, is_marked, method_above_in, method_found_in, method_in, own_static_in, searches_in, selected_by, selected_in, special_in, static_among_in};
 ghost use Rattle.fm_link_members.specs.inner.NearestSteps.{is_signed};
 ghost use Rattle.fm_world.specs.Chains.{chain_of, first_found};
 ghost use Rattle.fm_world.specs.Descriptors.{class_number};
@@ -16,6 +16,7 @@ ghost use Rattle.fm_world.specs.declared.declarations.DeclaredClass.{DeclaredCla
 
 use crate::asked::Asked;
 use crate::members::{MemberFilter, Members, Nearest, Signatures, row_at};
+use crate::overriding::{first_overriding, is_restricted};
 use crate::search_starts::{Along, SearchStarts};
 use fm_base::NoMemory;
 use fm_code::{ACC_PRIVATE, ACC_STATIC, has_flag};
@@ -379,12 +380,13 @@ impl Methods {
     }
 
     /// The method that is called on an object of the class where this one is named.
-    pub fn select(&self, class: u32, method: u32) -> Option<u32>
+    pub fn select(&self, hierarchy: &Hierarchy, class: u32, method: u32) -> Option<u32>
         ensures { (texts : List (List ℕ)) (classes : List DeclaredClass)
-            → AreMethods texts classes self.now → class < length classes
-            → method < length (methods_of classes) → result ≡ select classes class method }
+            → AreMethods texts classes self.now → IsHierarchy classes hierarchy.now
+            → class < length classes → method < length (methods_of classes)
+            → result ≡ select classes class method }
     {
-        self.selected(class, method)
+        self.selected(hierarchy, class, method)
     }
 
     /// The nearest static method of a name and a descriptor in a class and its superclasses.
@@ -446,14 +448,31 @@ impl Methods {
     }
 
     // The method that is called on an object of the class, by the tables.
-    fn selected(&self, class: u32, method: u32) -> Option<u32>
-        ensures { result ≡ selected_in self.now class method }
+    fn selected(&self, hierarchy: &Hierarchy, class: u32, method: u32) -> Option<u32>
+        ensures { result ≡ selected_in self.now hierarchy.now class method }
     {
         if has_flag(self.flags(method), ACC_PRIVATE) {
             return Some(method);
         }
         let signature = self.signatures.of_members.get(method as usize)?;
-        self.selectable.get(class, *signature)
+        self.selected_by(hierarchy, class, method, *signature)
+    }
+
+    // The same, where the method has the signature and isn't private.
+    fn selected_by(
+        &self,
+        hierarchy: &Hierarchy,
+        class: u32,
+        method: u32,
+        signature: u32,
+    ) -> Option<u32>
+        ensures { result ≡ selected_by self.now hierarchy.now class method signature }
+    {
+        if is_restricted(self, hierarchy, method) {
+            first_overriding(self, hierarchy, hierarchy.chain(class), method, signature)
+        } else {
+            self.selectable.get(class, signature)
+        }
     }
 
     /// The method that a special call calls. `named` is the class that is named, none for an array.

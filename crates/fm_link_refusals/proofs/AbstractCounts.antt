@@ -1,14 +1,13 @@
 -- How many abstract methods are still to be implemented: the counts of one method more, and of all methods of a signature.
-use Rattle.std.proofs.Common.{◌≡◌, refl, sym, ◌∙◌, ap, subst, ℕ, zero, suc, ◌+◌, ◌-◌, ◌<◌, ◌≤◌, ◌&&◌, ◌||◌, not, Bool, true, false, cond, List, length, get_or, set, nat_eq, nat_lt, arith, ◌⊎◌, inl, inr, get_or-set_same, get_or-set_other, length-set}
-use Rattle.std.proofs.lemmas.Bool.{cases_eq, cases_lt, eqb-true, false≢true, le-ltb, lt-ltb}
+use Rattle.std.proofs.Common.{◌≡◌, refl, sym, ◌∙◌, ap, subst, ℕ, zero, suc, ◌+◌, ◌-◌, ◌<◌, ◌≤◌, ◌&&◌, ◌||◌, not, Bool, true, false, cond, List, length, get_or, set, nat_lt, arith, ◌⊎◌, inl, inr, get_or-set_same, get_or-set_other, length-set}
+use Rattle.std.proofs.lemmas.Bool.{cases_eq, cases_lt, false≢true, le-ltb, lt-ltb}
 use Rattle.fm_base.proofs.TestFacts.{and_false}
-use Rattle.fm_code.specs.AccessFlags.{is_private}
 use Rattle.fm_link_members.specs.declared.lookups.Methods.{Methods}
 use Rattle.fm_link_members.specs.inner.MemberRows.{no_row, section_of, AreSections}
 use Rattle.fm_link_members.specs.inner.MemberTables.{flags_of}
 use Rattle.fm_world.specs.Lookups.{is_abstract_method}
 use Rattle.fm_world.specs.declared.declarations.DeclaredClass.{DeclaredClass}
-use Rattle.fm_link_refusals.specs.inner.LeftOver.{changed, counted, counted_of, is_owed, HasCounts}
+use Rattle.fm_link_refusals.specs.inner.LeftOver.{changed, counted, counted_of, is_limited, is_owed, HasCounts}
 
 -- ---- truth values
 
@@ -203,4 +202,4 @@ pub abstract-all : (classes : List DeclaredClass) (m : Methods) (row : List ℕ)
 abstract-all classes m row end are past counts =
     counts_same classes m (abstract_below classes end) (is_owed classes m (λ signature. true)) row are
     (λ k below. ap (λ b. b && is_abstract_method classes k) (lt-ltb k end (omega (arith, below, past)))
-    ∙ or_last (is_abstract_method classes k) (is_private (flags_of m.members.rows.items k))) counts
+    ∙ or_last (is_abstract_method classes k) (is_limited (flags_of m.members.rows.items k))) counts

@@ -1,35 +1,32 @@
 -- How many abstract methods are left over in a class: the counts by what is selected, of one method more and of one class.
-use Rattle.std.proofs.Common.{◌≡◌, refl, sym, ◌∙◌, ap, ℕ, zero, suc, ◌+◌, ◌-◌, ◌<◌, ◌≤◌, ◌&&◌, ◌||◌, not, Bool, true, false, cond, List, [], ◌∷◌, ◌++◌, length, get_or, nat_eq, nat_lt, option_and_then, Option, Some, None, slice_get, arith, ◌⊎◌, inl, inr}
+use Rattle.std.proofs.Common.{◌≡◌, refl, sym, ◌∙◌, ap, ℕ, zero, suc, ◌+◌, ◌-◌, ◌<◌, ◌≤◌, ◌&&◌, ◌||◌, not, Bool, true, false, cond, List, [], ◌∷◌, ◌++◌, length, get_or, nat_eq, nat_lt, Option, Some, None, arith, ◌⊎◌, inl, inr}
 use Rattle.std.specs.List.{flat_map, range_with_len}
-use Rattle.std.proofs.lemmas.Bool.{cases_eq, eq-eqb, eqb-true, false≢true, le-ltb, lt-ltb, or_right}
-use Rattle.std.proofs.lemmas.List.{length-map}
-use Rattle.std.proofs.lemmas.Option.{slice_get-get_or}
+use Rattle.std.proofs.lemmas.Bool.{cases_eq, eq-eqb, eqb-true, false≢true, le-ltb, lt-ltb, or_parts, or_right}
 use Rattle.fm_base.proofs.TestFacts.{and_false}
-use Rattle.fm_code.specs.AccessFlags.{is_private}
+use Rattle.fm_code.specs.AccessFlags.{is_package_private, is_private}
 use Rattle.fm_code.specs.declared.class_file.ClassDef.{ClassDef}
 use Rattle.fm_link_members.proofs.FoundLemmas.{found_at, row_of_own}
-use Rattle.fm_link_members.proofs.LookupLemmas.{selected-is}
+use Rattle.fm_link_members.proofs.LookupLemmas.{method_row, nearest_by_method}
 use Rattle.fm_link_members.proofs.NearestLemmas.{first_found-cons, signature_below}
 use Rattle.fm_link_members.proofs.SectionRows.{AreSections-methods}
 use Rattle.fm_link_members.proofs.SignatureLemmas.{count_of_signatures}
 use Rattle.fm_link_members.specs.declared.lookups.Methods.{Methods}
-use Rattle.fm_link_members.specs.inner.FoundMembers.{selected_in}
-use Rattle.fm_link_members.specs.declared.members.Members.{Members}
-use Rattle.fm_link_members.specs.inner.MemberRows.{method_alike, row_alike, section_of, AreMethodRows, AreSections}
-use Rattle.fm_link_members.specs.inner.MemberTables.{flags_of, nearest_in, own_by, AreMethods}
+use Rattle.fm_link_members.specs.inner.MemberRows.{section_of, AreSections, Owned}
+use Rattle.fm_link_members.specs.inner.MemberTables.{flags_of, own_by, AreMethods}
 use Rattle.fm_link_members.specs.inner.NearestSteps.{or_else}
 use Rattle.fm_world.proofs.Displays.{parent_of-within}
+use Rattle.fm_world.proofs.OverridingLemmas.{select-free}
 use Rattle.fm_world.specs.Causes.{NotImplemented, declared_name, is_left_over, left_over, method_text, refused, Refusal}
 use Rattle.fm_world.specs.Chains.{chain_of, first_found, interfaces_of, is_among, parent_of}
-use Rattle.fm_world.specs.Lookups.{is_abstract_method, is_selectable}
-use Rattle.fm_world.specs.Members.{methods_of}
+use Rattle.fm_world.specs.Lookups.{is_abstract_method, is_interface_at, is_selectable}
+use Rattle.fm_world.specs.Members.{method_at, methods_of}
 use Rattle.fm_world.specs.declared.declarations.DeclaredClass.{DeclaredClass}
 use Rattle.fm_world.specs.inner.Tables.{chain_from, IsLinear}
 use Rattle.fm_link_supers.proofs.Downwards.{among_head, among_left, among_right}
 use Rattle.fm_link_refusals.proofs.LeftOver.{left_over_parts}
 use Rattle.fm_link_refusals.proofs.Sections.{section_all, section_within}
 use Rattle.fm_link_refusals.specs.inner.Abstracts.{left_over_at, left_over_by, left_over_of}
-use Rattle.fm_link_refusals.specs.inner.LeftOver.{can_be_met, counted_of, is_between, is_open, is_owed, is_part_open, is_part_owed, is_taken, selected_at, with_signature, HasCounts}
+use Rattle.fm_link_refusals.specs.inner.LeftOver.{can_be_met, counted_of, is_between, is_limited, is_open, is_owed, is_part_open, is_part_owed, is_taken, selected_at, with_signature, HasCounts}
 use Rattle.fm_code.specs.AccessFlags.{is_abstract, is_interface}
 use Rattle.fm_link_refusals.proofs.AbstractCounts.{counted-none, counts_same, end_of, lt_step, owed_met, owed_unmet, start_of}
 
@@ -113,9 +110,9 @@ part_open-before classes m parent class start method signature e =
 
 -- the same of a method that is owed
 owed_by : (classes : List DeclaredClass) (m : Methods) (k : ℕ) (x y : Bool) → x ≡ y
-    → (is_abstract_method classes k && (is_private (flags_of m.members.rows.items k) || x))
-    ≡ (is_abstract_method classes k && (is_private (flags_of m.members.rows.items k) || y))
-owed_by classes m k x y e = ap (λ b. is_abstract_method classes k && (is_private (flags_of m.members.rows.items k) || b)) e
+    → (is_abstract_method classes k && (is_limited (flags_of m.members.rows.items k) || x))
+    ≡ (is_abstract_method classes k && (is_limited (flags_of m.members.rows.items k) || y))
+owed_by classes m k x y e = ap (λ b. is_abstract_method classes k && (is_limited (flags_of m.members.rows.items k) || b)) e
 
 pub sections_of : (texts : List (List ℕ)) (classes : List DeclaredClass) (m : Methods) → AreMethods texts classes m → AreSections classes m.members
 sections_of texts classes m are = AreSections-methods texts classes m.members are.rows
@@ -184,7 +181,7 @@ pub part-before : (classes : List DeclaredClass) (m : Methods) (parent : Option 
 part-before classes m parent class start method adds holds before k met e =
     let s = get_or m.signatures.of_members.items k 0 in
     let taken = taken_is (selected_at m (Some class) (get_or m.signatures.of_members.items method 0)) method holds in
-    owed_met (is_abstract_method classes k) (is_private (flags_of m.members.rows.items k)) (is_part_open classes m parent class start method s) met
+    owed_met (is_abstract_method classes k) (is_limited (flags_of m.members.rows.items k)) (is_part_open classes m parent class start method s) met
     ∙ part_open-before classes m parent class start method s (ap (selected_at m (Some class)) e ∙ taken)
     ∙ ap (λ n. is_open classes (selected_at m parent n)) e ∙ before
 
@@ -233,14 +230,14 @@ part-changed texts classes m parent class start method adds row are within from 
           (λ e. other (sym (selected_signed texts classes m are class (sig k) method within (signed_below texts classes m are k below) e)))))
       each k below (inl e) false met =
           not_met k met
-          ∙ owed_unmet (is_abstract_method classes k) (is_private (flags_of m.members.rows.items k))
+          ∙ owed_unmet (is_abstract_method classes k) (is_limited (flags_of m.members.rows.items k))
           (is_part_open classes m parent class start method (sig k)) (is_part_open classes m parent class start (method + 1) (sig k)) met
       each k below (inl e) true met =
           ap (λ t. cond ((t && can_be_met classes m k) && nat_lt k (length m.members.rows.items)) adds (old k)) (eq-eqb (sig k) (sig method) e)
           ∙ ap (λ t. cond (t && nat_lt k (length m.members.rows.items)) adds (old k)) met
           ∙ ap (λ t. cond t adds (old k)) (lt-ltb k (length m.members.rows.items) below) ∙ now
           ∙ sym (part_open-now classes m parent class start method (sig k) from (ap (selected_at m (Some class)) e ∙ taken))
-          ∙ sym (owed_met (is_abstract_method classes k) (is_private (flags_of m.members.rows.items k))
+          ∙ sym (owed_met (is_abstract_method classes k) (is_limited (flags_of m.members.rows.items k))
           (is_part_open classes m parent class start (method + 1) (sig k)) met)
 
 -- ---- one class
@@ -306,18 +303,18 @@ not_owed true false x e a = (refl, e)
 not_owed false r x e a = absurd (false≢true a)
 
 not_left : (texts : List (List ℕ)) (classes : List DeclaredClass) (m : Methods) (class k : ℕ) → AreMethods texts classes m → class < length classes
-    → k < length (methods_of classes) → k < length m.members.rows.items → is_abstract_method classes k ≡ true
+    → k < length (methods_of classes) → is_abstract_method classes k ≡ true
     → is_owed classes m (λ s. is_open classes (selected_at m (Some class) s)) k ≡ false → is_left_over classes class k ≡ false
-not_left texts classes m class k are within inside below abstract none =
+not_left texts classes m class k are within inside abstract none =
     let s = get_or m.signatures.of_members.items k 0 in
-    let parts = not_owed (is_abstract_method classes k) (is_private (flags_of m.members.rows.items k))
+    let parts = not_owed (is_abstract_method classes k) (is_limited (flags_of m.members.rows.items k))
     (is_open classes (selected_at m (Some class) s)) none abstract in
-    let count = count_of_signatures m.members.rows.items m.signatures are.signatures in
-    let signed : slice_get m.signatures.of_members.items k ≡ Some s = slice_get-get_or m.signatures.of_members.items k 0 (omega (arith, below, count)) in
-    let found : selected_in m class k ≡ selected_at m (Some class) s =
-    ap (λ b. cond b (Some k) (option_and_then (nearest_in m.selectable class) (slice_get m.signatures.of_members.items k))) parts.0
-    ∙ ap (option_and_then (nearest_in m.selectable class)) signed in
-    ap (is_open classes) (sym (selected-is texts classes m class k are within inside) ∙ found)
+    let its = method_at classes k in
+    let flags : flags_of m.members.rows.items k ≡ its.method.flags = ap (λ (o : Owned). o.flags) (method_row texts classes m are k inside) in
+    let free = or_parts (is_private its.method.flags) (is_package_private its.method.flags) (sym (ap is_limited flags) ∙ parts.0) in
+    ap (is_open classes)
+    (select-free classes class k free.0 (ap (λ b. b && not (is_interface_at classes its.class)) free.1)
+    ∙ sym (nearest_by_method texts classes m are is_selectable m.selectable are.selectable class k within inside))
     ∙ parts.1
 
 flat_none : {Z : Type 0} (f : ℕ → List Z) (xs : List ℕ) → ((x : ℕ) → is_among x xs ≡ true → f x ≡ []) → flat_map f xs ≡ []
@@ -335,11 +332,6 @@ range_none f (suc count) start none =
 abbrev refusal_at : List DeclaredClass → ClassDef → ℕ → List Refusal
 refusal_at classes c k = refused NotImplemented c (method_text (declared_name classes k)) ∷ []
 
-rows_long : (texts : List (List ℕ)) (classes : List DeclaredClass) (m : Members) → AreMethodRows texts classes m
-    → length m.rows.items ≡ length (methods_of classes)
-rows_long texts classes m are =
-    sym (length-map m.rows.items (row_alike texts)) ∙ ap length are.rows.same ∙ length-map (methods_of classes) method_alike
-
 -- of a class that declares methods
 none_of : (texts : List (List ℕ)) (classes : List DeclaredClass) (m : Methods) (c : ClassDef) (class above : ℕ) → AreMethods texts classes m
     → class < length classes
@@ -350,9 +342,6 @@ none_of texts classes m c class above are within zeros =
       inside : end_of m above ≤ length (methods_of classes)
       inside = section_within texts classes m.members are.rows above (section_of m.members.first.items above) refl
 
-      rows_are : length m.members.rows.items ≡ length (methods_of classes)
-      rows_are = rows_long texts classes m.members are.rows
-
       each : (k : ℕ) → start_of m above ≤ k → k < start_of m above + (end_of m above - start_of m above) → left_over_at classes c class k ≡ []
       each k from below = by_test (is_abstract_method classes k) refl where
         by_test : (b : Bool) → is_abstract_method classes k ≡ b → left_over_at classes c class k ≡ []
@@ -361,7 +350,7 @@ none_of texts classes m c class above are within zeros =
             let none = counted-none (is_owed classes m (λ s. is_open classes (selected_at m (Some class) s)))
             (end_of m above - start_of m above) (start_of m above) k zeros from below in
             let there : k < length (methods_of classes) = omega (arith, from, below, inside) in
-            let left = not_left texts classes m class k are within there (omega (arith, there, rows_are)) e none in
+            let left = not_left texts classes m class k are within there e none in
             ap (λ t. cond t (left_over_by classes c class k) []) e
             ∙ ap (λ t. cond t (refusal_at classes c k) []) left
 

@@ -1,7 +1,9 @@
 // How many abstract methods are left over in each class, by the class that declares them (JVMS 5.4.5).
 //
 // A class has the counts of its superclass, but for the abstract methods that have the signature of one
-// of its own methods. So what is above a class is looked at once, however many classes are below.
+// of its own methods. So what is above a class is looked at once, however many classes are below. A
+// method that is private, or for its own package, is counted as left over throughout: where a class has
+// one above it, its methods are asked for one by one.
 // Only classes with objects, or with such classes below, have counts: no others are asked for theirs.
 
 ghost use Rattle.std.specs.Prelude.{◌≡◌, ◌<◌, ◌≤◌, ◌+◌, ℕ, Bool, IfOk, List, OnOk, Some, length, not, slice_index, slice_set, true, if◌then◌else◌};
@@ -9,7 +11,7 @@ ghost use Rattle.std.specs.List.{slice_index_or};
 ghost use Rattle.fm_link_members.specs.inner.MemberRows.{no_row};
 ghost use Rattle.fm_link_supers.specs.inner.ListTables.{lists};
 ghost use Rattle.fm_link_members.specs.inner.Owners.{pushed};
-ghost use Rattle.fm_link_refusals.specs.inner.LeftOver.{can_be_met, changed, is_open, is_part_owed, is_owed, is_taken, selected_at, with_signature, AreOwners, HasCounts, IsCounting, IsLeftOver, NoneLeft};
+ghost use Rattle.fm_link_refusals.specs.inner.LeftOver.{can_be_met, changed, is_limited, is_open, is_part_owed, is_owed, is_taken, selected_at, with_signature, AreOwners, HasCounts, IsCounting, IsLeftOver, NoneLeft};
 ghost use Rattle.fm_link_refusals.specs.inner.Linking.{IsLinking};
 ghost use Rattle.fm_world.specs.Chains.{is_among};
 ghost use Rattle.fm_world.specs.declared.declarations.DeclaredClass.{DeclaredClass};
@@ -17,7 +19,7 @@ ghost use Rattle.fm_world.specs.declared.declarations.DeclaredClass.{DeclaredCla
 use crate::linking::Linking;
 use crate::not_implemented::is_abstract;
 use fm_base::{NoMemory, is_marked, mark};
-use fm_code::{ACC_ABSTRACT, ACC_PRIVATE, has_flag};
+use fm_code::{ACC_ABSTRACT, ACC_PRIVATE, has_flag, is_package_private};
 use fm_link_members::{push_at, row_at};
 use fm_link_names::{at, number_of};
 use fm_link_supers::{empty_lists, list_at, put_list};
@@ -29,7 +31,7 @@ pub(crate) struct LeftOver {
     rows: Vec<Vec<u32>>,
 }
 
-// By what methods are counted: for each signature the classes of its abstract methods that aren't private,
+// By what methods are counted: for each signature the classes of its abstract methods that aren't limited,
 // and for each class whether its counts are asked for.
 #[derive(Clone, Copy)]
 struct Counting<'w, 't, 'c> {
@@ -175,7 +177,7 @@ fn mark_chain(marks: &mut Vec<bool>, chain: &[u32]) {
     }
 }
 
-// For each signature the classes of its abstract methods that aren't private, one after the other: what
+// For each signature the classes of its abstract methods that aren't limited, one after the other: what
 // changes with a signature is changed in one walk over numbers that lie side by side.
 fn owners_of(alloc: Global, linking: Linking) -> Result<Vec<Vec<u32>>, NoMemory>
     ensures { IfOk result (λ owners. (classes : List DeclaredClass)
@@ -204,12 +206,19 @@ fn push_if(test: bool, table: &mut Vec<Vec<u32>>, place: u32, number: u32) -> Re
     push_at(table, place, number)
 }
 
-// Whether a method is abstract and isn't private.
+// Whether a method is abstract and not limited.
 fn can_be_met(linking: Linking, method: u32) -> bool
     ensures { (classes : List DeclaredClass) → IsLinking classes linking.entry
         → result ≡ can_be_met classes linking.entry.methods.now method }
 {
-    is_abstract(linking, method) && !has_flag(linking.methods.flags(method), ACC_PRIVATE)
+    is_abstract(linking, method) && !is_limited(linking.methods.flags(method))
+}
+
+// Whether a method of these flags is private or for its own package.
+fn is_limited(flags: u16) -> bool
+    ensures { result ≡ is_limited flags }
+{
+    has_flag(flags, ACC_PRIVATE) || is_package_private(flags)
 }
 
 // How many abstract methods each class has.

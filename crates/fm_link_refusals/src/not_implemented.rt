@@ -204,7 +204,7 @@ pub(crate) fn is_left_over(linking: Linking, class: u32, method: u32) -> bool
         → class < length classes → method < length (methods_of classes)
         → result ≡ is_left_over classes class method }
 {
-    match linking.methods.select(class, method) {
+    match linking.methods.select(linking.hierarchy, class, method) {
         Some(found) => is_abstract(linking, found),
         None => true,
     }

@@ -31,7 +31,7 @@ use Rattle.fm_same.proofs.ItemFacts.{AtInsn, depth_is}
 use Rattle.fm_same.proofs.Owing.{effect_obeys}
 use Rattle.fm_same.proofs.PlacesSound.{insn_here as insn_is}
 use Rattle.fm_law_sound.specs.Placing.{PlacesAgree}
-use Rattle.fm_law_sound.proofs.FoundMethods.{own_method_found}
+use Rattle.fm_world.proofs.OwnedMethods.{own_method_found}
 use Rattle.fm_law_sound.proofs.Opening.{all_flat, with_text}
 use Rattle.fm_law_sound.proofs.NextPlaces.{methods_agree}
 use Rattle.fm_law_sound.proofs.StartActs.{after_methods}

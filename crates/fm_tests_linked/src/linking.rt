@@ -5,6 +5,7 @@ mod classes;
 mod completing;
 mod large;
 mod members;
+mod packages;
 
 ghost use Rattle.std.specs.Prelude.{IfOk, OnOk};
 ghost use Rattle.std.specs.List.{AllByRecursion};

@@ -4,6 +4,7 @@ use Rattle.std.proofs.lemmas.Bool.{eqb-true, eq-eqb, false≢true}
 use Rattle.std.proofs.lemmas.List.{reverse-append, length-reverse, length-append, append_assoc, get_or_at}
 use Rattle.std.proofs.lemmas.List.Folds.{list_any-append}
 use Rattle.std.proofs.lemmas.List.Quantifiers.{position-Some}
+use Rattle.std.specs.List.{list_any}
 use Rattle.std.specs.Option.{option_or}
 use Rattle.std.specs.Str.{bytes_eq}
 use Rattle.fm_world.specs.Chains.{class_at, chain_of, completion_of, given_number, is_among, parent_of}
@@ -91,12 +92,14 @@ swapped false false = refl
 pub reverse-cons : (x : ℕ) (xs : List ℕ) → reverse (x ∷ xs) ≡ reverse xs ++ x ∷ []
 reverse-cons x xs = reverse-append (x ∷ []) xs
 
+pub list_any-reverse : (p : ℕ → Bool) (xs : List ℕ) → list_any p (reverse xs) ≡ list_any p xs
+list_any-reverse p [] = refl
+list_any-reverse p (y ∷ ys) =
+    ap (list_any p) (reverse-cons y ys) ∙ list_any-append p (reverse ys) (y ∷ [])
+    ∙ ap (λ b. b || (p y || false)) (list_any-reverse p ys) ∙ swapped (list_any p ys) (p y)
+
 pub is_among-reverse : (x : ℕ) (xs : List ℕ) → is_among x (reverse xs) ≡ is_among x xs
-is_among-reverse x [] = refl
-is_among-reverse x (y ∷ ys) =
-    ap (is_among x) (reverse-cons y ys) ∙ list_any-append (nat_eq x) (reverse ys) (y ∷ [])
-    ∙ ap (λ b. b || (nat_eq x y || false)) (is_among-reverse x ys)
-    ∙ swapped (is_among x ys) (nat_eq x y)
+is_among-reverse x xs = list_any-reverse (nat_eq x) xs
 
 pub is_among_at : (xs : List ℕ) (i x : ℕ) → i < length xs → get_or xs i 0 ≡ x → is_among x xs ≡ true
 is_among_at [] i x h e = absurd (omega (arith, h))

@@ -7,9 +7,9 @@ use Rattle.fm_world.specs.Descriptors.{class_number}
 use Rattle.fm_world.specs.BuiltIns.{built_in, built_in_classes, built_in_methods, built_in_rows, free_me_row, throwable_row}
 use Rattle.fm_world.specs.Causes.{BuiltIn, Duplicate, BadParent, MissingClass, MissingField, NotImplemented, NoMain}
 use Rattle.fm_world.specs.Chains.{chain_of, distinct, superinterfaces_of, interfaces_of, is_sub}
-use Rattle.fm_world.specs.Example.{array_types, call_of_k, call_of_to_string, call_on_array, castable, not_castable, example, example_main, example_upper, first_method, main_uses, refusal, with_completion, with_cycle, with_interfaces, with_private, with_static_field, with_free_me}
+use Rattle.fm_world.specs.Example.{array_types, call_of_k, call_of_to_string, call_on_array, called_in_packages, castable, not_castable, example, example_main, example_upper, first_method, main_uses, refusal, with_completion, with_cycle, with_interfaces, with_packages, with_private, with_static_field, with_free_me}
 use Rattle.fm_world.specs.Linking.{refused_duplicates, refused_built_ins, refused_missing_classes, refused_parents, refused_fields, refused_methods, refused_not_implemented, refused_main, refusals}
-use Rattle.fm_world.specs.Lookups.{constructor_path, resolved_field, resolved_method, select, special_target}
+use Rattle.fm_world.specs.Lookups.{constructor_path, package_of, resolved_field, resolved_method, select, special_target}
 use Rattle.fm_world.specs.Members.{fields_of, kinds_of, methods_of, size_of, slot_of}
 use Rattle.fm_world.specs.Numbers.{types_of, texts_of}
 use Rattle.fm_world.specs.Programs.{classes_of, outline_of, uses_of, codes_of, program_of, targets}
@@ -122,6 +122,10 @@ itself = refl
 pub special : special_target (classes_of with_private) (built_in_classes + 2) (Some built_in_classes) built_in_methods ≡ built_in_methods + 1
 unfolding built_in classes_of chain_of methods_of special_target
 special = refl
+
+pub packages_are : filter_map (λ class. select (classes_of with_packages) class built_in_methods) (range_with_len built_in_classes 5) ≡ called_in_packages
+unfolding built_in classes_of chain_of methods_of select package_of
+packages_are = refl
 
 pub completed : chain_of (classes_of with_completion) 2 ≡ 2 ∷ built_in_classes ∷ 0 ∷ []
 unfolding built_in classes_of chain_of

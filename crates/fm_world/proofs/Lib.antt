@@ -3,6 +3,8 @@ pub mod TableLemmas
 pub mod TypeTests
 pub mod Told
 mod Selected
+pub mod OwnedMethods
+pub mod OverridingLemmas
 pub mod LayerLemmas
 pub mod Displays
 pub mod Marks

@@ -1,11 +1,9 @@
 -- The table of a class gives the method that is selected.
-use Rattle.std.proofs.Common.{◌≡◌, sym, ◌∙◌, ap, subst, ℕ, ◌<◌, false, List, length, get_or, nat_eq, HashMap, BuildHasherDefault, FoldHasher}
+use Rattle.std.proofs.Common.{◌≡◌, sym, ◌∙◌, ap, subst, ℕ, ◌<◌, List, length, get_or, nat_eq, HashMap, BuildHasherDefault, FoldHasher}
 use Rattle.std.specs.HashMap.{get}
-use Rattle.fm_code.specs.AccessFlags.{is_private}
 use Rattle.fm_world.proofs.TableLemmas.{known_at, known_within, to_parts, from_parts}
-use Rattle.fm_world.proofs.Told.{select-other}
-use Rattle.fm_world.specs.Chains.{chain_of}
-use Rattle.fm_world.specs.Lookups.{own_instance, select, is_selectable}
+use Rattle.fm_world.specs.Chains.{chain_of, first_found}
+use Rattle.fm_world.specs.Lookups.{own_instance, own_selectable, is_selectable}
 use Rattle.fm_world.specs.Members.{method_at, method_among, methods_of}
 use Rattle.fm_world.specs.Programs.{Program}
 use Rattle.fm_world.specs.declared.parts.Parts.{Parts}
@@ -28,17 +26,18 @@ selected_within x p class method tables e inv c_in m_in same =
     subst P (sym same) (known_within (SaysSelected x class method) x.tops class (inv.answers.selected class method c_within m_within))
 
 pub selected_by_table : (x : Parts) (p : Program) (class method : ℕ) (tables : List ℕ) (table : ℕ) (signatures : List ℕ) → program_in x ≡ p
-    → AreTables x → class < length p.outline.classes → method < length (methods_of p.outline.classes)
-    → is_private (method_at p.outline.classes method).method.flags ≡ false → tables ≡ x.tops → signatures ≡ x.signatures
+    → AreTables x → class < length p.outline.classes → method < length (methods_of p.outline.classes) → tables ≡ x.tops → signatures ≡ x.signatures
     → table ≡ get_or tables class table
-    → value_at x.selected table (get_or signatures method 0) ≡ select p.outline.classes class method
-selected_by_table x p class method tables table signatures e inv c_in m_in other same same_signatures read =
+    → value_at x.selected table (get_or signatures method 0)
+    ≡ first_found (own_selectable p.outline.classes (method_at p.outline.classes method)) (chain_of p.outline.classes class)
+selected_by_table x p class method tables table signatures e inv c_in m_in same same_signatures read =
     let c_within = to_parts (λ q. class < length q.outline.classes) x p e c_in in
     let m_within = to_parts (λ q. method < length (methods_of q.outline.classes)) x p e m_in in
-    let not_private = to_parts (λ q. is_private (method_at q.outline.classes method).method.flags ≡ false) x p e other in
     let says = known_at (SaysSelected x class method) tables x.tops class table same (inv.answers.selected class method c_within m_within) read in
-    from_parts (λ q. value_at x.selected table (get_or signatures method 0) ≡ select q.outline.classes class method) x p e
-    (ap (λ zs. value_at x.selected table (get_or zs method 0)) same_signatures ∙ says ∙ sym (select-other x.declared class method not_private))
+    from_parts
+    (λ q. value_at x.selected table (get_or signatures method 0)
+    ≡ first_found (own_selectable q.outline.classes (method_at q.outline.classes method)) (chain_of q.outline.classes class)) x p e
+    (ap (λ zs. value_at x.selected table (get_or zs method 0)) same_signatures ∙ says)
 
 -- ---- a class's own methods
 

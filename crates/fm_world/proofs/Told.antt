@@ -1,12 +1,12 @@
 -- What the records hold, field by field, and the cases of the selected method.
-use Rattle.std.proofs.Common.{length, [], ◌∷◌, filter, ◌⊎◌, inl, inr, ◌&&◌, Bool, unwrap_or, Option, None, nat_lt, arith, ◌≡◌, refl, ◌∙◌, ap, ℕ, ◌<◌, true, false, List, Some, if◌then◌else◌}
+use Rattle.std.proofs.Common.{length, [], ◌∷◌, filter, ◌⊎◌, inl, inr, ◌&&◌, unwrap_or, Option, None, nat_lt, arith, ◌≡◌, refl, ◌∙◌, ap, ℕ, ◌<◌, true, false, List, Some, if◌then◌else◌}
 use Rattle.std.specs.List.{range_with_len}
 use Rattle.std.proofs.lemmas.Bool.{eq-eqb, ne_eqb, lt-ltb, le-ltb}
 use Rattle.fm_base.specs.declared.kinds.TypeRef.{TypeRef}
 use Rattle.fm_code.specs.AccessFlags.{is_private}
 use Rattle.fm_world.specs.Chains.{is_among, first_found, superclasses_of, chain_of, class_at, is_base_above_arrays, is_sub, is_sub_base}
-use Rattle.fm_world.specs.Lookups.{own_instance, searches_above, select, special_target, is_selectable}
-use Rattle.fm_world.specs.Members.{methods_of, method_at, method_among, slot_of}
+use Rattle.fm_world.specs.Lookups.{overriding, own_instance, searches_above, select, special_target}
+use Rattle.fm_world.specs.Members.{methods_of, method_at, slot_of}
 use Rattle.fm_world.specs.Programs.{Outline, Program, class_info, class_of_type, field_info, method_info, selected, targets}
 use Rattle.fm_world.specs.declared.calls.Call.{Call}
 use Rattle.fm_world.specs.declared.calls.CallKind.TheVariants as call
@@ -32,22 +32,23 @@ pub method_info-flags : (p : Program) (method : ℕ) → (method_info p method).
 unfolding method_info
 method_info-flags p method = refl
 
+pub method_info-class : (p : Program) (method : ℕ) → (method_info p method).class.0 ≡ (method_at p.outline.classes method).class
+unfolding method_info
+method_info-class p method = refl
+
 -- ---- the selected method
 
 pub select-private : (classes : List DeclaredClass) (class method : ℕ) → is_private (method_at classes method).method.flags ≡ true
     → select classes class method ≡ Some method
 unfolding select
 select-private classes class method private =
-    ap (λ b. if b then Some method else (let m = (method_at classes method).method in
-    method_among classes is_selectable m.name m.descriptor (chain_of classes class))) private
+    ap (λ b. if b then Some method else first_found (overriding classes (method_at classes method)) (chain_of classes class)) private
 
 pub select-other : (classes : List DeclaredClass) (class method : ℕ) → is_private (method_at classes method).method.flags ≡ false
-    → select classes class method ≡ (let m = (method_at classes method).method in
-    method_among classes is_selectable m.name m.descriptor (chain_of classes class))
+    → select classes class method ≡ first_found (overriding classes (method_at classes method)) (chain_of classes class)
 unfolding select
 select-other classes class method other =
-    ap (λ b. if b then Some method else (let m = (method_at classes method).method in
-    method_among classes is_selectable m.name m.descriptor (chain_of classes class))) other
+    ap (λ b. if b then Some method else first_found (overriding classes (method_at classes method)) (chain_of classes class)) other
 
 -- ---- the cases of what can be cast
 

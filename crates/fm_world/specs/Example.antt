@@ -229,6 +229,17 @@ with_private =
     declaring (codes "P") (codes "java/lang/Object") (1 ∷ []) ∷ declaring (codes "Q") (codes "P") (2 ∷ [])
     ∷ declaring (codes "R") (codes "Q") [] ∷ []
 
+-- P of the package p declares a k()V for its package; Q below it one of q, and R below Q one of p; S below P opens it, and T of q is below S
+abbrev pub with_packages : List ClassDef
+with_packages =
+    declaring (codes "p/P") (codes "java/lang/Object") (0 ∷ []) ∷ declaring (codes "q/Q") (codes "p/P") (1 ∷ [])
+    ∷ declaring (codes "p/R") (codes "q/Q") (1 ∷ []) ∷ declaring (codes "p/S") (codes "p/P") (1 ∷ [])
+    ∷ declaring (codes "q/T") (codes "p/S") (1 ∷ []) ∷ []
+
+-- what is called where k()V of P is named: of an object of P and of Q that one, and of the others their own
+abbrev pub called_in_packages : List ℕ
+called_in_packages = map (λ place. built_in_methods + place) (0 ∷ 0 ∷ 2 ∷ 3 ∷ 4 ∷ [])
+
 -- ---- files with the names of built-in classes
 
 -- one that completes StringBuilder: it has its name and superclass, and declares a public k()V

@@ -1,15 +1,16 @@
 -- What a name is resolved to, and which method is called (JVMS 5.4.3, 5.4.5, 6.5).
-use Rattle.std.specs.Prelude.{ℕ, ◌&&◌, not, ◌==◌, Bool, true, false, List, [], ◌∷◌, ◌++◌, codes, Option, Some, None, unwrap_or, option_to_list, option_and_then, if◌then◌else◌}
-use Rattle.std.specs.List.{flat_map}
+use Rattle.std.specs.Prelude.{ℕ, ◌&&◌, ◌||◌, not, ◌==◌, Bool, true, false, List, [], ◌∷◌, ◌++◌, codes, Option, Some, None, unwrap_or, option_to_list, option_and_then, if◌then◌else◌}
+use Rattle.std.specs.List.{flat_map, list_any}
 use Rattle.std.specs.Str.{bytes_eq}
-use Rattle.fm_code.specs.AccessFlags.{is_private, is_static, is_interface, is_abstract}
+use Rattle.fm_base.specs.declared.characters.TheConstants.{SLASH}
+use Rattle.fm_code.specs.AccessFlags.{is_private, is_package_private, is_static, is_interface, is_abstract}
 use Rattle.fm_code.specs.ConstantPool.{MemberName}
 use Rattle.fm_code.specs.Names.{FieldType}
 use Rattle.fm_world.specs.BuiltIns.{object_name}
 use Rattle.fm_world.specs.Chains.{class_at, chain_of, completing_of, superclasses_of, superinterfaces_of, interfaces_of, is_among, first_found}
 use Rattle.fm_world.specs.declared.declarations.DeclaredClass.{DeclaredClass}
 use Rattle.fm_world.specs.Descriptors.{class_number, class_type}
-use Rattle.fm_world.specs.Members.{field_among, method_among, own_method, method_at, is_instance}
+use Rattle.fm_world.specs.Members.{field_among, method_among, own_method, method_at, is_instance, OwnedMethod}
 
 -- the number of Object
 abbrev pub object_number : List DeclaredClass → Option ℕ
@@ -64,18 +65,58 @@ resolved_method classes m =
     then option_and_then (λ class. method_among classes any_flags m.name m.descriptor (constructor_path classes class)) (class_number classes m.class)
     else option_and_then (λ class. method_among classes any_flags m.name m.descriptor (method_path classes class)) (class_searched classes m.class)
 
+-- ---- packages
+
+-- what the name of a class has up to its last slash: the name of its package (JVMS 4.2.1, 5.3)
+unfoldable pub package_of : List ℕ → List ℕ
+package_of [] = []
+package_of (byte ∷ name) = if is_among SLASH (byte ∷ name) then byte ∷ package_of name else []
+
+-- whether two classes are of one package
+abbrev pub same_package : List DeclaredClass → ℕ → ℕ → Bool
+same_package classes class other = bytes_eq (package_of (class_at classes class).name) (package_of (class_at classes other).name)
+
 -- ---- the method that is called
 
 -- a method that can override
 abbrev pub is_selectable : ℕ → Bool
 is_selectable flags = not (is_static flags) && not (is_private flags)
 
--- of an object of the class: the method itself where it is private, else the nearest one of its name and descriptor in the class and its
--- superclasses that is neither static nor private (JVMS 5.4.5, 6.5.invokevirtual)
+-- the class's own method of the name and the descriptor of this one that can override
+abbrev pub own_selectable : List DeclaredClass → OwnedMethod → ℕ → Option ℕ
+own_selectable classes m class = own_method classes is_selectable m.method.name m.method.descriptor class
+
+-- a method that is overridden in its own package first: of a class, and neither public, protected nor private
+abbrev pub is_restricted : List DeclaredClass → OwnedMethod → Bool
+is_restricted classes m = is_package_private m.method.flags && not (is_interface_at classes m.class)
+
+-- there is a method, and it isn't restricted
+abbrev pub is_free : List DeclaredClass → Option ℕ → Bool
+is_free classes None = false
+is_free classes (Some method) = not (is_restricted classes (method_at classes method))
+
+-- the class opens the method for all packages: it is below the method's class, of its package, and overrides the method by one that isn't restricted
+abbrev pub opens : List DeclaredClass → OwnedMethod → ℕ → Bool
+opens classes m class =
+    is_among m.class (chain_of classes class) && (same_package classes class m.class && is_free classes (own_selectable classes m class))
+
+-- whether the class's method of the same name and descriptor overrides the method: where that is restricted to a package, the class is below the
+-- method's class, and is of its package or below a class that has opened it; what overrides that one's method overrides the method too (JVMS 5.4.5)
+abbrev pub can_override : List DeclaredClass → OwnedMethod → ℕ → Bool
+can_override classes m class =
+    not (is_restricted classes m)
+    || (is_among m.class (chain_of classes class) && (same_package classes class m.class || list_any (opens classes m) (chain_of classes class)))
+
+-- the class's own method by which it overrides the method
+abbrev pub overriding : List DeclaredClass → OwnedMethod → ℕ → Option ℕ
+overriding classes m class = if can_override classes m class then own_selectable classes m class else None
+
+-- of an object of the class: the method itself where it is private, else the nearest one that overrides it in the class and its superclasses
+-- (JVMS 5.4.6, 6.5.invokevirtual)
 unfoldable pub select : List DeclaredClass → ℕ → ℕ → Option ℕ
 select classes class method =
-    let m = (method_at classes method).method in
-    if is_private m.flags then Some method else method_among classes is_selectable m.name m.descriptor (chain_of classes class)
+    let m = method_at classes method in
+    if is_private m.method.flags then Some method else first_found (overriding classes m) (chain_of classes class)
 
 -- a special call searches from the caller's superclass where it calls no constructor and names a superclass of the caller, whether the caller has
 -- the flag ACC_SUPER or not (JVMS 4.1, 6.5.invokespecial)

@@ -15,7 +15,7 @@ ghost use Rattle.fm_world.specs.Rows.{hidden_kinds, row_of};
 ghost use Rattle.fm_world.specs.Causes.{BuiltIn, Duplicate, BadParent, MissingClass, MissingField, NotImplemented, NoMain, Refusal};
 ghost use Rattle.fm_world.specs.Chains.{is_sub, chain_of, distinct, listed_interfaces, superinterfaces_of};
 ghost use Rattle.fm_world.specs.Descriptors.{class_number};
-ghost use Rattle.fm_world.specs.Example.{array_types, call_of_k, call_of_to_string, call_on_array, castable, not_castable, example, example_main, example_upper, first_method, main_uses, refusal, with_completion, with_cycle, with_free_me, with_interfaces, with_private, with_static_field};
+ghost use Rattle.fm_world.specs.Example.{array_types, call_of_k, call_of_to_string, call_on_array, called_in_packages, castable, not_castable, example, example_main, example_upper, first_method, main_uses, refusal, with_completion, with_cycle, with_free_me, with_interfaces, with_packages, with_private, with_static_field};
 ghost use Rattle.fm_world.specs.Linking.{refusals, IsLinked};
 ghost use Rattle.fm_world.specs.Lookups.{constructor_path, select, special_target};
 ghost use Rattle.fm_world.specs.Members.{kinds_of, methods_of, size_of, slot_of};
@@ -46,7 +46,8 @@ pub fn law_built_in()
 
 /// The definitions at interfaces and at private methods: superinterfaces come in listed order, each
 /// once; an abstract method of one is missed; a private method isn't selected for another one, but for
-/// itself, and a special call finds it. And at files with the names of built-in classes: one that
+/// itself, and a special call finds it; a method for a package is overridden in it, and in another one
+/// below a public method that overrides it. And at files with the names of built-in classes: one that
 /// completes StringBuilder is right above it, whose objects have its methods, and whose name leads to
 /// its constructors; FreeMe has no such file.
 pub fn law_lookup_examples()
@@ -60,6 +61,8 @@ pub fn law_lookup_examples()
         ≡ Some (built_in_methods + 1) }
     ensures special { special_target (classes_of with_private) (built_in_classes + 2) (Some built_in_classes) built_in_methods
         ≡ built_in_methods + 1 }
+    ensures packages { filter_map (λ class. select (classes_of with_packages) class
+        built_in_methods) (range_with_len built_in_classes 5) ≡ called_in_packages }
     ensures completed { chain_of (classes_of with_completion) 2 ≡ 2 ∷ built_in_classes ∷ 0 ∷ [] }
     ensures added { select (classes_of with_completion) 2 built_in_methods ≡ Some built_in_methods }
     ensures constructors { constructor_path (classes_of with_completion) 2 ≡ 2 ∷ built_in_classes ∷ [] }

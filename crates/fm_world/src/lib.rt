@@ -14,6 +14,7 @@ mod known_targets;
 mod laws;
 mod layers;
 mod name_key;
+mod overriding;
 mod parts;
 mod program;
 mod records;
@@ -35,8 +36,9 @@ pub use laws::{
 };
 pub use layers::Layers;
 pub use name_key::NameKey;
+pub use overriding::package_of;
 pub use parts::Parts;
-pub use program::Program;
+pub use program::{Program, is_listed};
 pub use records::{Body, ClassInfo, FieldInfo, MethodInfo};
 pub use shared::Shared;
 pub use types::{base_of_elem, type_of_class};

@@ -4,13 +4,13 @@ ghost use Rattle.std.specs.Prelude.{◌≡◌, ◌<◌, ◌∷◌, OnOk, IfOk, l
 ghost use Rattle.std.specs.List.{list_any};
 ghost use Rattle.std.specs.Option.{option_map};
 ghost use Rattle.std.specs.Str.{bytes_eq};
-ghost use Rattle.fm_world.specs.Chains.{array_supers, chain_of, interfaces_of, is_above_arrays, is_among, is_base_above_arrays, is_sub, is_sub_base, is_subclass, self_of, superclasses_of};
-ghost use Rattle.fm_world.specs.Lookups.{object_number, own_instance, select};
+ghost use Rattle.fm_world.specs.Chains.{array_supers, chain_of, first_found, interfaces_of, is_above_arrays, is_among, is_base_above_arrays, is_sub, is_sub_base, is_subclass, self_of, superclasses_of};
+ghost use Rattle.fm_world.specs.Lookups.{object_number, own_instance, own_selectable};
 ghost use Rattle.fm_world.specs.Numbers.{type_number};
 ghost use Rattle.fm_base.specs.declared.ids.TypeId.{TypeId};
 ghost use Rattle.fm_base.specs.declared.ids.ClassId.{ClassId};
 ghost use Rattle.fm_base.specs.declared.ids.MethodId.{MethodId};
-ghost use Rattle.fm_world.specs.Members.{fields_of, methods_of, slot_of, statics_of};
+ghost use Rattle.fm_world.specs.Members.{fields_of, method_at, methods_of, slot_of, statics_of};
 ghost use Rattle.fm_world.specs.Programs.{class_info, field_info, is_made, method_info, use_of, IsBaseIn, IsTypeIn};
 ghost use Rattle.fm_world.specs.inner.KnownTargets.{selected_methods, IsPairIn, KnowsTargets};
 ghost use Rattle.fm_world.specs.inner.Tables.{program_in, AreInterfaces, AreTables, IsLinear};
@@ -21,7 +21,7 @@ use crate::parts::Parts;
 use crate::records::{Body, ClassInfo, FieldInfo, MethodInfo};
 use crate::uses::Use;
 use fm_base::{Base, ClassId, FieldId, MethodId, NoMemory, TypeId, TypeRef, Units};
-use fm_code::{ACC_INTERFACE, ACC_PRIVATE, Insn, has_flag};
+use fm_code::{ACC_INTERFACE, Insn, has_flag};
 use std::alloc::Global;
 use std::marker::Model;
 
@@ -309,22 +309,6 @@ impl Program {
         self.field(f).slot
     }
 
-    /// The method that is called on an object of the class where this one is named: itself where it is
-    /// private, and none where the class has none. Takes no memory, and looks into one table.
-    pub fn select(&self, c: ClassId, m: MethodId) -> Option<MethodId>
-        requires class { c.0 < length self.now.outline.classes }
-        requires method { m.0 < length (methods_of self.now.outline.classes) }
-        ensures { option_map (λ (n : MethodId). n.0) result
-            ≡ select self.now.outline.classes c.0 m.0 }
-    {
-        if has_flag(self.method(m).flags, ACC_PRIVATE) {
-            return Some(m);
-        }
-        let signature = self.parts.signatures.as_slice()[m.0 as usize];
-        let table = self.parts.tops.as_slice()[c.0 as usize];
-        self.parts.selected.get(table, signature).map(MethodId)
-    }
-
     /// Whether the first class is the second one or below it: one of its superclasses, or an interface
     /// that it implements. For a class that isn't an interface it returns at once, and else the
     /// interfaces of the first class are gone over. Takes no memory.
@@ -420,6 +404,31 @@ impl Program {
         }
     }
 
+    // The number of the nearest method of the same name and descriptor that can override in the class and
+    // its superclasses, of whichever packages these are. It looks into one table.
+    fn nearest_number(&self, c: ClassId, m: MethodId) -> Option<u32>
+        requires class { c.0 < length self.now.outline.classes }
+        requires method { m.0 < length (methods_of self.now.outline.classes) }
+        ensures { result ≡ first_found (own_selectable self.now.outline.classes
+            (method_at self.now.outline.classes m.0)) (chain_of self.now.outline.classes c.0) }
+    {
+        let signature = self.parts.signatures.as_slice()[m.0 as usize];
+        let table = self.parts.tops.as_slice()[c.0 as usize];
+        self.parts.selected.get(table, signature)
+    }
+
+    // That method.
+    pub(crate) fn nearest(&self, c: ClassId, m: MethodId) -> Option<MethodId>
+        requires class { c.0 < length self.now.outline.classes }
+        requires method { m.0 < length (methods_of self.now.outline.classes) }
+        ensures value { option_map (λ (n : MethodId). n.0) result
+            ≡ first_found (own_selectable self.now.outline.classes
+            (method_at self.now.outline.classes m.0)) (chain_of self.now.outline.classes c.0) }
+        ensures inside { IfSome result (λ n. n.0 < length (methods_of self.now.outline.classes)) }
+    {
+        self.nearest_number(c, m).map(MethodId)
+    }
+
     // The class's own method of the same name and descriptor that isn't static.
     pub(crate) fn own_instance(&self, class: u32, m: MethodId) -> Option<MethodId>
         requires { m.0 < length (methods_of self.now.outline.classes) }
@@ -481,8 +490,8 @@ impl Program {
     }
 }
 
-// Whether the number is among those listed.
-pub(crate) fn is_listed(number: u32, listed: &[u32]) -> bool
+/// Whether the number is among those listed. Takes no memory.
+pub fn is_listed(number: u32, listed: &[u32]) -> bool
     ensures { result ≡ is_among number listed.now }
 {
     listed.contains(&number)

@@ -2,7 +2,7 @@ use Rattle.std.proofs.Common.{◌≡◌, ℕ, List, []}
 use Rattle.std.specs.List.{AllByRecursion}
 use Rattle.fm_code.specs.Spells.{HasSpelling}
 use Rattle.fm_code.specs.declared.class_file.ClassDef.{ClassDef}
-use Rattle.fm_check_program.proofs.Trees.{no_built_in_refused}
+use Rattle.fm_check_program.proofs.Trees.{no_built_in_refused, no_parent_refused, tree_of}
 use Rattle.fm_law_linked.proofs.Constructors.{constructor_gives}
 use Rattle.fm_law_linked.proofs.GivenFiles.{no_field_refused, no_method_refused, none_implemented}
 use Rattle.fm_law_linked.proofs.SelectedMethods.{selected_there}
@@ -18,7 +18,8 @@ unfolding program_of outline_of
 steps_linked given main spelled none = record {
   concrete = concrete_there given spelled;
   constructors = constructor_gives given spelled;
-  selected = selected_there given main spelled (no_built_in_refused given main none) (none_implemented given main none);
+  selected = selected_there given main spelled (no_built_in_refused given main none) (none_implemented given main none)
+      (tree_of given spelled (no_built_in_refused given main none) (no_parent_refused given main none));
   special = special_there given main spelled (no_method_refused given main none) (none_implemented given main none);
   fields = fields_named given main (no_field_refused given main none);
   targets = targets_there given spelled;

@@ -16,6 +16,7 @@ use Rattle.fm_link_supers.specs.inner.ListTables.{list_in}
 use Rattle.fm_link_members.specs.inner.MemberRows.{section_of}
 use Rattle.fm_link_members.specs.inner.MemberTables.{first_from, flags_of, nearest_in, number_of_key, own_in, start_in}
 use Rattle.fm_link_members.specs.inner.NearestSteps.{is_signed, or_else}
+use Rattle.fm_link_members.specs.inner.Overriding.{is_restricted_in, overriding_in}
 
 -- the mark at a place; past the end none is set
 abbrev pub is_marked : List Bool → ℕ → Bool
@@ -91,11 +92,17 @@ method_found_in m h named searched name descriptor =
     else option_and_then (λ class. method_in m h class signature) searched)
     (number_of_key m.signatures.numbers name descriptor)
 
--- the method itself where it is private, and else the nearest one of its signature that can override
-abbrev pub selected_in : Methods → ℕ → ℕ → Option ℕ
-selected_in m class method =
+-- the nearest method of the signature, or the nearest one by which the method is overridden where that is restricted
+abbrev pub selected_by : Methods → Hierarchy → ℕ → ℕ → ℕ → Option ℕ
+selected_by m h class method signature =
+    if is_restricted_in m h method then first_found (overriding_in m h method signature) (list_in h.chains.items class)
+    else nearest_in m.selectable class signature
+
+-- the method itself where it is private, and else the nearest one that overrides it
+abbrev pub selected_in : Methods → Hierarchy → ℕ → ℕ → Option ℕ
+selected_in m h class method =
     if is_private (flags_of m.members.rows.items method) then Some method
-    else option_and_then (nearest_in m.selectable class) (slice_get m.signatures.of_members.items method)
+    else option_and_then (selected_by m h class method) (slice_get m.signatures.of_members.items method)
 
 -- the nearest method above the caller where a special call searches there, and else the method itself
 abbrev pub special_in : Methods → Hierarchy → ℕ → Option ℕ → ℕ → ℕ

@@ -2,7 +2,7 @@
 use Rattle.std.specs.Prelude.{◌≡◌, ℕ, zero, suc, ◌+◌, ◌-◌, ◌<◌, ◌≤◌, ◌&&◌, ◌||◌, not, Bool, true, false, List, ◌++◌, length, nat_eq, nat_lt, Option, Some, None, slice_index, if◌then◌else◌}
 use Rattle.std.specs.Global.{Vec}
 use Rattle.std.specs.List.{count_by}
-use Rattle.fm_code.specs.AccessFlags.{is_private}
+use Rattle.fm_code.specs.AccessFlags.{is_package_private, is_private}
 use Rattle.fm_link_members.specs.declared.lookups.Methods.{Methods}
 use Rattle.fm_link_supers.specs.inner.ListTables.{list_in}
 use Rattle.fm_link_members.specs.inner.MemberRows.{section_of}
@@ -38,14 +38,18 @@ is_between start end (Some found) = not (nat_lt found start) && nat_lt found end
 
 -- ---- which methods are left over
 
--- the method is abstract and isn't private
-abbrev pub can_be_met : List DeclaredClass → Methods → ℕ → Bool
-can_be_met classes m k = is_abstract_method classes k && not (is_private (flags_of m.members.rows.items k))
+-- what is selected for the method doesn't go by its signature alone: it is private or for its own package
+abbrev pub is_limited : ℕ → Bool
+is_limited flags = is_private flags || is_package_private flags
 
--- the method is abstract, and it is private or its signature is open
+-- the method is abstract and not limited
+abbrev pub can_be_met : List DeclaredClass → Methods → ℕ → Bool
+can_be_met classes m k = is_abstract_method classes k && not (is_limited (flags_of m.members.rows.items k))
+
+-- the method is abstract, and it is limited or its signature is open
 abbrev pub is_owed : List DeclaredClass → Methods → (ℕ → Bool) → ℕ → Bool
 is_owed classes m passes k =
-    is_abstract_method classes k && (is_private (flags_of m.members.rows.items k) || passes (slice_index m.signatures.of_members.items k))
+    is_abstract_method classes k && (is_limited (flags_of m.members.rows.items k) || passes (slice_index m.signatures.of_members.items k))
 
 -- the signature is open, by a class where one of its own methods from the first up to another is selected, and else by its superclass
 abbrev pub is_part_open : List DeclaredClass → Methods → Option ℕ → ℕ → ℕ → ℕ → ℕ → Bool
@@ -57,7 +61,7 @@ is_part_open classes m parent class start end signature =
 abbrev pub is_part_owed : List DeclaredClass → Methods → Option ℕ → ℕ → ℕ → ℕ → ℕ → Bool
 is_part_owed classes m parent class start end k = is_owed classes m (is_part_open classes m parent class start end) k
 
--- the method has the signature, is abstract and isn't private, and has a lower number
+-- the method has the signature, is abstract and not limited, and has a lower number
 abbrev pub is_one : List DeclaredClass → Methods → ℕ → ℕ → ℕ → Bool
 is_one classes m signature end k =
     (nat_eq (slice_index m.signatures.of_members.items k) signature && can_be_met classes m k) && nat_lt k end

@@ -7,9 +7,9 @@ pub returns-in-Some : goal.returns-in-Some
 returns-in-Some c = λ classes linked within inside.
     let texts = texts_in c.args.linking.texts.now in
     c.is_abstract.ensures classes linked
-    ∙ ap (is_open classes) (sym c.in-Some.is ∙ c.select.ensures texts classes linked.methods within inside)
+    ∙ ap (is_open classes) (sym c.in-Some.is ∙ c.select.ensures texts classes linked.methods linked.hierarchy within inside)
 
 pub returns-in-None : goal.returns-in-None
 returns-in-None c = λ classes linked within inside.
     let texts = texts_in c.args.linking.texts.now in
-    ap (is_open classes) (sym c.in-None.is ∙ c.select.ensures texts classes linked.methods within inside)
+    ap (is_open classes) (sym c.in-None.is ∙ c.select.ensures texts classes linked.methods linked.hierarchy within inside)

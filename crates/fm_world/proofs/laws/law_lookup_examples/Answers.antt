@@ -1,4 +1,4 @@
-use Rattle.fm_world.proofs.Example.{added, completed, completion_accepted, constructors_are, interfaces_are, itself, not_implemented, passed_over, refused, special}
+use Rattle.fm_world.proofs.Example.{added, completed, completion_accepted, constructors_are, interfaces_are, itself, not_implemented, packages_are, passed_over, refused, special}
 use Rattle.fm_world.proofs.laws.law_lookup_examples.Goals as goal
 
 pub returns-clause-interfaces : goal.returns-clause-interfaces
@@ -15,6 +15,9 @@ returns-clause-itself c = itself
 
 pub returns-clause-special : goal.returns-clause-special
 returns-clause-special c = special
+
+pub returns-clause-packages : goal.returns-clause-packages
+returns-clause-packages c = packages_are
 
 pub returns-clause-completed : goal.returns-clause-completed
 returns-clause-completed c = completed

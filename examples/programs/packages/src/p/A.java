@@ -1,0 +1,7 @@
+package p;
+
+public class A {
+    String m() { return "A"; }
+
+    public static String call(A a) { return a.m(); }
+}

@@ -1,0 +1,5 @@
+package p;
+
+public class T extends S {
+    String t() { return "T"; }
+}
