@@ -1,5 +1,5 @@
 -- Steps of a state of which only the frames are known: what its topmost frame became.
-use Rattle.std.proofs.Common.{◌≡◌, ℕ, ◌+◌, not, Bool, true, false, ◌==◌, List, [], ◌∷◌, drop, ℤ, Option, Some, None, slice_get, if◌then◌else◌, refl, ap, sym, ◌∙◌}
+use Rattle.std.proofs.Common.{◌≡◌, ℕ, ◌+◌, not, Bool, true, false, ◌==◌, List, [], ◌∷◌, drop, ℤ, Option, Some, None, slice_get, if◌then◌else◌, refl, ap, sym, subst, ◌∙◌}
 use Rattle.std.proofs.lemmas.Option.{get_or_from_slice_get, none-some, same_Some}
 use Rattle.fm_cells.specs.Answers.{head_at}
 use Rattle.fm_cells.specs.Stores.{Store}
@@ -9,7 +9,7 @@ use Rattle.fm_exec.proofs.NullSteps.{by_look}
 use Rattle.fm_exec.proofs.PlainSteps.{with-reference}
 use Rattle.fm_exec.specs.Steps.{seen, Steps}
 use Rattle.fm_fast.specs.Flows.{on, stepped_on, with_branched, with_given, with_given_wide, with_stored, with_stored_wide}
-use Rattle.fm_frames.proofs.Finishes.{finished-top, source-at}
+use Rattle.fm_frames.proofs.Finishes.{finished-top, on_top-then, source-at, with_word, without_words}
 use Rattle.fm_frames.proofs.Jumping.{jumped, same-jumps, same-passes}
 use Rattle.fm_frames.specs.Acts.{Choose, same_cell, value_of}
 use Rattle.fm_frames.specs.Effects.{Effect, JumpsIfSame, OfOperand, Plain, Source, going, words}
@@ -109,6 +109,34 @@ pub doubled : (p : Program) (choose : Choose) (x : State) (old new : List Frame)
 doubled p choose x old new v fits is top =
     finished-top p choose (on x old) (on x old) new (with_given 0 v) 1 (OfOperand 0 ∷ OfOperand 0 ∷ []) [] refl fits is
     (λ f callers at. ap (λ stack. record f { item = f.item + 1; stack = stack }) (dup-stack f.stack v (top ∙ ap (λ frames. slice_get (stack_in frames) 0) at)))
+
+dup2-stack : (stack : List Value) (v w : Value) → Some v ≡ slice_get stack 0 → Some w ≡ slice_get stack 1
+    → v ∷ w ∷ stack ≡ word_at stack 0 ∷ word_at stack 1 ∷ word_at stack 0 ∷ word_at stack 1 ∷ drop 2 stack
+dup2-stack [] v w top below = absurd (none-some v (sym top))
+dup2-stack (a ∷ []) v w top below = absurd (none-some w (sym below))
+dup2-stack (a ∷ b ∷ more) v w top below = λ i. same_Some _ _ top i ∷ same_Some _ _ below i ∷ a ∷ b ∷ more
+
+-- two words on top are there twice
+pub doubled-wide : (p : Program) (choose : Choose) (x : State) (old half new : List Frame) (v w : Value) → NextFits old → Some v ≡ slice_get (stack_in old) 0
+    → Some w ≡ slice_get (stack_in old) 1 → half ≡ on_top (with_word w) old → new ≡ on_top (with_given 0 v) half
+    → DoesIn p choose (on x old) (stepped_on x new) (words 2 (OfOperand 0 ∷ OfOperand 1 ∷ OfOperand 0 ∷ OfOperand 1 ∷ []))
+doubled-wide p choose x old half new v w fits top below pushed is =
+    finished-top p choose (on x old) (on x old) new (λ f. with_given 0 v (with_word w f)) 2 (OfOperand 0 ∷ OfOperand 1 ∷ OfOperand 0 ∷ OfOperand 1 ∷ []) [] refl fits
+    (is ∙ ap (on_top (with_given 0 v)) pushed ∙ on_top-then (with_word w) (with_given 0 v) old)
+    (λ f callers at. ap (λ stack. record f { item = f.item + 1; stack = stack })
+    (dup2-stack f.stack v w (top ∙ ap (λ frames. slice_get (stack_in frames) 0) at) (below ∙ ap (λ frames. slice_get (stack_in frames) 1) at)))
+
+-- a word on top leaves the next item
+pub fits-pushed : (old new : List Frame) (v : Value) → NextFits old → new ≡ on_top (with_word v) old → NextFits new
+fits-pushed [] new v fits is = absurd fits
+fits-pushed (f ∷ callers) new v fits is = subst NextFits (sym is) fits
+
+-- a word that is put on top and taken off
+pub pushed-off : (old half same new : List Frame) (v : Value) → half ≡ on_top (with_word v) old → same ≡ half → new ≡ on_top (without_words 1) same → new ≡ old
+pushed-off old half same new v pushed kept is = is ∙ ap (on_top (without_words 1)) (kept ∙ pushed) ∙ off old where
+  off : (frames : List Frame) → on_top (without_words 1) (on_top (with_word v) frames) ≡ frames
+  off [] = refl
+  off (f ∷ callers) = refl
 
 -- ---- words that are numbers
 

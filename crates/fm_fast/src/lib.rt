@@ -31,12 +31,14 @@ pub use constants::{int_constant, long_constant, null};
 pub use fields::{get_field, put_field};
 pub use jumps::{go_to, if_int, if_null, if_pair, if_same};
 pub use locals::{increment, load, store};
-pub use numbers::{convert, int_op, int_shift, long_op};
+pub use numbers::{
+    convert, int_negate, int_op, int_shift, long_compare, long_negate, long_op, long_shift,
+};
 pub use objects::object_at;
 pub use operands::{
     cell_there, give, give_wide, int_there, local_cell, local_int, long_there, push, word_there,
 };
 pub use pool_constants::constant;
 pub use returns::leave;
-pub use shuffles::{dup, pop};
+pub use shuffles::{dup, dup2, pop, pop2};
 pub use statics::{get_static, put_static};

@@ -6,7 +6,7 @@ ghost use Rattle.fm_alu.specs.Conversions.{IsOperandOf};
 ghost use Rattle.fm_fast.specs.Flows.{Flows};
 ghost use Rattle.fm_fast.specs.Operands.{AsksOfConversion, HasInt, HasLong};
 ghost use Rattle.fm_exec.specs.Steps.{seen};
-ghost use Rattle.fm_frames.specs.NumberRows.{convert_effect, int_converted, int_op_effect, int_shift_effect, long_op_effect};
+ghost use Rattle.fm_frames.specs.NumberRows.{compare_effect, convert_effect, int_converted, int_negate_effect, int_op_effect, int_shift_effect, long_negate_effect, long_op_effect, long_shift_effect};
 ghost use Rattle.fm_frames.specs.inner.Doings.{NextFits};
 
 use crate::operands::{give, give_wide, int_there, long_there};
@@ -51,6 +51,32 @@ pub fn long_op(frames: &mut Frames, op: Op) -> bool
     }
 }
 
+/// ineg; returns whether it was done. Takes no memory.
+#[inline(always)]
+pub fn int_negate(frames: &mut Frames) -> bool
+    requires fits { NextFits frames.old }
+    requires int { HasInt frames.old 0 }
+    ensures did { result ≡ true
+        → Flows frames.old frames.new (λ p x. int_negate_effect (seen p x)) }
+    ensures same { result ≡ false → frames.new ≡ frames.old }
+{
+    let a = int_there(frames, 0);
+    give(frames, 1, Value::Int(0_i32.wrapping_sub(a)))
+}
+
+/// lneg; returns whether it was done. Takes no memory.
+#[inline(always)]
+pub fn long_negate(frames: &mut Frames) -> bool
+    requires fits { NextFits frames.old }
+    requires long { HasLong frames.old 1 }
+    ensures did { result ≡ true
+        → Flows frames.old frames.new (λ p x. long_negate_effect (seen p x)) }
+    ensures same { result ≡ false → frames.new ≡ frames.old }
+{
+    let a = long_there(frames, 1);
+    give_wide(frames, 2, Value::Long(0_i64.wrapping_sub(a)))
+}
+
 /// ishl, ishr and iushr, whose count is on top; returns whether it was done. Takes no memory.
 #[inline(always)]
 pub fn int_shift(frames: &mut Frames, shift: Shift) -> bool
@@ -64,6 +90,35 @@ pub fn int_shift(frames: &mut Frames, shift: Shift) -> bool
     let a = int_there(frames, 1);
     let n = int_there(frames, 0);
     give(frames, 2, Value::Int(fm_alu::int_shift(shift, a, n)))
+}
+
+/// lshl, lshr and lushr, whose count is on top; returns whether it was done. Takes no memory.
+#[inline(always)]
+pub fn long_shift(frames: &mut Frames, shift: Shift) -> bool
+    requires fits { NextFits frames.old }
+    requires first { HasLong frames.old 2 }
+    requires second { HasInt frames.old 0 }
+    ensures did { result ≡ true
+        → Flows frames.old frames.new (λ p x. long_shift_effect shift (seen p x)) }
+    ensures same { result ≡ false → frames.new ≡ frames.old }
+{
+    let a = long_there(frames, 2);
+    let n = int_there(frames, 0);
+    give_wide(frames, 3, Value::Long(fm_alu::long_shift(shift, a, n)))
+}
+
+/// lcmp; returns whether it was done. Takes no memory.
+#[inline(always)]
+pub fn long_compare(frames: &mut Frames) -> bool
+    requires fits { NextFits frames.old }
+    requires first { HasLong frames.old 3 }
+    requires second { HasLong frames.old 1 }
+    ensures did { result ≡ true → Flows frames.old frames.new (λ p x. compare_effect (seen p x)) }
+    ensures same { result ≡ false → frames.new ≡ frames.old }
+{
+    let a = long_there(frames, 3);
+    let b = long_there(frames, 1);
+    give(frames, 4, Value::Int(fm_alu::compare(a, b)))
 }
 
 // i2b, i2c and i2s, whose results are ints.

@@ -1,4 +1,4 @@
-// The rows that only move words of the stack (JVMS 6.5.pop, 6.5.dup).
+// The rows that only move words of the stack (JVMS 6.5.pop, 6.5.dup, 6.5.pop2, 6.5.dup2).
 
 ghost use Rattle.std.specs.Prelude.{◌≡◌, true, false};
 ghost use Rattle.fm_code.specs.declared.instructions.Insn.TheVariants as insn;
@@ -30,4 +30,37 @@ pub fn pop(frames: &mut Frames)
 {
     frames.advance();
     frames.drop_words(1);
+}
+
+/// dup2; returns whether it was done. Takes no memory.
+#[inline(always)]
+pub fn dup2(frames: &mut Frames) -> bool
+    requires { NextFits frames.old }
+    ensures did { result ≡ true → Flows frames.old frames.new (λ p x. move_effect insn.Dup2) }
+    ensures same { result ≡ false → frames.new ≡ frames.old }
+{
+    let Some(second) = frames.operand(1) else {
+        return false;
+    };
+    let Some(top) = frames.operand(0) else {
+        return false;
+    };
+    if !frames.push_in_room(second) {
+        return false;
+    }
+    if !push(frames, top) {
+        frames.drop_words(1);
+        return false;
+    }
+    true
+}
+
+/// pop2. Takes no memory.
+#[inline(always)]
+pub fn pop2(frames: &mut Frames)
+    requires { NextFits frames.old }
+    ensures { Flows frames.old frames.new (λ p x. move_effect insn.Pop2) }
+{
+    frames.advance();
+    frames.drop_words(2);
 }

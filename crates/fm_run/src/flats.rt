@@ -100,12 +100,22 @@ fn do_other(frames: &mut Frames, program: &Program, method: MethodId, insn: &Ins
         Insn::Null => rows::null(frames),
         Insn::LoadPool(index) => number(frames, program, method, *index),
         Insn::IntShift(shift) => rows::int_shift(frames, *shift),
+        Insn::LongConst(n) => rows::long_constant(frames, *n),
         Insn::LongOp(op) => rows::long_op(frames, *op),
+        Insn::LongShift(shift) => rows::long_shift(frames, *shift),
+        Insn::LongCompare => rows::long_compare(frames),
+        Insn::IntNeg => rows::int_negate(frames),
+        Insn::LongNeg => rows::long_negate(frames),
         Insn::Convert(to) => rows::convert(frames, *to),
         Insn::IfSame(same, target) => rows::if_same(frames, *same, *target),
         Insn::IfNull(null, target) => rows::if_null(frames, *null, *target),
+        Insn::Dup2 => rows::dup2(frames),
         Insn::Pop => {
             rows::pop(frames);
+            true
+        }
+        Insn::Pop2 => {
+            rows::pop2(frames);
             true
         }
         _ => false,

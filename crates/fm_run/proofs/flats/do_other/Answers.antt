@@ -1,4 +1,5 @@
-use Rattle.std.proofs.Common.{ap, refl, subst}
+use Rattle.std.proofs.Common.{◌≡◌, arith, ap, refl, subst, sym, ◌∙◌, to_z, of_z, w64}
+use Rattle.std.proofs.lemmas.Int.{ints, to_z-of_z}
 use Rattle.fm_code.specs.declared.instructions.Insn.TheVariants as insn
 use Rattle.fm_fast.specs.Flows.{on, stepped_on}
 use Rattle.fm_fast.specs.Operands.{AsksOf}
@@ -29,6 +30,24 @@ long_op-requires-clause-first c = (subst (λ i. AsksOf i c.args.frames.now) c.in
 
 pub long_op-requires-clause-second : goal.long_op-requires-clause-second
 long_op-requires-clause-second c = (subst (λ i. AsksOf i c.args.frames.now) c.in-LongOp.is c.requires.asks).1
+
+pub long_shift-requires-clause-first : goal.long_shift-requires-clause-first
+long_shift-requires-clause-first c = (subst (λ i. AsksOf i c.args.frames.now) c.in-LongShift.is c.requires.asks).0
+
+pub long_shift-requires-clause-second : goal.long_shift-requires-clause-second
+long_shift-requires-clause-second c = (subst (λ i. AsksOf i c.args.frames.now) c.in-LongShift.is c.requires.asks).1
+
+pub long_compare-requires-clause-first : goal.long_compare-requires-clause-first
+long_compare-requires-clause-first c = (subst (λ i. AsksOf i c.args.frames.now) c.in-LongCompare.is c.requires.asks).0
+
+pub long_compare-requires-clause-second : goal.long_compare-requires-clause-second
+long_compare-requires-clause-second c = (subst (λ i. AsksOf i c.args.frames.now) c.in-LongCompare.is c.requires.asks).1
+
+pub int_negate-requires-clause-int : goal.int_negate-requires-clause-int
+int_negate-requires-clause-int c = subst (λ i. AsksOf i c.args.frames.now) c.in-IntNeg.is c.requires.asks
+
+pub long_negate-requires-clause-long : goal.long_negate-requires-clause-long
+long_negate-requires-clause-long c = subst (λ i. AsksOf i c.args.frames.now) c.in-LongNeg.is c.requires.asks
 
 pub convert-requires-clause-number : goal.convert-requires-clause-number
 convert-requires-clause-number c = subst (λ i. AsksOf i c.args.frames.now) c.in-Convert.is c.requires.asks
@@ -87,3 +106,47 @@ unfolding effect_of
 returns-in-Pop-clause-did c told =
     row-flows c.args.program.now c.args.method.0 c.args.frames.now c.pop.new.frames c.args.insn.now insn.Pop c.in-Pop.is refl
     (λ choose x at. c.pop.ensures c.args.program.now choose x)
+
+pub returns-in-LongConst-clause-did : goal.returns-in-LongConst-clause-did
+unfolding effect_of
+returns-in-LongConst-clause-did c told =
+    let same : to_z w64 (of_z w64 c.in-LongConst.n) ≡ c.in-LongConst.n = grind (arith, ints, to_z-of_z) in
+    row-flows c.args.program.now c.args.method.0 c.args.frames.now c.long_constant.new.frames c.args.insn.now (insn.LongConst (to_z w64 (of_z w64 c.in-LongConst.n)))
+    (c.in-LongConst.is ∙ ap insn.LongConst (sym same)) refl
+    (λ choose x at. c.long_constant.ensures.did told c.args.program.now choose x)
+
+pub returns-in-LongShift-clause-did : goal.returns-in-LongShift-clause-did
+unfolding effect_of
+returns-in-LongShift-clause-did c told =
+    row-flows c.args.program.now c.args.method.0 c.args.frames.now c.long_shift.new.frames c.args.insn.now (insn.LongShift c.in-LongShift.shift) c.in-LongShift.is refl
+    (λ choose x at. c.long_shift.ensures.did told c.args.program.now choose x)
+
+pub returns-in-LongCompare-clause-did : goal.returns-in-LongCompare-clause-did
+unfolding effect_of
+returns-in-LongCompare-clause-did c told =
+    row-flows c.args.program.now c.args.method.0 c.args.frames.now c.long_compare.new.frames c.args.insn.now insn.LongCompare c.in-LongCompare.is refl
+    (λ choose x at. c.long_compare.ensures.did told c.args.program.now choose x)
+
+pub returns-in-IntNeg-clause-did : goal.returns-in-IntNeg-clause-did
+unfolding effect_of
+returns-in-IntNeg-clause-did c told =
+    row-flows c.args.program.now c.args.method.0 c.args.frames.now c.int_negate.new.frames c.args.insn.now insn.IntNeg c.in-IntNeg.is refl
+    (λ choose x at. c.int_negate.ensures.did told c.args.program.now choose x)
+
+pub returns-in-LongNeg-clause-did : goal.returns-in-LongNeg-clause-did
+unfolding effect_of
+returns-in-LongNeg-clause-did c told =
+    row-flows c.args.program.now c.args.method.0 c.args.frames.now c.long_negate.new.frames c.args.insn.now insn.LongNeg c.in-LongNeg.is refl
+    (λ choose x at. c.long_negate.ensures.did told c.args.program.now choose x)
+
+pub returns-in-Dup2-clause-did : goal.returns-in-Dup2-clause-did
+unfolding effect_of
+returns-in-Dup2-clause-did c told =
+    row-flows c.args.program.now c.args.method.0 c.args.frames.now c.dup2.new.frames c.args.insn.now insn.Dup2 c.in-Dup2.is refl
+    (λ choose x at. c.dup2.ensures.did told c.args.program.now choose x)
+
+pub returns-in-Pop2-clause-did : goal.returns-in-Pop2-clause-did
+unfolding effect_of
+returns-in-Pop2-clause-did c told =
+    row-flows c.args.program.now c.args.method.0 c.args.frames.now c.pop2.new.frames c.args.insn.now insn.Pop2 c.in-Pop2.is refl
+    (λ choose x at. c.pop2.ensures c.args.program.now choose x)
