@@ -6,5 +6,6 @@ pub mod ListLemmas
 pub mod NameLemmas
 pub mod ReadLemmas
 pub mod RefusalLemmas
+pub mod ReturnedLemmas
 pub mod TakenLemmas
 pub mod VerdictLemmas

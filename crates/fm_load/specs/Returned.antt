@@ -1,5 +1,6 @@
 -- The reads of class files that a call makes, in order, and what they returned.
-use Rattle.std.specs.Prelude.{◌≡◌, ◌⊎◌, List, [], ◌∷◌, ◌++◌, Option, Some, IsSome}
+use Rattle.std.specs.Prelude.{◌≡◌, ◌⊎◌, List, [], ◌∷◌, ◌++◌, Option, Some, IsSome, IsSomeAnd}
+use Rattle.std.specs.List.{AllByRecursion}
 use Rattle.fm_files.specs.Files.{Bytes, Call, Disk, and_call}
 use Rattle.fm_code.specs.ClassBytes.{class_bytes}
 use Rattle.fm_code.specs.declared.class_file.ClassDef.{ClassDef}
@@ -34,3 +35,17 @@ ReadsInOrder files old new = (calls : List Call) × (new.reads ≡ old.reads ++ 
 -- at most one read of this file was made
 abbrev pub ReadsOnce : Bytes → Disk → Disk → Type 0
 ReadsOnce file old new = (new.reads ≡ old.reads) ⊎ ((bytes : Option Bytes) × (new.reads ≡ and_call old.reads file bytes))
+
+-- ---- reads as contents that are known
+
+-- a read returned bytes, those that these contents hold
+abbrev pub ReturnsHeld : (held : Bytes → Option Bytes) → Call → Type 0
+ReturnsHeld held call = IsSomeAnd call.bytes (λ bytes. held call.name ≡ Some bytes)
+
+-- so did each read of a call
+abbrev pub ReadsFrom : (held : Bytes → Option Bytes) → Disk → Disk → Type 0
+ReadsFrom held old new = (calls : List Call) × (new.reads ≡ old.reads ++ calls) × AllByRecursion (ReturnsHeld held) calls
+
+-- the files as if these contents were known
+abbrev pub with_contents : (held : Bytes → Option Bytes) → Disk → Disk
+with_contents held disk = record disk { contents = Some held }

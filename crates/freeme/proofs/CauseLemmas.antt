@@ -1,16 +1,17 @@
 -- What each status says and when it comes, by what a call does as a whole.
-use Rattle.std.proofs.Common.{◌≡◌, ◌≢◌, ◌≤◌, ℕ, ◌⊎◌, inl, inr, ⊎_elim, List, [], ◌∷◌, Contains, Option, Some, None, Ok, Err, IsSomeAnd, string_bytes, eqb, false, refl, sym, ap, ◌∙◌, subst, arith}
+use Rattle.std.proofs.Common.{◌≡◌, ◌≢◌, ◌≤◌, ℕ, ◌⊎◌, inl, inr, ⊎_elim, List, [], ◌∷◌, Contains, Option, Some, None, Ok, Err, IsSome, IsSomeAnd, string_bytes, eqb, false, refl, sym, ap, ◌∙◌, subst, arith}
 use Rattle.std.specs.List.{list_any}
+use Rattle.std.proofs.lemmas.List.Elements.{Contains-append_right}
 use Rattle.fm_base.proofs.ContainsFacts.{Contains-cons_cases, unlike_elements}
 use Rattle.fm_base.proofs.OptionFacts.{Some-from_is_some, Some-from_some_and}
-use Rattle.fm_files.specs.Files.{Bytes, Disk, AreKept}
+use Rattle.fm_files.specs.Files.{Bytes, Contents, Disk, AreKept}
 use Rattle.fm_files.specs.Sink.{Output, with_piece}
 use Rattle.fm_cli.specs.Line.{Tells}
-use Rattle.fm_cli.specs.Outside.{HasNoFileFault}
+use Rattle.fm_cli.specs.Outside.{HasNoFileFault, IsKnownSuch}
 use Rattle.fm_cli.specs.Status.{ComesExactly}
 use Rattle.fm_cli.specs.declared.command_refusal.CommandRefusal.TheVariants as refusal
 use Rattle.fm_cli.proofs.LineLemmas.{instead_for_file, instead_for_words, told_among, is_put, told_of_file, told_of_words, comes_of_file, comes_of_words}
-use Rattle.fm_cli.proofs.OutsideLemmas.{no_fault_where_same, known_such}
+use Rattle.fm_cli.proofs.OutsideLemmas.{no_fault_where_same}
 use Rattle.fm_cli.specs.declared.status.TheConstants.{DONE, WORDS, READ, MALFORMED, VERSION, LIMIT, UNSUPPORTED, LINK, CHECK, WRITE, OUT_OF_MEMORY}
 use Rattle.fm_code.specs.declared.class_file.ClassDef.{ClassDef}
 use Rattle.fm_conn.specs.Facts.{AreFacts, Facts}
@@ -24,11 +25,11 @@ use Rattle.fm_rewrite.specs.declared.error.RewriteFail.TheVariants as fail
 use Rattle.fm_world.specs.Causes.{Refusal}
 use Rattle.fm_world.specs.Linking.{refusals}
 use Rattle.fm_world.specs.Programs.{program_of}
-use Rattle.fm_load.specs.ClassRefusal.{class_refusal_status}
 use Rattle.fm_load.specs.Given.{AreGiven, AreMany, IsUntouched, AreNotLinked, IsNotLinked, given_program}
-use Rattle.freeme.specs.Causes.{AskFor, AskForGiven, BecomesAs, IsKnownAs, cause_status, SaysWords, SaysRead, SaysRefused, SaysLimit, SaysLink, SaysCheck, SaysNotFreed, SaysDone, SaysUnwritten, SaysWrite, SaysMemory, LacksLine, IsForWords, IsForRead, IsForBytes, IsForLimit, IsForLink, IsForCheck, IsForRewrite, IsForDone, IsForText, IsForWrite, IsForMemory, IsFaultless, IsSilent, KeepsContents, ChangesOnly, before_writes}
+use Rattle.freeme.specs.Causes.{AskFor, AskForGiven, BecomesAs, IsKnownAs, IsKnownStatus, cause_status, SaysWords, SaysRead, SaysRefused, SaysLimit, SaysLink, SaysCheck, SaysNotFreed, SaysDone, SaysUnwritten, SaysWrite, SaysMemory, LacksLine, IsForWords, IsForRead, IsForBytes, IsForLimit, IsForLink, IsForCheck, IsForReturned, IsForRewrite, IsForDone, IsForText, IsForWrite, IsForMemory, IsFaultless, IsSilent, KeepsContents, ChangesOnly, before_writes}
 use Rattle.fm_load.specs.Causes.{FailsARead, FailsAWrite, IsMissing, HasTooMany, IsKnownLong, IsKnownRefused, IsKnownUnlinked, IsKnownUntyped}
 use Rattle.fm_load.specs.LinkRefusal.{cause_line}
+use Rattle.fm_load.specs.Returned.{ReadsFirst, ReadsFrom, with_contents}
 use Rattle.fm_cli_requests.specs.FreemeRequest.{FreemeJob, Asks, AskNoJob, AskNothing, AskOnlyForText}
 use Rattle.fm_cli_requests.specs.ProgramText.{AskForNoText}
 use Rattle.freeme.specs.Jobs.{given_of, main_name}
@@ -47,6 +48,7 @@ use Rattle.fm_cli_requests.proofs.FreemeRequestLemmas.{asks_one}
 use Rattle.fm_load.proofs.GivenLemmas.{Behind, behind_once, given_passes}
 use Rattle.fm_load.proofs.KnownLemmas.{bytes_stop, long_stops, missing_stops, not_empty, not_typed}
 use Rattle.fm_load.proofs.RefusalLemmas.{class_status}
+use Rattle.fm_load.proofs.ReturnedLemmas.{IsSeen, known_seen, not_unread, reads_first, returned_seen}
 use Rattle.fm_load.proofs.VerdictLemmas.{Ends, EndsOnce, Links, links_once, Verdict, one_verdict}
 
 -- ---- what a status says
@@ -269,11 +271,12 @@ found_of main classes fail.NoMemory first = absurd first
 abbrev JobVerdict : (known found : ℕ) → (Bytes → Option Bytes) → FreemeJob → ℕ → Type 0
 JobVerdict known found held job status = Verdict (Behind job.made (Links (Rewrites (main_name job) known found) (main_name job))) held job.files status
 
-module _ (job : FreemeJob) (old new : Disk) (held : Bytes → Option Bytes) (known : old.contents ≡ Some held) (sought : ℕ) where
+module _ (job : FreemeJob) (old new : Disk) (held : Bytes → Option Bytes) (seen : IsSeen (given_of job) held old new) (sought : ℕ) where
   -- classes that are given, with their outcome
-  given_known : {classes : List ClassDef} → AreGiven (given_of job) old.contents classes → (status : ℕ) → Links (Rewrites (main_name job) sought status) (main_name job) classes status
-      → JobVerdict sought status held job status
-  given_known are status last = inr (inr (given_passes (Links (Rewrites (main_name job) sought status) (main_name job)) held known are status last))
+  given_known : {classes : List ClassDef} → AreGiven (given_of job) old.contents classes → ReadsFirst job.files classes old new → (status : ℕ)
+      → Links (Rewrites (main_name job) sought status) (main_name job) classes status → JobVerdict sought status held job status
+  given_known {classes} are reads status last =
+      inr (inr (given_passes (Links (Rewrites (main_name job) sought status) (main_name job)) held refl (seen.given classes are reads) status last))
 
   -- the verdict of an outcome, unless it is for a fault or for memory
   abbrev Comes : ℕ → Type 0
@@ -283,7 +286,7 @@ module _ (job : FreemeJob) (old new : Disk) (held : Bytes → Option Bytes) (kno
   verdict_of (Ok lines) comes =
       let freed = comes.freed in
       let made = freed.rewritten in
-      inl (given_known freed.checked.linked.source DONE (inr (
+      inl (given_known freed.checked.linked.source (reads_first job.files freed.classes old new comes.reads) DONE (inr (
         freed.checked.linked.linked,
         inr (
           freed.checked.typed,
@@ -303,18 +306,18 @@ module _ (job : FreemeJob) (old new : Disk) (held : Bytes → Option Bytes) (kno
   verdict_of (Err (free_refusal.Job (job_refusal.TooManyArguments count))) comes = absurd comes
   verdict_of (Err (free_refusal.Job (job_refusal.Shared (refusal.Read file)))) comes = inr (inl refl)
   verdict_of (Err (free_refusal.Rewrite cause name)) comes =
-      inl (given_known comes.checked.linked.source (rewrite_status cause)
+      inl (given_known comes.checked.linked.source (reads_first job.files comes.classes old new comes.reads) (rewrite_status cause)
       (inr (comes.checked.linked.linked, inr (comes.checked.typed, inr (found_of (main_name job) comes.classes cause comes.refused, refl)))))
   verdict_of (Err (free_refusal.Job (job_refusal.Shared refusal.OutOfMemory))) comes = inr (inr (inr refl))
   verdict_of (Err (free_refusal.Job (job_refusal.TooManyFiles count))) comes = let count = comes.count_is in let many = comes.many in inl (inl (omega arith, refl))
-  verdict_of (Err (free_refusal.Job (job_refusal.TooLong file))) comes = inl (inr (inl (long_stops job.files old.contents held known file.now comes.before comes.reaches (known_such old.contents held file.now (IsTooLong (total_bytes comes.before)) known comes.long))))
-  verdict_of (Err (free_refusal.Job (job_refusal.Class file r))) comes = inl (inr (inl (bytes_stop job.files old.contents held known (class_refusal_status r) file.now comes.before r refl comes.reaches (known_such old.contents held file.now (IsRefused r (total_bytes comes.before)) known comes.refused))))
+  verdict_of (Err (free_refusal.Job (job_refusal.TooLong file))) comes = inl (inr (inl (seen.long file.now comes)))
+  verdict_of (Err (free_refusal.Job (job_refusal.Class file r))) comes = inl (inr (inl (seen.refused file.now r comes)))
   verdict_of (Err (free_refusal.Job (job_refusal.Link fail))) comes =
       let found = Some-from_some_and (refusal_of fail) (AreNotLinked (given_of job) old new) comes.refused in
       let refused = found.2 in
-      inl (given_known refused.source LINK (inl (not_empty (refusals refused.classes (main_name job)) found.0 refused.first, refl)))
+      inl (given_known refused.source refused.reads LINK (inl (not_empty (refusals refused.classes (main_name job)) found.0 refused.first, refl)))
   verdict_of (Err (free_refusal.Job (job_refusal.Check name))) comes =
-      inl (given_known comes.linked.source CHECK (inr (comes.linked.linked, inl (not_typed (given_program (given_of job) comes.classes) name comes.untyped, refl))))
+      inl (given_known comes.linked.source comes.reads CHECK (inr (comes.linked.linked, inl (not_typed (given_program (given_of job) comes.classes) name comes.untyped, refl))))
   verdict_of (Err (free_refusal.Job (job_refusal.Write name))) comes = inr (inr (inl refl))
 
   own_verdict : (status found : ℕ) → JobVerdict sought found held job status → JobVerdict sought found held job found → status ≡ found
@@ -331,6 +334,39 @@ module _ (job : FreemeJob) (old new : Disk) (held : Bytes → Option Bytes) (kno
     go (inr (inl e)) = (1, omega arith, sym e)
     go (inr (inr (inl e))) = (2, omega arith, sym e)
     go (inr (inr (inr e))) = (3, omega arith, sym e)
+
+-- the verdict of each cause, over contents that are known
+module _ (job : FreemeJob) (disk : Disk) (held : Bytes → Option Bytes) (known : disk.contents ≡ Some held) (found : ℕ) where
+  long_verdict : IsKnownLong disk (given_of job) → JobVerdict LIMIT found held job LIMIT
+  long_verdict cause =
+      let P : Contents → Type 0 = λ c. IsKnownSuch c cause.file (IsTooLong (total_bytes cause.before)) in
+      inr (inl (long_stops job.files disk.contents held known cause.file cause.before cause.reaches (subst P known cause.long)))
+
+  bytes_verdict : (status : ℕ) → IsKnownRefused status disk (given_of job) → JobVerdict status found held job status
+  bytes_verdict status cause =
+      let P : Contents → Type 0 = λ c. IsKnownSuch c cause.file (IsRefused cause.refusal (total_bytes cause.before)) in
+      inr (inl (bytes_stop job.files disk.contents held known status cause.file cause.before cause.refusal cause.status_is cause.reaches (subst P known cause.refused)))
+
+  unlinked_verdict : IsKnownUnlinked disk (given_of job) → JobVerdict LINK found held job LINK
+  unlinked_verdict cause =
+      inr (inr (given_passes (Links (Rewrites (main_name job) LINK found) (main_name job)) held known cause.source LINK (inl (cause.refused, refl))))
+
+  untyped_verdict : IsKnownUntyped disk (given_of job) → JobVerdict CHECK found held job CHECK
+  untyped_verdict cause =
+      inr (inr (given_passes (Links (Rewrites (main_name job) CHECK found) (main_name job)) held known cause.linked.source CHECK
+      (inr (cause.linked.linked, inl (cause.untyped, refl)))))
+
+  rewriting_verdict : (status : ℕ) → IsKnownAs status disk job → JobVerdict status found held job status
+  rewriting_verdict status cause =
+      inr (inr (given_passes (Links (Rewrites (main_name job) status found) (main_name job)) held known cause.checked.linked.source status
+      (inr (cause.checked.linked.linked, inr (cause.checked.typed, inl (cause.becomes, refl))))))
+
+  known_verdict : (status : ℕ) → IsKnownStatus status disk job → JobVerdict status found held job status
+  known_verdict status (inl (is, cause)) = let P : ℕ → Type 0 = λ s. JobVerdict s found held job s in subst P (sym is) (long_verdict cause)
+  known_verdict status (inr (inl cause)) = bytes_verdict status cause
+  known_verdict status (inr (inr (inl (is, cause)))) = let P : ℕ → Type 0 = λ s. JobVerdict s found held job s in subst P (sym is) (unlinked_verdict cause)
+  known_verdict status (inr (inr (inr (inl (is, cause))))) = let P : ℕ → Type 0 = λ s. JobVerdict s found held job s in subst P (sym is) (untyped_verdict cause)
+  known_verdict status (inr (inr (inr (inr cause)))) = rewriting_verdict status cause
 
 -- ---- the cause of each status
 
@@ -371,9 +407,10 @@ module _ (words : List Bytes) (old new : Disk) (o : Outcome) (comes : ComesOf wo
     go (inr (inr lacking)) = inr (ap outcome_status lacking.refused)
 
   -- a verdict of its files decides the status, unless there was a fault or memory was lacking
-  decided : (status : ℕ) (job : FreemeJob) (held : Bytes → Option Bytes) → old.contents ≡ Some held → Asks words job → JobVerdict status (outcome_status o) held job status → Contains (status ∷ instead_for_file) (outcome_status o)
-  decided status job held known asked verdict = ⊎_elim
-      (λ (job_comes : ComesTo job old new o). status_of job old new held known status status o verdict job_comes)
+  decided : (status : ℕ) (job : FreemeJob) (held : Bytes → Option Bytes) → IsSeen (given_of job) held old new → Asks words job → JobVerdict status (outcome_status o) held job status
+      → Contains (status ∷ instead_for_file) (outcome_status o)
+  decided status job held seen asked verdict = ⊎_elim
+      (λ (job_comes : ComesTo job old new o). status_of job old new held seen status status o verdict job_comes)
       (λ (lacking : outcome_status o ≡ OUT_OF_MEMORY). (3, omega arith, sym lacking))
       (of_job job asked)
 
@@ -381,38 +418,46 @@ module _ (words : List Bytes) (old new : Disk) (o : Outcome) (comes : ComesOf wo
   missing_decides (job, (asked, cause)) =
       let found = Some-from_some_and old.contents (λ held. held cause.file ≡ None) cause.missing in
       let decides : Contains (READ ∷ instead_for_file) (outcome_status o) =
-      decided READ job found.0 found.1 asked (inr (inl (missing_stops job.files old.contents found.0 found.1 cause.file cause.before cause.reaches found.2))) in
+      decided READ job found.0 (known_seen (given_of job) found.0 old new found.1) asked
+      (inr (inl (missing_stops job.files old.contents found.0 found.1 cause.file cause.before cause.reaches found.2))) in
       ⊎_elim (λ (same : outcome_status o ≡ READ). (0, omega arith, sym same)) (λ (one : Contains instead_for_file (outcome_status o)). one) (Contains-cons_cases READ instead_for_file (outcome_status o) decides)
+
+  -- where contents are known
+  known_decides : (status : ℕ) (job : FreemeJob) → Asks words job → IsSome old.contents
+      → ((held : Bytes → Option Bytes) → old.contents ≡ Some held → JobVerdict status (outcome_status o) held job status) → Contains (status ∷ instead_for_file) (outcome_status o)
+  known_decides status job asked known verdict =
+      let found = Some-from_is_some old.contents known in
+      decided status job found.0 (known_seen (given_of job) found.0 old new found.1) asked (verdict found.0 found.1)
+
+  -- contents of which something is known are known
+  some_known : (P : (Bytes → Option Bytes) → Type 0) → IsSomeAnd old.contents P → IsSome old.contents
+  some_known P such = let found = Some-from_some_and old.contents P such in let Q : Contents → Type 0 = λ c. IsSome c in subst Q (sym found.1) refl
 
   long_decides : AskForGiven words (IsKnownLong old) → Contains (LIMIT ∷ instead_for_file) (outcome_status o)
   long_decides (job, (asked, cause)) =
-      let found = Some-from_some_and old.contents (λ held. IsSomeAnd (held cause.file) (IsTooLong (total_bytes cause.before))) cause.long in
-      decided LIMIT job found.0 found.1 asked (inr (inl (long_stops job.files old.contents found.0 found.1 cause.file cause.before cause.reaches found.2)))
+      known_decides LIMIT job asked (some_known (λ held. IsSomeAnd (held cause.file) (IsTooLong (total_bytes cause.before))) cause.long)
+      (λ held known. long_verdict job old held known (outcome_status o) cause)
 
   bytes_decide : (status : ℕ) → AskForGiven words (IsKnownRefused status old) → Contains (status ∷ instead_for_file) (outcome_status o)
   bytes_decide status (job, (asked, cause)) =
-      let found = Some-from_some_and old.contents (λ held. IsSomeAnd (held cause.file) (IsRefused cause.refusal (total_bytes cause.before))) cause.refused in
-      decided status job found.0 found.1 asked
-      (inr (inl (bytes_stop job.files old.contents found.0 found.1 status cause.file cause.before cause.refusal cause.status_is cause.reaches found.2)))
+      known_decides status job asked (some_known (λ held. IsSomeAnd (held cause.file) (IsRefused cause.refusal (total_bytes cause.before))) cause.refused)
+      (λ held known. bytes_verdict job old held known (outcome_status o) status cause)
 
   untyped_decides : AskForGiven words (IsKnownUntyped old) → Contains (CHECK ∷ instead_for_file) (outcome_status o)
-  untyped_decides (job, (asked, cause)) =
-      let found = Some-from_is_some old.contents cause.known in
-      decided CHECK job found.0 found.1 asked (inr (inr
-      (given_passes (Links (Rewrites (main_name job) CHECK (outcome_status o)) (main_name job)) found.0 found.1 cause.linked.source CHECK (inr (cause.linked.linked, inl (cause.untyped, refl))))))
+  untyped_decides (job, (asked, cause)) = known_decides CHECK job asked cause.known (λ held known. untyped_verdict job old held known (outcome_status o) cause)
 
   unlinked_decides : AskForGiven words (IsKnownUnlinked old) → Contains (LINK ∷ instead_for_file) (outcome_status o)
-  unlinked_decides (job, (asked, cause)) =
-      let found = Some-from_is_some old.contents cause.known in
-      decided LINK job found.0 found.1 asked (inr (inr
-      (given_passes (Links (Rewrites (main_name job) LINK (outcome_status o)) (main_name job)) found.0 found.1 cause.source LINK (inl (cause.refused, refl)))))
+  unlinked_decides (job, (asked, cause)) = known_decides LINK job asked cause.known (λ held known. unlinked_verdict job old held known (outcome_status o) cause)
 
   rewriting_decides : (status : ℕ) → AskFor words (IsKnownAs status old) → Contains (status ∷ instead_for_file) (outcome_status o)
   rewriting_decides status (job, (asked, cause)) =
-      let found = Some-from_is_some old.contents cause.known in
-      decided status job found.0 found.1 asked (inr (inr
-      (given_passes (Links (Rewrites (main_name job) status (outcome_status o)) (main_name job)) found.0 found.1 cause.checked.linked.source status
-      (inr (cause.checked.linked.linked, inr (cause.checked.typed, inl (cause.becomes, refl)))))))
+      known_decides status job asked cause.known (λ held known. rewriting_verdict job old held known (outcome_status o) status cause)
+
+  -- what the reads returned decides as known contents do
+  returned_decides : (held : Bytes → Option Bytes) (status : ℕ) → ReadsFrom held old new → AskFor words (IsKnownStatus status (with_contents held old))
+      → Contains (status ∷ instead_for_file) (outcome_status o)
+  returned_decides held status reads (job, (asked, cause)) =
+      decided status job held (returned_seen held old new reads (given_of job)) asked (known_verdict job (with_contents held old) held refl (outcome_status o) status cause)
 
   many_decide : AskForGiven words HasTooMany → Contains (LIMIT ∷ instead_for_words) (outcome_status o)
   many_decide (job, (asked, many)) = ⊎_elim
@@ -433,6 +478,16 @@ module _ (words : List Bytes) (old new : Disk) (o : Outcome) (comes : ComesOf wo
     go (inl none) = absurd (let same = none.writes name in omega arith)
     go (inr (inl read)) = absurd (let same = read.1 name in omega arith)
     go (inr (inr write)) = (0, omega arith, sym write.0)
+
+-- a status that isn't that of a read
+pub without_read : (status result : ℕ) → result ≢ READ → Contains (status ∷ instead_for_file) result → Contains (status ∷ WRITE ∷ OUT_OF_MEMORY ∷ []) result
+without_read status result unread among = by (Contains-cons_cases status instead_for_file result among) where
+  by : (result ≡ status) ⊎ Contains instead_for_file result → Contains (status ∷ WRITE ∷ OUT_OF_MEMORY ∷ []) result
+  by (inl is) = (0, omega arith, sym is)
+  by (inr rest) = ⊎_elim
+      (λ (is : result ≡ READ). absurd (unread is))
+      (λ (last : Contains (WRITE ∷ OUT_OF_MEMORY ∷ []) result). Contains-append_right (status ∷ []) (WRITE ∷ OUT_OF_MEMORY ∷ []) result last)
+      (Contains-cons_cases READ (WRITE ∷ OUT_OF_MEMORY ∷ []) result rest)
 
 -- ---- the clauses
 
@@ -509,6 +564,12 @@ module _ {words : List Bytes} {old new : Disk} (before after report report' : Ou
   pub is_for_done : IsForDone words old new before after report report' result
   is_for_done =
       of_files DONE (λ e. omega arith) (λ e. omega arith) (λ e. omega arith) (λ j is line. inl (done_said words old new before after report report' o j is line)) (rewriting_decides words old new o comes DONE)
+
+  pub is_for_returned : IsForReturned words old new result
+  is_for_returned held status reads asks =
+      without_read status result unread (told_of_file (outcome_line o) (outcome_status o) from to result own status (returned_decides words old new o comes held status reads asks)) where
+        unread : result ≢ READ
+        unread is = let said = is_for_read.only is in not_unread held old new reads said.job.files said.file said.unread
 
   pub is_for_write : IsForWrite words old new before after report report' result
   is_for_write = record {

@@ -22,6 +22,7 @@ use Rattle.fm_load.specs.Given.{AreGiven, Given, IsUnread}
 use Rattle.fm_load.specs.Taking.{ClassIsSpelled}
 use Rattle.fm_rewrite.specs.FreeCalls.{first_call}
 use Rattle.fm_world.specs.Programs.{program_of}
+use Rattle.freeme.proofs.CauseLemmas.{without_read}
 use Rattle.freeme.proofs.WrittenLemmas.{names_same}
 use Rattle.freeme.specs.Causes.{AskFor, BecomesAs, IsForDone, IsForRead, IsForWrite, IsKnownAs, SaysRead, SaysWrite, cause_status}
 use Rattle.freeme.specs.Complete.{CanBeDone, IsComplete, NothingFails}
@@ -37,16 +38,13 @@ element xs i x at = subst (Contains xs) (get_or_from_slice_get xs i x x at) (Con
 
 -- a status that is neither that of a read nor that of a write
 done_or_memory : (result : ℕ) → result ≢ READ → result ≢ WRITE → Contains (DONE ∷ instead_for_file) result → Contains (DONE ∷ OUT_OF_MEMORY ∷ []) result
-done_or_memory result unread unwritten among = by (Contains-cons_cases DONE instead_for_file result among) where
-  late : Contains (WRITE ∷ OUT_OF_MEMORY ∷ []) result → Contains (DONE ∷ OUT_OF_MEMORY ∷ []) result
-  late rest = ⊎_elim
+done_or_memory result unread unwritten among = by (Contains-cons_cases DONE (WRITE ∷ OUT_OF_MEMORY ∷ []) result (without_read DONE result unread among)) where
+  by : (result ≡ DONE) ⊎ Contains (WRITE ∷ OUT_OF_MEMORY ∷ []) result → Contains (DONE ∷ OUT_OF_MEMORY ∷ []) result
+  by (inl is) = (0, omega arith, sym is)
+  by (inr rest) = ⊎_elim
       (λ (is : result ≡ WRITE). absurd (unwritten is))
       (λ (last : Contains (OUT_OF_MEMORY ∷ []) result). Contains-append_right (DONE ∷ []) (OUT_OF_MEMORY ∷ []) result last)
       (Contains-cons_cases WRITE (OUT_OF_MEMORY ∷ []) result rest)
-
-  by : (result ≡ DONE) ⊎ Contains instead_for_file result → Contains (DONE ∷ OUT_OF_MEMORY ∷ []) result
-  by (inl is) = (0, omega arith, sym is)
-  by (inr rest) = ⊎_elim (λ (is : result ≡ READ). absurd (unread is)) late (Contains-cons_cases READ (WRITE ∷ OUT_OF_MEMORY ∷ []) result rest)
 
 -- ---- classes
 

@@ -1,5 +1,5 @@
 -- What a job leaves after its files are read, and after its classes are written.
-use Rattle.std.proofs.Common.{◌≡◌, ◌≢◌, ◌≤◌, ℕ, ◌+◌, inl, inr, ⊎_elim, List, [], ◌∷◌, ◌++◌, append-nil, length, map, take, Contains, Option, Some, None, IfSome, IsSomeAnd, Bor, Result, Ok, Err, string_bytes, refl, sym, ap, ◌∙◌, subst, arith}
+use Rattle.std.proofs.Common.{◌≡◌, ◌≢◌, ◌≤◌, ℕ, ◌+◌, inl, inr, ⊎_elim, List, [], ◌∷◌, ◌++◌, length, map, take, Contains, Option, Some, None, IfSome, IsSomeAnd, Bor, Result, Ok, Err, string_bytes, refl, sym, ap, ◌∙◌, subst, arith}
 use Rattle.std.specs.List.{AllByRecursion, slice_get}
 use Rattle.std.proofs.lemmas.List.{take-map}
 use Rattle.std.proofs.lemmas.List.Elements.{All-contains, All-from_recursion}
@@ -44,7 +44,7 @@ use Rattle.freeme.specs.TopCall.{AreFreed, AreTakenAgain, IsFirstCause, IsNotFre
 use Rattle.freeme.specs.Writing.{HasName, class_text, written_name, class_lines, IsClassFileIn, IsFileOf, AreWritten, AllWritten, class_writes}
 use Rattle.fm_load.specs.Judging.{ComesOfProgram}
 use Rattle.fm_load.specs.Reading.{ReadsAll}
-use Rattle.fm_load.specs.Returned.{ReadsAs, ReadsFirst, returned}
+use Rattle.fm_load.specs.Returned.{ReadsAs, ReadsFirst}
 use Rattle.fm_load.specs.inner.Giving.{AreMadeOf}
 use Rattle.freeme.specs.inner.Freeing.{ComesOfFreeing}
 use Rattle.freeme.specs.inner.Writing.{AreApart, KeepsReads, ComesOfClasses}
@@ -55,6 +55,7 @@ use Rattle.fm_load.specs.declared.refusal.JobRefusal.TheVariants as job_refusal
 use Rattle.fm_load.proofs.ChangesLemmas.{rises_of_kept, rises_then, changes_of_kept, changes_then, faultless_then, write_fault_then}
 use Rattle.fm_cli_requests.specs.declared.freeme_request.FreemeRequest.{FreemeRequest}
 use Rattle.fm_load.proofs.GivenLemmas.{given_accepted, given_returned, given_short, given_spelled}
+use Rattle.fm_load.proofs.ReturnedLemmas.{reads_first}
 
 -- ---- classes that are taken
 
@@ -96,7 +97,7 @@ module _ (job : FreemeJob) (old new : Disk) (classes : List ClassDef) (source : 
 
   -- nothing else was read
   read_first : ReadsFirst job.files classes old new
-  read_first = ([], calls ∙ ap (λ (more : List Call). old.reads ++ more) (sym (append-nil (returned job.files classes))))
+  read_first = reads_first job.files classes old new calls
 
   -- they make no program
   pub is_not_linked : (cause : Option Refusal) → IsSomeAnd cause (λ r. slice_get (refusals classes (main_name job)) 0 ≡ Some r) → IsNotLinked (given_of job) cause old new

@@ -18,7 +18,7 @@ use Rattle.fm_load.specs.Causes.{FailsARead, FailsAWrite, IsMissing}
 use Rattle.freeme.proofs.CauseLemmas.{faultless_statuses}
 use Rattle.freeme.proofs.PutLemmas.{line_once}
 use Rattle.freeme.proofs.StatusLemmas.{all_statuses}
-use Rattle.freeme.specs.Causes.{AskFor, AskForGiven, ChangesOnly, IsFaultless, IsForBytes, IsForCheck, IsForDone, IsForLimit, IsForLink, IsForMemory, IsForRead, IsForRewrite, IsForText, IsForWords, IsForWrite, IsSilent, IsStatus, KeepsContents, PutsOnce, before_writes}
+use Rattle.freeme.specs.Causes.{AskFor, AskForGiven, ChangesOnly, IsFaultless, IsForBytes, IsForCheck, IsForDone, IsForLimit, IsForLink, IsForMemory, IsForRead, IsForReturned, IsForRewrite, IsForText, IsForWords, IsForWrite, IsSilent, IsStatus, KeepsContents, PutsOnce, before_writes}
 use Rattle.freeme.specs.TopCall.{IsTextPut, IsTopCall, text_bytes}
 
 module _ (words : List Bytes) (files : Disk) (before after report : Output) (result : ℕ) (asked : ProgramText) (asks : AskForText words asked) (reports : Tells (text_bytes asked) DONE before after result) where
@@ -129,6 +129,9 @@ module _ (words : List Bytes) (files : Disk) (before after report : Output) (res
     some : (own : ProgramText) → 0 < length (text_bytes own)
     some text.Help = omega arith
     some text.Version = omega arith
+
+  pub text_returned : IsForReturned words files files result
+  text_returned held status reads asks = absurd (no_job asks.0 asks.1.0)
 
   pub text_changes : ChangesOnly words files files
   text_changes = record { asked = λ job has. absurd (no_job job has); unasked = λ none. refl }

@@ -27,6 +27,7 @@ use Rattle.freeme.specs.TopCall.{StaysWithin, IsDone, IsUnwritten, IsBroken, IsN
 use Rattle.freeme.specs.declared.status.TheConstants.{CALLS_FREE, POOL_FULL, METHOD_TOO_LONG}
 use Rattle.fm_load.specs.Causes.{FailsARead, FailsAWrite, HasTooMany, IsMissing, IsKnownLong, IsKnownRefused, IsKnownUnlinked, IsKnownUntyped}
 use Rattle.fm_load.specs.Given.{Given, IsUntouched, AreMany, IsUnread, IsLong, IsRefusedFile, IsNotLinked, IsNotTyped, AreChecked, given_program}
+use Rattle.fm_load.specs.Returned.{ReadsFrom, with_contents}
 use Rattle.fm_load.specs.declared.class_refusal.ClassRefusal.{ClassRefusal}
 
 -- there is no other status
@@ -269,6 +270,24 @@ abbrev pub IsForMemory : List Bytes → Disk → Disk → Output → Output → 
 IsForMemory words old new before after report report' result =
     result ≡ OUT_OF_MEMORY
     → SaysMemory words old new before after report report' ⊎ (LacksLine words old new before after report report' ⊎ AskOnlyForText words)
+
+-- ---- what reads returned
+
+-- contents are known, and this is the status of a job: a class file is too long, or refused by its bytes, or they make no program, or
+-- one of which a method isn't typed, or one that is rewritten or not
+abbrev pub IsKnownStatus : ℕ → Disk → FreemeJob → Type 0
+IsKnownStatus status old job =
+    ((status ≡ LIMIT) × IsKnownLong old (given_of job))
+    ⊎ (IsKnownRefused status old (given_of job)
+    ⊎ (((status ≡ LINK) × IsKnownUnlinked old (given_of job))
+    ⊎ (((status ≡ CHECK) × IsKnownUntyped old (given_of job)) ⊎ IsKnownAs status old job)))
+
+-- Where each read of the call returned bytes, known contents that hold these bytes decide the status, unless a write or the put fails or
+-- memory can't be had. So what is said above of known contents holds of what the reads returned, of files of the system too.
+abbrev pub IsForReturned : List Bytes → Disk → Disk → ℕ → Type 0
+IsForReturned words old new result =
+    (held : Bytes → Option Bytes) (status : ℕ) → ReadsFrom held old new → AskFor words (IsKnownStatus status (with_contents held old))
+    → Contains (status ∷ WRITE ∷ OUT_OF_MEMORY ∷ []) result
 
 -- ---- what changes
 

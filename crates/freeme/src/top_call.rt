@@ -2,7 +2,7 @@
 
 ghost use Rattle.fm_cli.specs.Words.{texts};
 ghost use Rattle.fm_cli.specs.declared.status.TheConstants.{MALFORMED, UNSUPPORTED, VERSION};
-ghost use Rattle.freeme.specs.Causes.{ChangesOnly, IsFaultless, IsForBytes, IsForCheck, IsForDone, IsForLimit, IsForLink, IsForMemory, IsForRead, IsForRewrite, IsForText, IsForWords, IsForWrite, IsSilent, IsStatus, KeepsContents, PutsOnce};
+ghost use Rattle.freeme.specs.Causes.{ChangesOnly, IsFaultless, IsForBytes, IsForCheck, IsForDone, IsForLimit, IsForLink, IsForMemory, IsForRead, IsForReturned, IsForRewrite, IsForText, IsForWords, IsForWrite, IsSilent, IsStatus, KeepsContents, PutsOnce};
 ghost use Rattle.freeme.specs.Complete.{IsComplete};
 ghost use Rattle.fm_cli_requests.specs.FreemeRequest.{job_of};
 ghost use Rattle.fm_load.specs.Given.{IsMadeAlone};
@@ -96,6 +96,10 @@ pub fn freeme_run<F: Files, O: Sink, R: Sink>(
     ensures complete { IsComplete (texts words.now)
         (F.disk files.old) (F.disk files.new) (O.output out.old) (O.output out.new)
         (R.output report.old) (R.output report.new) result }
+
+    // What the reads returned decides the status as known contents do.
+    ensures returned { IsForReturned (texts words.now)
+        (F.disk files.old) (F.disk files.new) result }
 
     // What fails and what changes.
     ensures faultless { IsFaultless

@@ -2,12 +2,12 @@ use Rattle.std.proofs.Common.{arith, inr}
 use Rattle.fm_cli.specs.Words.{texts}
 use Rattle.fm_cli.specs.declared.status.TheConstants.{MALFORMED, VERSION, UNSUPPORTED}
 use Rattle.freeme.specs.declared.status.TheConstants.{CALLS_FREE, POOL_FULL, METHOD_TOO_LONG}
-use Rattle.freeme.proofs.CauseLemmas.{is_for_words, is_for_read, is_for_bytes, is_for_limit, is_for_link, is_for_check, is_for_rewrite, is_for_done, is_for_text, is_for_write, is_for_memory, is_faultless, is_silent, keeps_contents, changes_only}
+use Rattle.freeme.proofs.CauseLemmas.{is_for_words, is_for_read, is_for_bytes, is_for_limit, is_for_link, is_for_check, is_for_returned, is_for_rewrite, is_for_done, is_for_text, is_for_write, is_for_memory, is_faultless, is_silent, keeps_contents, changes_only}
 use Rattle.freeme.proofs.CompleteLemmas.{is_complete}
 use Rattle.freeme.proofs.PutLemmas.{puts_once}
 use Rattle.freeme.proofs.StatusLemmas.{is_status}
 use Rattle.freeme.proofs.MeaningLemmas.{keeps_meaning}
-use Rattle.freeme.proofs.TextLemmas.{text_changes, text_check, text_done, text_faultless, text_kept, text_limit, text_link, text_memory, text_of_bytes, text_once, text_read, text_rewrite, text_silent, text_status, text_text, text_whole, text_words, text_write}
+use Rattle.freeme.proofs.TextLemmas.{text_changes, text_check, text_done, text_faultless, text_kept, text_limit, text_link, text_memory, text_of_bytes, text_once, text_read, text_returned, text_rewrite, text_silent, text_status, text_text, text_whole, text_words, text_write}
 use Rattle.freeme.proofs.top_call.freeme_run.Goals as goal
 
 pub returns-in-Some : goal.returns-in-Some
@@ -42,6 +42,7 @@ returns-in-Some g c =
       complete =
           is_complete words files files before after report report result (text_done words files before after report result asked asks reports)
           (text_read words files before after report result asked asks reports) (text_write words files before after report result asked asks reports);
+      returned = text_returned words files before after report result asked asks reports;
       faultless = text_faultless words files before after report result asked asks reports;
       kept = text_kept words files before after report result asked asks reports;
       silent = text_silent words files before after report result asked asks reports;
@@ -84,6 +85,7 @@ returns-in-None g c =
       complete =
           is_complete words old new before after report report' result (is_for_done before after report report' result o comes reports)
           (is_for_read before after report report' result o comes reports) (is_for_write before after report report' result o comes reports);
+      returned = is_for_returned before after report report' result o comes reports;
       faultless = is_faultless before after report report' result o comes reports;
       kept = keeps_contents before after report report' result o comes reports;
       silent = is_silent before after report report' result o comes reports;
