@@ -6,6 +6,7 @@ use Rattle.std.proofs.lemmas.List.Elements.{All-contains, All-from_recursion}
 use Rattle.std.proofs.lemmas.Option.{slice_get-map}
 use Rattle.std.specs.Option.{option_map}
 use Rattle.fm_summ_shapes.specs.Analysed.{IsAccepted}
+use Rattle.fm_law_beside_freeme.specs.Written.{WrittenHaveLengthsAlone}
 use Rattle.fm_law_relinked.specs.Again.{SafeClassesLink}
 use Rattle.fm_base.proofs.ListFacts.{AllByRecursion-both, AllByRecursion-weaker}
 use Rattle.fm_base.proofs.OptionFacts.{Some-from_some_and, IsSome-from_some}
@@ -337,10 +338,10 @@ module _ {request : FreemeRequest} {names : List (Bor Bytes)} {classes : List Cl
         are_spelled_so made.classes.items
         (written_spelled classes (main_name (job_of request)) made judged (given_short reads.source) rewritten)
 
-    taken_again : SafeClassesLink → SafeClassesAreTyped → AreTakenAgain classes (main_name (job_of request)) made rewritten
-    taken_again link retype =
+    taken_again : SafeClassesLink → SafeClassesAreTyped → WrittenHaveLengthsAlone → AreTakenAgain classes (main_name (job_of request)) made rewritten
+    taken_again link retype lengths =
         again_taken classes (main_name (job_of request)) made (judged_spelled classes (program_of classes (main_name (job_of request))) judged) checked.linked.linked rewritten
-        link retype
+        link retype lengths
 
     made_profiles : AllByRecursion Profile made.classes.items
     made_profiles =
@@ -353,14 +354,14 @@ module _ {request : FreemeRequest} {names : List (Bor Bytes)} {classes : List Cl
         (AllByRecursion-weaker ClassIsSpelled HasSpelling (λ c spells. (class_bytes c, spells)) made.classes.items made_spelled)
         (AllByRecursion-weaker Profile IsSupported (λ c profile. profile.supported) made.classes.items made_profiles)
 
-    abbrev freed : SafeClassesLink → SafeClassesAreTyped → CheckedAreTaken → ClassesDoTheSame → AreFreed (job_of request) old.contents made
-    freed link retype taken same = record {
+    abbrev freed : SafeClassesLink → SafeClassesAreTyped → WrittenHaveLengthsAlone → CheckedAreTaken → ClassesDoTheSame → AreFreed (job_of request) old.contents made
+    freed link retype lengths taken same = record {
       classes = classes;
       checked = checked;
       rewritten = rewritten;
       spelled = made_spelled;
       profile = made_profiles;
-      again = taken_again link retype;
+      again = taken_again link retype lengths;
       does = does_the_same taken same;
     }
 
@@ -383,15 +384,15 @@ module _ {request : FreemeRequest} {names : List (Bor Bytes)} {classes : List Cl
     pub ends_within : (r : Result Unit JobRefusal) → ComesOfClasses request.folder.now written between new r → StaysWithin (job_of request) old new
     ends_within r comes = writes_within (job_of request) old between new reads.all keeps (writes_in request.folder.now written between new r comes)
 
-  module _ {new : Disk} (keeps : KeepsReads between new) (link : SafeClassesLink) (retype : SafeClassesAreTyped) (taken : CheckedAreTaken) (same : ClassesDoTheSame) (checked : AreChecked (given_of (job_of request)) old.contents classes) (made : Rewritten) (rewritten : AreRewritten classes (main_name (job_of request)) made) {written : List ClassDef} (lent : written ≡ made.classes.items) where
+  module _ {new : Disk} (keeps : KeepsReads between new) (link : SafeClassesLink) (retype : SafeClassesAreTyped) (lengths : WrittenHaveLengthsAlone) (taken : CheckedAreTaken) (same : ClassesDoTheSame) (checked : AreChecked (given_of (job_of request)) old.contents classes) (made : Rewritten) (rewritten : AreRewritten classes (main_name (job_of request)) made) {written : List ClassDef} (lent : written ≡ made.classes.items) where
     pub ends_done : {counts : List Count} (lines : List ℕ) → counts ≡ made.counts.items → lines ≡ class_lines written counts → AllWritten request.folder.now written between new
         → IsDone (job_of request) lines old new
     ends_done lines reported is now =
         let P : List ClassDef → Type 0 = λ cs. AllWritten request.folder.now cs between new in
-        is_done (job_of request) old between new reads.all keeps made reads.faultless (freed checked made rewritten link retype taken same) reads.calls lines
+        is_done (job_of request) old between new reads.all keeps made reads.faultless (freed checked made rewritten link retype lengths taken same) reads.calls lines
         (is ∙ ap (class_lines written) reported ∙ ap (λ (cs : List ClassDef). class_lines cs made.counts.items) lent) (subst P lent now)
 
     pub ends_unwritten : (r : JobRefusal) → ComesOfClasses request.folder.now written between new (Err r) → ComesTo (job_of request) old new (Err (free_refusal.Job r))
     ends_unwritten r now =
         let P : List ClassDef → Type 0 = λ cs. ComesOfClasses request.folder.now cs between new (Err r) in
-        write_ended (job_of request) old between new reads.all keeps made reads.faultless (freed checked made rewritten link retype taken same) reads.calls r (subst P lent now)
+        write_ended (job_of request) old between new reads.all keeps made reads.faultless (freed checked made rewritten link retype lengths taken same) reads.calls r (subst P lent now)

@@ -2,11 +2,13 @@
 use Rattle.std.proofs.Common.{◌≡◌, ℕ, List, [], Option, Some, None, IsSome, refl}
 use Rattle.std.specs.List.{AllByRecursion}
 use Rattle.std.proofs.lemmas.Bool.{false≢true}
+use Rattle.fm_law_beside_freeme.specs.Written.{WrittenHaveLengthsAlone}
 use Rattle.fm_law_relinked.specs.Again.{SafeClassesLink}
 use Rattle.fm_code.specs.Spells.{HasSpelling}
 use Rattle.fm_code.specs.declared.class_file.ClassDef.{ClassDef}
 use Rattle.fm_code.specs.declared.code_array.Code.{Code}
-use Rattle.fm_place.proofs.FullLemmas.{full_is_safe}
+use Rattle.fm_place.proofs.FullLemmas.{method-safe}
+use Rattle.fm_place.specs.Safe.{full_plans, Safe}
 use Rattle.fm_law_retyped.specs.Retyped.{SafeClassesAreTyped}
 use Rattle.fm_rewrite.specs.Rewritten.{AreRewritten}
 use Rattle.fm_rewrite.specs.declared.rewriting.Rewritten.{Rewritten}
@@ -22,11 +24,23 @@ typed_if_coded p method with_code some = by (code_at p method) refl some where
   by None is none = absurd (false≢true none)
   by (Some code) is some = with_code code is
 
+-- what is inserted by the facts by which the classes are rewritten is safe
+abbrev own_safe : (given : List ClassDef) (main : List ℕ) (made : Rewritten) (are : AreRewritten given main made) → Safe given main made.classes.items are.marks
+own_safe given main made are = record {
+  facts = are.full.facts;
+  exact = are.full.exact;
+  plans = full_plans (program_of given main) are.full.facts;
+  methods = method-safe (program_of given main) are.full.facts;
+  written_is = are.full.written_is;
+  marks_are = are.full.marks_are;
+}
+
 pub again_taken : (given : List ClassDef) (main : List ℕ) (made : Rewritten) → AllByRecursion HasSpelling given → refusals given main ≡ []
-    → (are : AreRewritten given main made) → SafeClassesLink → SafeClassesAreTyped → AreTakenAgain given main made are
-again_taken given main made spelled linked are link retype =
+    → (are : AreRewritten given main made) → SafeClassesLink → SafeClassesAreTyped → WrittenHaveLengthsAlone → AreTakenAgain given main made are
+again_taken given main made spelled linked are link retype lengths =
     let written = made.classes.items in
     record {
-      links = (link given main written are.marks spelled linked (full_is_safe given main written are.marks are.full)).links;
-      typed = λ safe ready method. typed_if_coded (program_of written main) method (retype given main written are.marks spelled linked safe ready method);
+      links = (link given main written are.marks spelled linked (own_safe given main made are)).links;
+      typed = λ ready method. typed_if_coded (program_of written main) method (retype given main written are.marks spelled linked (own_safe given main made are) ready method);
+      files = λ ready. lengths given main written are.marks spelled linked (own_safe given main made are) ready;
     }

@@ -1,13 +1,14 @@
 -- What one call of the program does to the files, to its output and to the sink of its report.
 use Rattle.std.specs.declared.alloc.Global.{Global}
-use Rattle.std.specs.Prelude.{◌≡◌, ℕ, ◌⊎◌, List, [], ◌∷◌, Contains, IfSome, Result, Ok, Err, String, string_bytes}
+use Rattle.std.specs.Prelude.{◌≡◌, ℕ, ◌⊎◌, List, [], ◌∷◌, Contains, Option, Some, None, IfSome, Result, Ok, Err, String, string_bytes}
 use Rattle.std.specs.List.{AllByRecursion}
 use Rattle.fm_files.specs.Files.{Bytes, Contents, Disk}
 use Rattle.fm_files.specs.Sink.{Output, FailsPut}
 use Rattle.fm_code.specs.Profile.{Profile}
 use Rattle.fm_code.specs.declared.class_file.ClassDef.{ClassDef}
-use Rattle.fm_place.specs.Safe.{Safe}
+use Rattle.fm_place.specs.Safe.{full_plans}
 use Rattle.fm_link_refusals.specs.Refused.{refusal_of}
+use Rattle.fm_law_beside_freeme.specs.Lengths.{AreHeld, HasLengthsAlone}
 use Rattle.fm_law_headline.specs.Headline.{DoesTheSame}
 use Rattle.fm_law_retyped.specs.Retyped.{NoneUnready}
 use Rattle.fm_rewrite.specs.Rewritten.{AreRewritten, ComesOfRewriting}
@@ -49,12 +50,25 @@ pub record StaysWithin (job : FreemeJob) (old new : Disk) : Type 0 where
 
 -- ---- how a job comes out
 
--- The classes that are written are taken again: they link, and their methods that have code are typed where, by the facts and plans
--- by which they are safe, no local holds an object that isn't initialised while the constructor of an object that is held is called.
+-- By the facts by which the classes are rewritten no local holds an object that isn't initialised where the constructor of an object
+-- that is held is called (JVMS 4.10.2.4). Only a copy of this same object does harm, where a handler's range ends right behind the call:
+-- what is inserted there is in the range too, and the handler would get the copy both before it is initialised and after.
+abbrev pub AreLocalsReady : (given : List ClassDef) (main : List ℕ) (made : Rewritten) → AreRewritten given main made → Type 0
+AreLocalsReady given main made are = NoneUnready (program_of given main) are.full.facts (full_plans (program_of given main) are.full.facts)
+
+-- files that hold the classes that are written aren't refused with the same main class, but for their number or their lengths, as far
+-- as contents decide
+abbrev pub AreFilesTaken : List ℕ → Rewritten → Type 0
+AreFilesTaken main made =
+    (held : Bytes → Option Bytes) (files : List Bytes) → AreHeld held files made.classes.items → (old : Disk) → old.contents ≡ Some held
+    → HasLengthsAlone old (record { files = files; made = None; main = main })
+
+-- The classes that are written are taken again: they link, and where locals are ready their methods that have code are typed, and files
+-- that hold them are taken.
 pub record AreTakenAgain (given : List ClassDef) (main : List ℕ) (made : Rewritten) (are : AreRewritten given main made) : Type 0 where
   pub links : refusals made.classes.items main ≡ []
-  pub typed : (safe : Safe given main made.classes.items are.marks) → NoneUnready (program_of given main) safe.facts safe.plans
-      → AreTyped (program_of made.classes.items main)
+  pub typed : AreLocalsReady given main made are → AreTyped (program_of made.classes.items main)
+  pub files : AreLocalsReady given main made are → AreFilesTaken main made
 
 -- Its class files make a program of typed methods that calls no FreeMe, and these are its classes
 -- with a holder for each held site that is freed at all its places, where it may hold something and

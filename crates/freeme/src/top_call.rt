@@ -23,6 +23,7 @@ use fm_cli_requests::ProgramText;
 use fm_cli_requests::freeme_request::{FreemeRequest, request_of};
 use fm_code::ClassDef;
 use fm_files::{Files, Sink};
+use fm_law_beside_freeme::law_written;
 use fm_law_headline::{law_headline, law_taken};
 use fm_law_relinked::law_links;
 use fm_law_retyped::law_typed;
@@ -157,9 +158,11 @@ fn do_job<'a, F: Files>(
     let classes: &[ClassDef] = &read;
     let program = judge_program(alloc, classes, request.main)?;
     let made = freed_classes(alloc, &program, classes)?;
-    // For their clauses: the classes written link, their methods are typed, and they do what those read do.
+    // For their clauses: the classes written link, their methods are typed, files that hold them are taken, and they
+    // do what those read do.
     law_links();
     law_typed();
+    law_written();
     law_taken();
     law_headline();
     let written: &[ClassDef] = &made.classes;
