@@ -14,19 +14,17 @@ use Rattle.fm_cli.proofs.LineLemmas.{instead_for_file, instead_for_words, told_a
 use Rattle.fm_cli.proofs.OutsideLemmas.{no_fault_where_same}
 use Rattle.fm_cli.specs.declared.status.TheConstants.{DONE, WORDS, READ, MALFORMED, VERSION, LIMIT, UNSUPPORTED, LINK, CHECK, WRITE, OUT_OF_MEMORY}
 use Rattle.fm_code.specs.declared.class_file.ClassDef.{ClassDef}
-use Rattle.fm_conn.specs.Facts.{AreFacts, Facts}
+use Rattle.fm_law_beside_freeme.specs.Exact.{LeastFactsServeAlike}
 use Rattle.fm_link_refusals.specs.Refused.{refusal_of}
-use Rattle.fm_summ_shapes.specs.Analysed.{AreLeastTypings}
-use Rattle.fm_place.specs.Safe.{full_plans}
 use Rattle.fm_rewrite.specs.FreeCalls.{first_call}
-use Rattle.fm_rewrite.specs.Rewritten.{AreNotRewritten, first_cause}
+use Rattle.fm_rewrite.specs.Rewritten.{AreNotRewritten}
 use Rattle.fm_rewrite.specs.declared.error.RewriteFail.{RewriteFail}
 use Rattle.fm_rewrite.specs.declared.error.RewriteFail.TheVariants as fail
 use Rattle.fm_world.specs.Causes.{Refusal}
 use Rattle.fm_world.specs.Linking.{refusals}
 use Rattle.fm_world.specs.Programs.{program_of}
 use Rattle.fm_load.specs.Given.{AreGiven, AreMany, IsUntouched, AreNotLinked, IsNotLinked, given_program}
-use Rattle.freeme.specs.Causes.{AskFor, AskForGiven, BecomesAs, IsKnownAs, IsKnownStatus, cause_status, SaysWords, SaysRead, SaysRefused, SaysLimit, SaysLink, SaysCheck, SaysNotFreed, SaysDone, SaysUnwritten, SaysWrite, SaysMemory, LacksLine, IsForWords, IsForRead, IsForBytes, IsForLimit, IsForLink, IsForCheck, IsForReturned, IsForRewrite, IsForDone, IsForText, IsForWrite, IsForMemory, IsFaultless, IsSilent, KeepsContents, ChangesOnly, before_writes}
+use Rattle.freeme.specs.Causes.{AskFor, AskForGiven, BecomesAs, BecomesByFacts, IsKnownAs, IsKnownStatus, cause_status, SaysWords, SaysRead, SaysRefused, SaysLimit, SaysLink, SaysCheck, SaysNotFreed, SaysDone, SaysUnwritten, SaysWrite, SaysMemory, LacksLine, IsForWords, IsForRead, IsForBytes, IsForLimit, IsForLink, IsForCheck, IsForReturned, IsForRewrite, IsForDone, IsForText, IsForWrite, IsForMemory, IsFaultless, IsSilent, KeepsContents, ChangesOnly, before_writes}
 use Rattle.fm_load.specs.Causes.{FailsARead, FailsAWrite, IsMissing, HasTooMany, IsKnownLong, IsKnownRefused, IsKnownUnlinked, IsKnownUntyped}
 use Rattle.fm_load.specs.LinkRefusal.{cause_line}
 use Rattle.fm_load.specs.Returned.{ReadsFirst, ReadsFrom, with_contents}
@@ -215,72 +213,52 @@ keeps words old new o (inr (inr lacking)) done write memory = unchanged_where_sa
 
 -- ---- verdicts, where contents are known
 
--- this status comes of classes
-abbrev IsKnown : List ℕ → ℕ → List ClassDef → Type 0
-IsKnown main known classes = BecomesAs known classes main (first_call (program_of classes main))
+-- this status comes of classes that are linked and typed
+abbrev Rewrites : List ℕ → Ends
+Rewrites main classes status = BecomesAs status classes main (first_call (program_of classes main))
 
--- their program calls FreeMe
-abbrev FindsCall : List ℕ → List ClassDef → Type 0
-FindsCall main classes = (call : ℕ × ℕ) × (first_call (program_of classes main) ≡ Some call)
+-- one does, as exact facts over least typings serve alike
+rewrites_once : LeastFactsServeAlike → (main : List ℕ) → EndsOnce (Rewrites main)
+rewrites_once alike main classes s t = by (first_call (program_of classes main)) where
+  by : (call : Option (ℕ × ℕ)) → BecomesAs s classes main call → BecomesAs t classes main call → s ≡ t
+  by (Some call) a b = sym a ∙ b
+  by None a b =
+      let same = alike classes main a.facts b.facts (record { exact = a.exact; least = a.least }) (record { exact = b.exact; least = b.least }) in
+      sym a.status_is ∙ ap cause_status same.cause ∙ b.status_is
 
--- it doesn't, and by some exact facts with least typings this status comes of it
-pub record FindsFacts (main : List ℕ) (found : ℕ) (classes : List ClassDef) : Type 0 where
-  pub no_call : first_call (program_of classes main) ≡ None
-  pub facts : Facts
-  pub exact : AreFacts (program_of classes main) facts
-  pub least : AreLeastTypings (program_of classes main) facts.typing
-  pub status : cause_status (first_cause (full_plans (program_of classes main) facts) classes) ≡ found
+-- by facts, where there is no call of FreeMe
+becomes_by : (main : List ℕ) (classes : List ClassDef) (status : ℕ) → first_call (program_of classes main) ≡ None → BecomesByFacts status classes main → Rewrites main classes status
+becomes_by main classes status none by = let P : Option (ℕ × ℕ) → Type 0 = BecomesAs status classes main in subst P (sym none) by
 
-abbrev IsFound : List ℕ → ℕ → List ClassDef → Type 0
-IsFound main found classes = (FindsCall main classes × (CALLS_FREE ≡ found)) ⊎ FindsFacts main found classes
-
--- what is known is what is found
-found_known : (main : List ℕ) (known found : ℕ) (classes : List ClassDef) → IsKnown main known classes → IsFound main found classes → known ≡ found
-found_known main known found classes is (inl call) =
-    let P : Option (ℕ × ℕ) → Type 0 = BecomesAs known classes main in sym (subst P call.0.1 is) ∙ call.1
-found_known main known found classes is (inr by) =
-    let P : Option (ℕ × ℕ) → Type 0 = BecomesAs known classes main in sym (subst P by.no_call is by.facts by.exact by.least) ∙ by.status
-
--- the verdict on classes is the one status or the other
-abbrev Rewrites : List ℕ → ℕ → ℕ → Ends
-Rewrites main known found classes status = (IsKnown main known classes × (status ≡ known)) ⊎ (IsFound main found classes × (status ≡ found))
-
-rewrites_once : (main : List ℕ) (known found : ℕ) → EndsOnce (Rewrites main known found)
-rewrites_once main known found classes s t (inl a) (inl b) = a.1 ∙ sym b.1
-rewrites_once main known found classes s t (inl a) (inr b) = a.1 ∙ found_known main known found classes a.0 b.0 ∙ sym b.1
-rewrites_once main known found classes s t (inr a) (inl b) = a.1 ∙ sym (found_known main known found classes b.0 a.0) ∙ sym b.1
-rewrites_once main known found classes s t (inr a) (inr b) = a.1 ∙ sym b.1
-
-by_facts : (main : List ℕ) (classes : List ClassDef) (cause : RewriteFail) → AreNotRewritten classes main cause → FindsFacts main (rewrite_status cause) classes
-by_facts main classes cause refused = record {
-  no_call = refused.no_call;
+by_facts : (main : List ℕ) (classes : List ClassDef) (cause : RewriteFail) → AreNotRewritten classes main cause → Rewrites main classes (rewrite_status cause)
+by_facts main classes cause refused = becomes_by main classes (rewrite_status cause) refused.no_call (record {
   facts = refused.facts;
   exact = refused.exact;
   least = refused.least;
-  status = ap cause_status refused.first;
-}
+  status_is = ap cause_status refused.first;
+})
 
--- the first cause is found
-found_of : (main : List ℕ) (classes : List ClassDef) (cause : RewriteFail) → IsFirstCause classes main cause → IsFound main (rewrite_status cause) classes
-found_of main classes (fail.CallsFree method offset) first = inl ((_, first), refl)
-found_of main classes (fail.PoolFull class indices) first = inr (by_facts main classes (fail.PoolFull class indices) first)
-found_of main classes (fail.MethodTooLong method bytes) first = inr (by_facts main classes (fail.MethodTooLong method bytes) first)
-found_of main classes fail.NoMemory first = absurd first
+-- the first cause gives its status
+cause_becomes : (main : List ℕ) (classes : List ClassDef) (cause : RewriteFail) → IsFirstCause classes main cause → Rewrites main classes (rewrite_status cause)
+cause_becomes main classes (fail.CallsFree method offset) first = let P : Option (ℕ × ℕ) → Type 0 = BecomesAs CALLS_FREE classes main in subst P (sym first) refl
+cause_becomes main classes (fail.PoolFull class indices) first = by_facts main classes (fail.PoolFull class indices) first
+cause_becomes main classes (fail.MethodTooLong method bytes) first = by_facts main classes (fail.MethodTooLong method bytes) first
+cause_becomes main classes fail.NoMemory first = absurd first
 
 -- the verdict on the files of a job
-abbrev JobVerdict : (known found : ℕ) → (Bytes → Option Bytes) → FreemeJob → ℕ → Type 0
-JobVerdict known found held job status = Verdict (Behind job.made (Links (Rewrites (main_name job) known found) (main_name job))) held job.files status
+abbrev JobVerdict : (Bytes → Option Bytes) → FreemeJob → ℕ → Type 0
+JobVerdict held job status = Verdict (Behind job.made (Links (Rewrites (main_name job)) (main_name job))) held job.files status
 
-module _ (job : FreemeJob) (old new : Disk) (held : Bytes → Option Bytes) (seen : IsSeen (given_of job) held old new) (sought : ℕ) where
+module _ (job : FreemeJob) (old new : Disk) (held : Bytes → Option Bytes) (seen : IsSeen (given_of job) held old new) where
   -- classes that are given, with their outcome
   given_known : {classes : List ClassDef} → AreGiven (given_of job) old.contents classes → ReadsFirst job.files classes old new → (status : ℕ)
-      → Links (Rewrites (main_name job) sought status) (main_name job) classes status → JobVerdict sought status held job status
+      → Links (Rewrites (main_name job)) (main_name job) classes status → JobVerdict held job status
   given_known {classes} are reads status last =
-      inr (inr (given_passes (Links (Rewrites (main_name job) sought status) (main_name job)) held refl (seen.given classes are reads) status last))
+      inr (inr (given_passes (Links (Rewrites (main_name job)) (main_name job)) held refl (seen.given classes are reads) status last))
 
   -- the verdict of an outcome, unless it is for a fault or for memory
   abbrev Comes : ℕ → Type 0
-  Comes status = JobVerdict sought status held job status ⊎ ((status ≡ READ) ⊎ ((status ≡ WRITE) ⊎ (status ≡ OUT_OF_MEMORY)))
+  Comes status = JobVerdict held job status ⊎ ((status ≡ READ) ⊎ ((status ≡ WRITE) ⊎ (status ≡ OUT_OF_MEMORY)))
 
   verdict_of : (o : Outcome) → ComesTo job old new o → Comes (outcome_status o)
   verdict_of (Ok lines) comes =
@@ -290,16 +268,12 @@ module _ (job : FreemeJob) (old new : Disk) (held : Bytes → Option Bytes) (see
         freed.checked.linked.linked,
         inr (
           freed.checked.typed,
-          inr (
-            inr (record {
-              no_call = made.no_call;
-              facts = made.full.facts;
-              exact = made.full.exact;
-              least = made.least;
-              status = ap cause_status made.no_cause;
-            }),
-            refl,
-          ),
+          becomes_by (main_name job) freed.classes DONE made.no_call (record {
+            facts = made.full.facts;
+            exact = made.full.exact;
+            least = made.least;
+            status_is = ap cause_status made.no_cause;
+          }),
         ),
       )))
   verdict_of (Err (free_refusal.Job (job_refusal.Shared refusal.Words))) comes = absurd comes
@@ -307,7 +281,7 @@ module _ (job : FreemeJob) (old new : Disk) (held : Bytes → Option Bytes) (see
   verdict_of (Err (free_refusal.Job (job_refusal.Shared (refusal.Read file)))) comes = inr (inl refl)
   verdict_of (Err (free_refusal.Rewrite cause name)) comes =
       inl (given_known comes.checked.linked.source (reads_first job.files comes.classes old new comes.reads) (rewrite_status cause)
-      (inr (comes.checked.linked.linked, inr (comes.checked.typed, inr (found_of (main_name job) comes.classes cause comes.refused, refl)))))
+      (inr (comes.checked.linked.linked, inr (comes.checked.typed, cause_becomes (main_name job) comes.classes cause comes.refused))))
   verdict_of (Err (free_refusal.Job (job_refusal.Shared refusal.OutOfMemory))) comes = inr (inr (inr refl))
   verdict_of (Err (free_refusal.Job (job_refusal.TooManyFiles count))) comes = let count = comes.count_is in let many = comes.many in inl (inl (omega arith, refl))
   verdict_of (Err (free_refusal.Job (job_refusal.TooLong file))) comes = inl (inr (inl (seen.long file.now comes)))
@@ -320,52 +294,50 @@ module _ (job : FreemeJob) (old new : Disk) (held : Bytes → Option Bytes) (see
       inl (given_known comes.linked.source comes.reads CHECK (inr (comes.linked.linked, inl (not_typed (given_program (given_of job) comes.classes) name comes.untyped, refl))))
   verdict_of (Err (free_refusal.Job (job_refusal.Write name))) comes = inr (inr (inl refl))
 
-  own_verdict : (status found : ℕ) → JobVerdict sought found held job status → JobVerdict sought found held job found → status ≡ found
-  own_verdict status found verdict own =
-      let Rest = Rewrites (main_name job) sought found in
-      let once = behind_once job.made (Links Rest (main_name job)) (links_once Rest (main_name job) (rewrites_once (main_name job) sought found)) in
-      one_verdict (Behind job.made (Links Rest (main_name job))) once held job.files status found verdict own
-
   -- files of this verdict have its status, unless there was a fault or memory was lacking
-  status_of : (status : ℕ) (o : Outcome) → JobVerdict sought (outcome_status o) held job status → ComesTo job old new o → Contains (status ∷ instead_for_file) (outcome_status o)
-  status_of status o verdict comes = go (verdict_of o comes) where
+  status_of : LeastFactsServeAlike → (status : ℕ) (o : Outcome) → JobVerdict held job status → ComesTo job old new o → Contains (status ∷ instead_for_file) (outcome_status o)
+  status_of alike status o verdict comes = go (verdict_of o comes) where
+    once : EndsOnce (Behind job.made (Links (Rewrites (main_name job)) (main_name job)))
+    once = behind_once job.made (Links (Rewrites (main_name job)) (main_name job)) (links_once (Rewrites (main_name job)) (main_name job) (rewrites_once alike (main_name job)))
+
     go : Comes (outcome_status o) → Contains (status ∷ instead_for_file) (outcome_status o)
-    go (inl own) = (0, omega arith, own_verdict status (outcome_status o) verdict own)
+    go (inl own) =
+        (0, omega arith, one_verdict (Behind job.made (Links (Rewrites (main_name job)) (main_name job))) once held job.files status (outcome_status o) verdict own)
     go (inr (inl e)) = (1, omega arith, sym e)
     go (inr (inr (inl e))) = (2, omega arith, sym e)
     go (inr (inr (inr e))) = (3, omega arith, sym e)
 
 -- the verdict of each cause, over contents that are known
-module _ (job : FreemeJob) (disk : Disk) (held : Bytes → Option Bytes) (known : disk.contents ≡ Some held) (found : ℕ) where
-  long_verdict : IsKnownLong disk (given_of job) → JobVerdict LIMIT found held job LIMIT
+module _ (job : FreemeJob) (disk : Disk) (held : Bytes → Option Bytes) (known : disk.contents ≡ Some held) where
+  long_verdict : IsKnownLong disk (given_of job) → JobVerdict held job LIMIT
   long_verdict cause =
       let P : Contents → Type 0 = λ c. IsKnownSuch c cause.file (IsTooLong (total_bytes cause.before)) in
       inr (inl (long_stops job.files disk.contents held known cause.file cause.before cause.reaches (subst P known cause.long)))
 
-  bytes_verdict : (status : ℕ) → IsKnownRefused status disk (given_of job) → JobVerdict status found held job status
+  bytes_verdict : (status : ℕ) → IsKnownRefused status disk (given_of job) → JobVerdict held job status
   bytes_verdict status cause =
       let P : Contents → Type 0 = λ c. IsKnownSuch c cause.file (IsRefused cause.refusal (total_bytes cause.before)) in
       inr (inl (bytes_stop job.files disk.contents held known status cause.file cause.before cause.refusal cause.status_is cause.reaches (subst P known cause.refused)))
 
-  unlinked_verdict : IsKnownUnlinked disk (given_of job) → JobVerdict LINK found held job LINK
+  unlinked_verdict : IsKnownUnlinked disk (given_of job) → JobVerdict held job LINK
   unlinked_verdict cause =
-      inr (inr (given_passes (Links (Rewrites (main_name job) LINK found) (main_name job)) held known cause.source LINK (inl (cause.refused, refl))))
+      inr (inr (given_passes (Links (Rewrites (main_name job)) (main_name job)) held known cause.source LINK (inl (cause.refused, refl))))
 
-  untyped_verdict : IsKnownUntyped disk (given_of job) → JobVerdict CHECK found held job CHECK
+  untyped_verdict : IsKnownUntyped disk (given_of job) → JobVerdict held job CHECK
   untyped_verdict cause =
-      inr (inr (given_passes (Links (Rewrites (main_name job) CHECK found) (main_name job)) held known cause.linked.source CHECK
+      inr (inr (given_passes (Links (Rewrites (main_name job)) (main_name job)) held known cause.linked.source CHECK
       (inr (cause.linked.linked, inl (cause.untyped, refl)))))
 
-  rewriting_verdict : (status : ℕ) → IsKnownAs status disk job → JobVerdict status found held job status
+  rewriting_verdict : (status : ℕ) → IsKnownAs status disk job → JobVerdict held job status
   rewriting_verdict status cause =
-      inr (inr (given_passes (Links (Rewrites (main_name job) status found) (main_name job)) held known cause.checked.linked.source status
-      (inr (cause.checked.linked.linked, inr (cause.checked.typed, inl (cause.becomes, refl))))))
+      inr (inr (given_passes (Links (Rewrites (main_name job)) (main_name job)) held known cause.checked.linked.source status
+      (inr (cause.checked.linked.linked, inr (cause.checked.typed, cause.becomes)))))
 
-  known_verdict : (status : ℕ) → IsKnownStatus status disk job → JobVerdict status found held job status
-  known_verdict status (inl (is, cause)) = let P : ℕ → Type 0 = λ s. JobVerdict s found held job s in subst P (sym is) (long_verdict cause)
+  known_verdict : (status : ℕ) → IsKnownStatus status disk job → JobVerdict held job status
+  known_verdict status (inl (is, cause)) = let P : ℕ → Type 0 = λ s. JobVerdict held job s in subst P (sym is) (long_verdict cause)
   known_verdict status (inr (inl cause)) = bytes_verdict status cause
-  known_verdict status (inr (inr (inl (is, cause)))) = let P : ℕ → Type 0 = λ s. JobVerdict s found held job s in subst P (sym is) (unlinked_verdict cause)
-  known_verdict status (inr (inr (inr (inl (is, cause))))) = let P : ℕ → Type 0 = λ s. JobVerdict s found held job s in subst P (sym is) (untyped_verdict cause)
+  known_verdict status (inr (inr (inl (is, cause)))) = let P : ℕ → Type 0 = λ s. JobVerdict held job s in subst P (sym is) (unlinked_verdict cause)
+  known_verdict status (inr (inr (inr (inl (is, cause))))) = let P : ℕ → Type 0 = λ s. JobVerdict held job s in subst P (sym is) (untyped_verdict cause)
   known_verdict status (inr (inr (inr (inr cause)))) = rewriting_verdict status cause
 
 -- ---- the cause of each status
@@ -397,7 +369,7 @@ not_for_words job old new o comes is = omega arith
 abbrev pub faultless_statuses : List ℕ
 faultless_statuses = DONE ∷ WORDS ∷ MALFORMED ∷ VERSION ∷ LIMIT ∷ UNSUPPORTED ∷ LINK ∷ CHECK ∷ CALLS_FREE ∷ POOL_FULL ∷ METHOD_TOO_LONG ∷ []
 
-module _ (words : List Bytes) (old new : Disk) (o : Outcome) (comes : ComesOf words old new o) where
+module _ (words : List Bytes) (old new : Disk) (o : Outcome) (comes : ComesOf words old new o) (alike : LeastFactsServeAlike) where
   -- the job that was asked for comes out so, or memory was lacking before
   of_job : (job : FreemeJob) → Asks words job → ComesTo job old new o ⊎ (outcome_status o ≡ OUT_OF_MEMORY)
   of_job job asked = go comes where
@@ -407,10 +379,10 @@ module _ (words : List Bytes) (old new : Disk) (o : Outcome) (comes : ComesOf wo
     go (inr (inr lacking)) = inr (ap outcome_status lacking.refused)
 
   -- a verdict of its files decides the status, unless there was a fault or memory was lacking
-  decided : (status : ℕ) (job : FreemeJob) (held : Bytes → Option Bytes) → IsSeen (given_of job) held old new → Asks words job → JobVerdict status (outcome_status o) held job status
+  decided : (status : ℕ) (job : FreemeJob) (held : Bytes → Option Bytes) → IsSeen (given_of job) held old new → Asks words job → JobVerdict held job status
       → Contains (status ∷ instead_for_file) (outcome_status o)
   decided status job held seen asked verdict = ⊎_elim
-      (λ (job_comes : ComesTo job old new o). status_of job old new held seen status status o verdict job_comes)
+      (λ (job_comes : ComesTo job old new o). status_of job old new held seen alike status o verdict job_comes)
       (λ (lacking : outcome_status o ≡ OUT_OF_MEMORY). (3, omega arith, sym lacking))
       (of_job job asked)
 
@@ -424,7 +396,7 @@ module _ (words : List Bytes) (old new : Disk) (o : Outcome) (comes : ComesOf wo
 
   -- where contents are known
   known_decides : (status : ℕ) (job : FreemeJob) → Asks words job → IsSome old.contents
-      → ((held : Bytes → Option Bytes) → old.contents ≡ Some held → JobVerdict status (outcome_status o) held job status) → Contains (status ∷ instead_for_file) (outcome_status o)
+      → ((held : Bytes → Option Bytes) → old.contents ≡ Some held → JobVerdict held job status) → Contains (status ∷ instead_for_file) (outcome_status o)
   known_decides status job asked known verdict =
       let found = Some-from_is_some old.contents known in
       decided status job found.0 (known_seen (given_of job) found.0 old new found.1) asked (verdict found.0 found.1)
@@ -436,28 +408,28 @@ module _ (words : List Bytes) (old new : Disk) (o : Outcome) (comes : ComesOf wo
   long_decides : AskForGiven words (IsKnownLong old) → Contains (LIMIT ∷ instead_for_file) (outcome_status o)
   long_decides (job, (asked, cause)) =
       known_decides LIMIT job asked (some_known (λ held. IsSomeAnd (held cause.file) (IsTooLong (total_bytes cause.before))) cause.long)
-      (λ held known. long_verdict job old held known (outcome_status o) cause)
+      (λ held known. long_verdict job old held known cause)
 
   bytes_decide : (status : ℕ) → AskForGiven words (IsKnownRefused status old) → Contains (status ∷ instead_for_file) (outcome_status o)
   bytes_decide status (job, (asked, cause)) =
       known_decides status job asked (some_known (λ held. IsSomeAnd (held cause.file) (IsRefused cause.refusal (total_bytes cause.before))) cause.refused)
-      (λ held known. bytes_verdict job old held known (outcome_status o) status cause)
+      (λ held known. bytes_verdict job old held known status cause)
 
   untyped_decides : AskForGiven words (IsKnownUntyped old) → Contains (CHECK ∷ instead_for_file) (outcome_status o)
-  untyped_decides (job, (asked, cause)) = known_decides CHECK job asked cause.known (λ held known. untyped_verdict job old held known (outcome_status o) cause)
+  untyped_decides (job, (asked, cause)) = known_decides CHECK job asked cause.known (λ held known. untyped_verdict job old held known cause)
 
   unlinked_decides : AskForGiven words (IsKnownUnlinked old) → Contains (LINK ∷ instead_for_file) (outcome_status o)
-  unlinked_decides (job, (asked, cause)) = known_decides LINK job asked cause.known (λ held known. unlinked_verdict job old held known (outcome_status o) cause)
+  unlinked_decides (job, (asked, cause)) = known_decides LINK job asked cause.known (λ held known. unlinked_verdict job old held known cause)
 
   rewriting_decides : (status : ℕ) → AskFor words (IsKnownAs status old) → Contains (status ∷ instead_for_file) (outcome_status o)
   rewriting_decides status (job, (asked, cause)) =
-      known_decides status job asked cause.known (λ held known. rewriting_verdict job old held known (outcome_status o) status cause)
+      known_decides status job asked cause.known (λ held known. rewriting_verdict job old held known status cause)
 
   -- what the reads returned decides as known contents do
   returned_decides : (held : Bytes → Option Bytes) (status : ℕ) → ReadsFrom held old new → AskFor words (IsKnownStatus status (with_contents held old))
       → Contains (status ∷ instead_for_file) (outcome_status o)
   returned_decides held status reads (job, (asked, cause)) =
-      decided status job held (returned_seen held old new reads (given_of job)) asked (known_verdict job (with_contents held old) held refl (outcome_status o) status cause)
+      decided status job held (returned_seen held old new reads (given_of job)) asked (known_verdict job (with_contents held old) held refl status cause)
 
   many_decide : AskForGiven words HasTooMany → Contains (LIMIT ∷ instead_for_words) (outcome_status o)
   many_decide (job, (asked, many)) = ⊎_elim
@@ -495,7 +467,7 @@ pub is_for_text : (words : List Bytes) (old new : Disk) (before after report rep
     → IsForText words old new before after report report' result
 is_for_text words old new before after report report' result none asked asks = absurd (none asked asks)
 
-module _ {words : List Bytes} {old new : Disk} (before after report report' : Output) (result : ℕ) (o : Outcome) (comes : ComesOf words old new o) (reports : IsReported o before after report report' result) where
+module _ {words : List Bytes} {old new : Disk} (before after report report' : Output) (result : ℕ) (o : Outcome) (comes : ComesOf words old new o) (reports : IsReported o before after report report' result) (alike : LeastFactsServeAlike) where
   -- the sink of the lines, before and after
   abbrev from : Output
   from = own_sink o before report
@@ -535,39 +507,39 @@ module _ {words : List Bytes} {old new : Disk} (before after report report' : Ou
   pub is_for_read : IsForRead words old new before after report report' result
   is_for_read = comes_of_words (outcome_line o) (outcome_status o) from to result own READ (λ e. omega arith) (λ e. omega arith)
       (of_job_alone READ (λ e. omega arith) (λ e. omega arith) (read_said words old new before after report report' o))
-      (λ cause. ⊎_elim (λ (fault : FailsARead old new). fault_decides words old new o comes fault) (λ (missing : AskForGiven words (IsMissing old)). missing_decides words old new o comes missing) cause)
+      (λ cause. ⊎_elim (λ (fault : FailsARead old new). fault_decides words old new o comes alike fault) (λ (missing : AskForGiven words (IsMissing old)). missing_decides words old new o comes alike missing) cause)
 
   pub is_for_bytes : (status : ℕ) → 66 ≤ status → status ≤ 69 → status ≢ LIMIT → IsForBytes status words old new before after report report' result
   is_for_bytes status low high other =
-      of_files status (λ e. omega arith) (λ e. omega arith) (λ e. omega arith) (bytes_said words old new before after report report' status low high other o) (bytes_decide words old new o comes status)
+      of_files status (λ e. omega arith) (λ e. omega arith) (λ e. omega arith) (bytes_said words old new before after report report' status low high other o) (bytes_decide words old new o comes alike status)
 
   pub is_for_limit : IsForLimit words old new before after report report' result
   is_for_limit = record {
     only = λ is.
         let put = is_put (outcome_line o) (outcome_status o) from to result own LIMIT (λ e. omega arith) (λ e. omega arith) is in
         of_job_alone LIMIT (λ e. omega arith) (λ e. omega arith) (limit_said words old new before after report report' o) put.0 put.1;
-    many = λ cause. told_of_words (outcome_line o) (outcome_status o) from to result own LIMIT (many_decide words old new o comes cause);
-    long = λ cause. told_of_file (outcome_line o) (outcome_status o) from to result own LIMIT (long_decides words old new o comes cause);
-    bytes = λ cause. told_of_file (outcome_line o) (outcome_status o) from to result own LIMIT (bytes_decide words old new o comes LIMIT cause);
+    many = λ cause. told_of_words (outcome_line o) (outcome_status o) from to result own LIMIT (many_decide words old new o comes alike cause);
+    long = λ cause. told_of_file (outcome_line o) (outcome_status o) from to result own LIMIT (long_decides words old new o comes alike cause);
+    bytes = λ cause. told_of_file (outcome_line o) (outcome_status o) from to result own LIMIT (bytes_decide words old new o comes alike LIMIT cause);
   }
 
   pub is_for_link : IsForLink words old new before after report report' result
-  is_for_link = of_files LINK (λ e. omega arith) (λ e. omega arith) (λ e. omega arith) (link_said words old new before after report report' o) (unlinked_decides words old new o comes)
+  is_for_link = of_files LINK (λ e. omega arith) (λ e. omega arith) (λ e. omega arith) (link_said words old new before after report report' o) (unlinked_decides words old new o comes alike)
 
   pub is_for_check : IsForCheck words old new before after report report' result
-  is_for_check = of_files CHECK (λ e. omega arith) (λ e. omega arith) (λ e. omega arith) (check_said words old new before after report report' o) (untyped_decides words old new o comes)
+  is_for_check = of_files CHECK (λ e. omega arith) (λ e. omega arith) (λ e. omega arith) (check_said words old new before after report report' o) (untyped_decides words old new o comes alike)
 
   pub is_for_rewrite : (status : ℕ) → 72 ≤ status → status ≤ 74 → IsForRewrite status words old new before after report report' result
   is_for_rewrite status low high =
-      of_files status (λ e. omega arith) (λ e. omega arith) (λ e. omega arith) (not_freed_said words old new before after report report' status low high o) (rewriting_decides words old new o comes status)
+      of_files status (λ e. omega arith) (λ e. omega arith) (λ e. omega arith) (not_freed_said words old new before after report report' status low high o) (rewriting_decides words old new o comes alike status)
 
   pub is_for_done : IsForDone words old new before after report report' result
   is_for_done =
-      of_files DONE (λ e. omega arith) (λ e. omega arith) (λ e. omega arith) (λ j is line. inl (done_said words old new before after report report' o j is line)) (rewriting_decides words old new o comes DONE)
+      of_files DONE (λ e. omega arith) (λ e. omega arith) (λ e. omega arith) (λ j is line. inl (done_said words old new before after report report' o j is line)) (rewriting_decides words old new o comes alike DONE)
 
   pub is_for_returned : IsForReturned words old new result
   is_for_returned held status reads asks =
-      without_read status result unread (told_of_file (outcome_line o) (outcome_status o) from to result own status (returned_decides words old new o comes held status reads asks)) where
+      without_read status result unread (told_of_file (outcome_line o) (outcome_status o) from to result own status (returned_decides words old new o comes alike held status reads asks)) where
         unread : result ≢ READ
         unread is = let said = is_for_read.only is in not_unread held old new reads said.job.files said.file said.unread
 
@@ -575,7 +547,7 @@ module _ {words : List Bytes} {old new : Disk} (before after report report' : Ou
   is_for_write = record {
     only = only own;
     put = put_failed before after report report' result o reports;
-    write = λ cause. told_among (outcome_line o) (outcome_status o) from to result own instead_for_words (write_decides words old new o comes cause) (0, omega arith, refl) (1, omega arith, refl);
+    write = λ cause. told_among (outcome_line o) (outcome_status o) from to result own instead_for_words (write_decides words old new o comes alike cause) (0, omega arith, refl) (1, omega arith, refl);
   } where
     only : Tells (outcome_line o) (outcome_status o) from to result → result ≡ WRITE → SaysWrite words old new before after report report'
     only (inl put) is =

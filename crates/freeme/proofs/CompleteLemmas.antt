@@ -1,5 +1,5 @@
 -- A job is done where nothing is against it and nothing fails: each other status says what can't be then.
-use Rattle.std.proofs.Common.{◌≡◌, ◌≢◌, ◌≤◌, ◌⊎◌, ℕ, inl, inr, ⊎_elim, List, [], ◌∷◌, Contains, Some, IsSome, Ok, Err, length, map, refl, sym, ap, ◌∙◌, subst, arith}
+use Rattle.std.proofs.Common.{◌≡◌, ◌≢◌, ◌≤◌, ◌⊎◌, ℕ, inl, inr, ⊎_elim, List, [], ◌∷◌, Contains, Option, Some, IsSome, Ok, Err, length, map, refl, sym, ap, ◌∙◌, subst, arith}
 use Rattle.std.specs.List.{AllByRecursion, slice_get}
 use Rattle.std.specs.Option.{option_map}
 use Rattle.std.proofs.lemmas.List.Elements.{Contains-append_right, Contains-get_or}
@@ -20,8 +20,6 @@ use Rattle.fm_load.proofs.GivenLemmas.{Behind, behind_once, given_passes, given_
 use Rattle.fm_load.proofs.VerdictLemmas.{Ends, EndsOnce, one_verdict}
 use Rattle.fm_load.specs.Given.{AreGiven, Given, IsUnread}
 use Rattle.fm_load.specs.Taking.{ClassIsSpelled}
-use Rattle.fm_rewrite.specs.FreeCalls.{first_call}
-use Rattle.fm_world.specs.Programs.{program_of}
 use Rattle.freeme.proofs.CauseLemmas.{without_read}
 use Rattle.freeme.proofs.WrittenLemmas.{names_same}
 use Rattle.freeme.specs.Causes.{AskFor, BecomesAs, IsForDone, IsForRead, IsForWrite, IsKnownAs, SaysRead, SaysWrite, cause_status}
@@ -78,7 +76,8 @@ module _ {words : List Bytes} {old new : Disk} {before after report report' : Ou
   -- it is known to be done
   known_as_done : AskFor words (IsKnownAs DONE old)
   known_as_done =
-      let free : BecomesAs DONE classes (main_name job) (first_call (program_of classes (main_name job))) = subst (BecomesAs DONE classes (main_name job)) (sym can.no_call) (λ facts exact least. ap cause_status (can.no_cause facts exact least)) in
+      let P : Option (ℕ × ℕ) → Type 0 = BecomesAs DONE classes (main_name job) in
+      let free = subst P (sym can.no_call) (record { facts = can.facts; exact = can.exact; least = can.least; status_is = ap cause_status can.no_cause }) in
       (job, (asked, record { known = can.known; classes = classes; checked = can.checked; becomes = free }))
 
   not_read : ¬ SaysRead words old new before after report report'

@@ -175,13 +175,18 @@ abbrev pub cause_status : Option RewriteFail → ℕ
 cause_status None = DONE
 cause_status (Some cause) = rewrite_status cause
 
--- This status comes of classes with a main class: as their program calls FreeMe, or else by all
--- exact facts of it, with least typings. These facts differ only in the numbers of classes.
+-- by some exact facts of their program, with least typings, this is the status of classes with a main class; which facts are taken
+-- makes no difference
+pub record BecomesByFacts (status : ℕ) (classes : List ClassDef) (main : List ℕ) : Type 0 where
+  pub facts : Facts
+  pub exact : AreFacts (program_of classes main) facts
+  pub least : AreLeastTypings (program_of classes main) facts.typing
+  pub status_is : cause_status (first_cause (full_plans (program_of classes main) facts) classes) ≡ status
+
+-- this status comes of them: as their program calls FreeMe, or else by facts
 abbrev pub BecomesAs : ℕ → List ClassDef → List ℕ → Option (ℕ × ℕ) → Type 0
 BecomesAs status classes main (Some call) = CALLS_FREE ≡ status
-BecomesAs status classes main None =
-    (facts : Facts) → AreFacts (program_of classes main) facts → AreLeastTypings (program_of classes main) facts.typing
-    → cause_status (first_cause (full_plans (program_of classes main) facts) classes) ≡ status
+BecomesAs status classes main None = BecomesByFacts status classes main
 
 -- contents are known, all files of the job are taken, their classes make a program, its methods are
 -- typed, and this is its status

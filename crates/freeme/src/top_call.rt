@@ -23,7 +23,7 @@ use fm_cli_requests::ProgramText;
 use fm_cli_requests::freeme_request::{FreemeRequest, request_of};
 use fm_code::ClassDef;
 use fm_files::{Files, Sink};
-use fm_law_beside_freeme::law_written;
+use fm_law_beside_freeme::{law_exact, law_written};
 use fm_law_headline::{law_headline, law_taken};
 use fm_law_relinked::law_links;
 use fm_law_retyped::law_typed;
@@ -115,6 +115,8 @@ pub fn freeme_run<F: Files, O: Sink, R: Sink>(
     // Where it is done: the classes written do what the classes read do.
     ensures same { KeepsMeaning (texts words.now) (F.disk files.old) (F.disk files.new) result }
 {
+    // For its clauses: it makes no difference which exact facts are taken.
+    law_exact();
     match ProgramText::asked_by(words) {
         Some(asked) => put_text(alloc, asked, out),
         None => {

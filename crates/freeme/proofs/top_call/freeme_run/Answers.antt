@@ -64,32 +64,33 @@ returns-in-None g c =
     let o = c.do_words-outcome.result in
     let comes = c.do_words-outcome.ensures in
     let reports = c.report_outcome.ensures in
+    let alike = c.law_exact.ensures.alike in
     record {
       whole = inr (record { no_text = c.in-None.ensures; outcome = o; comes = comes; reports = reports });
       status = is_status words old new before after report report' result o comes reports;
-      done = is_for_done before after report report' result o comes reports;
+      done = is_for_done before after report report' result o comes reports alike;
       text = is_for_text words old new before after report report' result c.in-None.ensures;
-      words = is_for_words before after report report' result o comes reports c.in-None.ensures;
-      read = is_for_read before after report report' result o comes reports;
-      malformed = is_for_bytes before after report report' result o comes reports MALFORMED (omega arith) (omega arith) (λ e. omega arith);
-      version = is_for_bytes before after report report' result o comes reports VERSION (omega arith) (omega arith) (λ e. omega arith);
-      limit = is_for_limit before after report report' result o comes reports;
-      unsupported = is_for_bytes before after report report' result o comes reports UNSUPPORTED (omega arith) (omega arith) (λ e. omega arith);
-      link = is_for_link before after report report' result o comes reports;
-      check = is_for_check before after report report' result o comes reports;
-      calls_free = is_for_rewrite before after report report' result o comes reports CALLS_FREE (omega arith) (omega arith);
-      pool_full = is_for_rewrite before after report report' result o comes reports POOL_FULL (omega arith) (omega arith);
-      method_too_long = is_for_rewrite before after report report' result o comes reports METHOD_TOO_LONG (omega arith) (omega arith);
-      write = is_for_write before after report report' result o comes reports;
-      memory = is_for_memory before after report report' result o comes reports;
+      words = is_for_words before after report report' result o comes reports alike c.in-None.ensures;
+      read = is_for_read before after report report' result o comes reports alike;
+      malformed = is_for_bytes before after report report' result o comes reports alike MALFORMED (omega arith) (omega arith) (λ e. omega arith);
+      version = is_for_bytes before after report report' result o comes reports alike VERSION (omega arith) (omega arith) (λ e. omega arith);
+      limit = is_for_limit before after report report' result o comes reports alike;
+      unsupported = is_for_bytes before after report report' result o comes reports alike UNSUPPORTED (omega arith) (omega arith) (λ e. omega arith);
+      link = is_for_link before after report report' result o comes reports alike;
+      check = is_for_check before after report report' result o comes reports alike;
+      calls_free = is_for_rewrite before after report report' result o comes reports alike CALLS_FREE (omega arith) (omega arith);
+      pool_full = is_for_rewrite before after report report' result o comes reports alike POOL_FULL (omega arith) (omega arith);
+      method_too_long = is_for_rewrite before after report report' result o comes reports alike METHOD_TOO_LONG (omega arith) (omega arith);
+      write = is_for_write before after report report' result o comes reports alike;
+      memory = is_for_memory before after report report' result o comes reports alike;
       complete =
-          is_complete words old new before after report report' result (is_for_done before after report report' result o comes reports)
-          (is_for_read before after report report' result o comes reports) (is_for_write before after report report' result o comes reports);
-      returned = is_for_returned before after report report' result o comes reports;
-      faultless = is_faultless before after report report' result o comes reports;
-      kept = keeps_contents before after report report' result o comes reports;
-      silent = is_silent before after report report' result o comes reports;
+          is_complete words old new before after report report' result (is_for_done before after report report' result o comes reports alike)
+          (is_for_read before after report report' result o comes reports alike) (is_for_write before after report report' result o comes reports alike);
+      returned = is_for_returned before after report report' result o comes reports alike;
+      faultless = is_faultless before after report report' result o comes reports alike;
+      kept = keeps_contents before after report report' result o comes reports alike;
+      silent = is_silent before after report report' result o comes reports alike;
       once = puts_once before after report report' result o comes reports;
-      others = changes_only before after report report' result o comes reports;
-      same = keeps_meaning words old new before after report report' result (is_for_done before after report report' result o comes reports);
+      others = changes_only before after report report' result o comes reports alike;
+      same = keeps_meaning words old new before after report report' result (is_for_done before after report report' result o comes reports alike);
     }
