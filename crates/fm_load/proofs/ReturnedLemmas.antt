@@ -52,13 +52,13 @@ module _ (held : Bytes → Option Bytes) where
       (taken_so contents f c taken.0 all.0, taken_seen contents files classes more taken.1 all.1)
 
   -- and of those before the last one
-  before_seen : (contents : Contents) (files : List Bytes) (before : List ClassDef) (last : Call) → AreTaken contents (take (length before) files) before
-      → AllByRecursion (ReturnsHeld held) (returned files before ++ last ∷ []) → AreTaken (Some held) (take (length before) files) before × ReturnsHeld held last
-  before_seen contents [] [] last taken all = (tt, all.0)
-  before_seen contents (f ∷ files) [] last taken all = (tt, all.0)
-  before_seen contents [] (c ∷ before) last taken all = absurd taken
-  before_seen contents (f ∷ files) (c ∷ before) last taken all =
-      let rest = before_seen contents files before last taken.1 all.1 in ((taken_so contents f c taken.0 all.0, rest.0), rest.1)
+  before_seen : (contents : Contents) (files : List Bytes) (before : List ClassDef) (more : List Call) → AreTaken contents (take (length before) files) before
+      → AllByRecursion (ReturnsHeld held) (returned files before ++ more) → AreTaken (Some held) (take (length before) files) before
+  before_seen contents [] [] more taken all = tt
+  before_seen contents (f ∷ files) [] more taken all = tt
+  before_seen contents [] (c ∷ before) more taken all = absurd taken
+  before_seen contents (f ∷ files) (c ∷ before) more taken all =
+      (taken_so contents f c taken.0 all.0, before_seen contents files before more taken.1 all.1)
 
   -- bytes that were returned are held
   such_held : (file : Bytes) (P : Bytes → Type 0) (bytes : Option Bytes) → IfSome bytes P → IsSomeAnd bytes (λ own. held file ≡ Some own) → IsSomeAnd (held file) P
@@ -70,14 +70,21 @@ module _ (held : Bytes → Option Bytes) where
     all_held : (calls : List Call) → new.reads ≡ old.reads ++ calls → AllByRecursion (ReturnsHeld held) calls
     all_held calls is = subst (AllByRecursion (ReturnsHeld held)) (append_cancel_left old.reads from.0 calls (sym from.1 ∙ is)) from.2
 
+    -- so did the last one
+    pub last_held : (first : List Call) (last : Call) → new.reads ≡ old.reads ++ (first ++ last ∷ []) → ReturnsHeld held last
+    last_held first last is = go first (all_held (first ++ last ∷ []) is) where
+      go : (calls : List Call) → AllByRecursion (ReturnsHeld held) (calls ++ last ∷ []) → ReturnsHeld held last
+      go [] all = all.0
+      go (c ∷ calls) all = go calls all.1
+
     -- the call reaches a file over these contents, whose read returned what they hold
     reached_seen : (files : List Bytes) (file : Bytes) (before : List ClassDef) (bytes : Option Bytes) → Reaches old.contents files file before
         → new.reads ≡ old.reads ++ (returned files before ++ record { name = file; bytes = bytes } ∷ [])
         → Reaches (Some held) files file before × IsSomeAnd bytes (λ own. held file ≡ Some own)
     reached_seen files file before bytes reaches is =
         let last : Call = record { name = file; bytes = bytes } in
-        let both = before_seen old.contents files before last reaches.taken (all_held (returned files before ++ last ∷ []) is) in
-        (record { there = reaches.there; few = reaches.few; taken = both.0; short = reaches.short }, both.1)
+        let taken = before_seen old.contents files before (last ∷ []) reaches.taken (all_held (returned files before ++ last ∷ []) is) in
+        (record { there = reaches.there; few = reaches.few; taken = taken; short = reaches.short }, last_held (returned files before) last is)
 
     given_seen : (these : Given) (classes : List ClassDef) → AreGiven these old.contents classes → ReadsFirst these.files classes old new → AreGiven these (Some held) classes
     given_seen these classes are reads =

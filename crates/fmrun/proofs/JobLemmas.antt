@@ -65,7 +65,7 @@ input_too files classes (Some file) old between new same calls all (now, keeps, 
     (asked_next (files ++ file ∷ []) classes file old between new (subst At (sym same) (last_there files file)) before once)
 
 -- the reads of the class files are the first
-files_first : (job : FmrunJob) (classes : List ClassDef) (input : Bytes) (old new : Disk) → ReadsJob job classes input old new → ReadsFirst job.files classes old new
+pub files_first : (job : FmrunJob) (classes : List ClassDef) (input : Bytes) (old new : Disk) → ReadsJob job classes input old new → ReadsFirst job.files classes old new
 files_first job classes input old new = go job.input where
   go : (named : Option Bytes) → new.reads ≡ and_input (old.reads ++ returned job.files classes) named input → ReadsFirst job.files classes old new
   go None now = ([], now ∙ ap (λ (more : List Call). old.reads ++ more) (sym (append-nil (returned job.files classes))))

@@ -4,6 +4,7 @@ pub mod ChangeLemmas
 pub mod EndStatuses
 pub mod JobLemmas
 pub mod ReportedLemmas
+pub mod ReturnedLemmas
 pub mod RequestLimits
 pub mod RunningLemmas
 pub mod Verdicts

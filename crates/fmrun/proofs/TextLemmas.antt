@@ -16,7 +16,7 @@ use Rattle.fm_frames.specs.declared.ends.Ended.TheVariants as end
 use Rattle.fm_load.specs.Causes.{FailsARead}
 use Rattle.fm_run_job.specs.declared.status.TheConstants.{FAULT}
 use Rattle.fmrun.proofs.EndStatuses.{among_before_run}
-use Rattle.fmrun.specs.Causes.{AskFor, IsFaultless, IsForBytes, IsForCheck, IsForFault, IsForLimit, IsForLink, IsForMemory, IsForRead, IsForRun, IsForText, IsForWords, IsForWrite, IsSilent, IsStatus, MissesFile, OnlyReads, ReportsMostHeld, refusal_statuses}
+use Rattle.fmrun.specs.Causes.{AskFor, IsFaultless, IsForBytes, IsForCheck, IsForFault, IsForLimit, IsForLink, IsForMemory, IsForRead, IsForReturned, IsForRun, IsForText, IsForWords, IsForWrite, IsSilent, IsStatus, MissesFile, OnlyReads, ReportsMostHeld, refusal_statuses}
 use Rattle.fmrun.specs.TopCall.{IsTextPut, IsTopCall, text_bytes}
 
 module _ (words : List Bytes) (files : Disk) (before after report : Output) (result : ℕ) (asked : ProgramText) (asks : AskForText words asked) (reports : Tells (text_bytes asked) DONE before after result) where
@@ -124,6 +124,9 @@ module _ (words : List Bytes) (files : Disk) (before after report : Output) (res
     go (inl own) = absurd (let bounds = among_before_run result among in let low = bounds.low in let is = own.0 in omega arith)
     go (inr (inl failed)) = absurd (let bounds = among_before_run result among in let high = bounds.high in let is = failed.0 in omega arith)
     go (inr (inr lacking)) = lacking.1
+
+  pub text_returned : IsForReturned words files files result
+  text_returned held status from asks = absurd (none_for asks)
 
   pub text_reads : OnlyReads words files files
   text_reads = record { asked = λ job has. absurd (no_job job has); unasked = λ none. refl }

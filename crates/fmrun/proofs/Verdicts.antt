@@ -177,15 +177,15 @@ one_run p choose budget opened x y a b = ⊎_elim
     (cases_lt a.count b.count)
 
 -- the run of a job with these classes reaches an end of this status
-record EndsAs (held : Bytes → Option Bytes) (job : FmrunJob) (classes : List ClassDef) (status : ℕ) : Type 0 where
-  input : Bytes
-  input_is : IsInputOf job.input (Some held) input
-  last : State
-  printed : List ℕ
-  run : IsRun (job_program job classes) choice job.steps (silent (opened_job job classes input)) (record { state = last; printed = printed })
-  status_is : status ≡ end_status (report_of last).end
+pub record EndsAs (held : Bytes → Option Bytes) (job : FmrunJob) (classes : List ClassDef) (status : ℕ) : Type 0 where
+  pub input : Bytes
+  pub input_is : IsInputOf job.input (Some held) input
+  pub last : State
+  pub printed : List ℕ
+  pub run : IsRun (job_program job classes) choice job.steps (silent (opened_job job classes input)) (record { state = last; printed = printed })
+  pub status_is : status ≡ end_status (report_of last).end
 
-ends_once : (held : Bytes → Option Bytes) (job : FmrunJob) → EndsOnce (EndsAs held job)
+pub ends_once : (held : Bytes → Option Bytes) (job : FmrunJob) → EndsOnce (EndsAs held job)
 ends_once held job classes s t a b =
     let p = job_program job classes in
     let input : b.input ≡ a.input = same_input job.input held b.input a.input b.input_is a.input_is in

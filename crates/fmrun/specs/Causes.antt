@@ -1,5 +1,5 @@
 -- When each status comes, and what a call leaves then. All this follows from what a call does as a whole; a caller reads it one by one.
-use Rattle.std.specs.Prelude.{◌≡◌, ◌≢◌, ℕ, ◌<◌, ◌≤◌, ◌⊎◌, List, [], ◌∷◌, Contains, length, IsSome, Some}
+use Rattle.std.specs.Prelude.{◌≡◌, ◌≢◌, ℕ, ◌<◌, ◌≤◌, ◌⊎◌, List, [], ◌∷◌, Contains, length, Option, IsSome, Some}
 use Rattle.std.specs.List.{sum}
 use Rattle.fm_base.specs.declared.limits.TheConstants.{MAX_ARGUMENTS, MAX_CLASS_FILES, MAX_FILE_BYTES}
 use Rattle.fm_code.specs.declared.class_file.ClassDef.{ClassDef}
@@ -17,6 +17,7 @@ use Rattle.fm_load.specs.LinkRefusal.{link_line}
 use Rattle.fm_load.specs.Refusal.{IsRefusedBy, check_line, long_line, many_arguments_line, many_line}
 use Rattle.fm_load.specs.Taking.{AllTaken}
 use Rattle.fm_load.specs.declared.class_refusal.ClassRefusal.{ClassRefusal}
+use Rattle.fm_load.specs.Returned.{ReadsFrom, with_contents}
 use Rattle.fm_law_cells_made.specs.MostHeld.{all_most_held}
 use Rattle.fm_run_job.specs.Reports.{end_status}
 use Rattle.fm_run_job.specs.declared.status.TheConstants.{FAULT}
@@ -261,6 +262,24 @@ pub record IsKnownFreeless (old : Disk) (job : FmrunJob) : Type 0 where
 pub record IsForFault (words : List Bytes) (old new : Disk) (before after report report' : Output) (result : ℕ) : Type 0 where
   pub only : result ≡ FAULT → SaysFault words old new before after report report'
   pub never : AskFor words (IsKnownFreeless old) → result ≢ FAULT
+
+-- ---- what reads returned
+
+-- contents are known, and this is the status of a job: a class file is too long, or refused by its bytes, or they make no program, or
+-- one of which a method isn't typed, or its run ends so
+abbrev pub IsKnownStatus : ℕ → Disk → FmrunJob → Type 0
+IsKnownStatus status old job =
+    ((status ≡ LIMIT) × IsKnownLong old (given_of job))
+    ⊎ (IsKnownRefused status old (given_of job)
+    ⊎ (((status ≡ LINK) × IsKnownUnlinked old (given_of job))
+    ⊎ (((status ≡ CHECK) × IsKnownUntyped old (given_of job)) ⊎ IsKnownRun status old job)))
+
+-- Where each read of the call returned bytes, known contents that hold these bytes decide the status, unless the put fails or memory
+-- can't be had. So what is said above of known contents holds of what the reads returned, of files of the system too.
+abbrev pub IsForReturned : List Bytes → Disk → Disk → ℕ → Type 0
+IsForReturned words old new result =
+    (held : Bytes → Option Bytes) (status : ℕ) → ReadsFrom held old new → AskToRead words (IsKnownStatus status (with_contents held old))
+    → Contains (status ∷ WRITE ∷ OUT_OF_MEMORY ∷ []) result
 
 -- ---- the cells of a run
 

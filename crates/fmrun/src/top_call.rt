@@ -7,7 +7,7 @@ ghost use Rattle.fm_cli_requests.specs.FmrunRequest.{job_of};
 ghost use Rattle.fm_law_sound.specs.Making.{AreUnits};
 ghost use Rattle.fm_cli.specs.Words.{texts};
 ghost use Rattle.fm_cli.specs.declared.status.TheConstants.{MALFORMED, UNSUPPORTED, VERSION};
-ghost use Rattle.fmrun.specs.Causes.{IsFaultless, IsForBytes, IsForCheck, IsForFault, IsForLimit, IsForLink, IsForMemory, IsForRead, IsForRun, IsForText, IsForWords, IsForWrite, IsSilent, IsStatus, OnlyReads, ReportsMostHeld};
+ghost use Rattle.fmrun.specs.Causes.{IsFaultless, IsForBytes, IsForCheck, IsForFault, IsForLimit, IsForLink, IsForMemory, IsForRead, IsForReturned, IsForRun, IsForText, IsForWords, IsForWrite, IsSilent, IsStatus, OnlyReads, ReportsMostHeld};
 ghost use Rattle.fmrun.specs.Complete.{IsComplete};
 ghost use Rattle.fmrun.specs.Jobs.{IsWithinLimits, text_arguments};
 ghost use Rattle.fmrun.specs.TopCall.{ComesOf, ComesTo, IsReported, IsTopCall, StaysWithin};
@@ -87,6 +87,10 @@ pub fn fmrun_run<F: Files, O: Sink, R: Sink>(
     ensures complete { IsComplete (texts words.now)
         (F.disk files.old) (F.disk files.new) (O.output out.old) (O.output out.new)
         (R.output report.old) (R.output report.new) result }
+
+    // What the reads returned decides the status as known contents do.
+    ensures returned { IsForReturned (texts words.now)
+        (F.disk files.old) (F.disk files.new) result }
 
     // Of each size class as many cells are made as were held at once.
     ensures most_held { ReportsMostHeld (texts words.now)

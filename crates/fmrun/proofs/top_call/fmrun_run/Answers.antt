@@ -4,8 +4,9 @@ use Rattle.fm_cli.specs.declared.status.TheConstants.{MALFORMED, VERSION, UNSUPP
 use Rattle.fmrun.proofs.CauseLemmas.{is_for_bytes, is_for_check, is_for_limit, is_for_link, is_for_read, is_for_run, is_for_words, run_only}
 use Rattle.fmrun.proofs.CompleteLemmas.{is_complete}
 use Rattle.fmrun.proofs.ChangeLemmas.{is_faultless, is_for_memory, is_for_write, is_silent, is_status, only_reads}
+use Rattle.fmrun.proofs.ReturnedLemmas.{is_for_returned}
 use Rattle.fmrun.proofs.RunFacts.{is_for_fault, reports_most_held}
-use Rattle.fmrun.proofs.TextLemmas.{text_check, text_fault, text_faultless, text_limit, text_link, text_memory, text_most_held, text_of_bytes, text_read, text_reads, text_run, text_silent, text_status, text_text, text_whole, text_words, text_write}
+use Rattle.fmrun.proofs.TextLemmas.{text_check, text_fault, text_faultless, text_limit, text_link, text_memory, text_most_held, text_of_bytes, text_read, text_reads, text_returned, text_run, text_silent, text_status, text_text, text_whole, text_words, text_write}
 use Rattle.fmrun.proofs.top_call.fmrun_run.Goals as goal
 
 pub returns-in-Some : goal.returns-in-Some
@@ -38,6 +39,7 @@ returns-in-Some g c =
       complete =
           is_complete words files files before after report report result (text_run words files before after report result asked asks reports)
           (text_read words files before after report result asked asks reports) (text_write words files before after report result asked asks reports);
+      returned = text_returned words files before after report result asked asks reports;
       most_held = text_most_held words files before after report result asked asks reports;
       faultless = text_faultless words files before after report result asked asks reports;
       silent = text_silent words files before after report result asked asks reports;
@@ -127,6 +129,11 @@ returns-in-None-clause-complete g c =
     is_complete words old new before after report report' c.report_outcome.result (is_for_run report report' c.report_outcome.result o c.do_words-outcome.ensures c.report_outcome.ensures)
     (is_for_read report report' c.report_outcome.result o c.do_words-outcome.ensures c.report_outcome.ensures)
     (is_for_write words old new before after report report' c.report_outcome.result o c.do_words-outcome.ensures c.report_outcome.ensures)
+
+pub returns-in-None-clause-returned : goal.returns-in-None-clause-returned
+returns-in-None-clause-returned g c =
+    is_for_returned (g.R.Sink.output c.args.report.now) (g.R.Sink.output c.report_outcome.new.report) c.report_outcome.result c.do_words-outcome.result
+    c.do_words-outcome.ensures c.report_outcome.ensures
 
 pub returns-in-None-clause-faultless : goal.returns-in-None-clause-faultless
 returns-in-None-clause-faultless g c =
