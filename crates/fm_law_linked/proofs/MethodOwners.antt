@@ -26,7 +26,6 @@ use Rattle.fm_link_supers.proofs.ParentRefusals.{are_sound, nil_left, nil_right,
 use Rattle.fm_link_supers.specs.inner.Hierarchy.{AreSound}
 use Rattle.fm_link_refusals.proofs.Among.{among_either}
 use Rattle.fm_link_refusals.proofs.LeftOver.{left_over_parts}
-use Rattle.fm_link_refusals.proofs.Sections.{no_owned}
 use Rattle.fm_link_refusals.specs.inner.Abstracts.{left_over_by, left_over_of}
 use Rattle.fm_link_refusals.specs.inner.LeftOver.{is_open}
 use Rattle.fm_law_linked.proofs.ClassChains.{below_object}
@@ -39,7 +38,7 @@ use Rattle.fm_law_linked.proofs.SelectedMethods.{completed_left, files_counted, 
 use Rattle.fm_law_linked.proofs.Selves.{completing_above, completing_self, interface_self, named_self, no_duplicate_refused, objects_self, self_above}
 use Rattle.fm_link_supers.proofs.BuiltInParents.{completed_by, plain_completion, self_has_objects}
 use Rattle.fm_law_linked.proofs.SpecialCalls.{file_implemented}
-use Rattle.fm_world.proofs.OwnedMethods.{own_method_found}
+use Rattle.fm_world.proofs.OwnedMethods.{no_owned, own_method_found}
 use Rattle.fm_world.proofs.OverridingLemmas.{overriding_own}
 use Rattle.fm_law_sound.proofs.MadeObjects.{IsPlain}
 use Rattle.fm_types.proofs.ClassTree.{among_one, among_own, among-trans, interface-within, object-within, seen_above, seen-object}

@@ -23,7 +23,6 @@ use Rattle.fm_link_supers.proofs.BuiltInParents.{are_completed, completed_by, pl
 use Rattle.fm_link_supers.proofs.Downwards.{among_head, among_right}
 use Rattle.fm_link_supers.proofs.ParentRefusals.{tree_object, length-declared, nil_left, none_at, past_none, refused_not}
 use Rattle.fm_link_refusals.proofs.LeftOver.{left_over_parts}
-use Rattle.fm_link_refusals.proofs.Sections.{no_owned}
 use Rattle.fm_link_refusals.specs.inner.Abstracts.{left_over_by, left_over_of}
 use Rattle.fm_link_refusals.specs.inner.LeftOver.{is_open}
 use Rattle.fm_law_linked.proofs.ClassChains.{completed_above}
@@ -34,7 +33,7 @@ use Rattle.fm_law_linked.proofs.Overriding.{down_overrides, own_overrides, packa
 use Rattle.fm_law_linked.proofs.Rows.{all_methods}
 use Rattle.fm_law_linked.proofs.SpecialCalls.{file_implemented}
 use Rattle.fm_law_linked.proofs.Steps.{none_abstract, private_there, table_concrete}
-use Rattle.fm_world.proofs.OwnedMethods.{IsFound, own_method_found}
+use Rattle.fm_world.proofs.OwnedMethods.{IsFound, no_owned, own_method_found}
 use Rattle.fm_world.proofs.OverridingLemmas.{either_none, overriding_own}
 use Rattle.fm_law_sound.proofs.MadeObjects.{IsPlain}
 use Rattle.fm_law_sound.specs.Sound.{HasObjects}

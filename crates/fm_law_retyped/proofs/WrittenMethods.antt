@@ -16,14 +16,12 @@ use Rattle.fm_place.specs.Rewriting.{first_given, free_index, marks_from, marks_
 use Rattle.fm_place.specs.Woven.{woven_marks}
 use Rattle.fm_law_linked.proofs.Rows.{all_methods}
 use Rattle.fm_types.specs.Named.{class_of_method}
+use Rattle.fm_world.proofs.OwnedMethods.{no_owned}
 use Rattle.fm_world.specs.BuiltIns.{built_in}
-use Rattle.fm_world.specs.Declarations.{declared_from, declared_method, no_method}
+use Rattle.fm_world.specs.Declarations.{declared_from, declared_method}
 use Rattle.fm_world.specs.Members.{methods_from, methods_of, OwnedMethod}
 use Rattle.fm_world.specs.Programs.{code_at, codes_of, outline_of, program_of}
 use Rattle.fm_world.specs.declared.declarations.DeclaredMethod.{DeclaredMethod}
-
-abbrev nobody : OwnedMethod
-nobody = record { class = 0; method = no_method }
 
 abbrev all_codes : List ClassDef → List (Option Code)
 all_codes files = flat_map (λ (c : ClassDef). map code_of c.methods) files
@@ -67,14 +65,14 @@ record IsFound (plans : Plans) (first class file : ℕ) (files : List ClassDef) 
   at : slice_get files place ≡ Some own
   start : ℕ
   new_at : slice_get (rewritten_from plans first files) place ≡ Some (rewritten_class plans start own)
-  class_is : (get_or (methods_from class (declared_from file files)) i nobody).class ≡ class + place
+  class_is : (get_or (methods_from class (declared_from file files)) i no_owned).class ≡ class + place
   new_is : get_or (all_codes (rewritten_from plans first files)) i None ≡ code_with (free_index own) (plans (first + i)) (Some code)
   marks_are : get_or (marks_from plans first files) i [] ≡ marks_in (free_index own) (Some code) (plans (first + i))
   old : HasMember own.methods (Some code)
   new : HasMember (rewritten_class plans start own).methods (get_or (all_codes (rewritten_from plans first files)) i None)
 
 own_class : (class : ℕ) (methods : List DeclaredMethod) (i : ℕ) → i < length methods
-    → (get_or (map (λ (m : DeclaredMethod). record { class = class; method = m }) methods) i nobody).class ≡ class
+    → (get_or (map (λ (m : DeclaredMethod). record { class = class; method = m }) methods) i no_owned).class ≡ class
 own_class class [] i within = absurd (omega (arith, within))
 own_class class (m ∷ methods) zero within = refl
 own_class class (m ∷ methods) (suc i) within = own_class class methods i (omega (arith, within))
@@ -144,7 +142,7 @@ found plans first class file (c ∷ files) i code is =
             start = first;
             new_at = refl;
             class_is =
-                ap (λ (m : OwnedMethod). m.class) (get_or_append_left owned rest nobody i (omega (arith, within, owned_count)))
+                ap (λ (m : OwnedMethod). m.class) (get_or_append_left owned rest no_owned i (omega (arith, within, owned_count)))
                 ∙ own_class class declared i (omega (arith, within, declared_count)) ∙ same_class;
             new_is = new_here ∙ class_code plans first c i within ∙ ap (code_with (free_index c) (plans (first + i))) old_is;
             marks_are =
@@ -174,7 +172,7 @@ found plans first class file (c ∷ files) i code is =
             new_at = x.new_at;
             class_is =
                 ap (λ (m : OwnedMethod). m.class)
-                (ap (λ n. get_or (owned ++ rest) n nobody) owned_place ∙ get_or-append-add owned rest k nobody)
+                (ap (λ n. get_or (owned ++ rest) n no_owned) owned_place ∙ get_or-append-add owned rest k no_owned)
                 ∙ x.class_is ∙ next_class;
             new_is = new_there ∙ x.new_is ∙ ap (λ n. code_with (free_index x.own) (plans n) (Some code)) number;
             marks_are =
@@ -235,8 +233,8 @@ written_method given main plans method code is = by_place (cases_lt method first
         new_at = x.new_at;
         class_is =
             ap (λ (m : OwnedMethod). m.class)
-            (ap (λ list. get_or list method nobody) (all_methods given) ∙ ap (λ n. get_or (methods_of built_in ++ rest) n nobody) (sym number)
-            ∙ get_or-append-add (methods_of built_in) rest k nobody)
+            (ap (λ list. get_or list method no_owned) (all_methods given) ∙ ap (λ n. get_or (methods_of built_in ++ rest) n no_owned) (sym number)
+            ∙ get_or-append-add (methods_of built_in) rest k no_owned)
             ∙ x.class_is;
         new_is = at_front (all_codes (rewritten plans given)) ∙ x.new_is ∙ ap (λ n. code_with (free_index x.own) (plans n) (Some code)) number;
         marks_are =

@@ -12,6 +12,7 @@ use Rattle.fm_link_members.specs.declared.members.Members.{Members}
 use Rattle.fm_link_members.specs.inner.MemberRows.{method_alike, row_alike, section_of, AreMethodRows}
 use Rattle.fm_world.specs.Causes.{abstract_from, abstract_methods}
 use Rattle.fm_world.specs.Chains.{class_at, is_among}
+use Rattle.fm_world.proofs.OwnedMethods.{no_owned}
 use Rattle.fm_world.specs.Declarations.{no_class, no_method}
 use Rattle.fm_world.specs.Lookups.{is_abstract_method}
 use Rattle.fm_world.specs.Members.{OwnedMethod, first_method, method_at, methods_from, methods_of, owned_methods}
@@ -19,9 +20,6 @@ use Rattle.fm_world.specs.declared.declarations.DeclaredClass.{DeclaredClass}
 use Rattle.fm_world.specs.declared.declarations.DeclaredMethod.{DeclaredMethod}
 
 -- ---- the methods of one class
-
-abbrev pub no_owned : OwnedMethod
-no_owned = record { class = 0; method = no_method }
 
 methods_at : (number : ℕ) (classes : List DeclaredClass) (class j : ℕ) → class < length classes → j < length (class_at classes class).methods
     → (get_or (methods_from number classes) (first_method classes class + j) no_owned).method ≡ get_or (class_at classes class).methods j no_method

@@ -2,6 +2,7 @@
 use Rattle.std.proofs.Common.{◌≡◌, refl, sym, ◌∙◌, ap, ℕ, ◌<◌, ◌≤◌, ◌&&◌, ◌||◌, not, cond, Bool, true, false, List, [], ◌∷◌, ◌++◌, length, nat_eq, Option, Some, None, option_map, arith}
 use Rattle.std.specs.Prelude.{IfSome}
 use Rattle.std.specs.Option.{option_or}
+use Rattle.std.proofs.Math.Bool.{or-true}
 use Rattle.std.proofs.lemmas.Bool.{eq-eqb, eqb-true}
 use Rattle.std.proofs.lemmas.List.{nil_from_length}
 use Rattle.std.proofs.lemmas.Option.{none-some}
@@ -17,13 +18,9 @@ use Rattle.fm_world.specs.declared.declarations.DeclaredClass.{DeclaredClass}
 
 -- ---- packages
 
-or_true : (b : Bool) → (b || true) ≡ true
-or_true true = refl
-or_true false = refl
-
 among_last : (y : ℕ) (xs : List ℕ) → is_among y (xs ++ y ∷ []) ≡ true
 among_last y [] = ap (λ b. b || false) (eq-eqb y y refl)
-among_last y (x ∷ xs) = ap (λ b. nat_eq y x || b) (among_last y xs) ∙ or_true (nat_eq y x)
+among_last y (x ∷ xs) = ap (λ b. nat_eq y x || b) (among_last y xs) ∙ or-true (nat_eq y x)
 
 among_other : (z y : ℕ) (xs : List ℕ) → nat_eq z y ≡ false → is_among z (xs ++ y ∷ []) ≡ is_among z xs
 among_other z y [] other = ap (λ b. b || false) other
@@ -34,7 +31,7 @@ unfolding package_of
 slash_last [] = refl
 slash_last (x ∷ xs) =
     ap (λ b. cond (nat_eq SLASH x || b) (x ∷ package_of (xs ++ SLASH ∷ [])) []) (among_last SLASH xs)
-    ∙ ap (λ b. cond b (x ∷ package_of (xs ++ SLASH ∷ [])) []) (or_true (nat_eq SLASH x)) ∙ ap (λ ys. x ∷ ys) (slash_last xs)
+    ∙ ap (λ b. cond b (x ∷ package_of (xs ++ SLASH ∷ [])) []) (or-true (nat_eq SLASH x)) ∙ ap (λ ys. x ∷ ys) (slash_last xs)
 
 other_last : (xs : List ℕ) (y : ℕ) → nat_eq SLASH y ≡ false → package_of (xs ++ y ∷ []) ≡ package_of xs
 unfolding package_of

@@ -43,11 +43,11 @@ owner_within (c ∷ classes) method inside =
 
 -- ---- the methods of a class among those of all classes
 
-abbrev nothing : OwnedMethod
-nothing = record { class = 0; method = no_method }
+abbrev pub no_owned : OwnedMethod
+no_owned = record { class = 0; method = no_method }
 
 method_of_class : (first : ℕ) (classes : List DeclaredClass) (class k : ℕ) → k < length (class_at classes class).methods
-    → slice_index_or (methods_from first classes) (first_method classes class + k) nothing
+    → slice_index_or (methods_from first classes) (first_method classes class + k) no_owned
     ≡ record { class = first + class; method = slice_index_or (class_at classes class).methods k no_method }
 method_of_class first [] class k inside = absurd (omega (arith, inside))
 method_of_class first (c ∷ classes) zero k inside =
@@ -55,9 +55,9 @@ method_of_class first (c ∷ classes) zero k inside =
     let size = length-map {B = OwnedMethod} c.methods (λ (m : DeclaredMethod). record { class = first; method = m }) in
     let own : k < length (owned_methods first c) = omega (arith, inside, size) in
     let same : first ≡ first + 0 = omega arith in
-    ap (λ n. slice_index_or (methods_from first (c ∷ classes)) n nothing) at
-    ∙ get_or_append_left (owned_methods first c) (methods_from (first + 1) classes) nothing k own
-    ∙ get_or-map (λ (m : DeclaredMethod). record { class = first; method = m }) c.methods k no_method nothing inside
+    ap (λ n. slice_index_or (methods_from first (c ∷ classes)) n no_owned) at
+    ∙ get_or_append_left (owned_methods first c) (methods_from (first + 1) classes) no_owned k own
+    ∙ get_or-map (λ (m : DeclaredMethod). record { class = first; method = m }) c.methods k no_method no_owned inside
     ∙ ap (λ n. record { class = n; method = slice_index_or c.methods k no_method }) same
 method_of_class first (c ∷ classes) (suc class) k inside =
     let size = length-map {B = OwnedMethod} c.methods (λ (m : DeclaredMethod). record { class = first; method = m }) in
@@ -67,10 +67,10 @@ method_of_class first (c ∷ classes) (suc class) k inside =
     let same : first + 1 + class ≡ first + suc class = omega arith in
     let rest : (length (owned_methods first c) + (first_method classes class + k)) - length (owned_methods first c) ≡ first_method classes class + k =
     omega arith in
-    ap (λ n. slice_index_or (methods_from first (c ∷ classes)) n nothing) at
+    ap (λ n. slice_index_or (methods_from first (c ∷ classes)) n no_owned) at
     ∙ get_or-append_right (owned_methods first c) (methods_from (first + 1) classes) (length (owned_methods first c))
-    (length (owned_methods first c) + (first_method classes class + k)) nothing refl (omega arith)
-    ∙ ap (λ n. slice_index_or (methods_from (first + 1) classes) n nothing) rest
+    (length (owned_methods first c) + (first_method classes class + k)) no_owned refl (omega arith)
+    ∙ ap (λ n. slice_index_or (methods_from (first + 1) classes) n no_owned) rest
     ∙ method_of_class (first + 1) classes class k inside
     ∙ ap (λ n. record { class = n; method = slice_index_or (class_at classes class).methods k no_method }) same
 
@@ -112,7 +112,7 @@ own_method_found classes passes name descriptor class target h = by_place (posit
   by_place (Some k) at found =
       let there = position-Some test methods k no_method at in
       let is : method_at classes target ≡ record { class = class; method = slice_index_or methods k no_method } =
-      ap (λ n. slice_index_or (methods_of classes) n nothing) (sym (same_Some (first_method classes class + k) target found))
+      ap (λ n. slice_index_or (methods_of classes) n no_owned) (sym (same_Some (first_method classes class + k) target found))
       ∙ method_of_class 0 classes class k there.0
       ∙ ap (λ n. record { class = n; method = slice_index_or methods k no_method }) (omega arith) in
       let outer = and_parts (bytes_eq (slice_index_or methods k no_method).name name && bytes_eq (slice_index_or methods k no_method).descriptor descriptor)
