@@ -95,7 +95,7 @@ pub throwable_row_is : row_of (codes "java/lang/Throwable") (codes "<init>") (co
 unfolding built_in methods_of
 throwable_row_is = refl
 
-pub last_throwable_row : row_of (codes "java/lang/IncompatibleClassChangeError") (codes "<init>") (codes "()V") ≡ Some throwable_row
+pub last_throwable_row : row_of (codes "java/lang/CloneNotSupportedException") (codes "<init>") (codes "()V") ≡ Some throwable_row
 unfolding built_in methods_of
 last_throwable_row = refl
 

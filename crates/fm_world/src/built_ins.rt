@@ -276,6 +276,7 @@ static CLASSES: [BuiltInClass; 29] = [
     },
     BuiltInClass {
         name: "java/lang/CloneNotSupportedException",
+        superclass: Some("java/lang/Exception"),
         ..EXCEPTION
     },
 ];

@@ -59,8 +59,8 @@ pub fn law_lookup_examples()
         ≡ Some built_in_methods }
     ensures itself { select (classes_of with_private) (built_in_classes + 2) (built_in_methods + 1)
         ≡ Some (built_in_methods + 1) }
-    ensures special { special_target (classes_of with_private) (built_in_classes + 2) (Some built_in_classes) built_in_methods
-        ≡ built_in_methods + 1 }
+    ensures special { special_target (classes_of with_private) (built_in_classes + 2)
+        (Some built_in_classes) built_in_methods ≡ built_in_methods + 1 }
     ensures packages { filter_map (λ class. select (classes_of with_packages) class
         built_in_methods) (range_with_len built_in_classes 5) ≡ called_in_packages }
     ensures completed { chain_of (classes_of with_completion) 2 ≡ 2 ∷ built_in_classes ∷ 0 ∷ [] }
@@ -77,7 +77,8 @@ pub fn law_lookup_examples()
 pub fn law_example()
     ensures accepted { refusals example (codes "M") ≡ [] }
     ensures uses { slice_get (program_of example (codes "M")).uses built_in_classes ≡ Some main_uses }
-    ensures types { drop (built_in_classes + 3) (program_of example (codes "M")).outline.types ≡ array_types }
+    ensures types { drop (built_in_classes + 3) (program_of example (codes "M")).outline.types
+        ≡ array_types }
     ensures texts { (program_of example (codes "M")).outline.texts ≡ codes "hi" ∷ [] }
     ensures main { (program_of example (codes "M")).outline.main ≡ built_in_methods }
     ensures chain { chain_of (classes_of example) (built_in_classes + 2)
