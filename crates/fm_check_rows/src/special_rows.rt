@@ -2,14 +2,12 @@
 // (JVMS 6.5.invokespecial, 4.10.1.9).
 
 ghost use Rattle.std.specs.Prelude.{◌≡◌, ◌<◌, IfOk, None, OnOk, Some, length};
-ghost use Rattle.std.specs.Option.{option_map};
 ghost use Rattle.fm_check_rows.specs.Members.{NamesMember};
 ghost use Rattle.fm_check_rows.specs.Outcomes.{marks, outcome};
 ghost use Rattle.fm_types.specs.CallRows.{constructed, constructor_called, initialised, is_class, is_type, names_own_or_above, names_own_or_parent, special_call_row};
 ghost use Rattle.fm_types.specs.Typed.{made_at};
 ghost use Rattle.fm_types.specs.Typings.{type_state};
 ghost use Rattle.fm_types.specs.declared.slots.Slot.TheVariants as slot;
-ghost use Rattle.fm_base.specs.declared.ids.ClassId.{ClassId};
 ghost use Rattle.fm_world.specs.Chains.{parent_of};
 ghost use Rattle.fm_world.specs.Members.{methods_of};
 ghost use Rattle.fm_world.specs.Programs.{class_of_type};
@@ -21,24 +19,11 @@ use crate::method::{class_of_method, made_at, this_class};
 use crate::named::type_at;
 use crate::object_rows::replaced;
 use crate::words::{take, work};
-use fm_base::{Base, ClassId, MethodId, NoMemory, TypeRef};
+use fm_base::{ClassId, MethodId, NoMemory, TypeRef};
 use fm_code::Code;
 use fm_types::{Slot, Stack, State, is_in_chain};
-use fm_world::{Program, Use, type_of_class};
+use fm_world::{Program, Use, class_of_type, type_of_class};
 use std::alloc::Global;
-
-// The class that a type is; none for an array.
-fn class_of_type(t: TypeRef) -> Option<ClassId>
-    ensures { option_map (λ (c : ClassId). c.0) result ≡ class_of_type t }
-{
-    if t.dims > 0 {
-        return None;
-    }
-    match t.base {
-        Base::OfClass(class) => Some(class),
-        _ => None,
-    }
-}
 
 // Whether the type is that of the class or of one of its superclasses.
 fn names_own_or_above(program: &Program, own: ClassId, named: TypeRef) -> bool

@@ -52,7 +52,7 @@ use Rattle.fm_world.specs.Numbers.{type_of_class}
 use Rattle.fm_world.specs.Programs.{class_of_type, classes_of, kind_at, Outline, outline_of, Program, program_of}
 use Rattle.fm_world.specs.declared.declarations.DeclaredClass.{DeclaredClass}
 use Rattle.fm_world.specs.inner.Tables.{numbers_below}
-use Rattle.fm_law_no_fault.proofs.BelowClasses.{class_type}
+use Rattle.fm_world.proofs.TypeTests.{class_type}
 use Rattle.fm_law_no_fault.specs.CellsResolved.{PlacesFit}
 
 -- ---- what holds of each class: the built-in ones by computation, and those of files by what is refused

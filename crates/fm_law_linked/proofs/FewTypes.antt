@@ -25,10 +25,10 @@ use Rattle.fm_law_linked.proofs.CodedMethods.{contains_at}
 use Rattle.fm_law_linked.proofs.GivenFiles.{each_one}
 use Rattle.fm_law_linked.proofs.InterfaceCalls.{dims_kept}
 use Rattle.fm_law_linked.proofs.MadeTypes.{from_distinct, Listed, made_by, Named, with_fewer}
-use Rattle.fm_same.proofs.TargetMethods.{Contains-from_filter_map}
 use Rattle.fm_types.proofs.LeastJoins.{same_type-refl}
 use Rattle.fm_world.specs.BuiltIns.{string_name}
 use Rattle.fm_world.specs.Chains.{distinct, is_among, same_type}
+use Rattle.fm_world.proofs.ElementLemmas.{Contains-from_filter_map}
 use Rattle.fm_world.specs.Descriptors.{base_in, class_number, class_type, type_in, type_with}
 use Rattle.fm_world.specs.Numbers.{argument_array, arrays_in, class_types, made_arrays, type_of_class, types_of, used_types}
 use Rattle.fm_world.specs.Programs.{classes_of, IsTypeIn, outline_of, program_of}

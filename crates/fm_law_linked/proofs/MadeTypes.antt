@@ -1,6 +1,6 @@
 -- Types that have a number: the arrays that instructions make, and the element types of arrays that have one where these are arrays again
 -- (JVMS 6.5.newarray, 6.5.anewarray, 6.5.multianewarray).
-use Rattle.std.proofs.Common.{◌≡◌, refl, sym, ◌∙◌, ap, subst, ℕ, zero, suc, ◌+◌, ◌-◌, ◌<◌, ◌⊎◌, inl, inr, not, Bool, true, false, List, [], ◌∷◌, ◌++◌, length, map, filter, get_or, slice_get, Contains, Option, Some, None, option_and_then, option_map, arith}
+use Rattle.std.proofs.Common.{◌≡◌, refl, sym, ◌∙◌, ap, subst, ℕ, suc, ◌+◌, ◌-◌, ◌<◌, ◌⊎◌, inl, inr, not, Bool, true, false, List, [], ◌∷◌, ◌++◌, length, map, filter, get_or, slice_get, Contains, Option, Some, None, option_and_then, option_map, arith}
 use Rattle.std.specs.List.{filter_map, flat_map, range_with_len}
 use Rattle.std.proofs.lemmas.Bool.{false≢true}
 use Rattle.std.proofs.lemmas.List.Elements.{Contains-append_cases, Contains-append_left, Contains-append_right}
@@ -29,6 +29,7 @@ use Rattle.fm_law_sound.proofs.MadeObjects.{numbered}
 use Rattle.fm_law_sound.specs.Making.{IsNumbered}
 use Rattle.fm_law_sound.specs.Resolved.{IsNamed}
 use Rattle.fm_types.proofs.LeastJoins.{same_type-eq}
+use Rattle.fm_world.proofs.ElementLemmas.{place_of}
 use Rattle.fm_world.specs.Chains.{distinct, same_type}
 use Rattle.fm_world.specs.Declarations.{declared_from}
 use Rattle.fm_world.specs.Descriptors.{class_type, of_class, type_in}
@@ -41,11 +42,6 @@ use Rattle.fm_world.specs.declared.uses.Use.{Use}
 use Rattle.fm_world.specs.declared.uses.Use.TheVariants as resolved
 
 -- ---- lists
-
-place_of : {X : Type 0} (xs : List X) (x : X) → Contains xs x → (k : ℕ) × (slice_get xs k ≡ Some x)
-place_of [] x (k, within, there) = absurd (omega (arith, within))
-place_of (y ∷ xs) x (zero, within, there) = (0, ap Some there)
-place_of (y ∷ xs) x (suc k, within, there) = let later = place_of xs x (k, omega (arith, within), there) in (suc later.0, later.1)
 
 distinct_there : (types : List TypeRef) (t : TypeRef) → Contains types t → Contains (distinct same_type types) t
 distinct_there [] t found = absurd (Contains-none t found)

@@ -57,7 +57,8 @@ use Rattle.fm_world.specs.Programs.{class_of_type, classes_of, IsTypeIn}
 use Rattle.fm_world.specs.Uses.{class_items}
 use Rattle.fm_world.specs.declared.declarations.DeclaredClass.{DeclaredClass}
 use Rattle.fm_world.specs.declared.declarations.DeclaredMethod.{DeclaredMethod}
-use Rattle.fm_law_no_fault.proofs.BelowClasses.{class_type as type_of_its_class, parent_among}
+use Rattle.fm_law_no_fault.proofs.BelowClasses.{parent_among}
+use Rattle.fm_world.proofs.TypeTests.{class_type as type_of_its_class}
 
 -- ---- lists
 

@@ -1,9 +1,7 @@
 -- Classes and those above them: an object of a class below another fits where that one is wanted.
-use Rattle.std.proofs.Common.{◌≡◌, ℕ, zero, suc, ◌<◌, ◌==◌, ◌||◌, cond, Bool, true, false, List, length, Option, Some, None, refl, sym, ◌∙◌, ap, subst, nat_eq, arith, ⊎_elim}
+use Rattle.std.proofs.Common.{◌≡◌, ℕ, zero, suc, ◌<◌, ◌==◌, ◌||◌, Bool, true, false, List, length, Option, Some, None, refl, sym, ◌∙◌, ap, subst, nat_eq, arith, ⊎_elim}
 use Rattle.std.proofs.lemmas.Bool.{eq-eqb, eqb-true, false≢true, or_cases, or_left, or_right}
 use Rattle.std.proofs.lemmas.Option.{same_Some}
-use Rattle.fm_base.specs.declared.kinds.Base.{Base}
-use Rattle.fm_base.specs.declared.kinds.Base.TheVariants as base
 use Rattle.fm_base.specs.declared.kinds.TypeRef.{TypeRef}
 use Rattle.fm_types.proofs.ClassTree.{among_own, among-trans, object-within}
 use Rattle.fm_types.specs.CallRows.{is_class, names_own_or_parent}
@@ -12,7 +10,6 @@ use Rattle.fm_world.specs.Chains.{chain_of, is_among, parent_of, self_of, upward
 use Rattle.fm_world.specs.Numbers.{type_of_class}
 use Rattle.fm_world.specs.Programs.{class_of_type, Outline}
 use Rattle.fm_world.specs.declared.declarations.DeclaredClass.{DeclaredClass}
-use Rattle.fm_frames.specs.Uses.{by_type}
 use Rattle.fm_law_no_fault.specs.Whole.{is_below}
 
 -- the superclass is among those above a class
@@ -26,20 +23,6 @@ parent_among classes some own above is =
       by_length zero h = absurd (omega (arith, h))
       by_length (suc bound) h =
           or_left (nat_eq above above) (is_among above (upwards bound classes (parent_of classes above))) (eq-eqb above above refl)
-
--- a type with a class is the type of that class
-pub class_type : (t : TypeRef) (class : ℕ) → class_of_type t ≡ Some class → t ≡ type_of_class class
-class_type t class is = by_type t.dims t.base (t.dims == 0) refl is where
-  of_base : Base → Option ℕ
-  of_base (base.OfClass c) = Some c.0
-  of_base b = None
-
-  by_type : (dims : ℕ) (b : Base) (test : Bool) → (dims == 0) ≡ test → cond test (of_base b) None ≡ Some class
-      → record { dims = dims; base = b } ≡ type_of_class class
-  by_type dims (base.OfClass c) true none h =
-      ap (λ n. record { dims = n; base = base.OfClass c }) (eqb-true dims 0 none) ∙ ap type_of_class (same_Some c.0 class h)
-  by_type dims b true none h = absurd (cc)
-  by_type dims b false none h = absurd (cc)
 
 module _ (o : Outline) (tree : AreTree o.classes) where
   some_classes : 0 < length o.classes

@@ -37,7 +37,8 @@ use Rattle.fm_law_sound.proofs.FramesLeft.{first_of, taken_drop}
 use Rattle.fm_law_no_fault.specs.CellsResolved.{special_of}
 use Rattle.fm_law_no_fault.specs.Whole.{HoldsA, is_below, WordFits}
 use Rattle.fm_law_no_fault.proofs.ActsSuits.{holds_weaker, leads_weaker}
-use Rattle.fm_law_no_fault.proofs.BelowClasses.{below_trans, class_type, named_above, own_below}
+use Rattle.fm_law_no_fault.proofs.BelowClasses.{below_trans, named_above, own_below}
+use Rattle.fm_world.proofs.TypeTests.{class_type}
 use Rattle.fm_law_no_fault.proofs.CallLists.{at_end, by_row_method, taken_last}
 use Rattle.fm_law_no_fault.proofs.CallTargets.{alike_static, CallAt, instance_owed, null_owed, Owed, Received, receiver_place, row_at, same_constructor}
 use Rattle.fm_law_no_fault.proofs.ObjectRows.{below_fits}

@@ -44,7 +44,7 @@ full_of facts x [] = None
 full_of facts x (site ∷ sites) = Some (all_insertions facts x)
 
 -- a place by one kind of facts is one by the other
-place_told : (s : Seen) (facts : Facts) (site class j : ℕ) → IsToldBy facts s.method.number.0 s.classes.now s.live.now
+pub place_told : (s : Seen) (facts : Facts) (site class j : ℕ) → IsToldBy facts s.method.number.0 s.classes.now s.live.now
     → is_place (facts_seen s) (typed_seen s) site class j ≡ is_place facts (typed_seen s) site class j
 place_told s facts site class j told =
     sym (λ k. is_place (record {
@@ -170,7 +170,7 @@ plans_told s facts sites answer is told are =
 
 module _ (s : Seen) (g : Groups) (busy : List (List Bool)) (holding : Holding) (groups : AreGroups g) (busy_are : AreRowsIn g (count_of s) (is_busy_at s) busy)
     (holding_are : AreHolding s g.held.now (length g.held.now) holding.freed holding.rows.items) where
-  holders : length g.of_holders.items ≡ length g.held.now
+  pub holders : length g.of_holders.items ≡ length g.held.now
   holders = groups.numbered.one_each ∙ length-map g.held.now (λ (p : ℕ × ℕ). p.1)
 
   -- whether a holder is freed by the rows

@@ -19,4 +19,4 @@ pub use holding_rows::Holding;
 pub use laws::{
     law_busy, law_example, law_full, law_holders, law_places, law_plans, law_stack, law_woven,
 };
-pub use plans::{Plan, places};
+pub use plans::{Plan, is_freed, places};

@@ -238,8 +238,8 @@ fn push_each_freed(
     Ok(())
 }
 
-// Whether the holder may hold something, and its class isn't busy.
-fn is_freed(classes: &[u32], busy: &[Row], holding: &Holding, item: u32, holder: usize) -> bool
+/// Whether the holder may hold something before the item, and its class isn't busy. Takes no memory.
+pub fn is_freed(classes: &[u32], busy: &[Row], holding: &Holding, item: u32, holder: usize) -> bool
     requires rows { AreFreedRows classes.now busy.now holding.now }
     requires item { item < length holding.now.freed }
     requires holder { holder < length classes.now }

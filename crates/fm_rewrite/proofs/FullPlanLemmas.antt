@@ -83,7 +83,7 @@ no_locals first [] none = tt
 no_locals first (p ∷ pairs) none = absurd (omega arith)
 
 -- the number of all new items, by how many pairs there are
-number_few : (number j : ℕ) (before after : List (ℕ × ℕ)) (items : List Item)
+pub number_few : (number j : ℕ) (before after : List (ℕ × ℕ)) (items : List Item)
     → number_after number j before after items ≤ number + 4 * length before + length items + 2 * length after
 number_few number j before after [] = omega arith
 number_few number j before after (item ∷ items) =

@@ -47,7 +47,7 @@ plan_in : (code : Code) (ins : Insertions) (plan : Plan) → IsWholePlan code in
 plan_in code ins plan is (attribute.Coded name own) same = subst (λ c. IsWholePlan c ins plan) (sym same) is
 plan_in code ins plan is a own = tt
 
-plans_in : (code : Code) (ins : Insertions) (plan : Plan) → IsWholePlan code ins plan → (attributes : List MemberAttr)
+pub plans_in : (code : Code) (ins : Insertions) (plan : Plan) → IsWholePlan code ins plan → (attributes : List MemberAttr)
     → AllByRecursion (IsOwnCode code) attributes → AllByRecursion (IsPlanIn ins plan) attributes
 plans_in code ins plan is [] all = tt
 plans_in code ins plan is (a ∷ attributes) all = (plan_in code ins plan is a all.0, plans_in code ins plan is attributes all.1)

@@ -1,11 +1,12 @@
 -- The targets of a call are methods of the same descriptor as the one that is named, and have a receiver as it has.
-use Rattle.std.proofs.Common.{◌≡◌, ℕ, cond, List, [], ◌∷◌, ◌++◌, length, filter, Option, Some, None, Contains, refl, sym, ◌∙◌, ap, subst, ⊎_elim}
+use Rattle.std.proofs.Common.{◌≡◌, ℕ, cond, [], ◌++◌, length, filter, Contains, refl, sym, subst}
 use Rattle.std.specs.Prelude.{option_to_list, nat_eq}
-use Rattle.std.specs.List.{filter_map, cons_option, range_with_len}
+use Rattle.std.specs.List.{range_with_len}
 use Rattle.std.proofs.lemmas.Bool.{eqb-true}
-use Rattle.fm_code.proofs.EdgesLemmas.{Contains-from_filter, Contains-later}
-use Rattle.fm_conn.proofs.ListLemmas.{Contains-first, Contains-one}
-use Rattle.fm_base.proofs.ContainsFacts.{any-found, Contains-cons_cases, Contains-none}
+use Rattle.fm_code.proofs.EdgesLemmas.{Contains-from_filter}
+use Rattle.fm_conn.proofs.ListLemmas.{Contains-one}
+use Rattle.fm_base.proofs.ContainsFacts.{any-found}
+use Rattle.fm_world.proofs.ElementLemmas.{Contains-from_filter_map}
 use Rattle.fm_world.specs.Chains.{is_among}
 use Rattle.fm_world.specs.Lookups.{select, special_target}
 use Rattle.fm_world.specs.Members.{methods_of}
@@ -17,22 +18,6 @@ use Rattle.fm_world.specs.declared.calls.CallKind.TheVariants as call
 use Rattle.fm_law_sound.proofs.FoundMethods.{alike_itself, IsAlike, select_alike, special_alike}
 
 -- ---- targets
-
-pub Contains-from_filter_map : {X Y : Type 0} (find : X → Option Y) (xs : List X) (y : Y) → Contains (filter_map find xs) y
-    → (x : X) × Contains xs x × (find x ≡ Some y)
-Contains-from_filter_map find [] y h = absurd (Contains-none y h)
-Contains-from_filter_map {X} {Y} find (x ∷ xs) y h = by_first (find x) refl h (Contains-from_filter_map find xs y) where
-  IsFrom : List X → Type 0
-  IsFrom all = (z : X) × Contains all z × (find z ≡ Some y)
-
-  one_later : IsFrom xs → IsFrom (x ∷ xs)
-  one_later from = (from.0, Contains-later x xs from.0 from.1, from.2)
-
-  by_first : (o : Option Y) → find x ≡ o → Contains (cons_option o (filter_map find xs)) y → (Contains (filter_map find xs) y → IsFrom xs) → IsFrom (x ∷ xs)
-  by_first None here among later = one_later (later among)
-  by_first (Some z) here among later =
-      ⊎_elim (λ (same : y ≡ z). (x, Contains-first x xs, here ∙ ap Some (sym same))) (λ rest. one_later (later rest))
-      (Contains-cons_cases z (filter_map find xs) y among)
 
 selected_alike : (p : Program) (c : Call) (target : ℕ)
     → Contains (filter (λ method. is_among method (selected p c.named c.method.0)) (range_with_len 0 (length (methods_of p.outline.classes)))) target

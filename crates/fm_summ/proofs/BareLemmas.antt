@@ -35,7 +35,7 @@ use Rattle.fm_summ.specs.inner.State.{IsBare}
 
 -- ---- tests of lists
 
-all_pass : {X : Type 0} (test : X → Bool) (xs : List X) → list_all test xs ≡ true → (x : X) → Contains xs x → test x ≡ true
+pub all_pass : {X : Type 0} (test : X → Bool) (xs : List X) → list_all test xs ≡ true → (x : X) → Contains xs x → test x ≡ true
 all_pass test [] all x found = absurd (Contains-none x found)
 all_pass test (y ∷ xs) all x found =
     ⊎_elim (λ (same : x ≡ y). ap test same ∙ and_left (test y) (list_all test xs) all)

@@ -4,6 +4,7 @@ pub mod TypeTests
 pub mod Told
 mod Selected
 pub mod OwnedMethods
+pub mod ElementLemmas
 pub mod OverridingLemmas
 pub mod LayerLemmas
 pub mod Displays

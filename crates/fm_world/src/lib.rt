@@ -41,5 +41,6 @@ pub use parts::Parts;
 pub use program::{Program, is_listed};
 pub use records::{Body, ClassInfo, FieldInfo, MethodInfo};
 pub use shared::Shared;
+pub use targets::class_of_type;
 pub use types::{base_of_elem, type_of_class};
 pub use uses::Use;

@@ -453,8 +453,8 @@ impl Program {
         &display[..display.len() - 1]
     }
 
-    // All superinterfaces of the class: each is an interface.
-    fn interfaces(&self, c: ClassId) -> &[u32]
+    /// All superinterfaces of the class, by number: each is an interface. Takes no memory.
+    pub fn interfaces(&self, c: ClassId) -> &[u32]
         requires { c.0 < length self.now.outline.classes }
         ensures value { result.now ≡ interfaces_of self.now.outline.classes c.0 }
         ensures only { AreInterfaces self.now.outline.classes result.now }

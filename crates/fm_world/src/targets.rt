@@ -28,7 +28,7 @@ impl Program {
         ensures { result.0 ≡ special_target self.now.outline.classes caller.0
             (class_of_type named) m.0 }
     {
-        match class_of(named) {
+        match class_of_type(named) {
             Some(class) => {
                 if self.searches_above(caller, class, m) {
                     self.nearest_above(caller, m)
@@ -159,7 +159,7 @@ impl Program {
         requires { IsTypeIn self.now.outline.classes named }
         ensures { result ≡ takes_arrays self.now.outline.classes named }
     {
-        match class_of(named) {
+        match class_of_type(named) {
             Some(class) => self.is_above_arrays(class),
             None => true,
         }
@@ -208,8 +208,8 @@ impl Program {
     }
 }
 
-// The class that a type is; none for an array.
-fn class_of(t: TypeRef) -> Option<ClassId>
+/// The class that a type is; none for an array. Takes no memory.
+pub fn class_of_type(t: TypeRef) -> Option<ClassId>
     ensures { option_map (λ (c : ClassId). c.0) result ≡ class_of_type t }
 {
     if t.dims > 0 {
