@@ -1,0 +1,9 @@
+pub mod Elements
+pub mod SelectedLemmas
+pub mod Receivers
+pub mod WalkSteps
+pub mod Opening
+pub mod Closing
+pub mod ItemLemmas
+pub mod NamedLemmas
+pub mod Followable
