@@ -1,1 +1,12 @@
 pub mod ReadingLemmas
+pub mod HeldLemmas
+pub mod CapturedLemmas
+pub mod ListedLemmas
+pub mod WholeLemmas
+pub mod FreedLemmas
+pub mod SafeItemLemmas
+pub mod SafeLemmas
+pub mod SafePlanLemmas
+pub mod CheckedLemmas
+pub mod ProgramFactsLemmas
+pub mod MethodsLemmas

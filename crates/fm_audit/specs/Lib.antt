@@ -1,3 +1,6 @@
 pub mod Reading
 pub mod ReadBy
 pub mod Example
+pub mod SafePlans
+pub mod SafeMethods
+pub mod inner

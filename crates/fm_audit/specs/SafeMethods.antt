@@ -1,0 +1,40 @@
+-- What is to be done with all methods of a program is to insert what is safe by its facts, or nothing.
+use Rattle.std.specs.Prelude.{◌≡◌, ◌<◌, ℕ, List, length, Option, Some, None}
+use Rattle.fm_code.specs.declared.code_array.Code.{Code}
+use Rattle.fm_conn.specs.Facts.{AreFacts, Facts}
+use Rattle.fm_conn.specs.declared.summaries.Summaries.{Summaries}
+use Rattle.fm_place.specs.Insertions.{Insertions}
+use Rattle.fm_place.specs.Rewriting.{Plans}
+use Rattle.fm_place.specs.Safe.{IsSafeMethod}
+use Rattle.fm_place_weave.specs.declared.planned.Planned.{Planned}
+use Rattle.fm_place_weave.specs.declared.planned.Planned.TheVariants as planned
+use Rattle.fm_rewrite.specs.Plans.{planned_at}
+use Rattle.fm_summ_shapes.specs.Analysed.{AreLeastTypings}
+use Rattle.fm_world.specs.Members.{methods_of}
+use Rattle.fm_world.specs.Programs.{code_at, Program}
+use Rattle.fm_audit.specs.SafePlans.{IsListedIn, IsSafelyPlanned}
+
+-- what is to be done with one that may have code
+abbrev pub IsSafelyPlannedIn : Program → Summaries → ℕ → Option Code → Planned → Type 0
+IsSafelyPlannedIn p summaries method None done = done ≡ planned.Same
+IsSafelyPlannedIn p summaries method (Some code) done = IsSafelyPlanned p summaries method code done
+
+-- with a method of the program
+abbrev pub IsSafelyPlannedAt : Program → Summaries → ℕ → Planned → Type 0
+IsSafelyPlannedAt p summaries method done = IsSafelyPlannedIn p summaries method (code_at p method) done
+
+-- with each method of a program, as the summaries link the ends of methods
+pub record AreSafelyPlanned (p : Program) (summaries : Summaries) (done : List Planned) : Type 0 where
+  pub one_each : length done ≡ length (methods_of p.outline.classes)
+  pub each : (method : ℕ) → method < length done → IsSafelyPlannedAt p summaries method (planned_at done method)
+
+-- with each method by the exact facts of the program, over least typings: what is inserted is safe, and it is what is planned
+pub record AreSafelyInserted (p : Program) (done : List Planned) : Type 0 where
+  pub facts : Facts
+  pub exact : AreFacts p facts
+  pub least : AreLeastTypings p facts.typing
+  pub plans : Plans
+  pub methods : (method : ℕ) (plan : Insertions) → plans method ≡ Some plan → IsSafeMethod p facts method plan
+  pub one_each : length done ≡ length (methods_of p.outline.classes)
+  pub listed : (method : ℕ) (code : Code) → code_at p method ≡ Some code → IsListedIn code (plans method) (planned_at done method)
+  pub others : (method : ℕ) → code_at p method ≡ None → (plans method ≡ None) × (planned_at done method ≡ planned.Same)

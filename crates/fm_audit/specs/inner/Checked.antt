@@ -1,0 +1,55 @@
+-- What is checked of the pairs that a method's new items are read as, by what is known of the method.
+use Rattle.std.specs.Prelude.{◌≡◌, ◌+◌, ◌<◌, ◌≤◌, ℕ, true, false, List, length, Some, Contains, IsSomeAnd, nat_eq, slice_get, ⊤}
+use Rattle.std.specs.List.{flat_map, IsDistinct, range_with_len}
+use Rattle.fm_base.specs.declared.limits.TheConstants.{MAX_LOCAL_WORDS}
+use Rattle.fm_place.specs.PlansBy.{paired}
+use Rattle.fm_place.specs.declared.busy_rows.Seen.{Seen}
+use Rattle.fm_place.specs.declared.found_sites.Site.{Site}
+use Rattle.fm_place.specs.declared.plans.Plan.{Plan}
+use Rattle.fm_place_weave.specs.declared.planned.Planned.{Planned}
+use Rattle.fm_place_weave.specs.declared.planned.Planned.TheVariants as planned
+use Rattle.fm_place.specs.inner.PlanRows.{count_of, is_busy_at, may_hold_at}
+use Rattle.fm_audit.specs.Reading.{Pairs, Read}
+use Rattle.fm_audit.specs.inner.Listed.{AreListed}
+use Rattle.fm_audit.specs.inner.Holders.{are_own_items, held_by_all}
+
+-- what is freed before an item is safe: no holder twice, none whose class is busy, and each that may hold something and whose class isn't busy
+pub record IsSafeItem (s : Seen) (held : List (ℕ × ℕ)) (j : ℕ) (freed : List ℕ) : Type 0 where
+  pub once : IsDistinct nat_eq freed
+  pub may : (h : ℕ) → Contains freed h → IsSomeAnd (slice_get held h) (λ (p : ℕ × ℕ). is_busy_at s j p.1 ≡ false)
+  pub must : (h : ℕ) (p : ℕ × ℕ) → slice_get held h ≡ Some p → is_busy_at s j p.1 ≡ false → may_hold_at s j p ≡ true → Contains freed h
+
+-- where the pairs are listed item by item, what is freed before each is safe
+abbrev pub AreSafeFrees : Seen → (held before : List (ℕ × ℕ)) → Type 0
+AreSafeFrees s held before =
+    (freed : ℕ → List ℕ) → before ≡ flat_map (paired freed) (range_with_len 0 (count_of s)) → (j : ℕ) → j < count_of s → IsSafeItem s held j (freed j)
+
+-- so many holders have sites of their own, and are freed where it is safe
+pub record IsChecked (s : Seen) (sites : List Site) (pairs : Pairs) (holders : ℕ) : Type 0 where
+  pub held : List (ℕ × ℕ)
+  pub count : length held ≡ holders
+  pub some : 0 < holders
+  pub room : s.method.code.now.max_locals + holders ≤ MAX_LOCAL_WORDS
+  pub held_is : held_by_all sites pairs.after (range_with_len 0 holders) ≡ Some held
+  pub own : are_own_items held pairs.after ≡ true
+  pub frees : AreSafeFrees s held pairs.before
+
+-- the same of what was read, at whose start these holders are null, by their numbers
+pub record IsCheckedFor (s : Seen) (sites : List Site) (found : Read) (holders : ℕ) : Type 0 where
+  pub checked : IsChecked s sites found.pairs holders
+  pub starts : found.starts ≡ range_with_len 0 holders
+
+-- the pairs of a plan
+abbrev pub pairs_of : Plan → Pairs
+pairs_of plan = record { before = plan.before.items; after = plan.after.items }
+
+-- those of the plan are listed item by item, and checked
+pub record IsCheckedPlan (s : Seen) (sites : List Site) (plan : Plan) : Type 0 where
+  pub listed : AreListed 0 (count_of s) (pairs_of plan)
+  pub checked : IsChecked s sites (pairs_of plan) plan.holders
+
+-- the method stays as it is, or it is woven by such a plan
+abbrev pub IsCheckedDone : Seen → List Site → Planned → Type 0
+IsCheckedDone s sites planned.Same = ⊤
+IsCheckedDone s sites (planned.Woven plan) = IsCheckedPlan s sites plan
+IsCheckedDone s sites (planned.TooLong bytes) = ⊥
