@@ -22,7 +22,7 @@ pub fn empty_lists(alloc: Global, count: u32) -> Result<Vec<Vec<u32>>, NoMemory>
 /// The list of a number. Takes no memory.
 pub fn list_at(lists: &[Vec<u32>], number: u32) -> &[u32]
     requires { number < length (lists_of lists.now) }
-    ensures { result.now ≡ list_of ((lists_of lists.now) number }
+    ensures { result.now ≡ list_of (lists_of lists.now) number }
 {
     lists[number as usize].as_slice()
 }

@@ -170,7 +170,7 @@ impl Walk {
         requires made { has self.old.made class.0 ≡ true }
         requires receives { IsReceiver program.now.outline.classes named class.0 }
         ensures goes { OnOk result (Goes program.now (sets_of self.old) (sets_of self.new)) }
-        ensures listed { OnOk result (Contains (list_of ((lists_of self.new.below.items) named) class.0) }
+        ensures listed { OnOk result (Contains (list_of (lists_of self.new.below.items) named) class.0) }
     {
         let listed = selected_by(
             alloc,
@@ -269,7 +269,7 @@ impl Walk {
         requires method { method.0 < length (methods_of program.now.outline.classes) }
         requires needed { IsCallNeeded program.now named.0 method.0 }
         ensures goes { OnOk result (Goes program.now (sets_of self.old) (sets_of self.new)) }
-        ensures listed { OnOk result (Contains (list_of ((lists_of self.new.called.items) named.0) method.0) }
+        ensures listed { OnOk result (Contains (list_of (lists_of self.new.called.items) named.0) method.0) }
     {
         if self.is_listed(named.0, method.0) {
             return Ok(());
@@ -289,7 +289,7 @@ impl Walk {
     // Whether the method is listed at the class.
     fn is_listed(&self, named: u32, method: u32) -> bool
         requires { named < length (lists_of self.now.called.items) }
-        ensures { IsTrue result → Contains (list_of ((lists_of self.now.called.items) named) method }
+        ensures { IsTrue result → Contains (list_of (lists_of self.now.called.items) named) method }
     {
         let Some(place) = self.places.get(&(named, method)) else {
             return false;
