@@ -3,6 +3,7 @@
 mod changes;
 mod checking;
 mod family;
+mod hostile;
 mod lengths;
 mod linking;
 mod made;
