@@ -14,7 +14,7 @@ use fm_code::{Code, Insn};
 use fm_world::{Program, Use, type_of_class};
 
 /// The class that declares a method. Takes no memory.
-#[tactic(auto, using(crate::proofs::OwnerLemmas::owner_within), unfolding(fm_world::specs::Programs::method_info))]
+#[tactic(auto, using(fm_world::proofs::OwnedMethods::owner_within), unfolding(fm_world::specs::Programs::method_info))]
 pub fn class_of_method(program: &Program, m: MethodId) -> ClassId
     requires { m.0 < length (methods_of program.now.outline.classes) }
     ensures value { result.0 ≡ class_of_method program.now.outline m.0 }

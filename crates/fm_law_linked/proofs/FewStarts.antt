@@ -1,5 +1,5 @@
 -- The start of main's class does little: a chain of superclasses has no more classes than the program, and each of them few fields.
-use Rattle.std.proofs.Common.{◌≡◌, ℕ, suc, ◌^◌, ◌<◌, ◌≤◌, not, Bool, true, false, cond, List, [], length, map, reverse, unwrap_or, Option, Some, None, is_none, refl, arith, length-append}
+use Rattle.std.proofs.Common.{◌≡◌, ℕ, suc, ◌+◌, ◌^◌, ◌<◌, ◌≤◌, not, Bool, true, false, cond, List, [], length, map, reverse, unwrap_or, Option, Some, None, is_none, refl, arith, length-append}
 use Rattle.std.specs.List.{AllByRecursion, filter}
 use Rattle.std.proofs.lemmas.List.{length-reverse}
 use Rattle.std.proofs.lemmas.List.FromFn.{length-range_with_len}
@@ -13,7 +13,7 @@ use Rattle.fm_frames.specs.inner.Opening.{opening_classes}
 use Rattle.fm_law_linked.proofs.FewTexts.{filter_few, flat_few}
 use Rattle.fm_law_linked.proofs.ObjectSizes.{classes_few, fields_few, upwards_length}
 use Rattle.fm_law_sound.proofs.Opening.{with_text}
-use Rattle.fm_world.specs.BuiltIns.{built_in}
+use Rattle.fm_world.specs.BuiltIns.{built_in, built_in_classes}
 use Rattle.fm_world.specs.Chains.{chain_of, class_at, given_number}
 use Rattle.fm_world.specs.Declarations.{declared_from}
 use Rattle.fm_world.specs.Members.{field_at, first_field}
@@ -60,7 +60,7 @@ opening_few o =
     (filter (λ above. not (is_started o (map (λ class. false) o.classes) above)) (reverse (chain_of o.classes o.main_class))) in
     omega (arith, chain, turned, left, either)
 
-starts_few : (o : Outline) → ((class : ℕ) → length (class_at o.classes class).fields ≤ 65536) → length o.classes ≤ 4124
+starts_few : (o : Outline) → ((class : ℕ) → length (class_at o.classes class).fields ≤ 65536) → length o.classes ≤ 4096 + built_in_classes
     → length (start_actions o (opening_classes o)) ≤ 2 ^ 30
 starts_few o each few =
     let all = flat_few (start_of_class o) 131073 (λ class. class_few o class (each class)) (opening_classes o) in
@@ -71,7 +71,7 @@ each_few : (given : List ClassDef) (main : List ℕ) → AllByRecursion HasSpell
 unfolding outline_of
 each_few given main spelled = fields_few given spelled
 
-classes_there : (given : List ClassDef) (main : List ℕ) → length given ≤ MAX_CLASS_FILES → length (outline_of given main).classes ≤ 4124
+classes_there : (given : List ClassDef) (main : List ℕ) → length given ≤ MAX_CLASS_FILES → length (outline_of given main).classes ≤ 4096 + built_in_classes
 unfolding outline_of
 classes_there given main few = classes_few given few
 

@@ -11,7 +11,7 @@ use Rattle.fm_code.specs.Spells.{HasSpelling}
 use Rattle.fm_code.specs.declared.class_file.ClassDef.{ClassDef}
 use Rattle.fm_law_linked.proofs.FewTypes.{types_few}
 use Rattle.fm_link_supers.proofs.ParentRefusals.{length-declared}
-use Rattle.fm_world.specs.BuiltIns.{built_in}
+use Rattle.fm_world.specs.BuiltIns.{built_in, built_in_classes}
 use Rattle.fm_world.specs.Chains.{chain_of, class_at, parent_of, upwards}
 use Rattle.fm_world.specs.Declarations.{declared_field, declared_from, no_class}
 use Rattle.fm_world.specs.Members.{is_instance, own_size, size_of}
@@ -81,7 +81,7 @@ chain_small classes each class =
 
 -- ---- within the bounds of the machine
 
-pub classes_few : (given : List ClassDef) → length given ≤ MAX_CLASS_FILES → length (classes_of given) ≤ 4124
+pub classes_few : (given : List ClassDef) → length given ≤ MAX_CLASS_FILES → length (classes_of given) ≤ 4096 + built_in_classes
 unfolding classes_of built_in
 classes_few given few =
     let all = length-append built_in (declared_from 0 given) in

@@ -1,8 +1,9 @@
 -- The effects of the rows of texts that look at another object or at a part, and of what is printed.
-use Rattle.std.proofs.Common.{◌≡◌, ℕ, ◌+◌, ℤ, pos, Bool, true, false, if◌then◌else◌, List, [], Option, Result, Ok, Err, refl, ◌∙◌}
+use Rattle.std.proofs.Common.{◌≡◌, ℕ, ◌+◌, ℤ, pos, Bool, true, false, if◌then◌else◌, List, [], ◌∷◌, Option, Result, Ok, Err, refl, ◌∙◌}
 use Rattle.std.specs.Char.Utf16.{utf16_chars}
 use Rattle.std.specs.Global.{Vec}
 use Rattle.fm_base.specs.Texts.{utf8}
+use Rattle.fm_base.specs.declared.characters.TheConstants.{LINE_FEED}
 use Rattle.fm_cells.specs.Stores.{Store}
 use Rattle.fm_frames.specs.Effects.{Effect, int_word, making, printing, words}
 use Rattle.fm_frames.specs.NativeRows.{equal_to, native_effect, shown_words, stream_native, string_native, text_made}
@@ -66,6 +67,6 @@ unfolding native_effect stream_native
 print-is o byte s shown false operand found asks = asks (λ units. printing (shown_words shown + 1) (shown_bytes units false))
 print-is o byte s shown true operand found asks = asks (λ units. printing (shown_words shown + 1) (shown_bytes units true))
 
-pub line-end-is : (o : Outline) (byte : Option ℕ) (s : List Sight) → native_effect o PrintlnNothing byte s ≡ printing 1 (shown_bytes [] true)
+pub line-end-is : (o : Outline) (byte : Option ℕ) (s : List Sight) → native_effect o PrintlnNothing byte s ≡ printing 1 (LINE_FEED ∷ [])
 unfolding native_effect stream_native utf8 utf16_chars
 line-end-is o byte s = refl
