@@ -32,7 +32,7 @@ public class PrintStream {
         print(String.valueOf(value));
     }
 
-    /** Prints chars, in {@code n log n} time. */
+    /** Prints chars, in linear time. */
     public void print(char[] value) {
         print(String.valueOf(value));
     }
@@ -42,7 +42,7 @@ public class PrintStream {
         println(String.valueOf(value));
     }
 
-    /** Prints chars and ends the line, in {@code n log n} time. */
+    /** Prints chars and ends the line, in linear time. */
     public void println(char[] value) {
         println(String.valueOf(value));
     }

@@ -27,14 +27,11 @@ public final class String implements java.io.Serializable, Comparable<String>, C
 
     public static native String valueOf(boolean value);
 
+    public static native String valueOf(char[] chars);
+
     /** Returns an object's text, {@code null} for null, in the time of its {@code toString}. */
     public static String valueOf(Object value) {
         return value == null ? "null" : value.toString();
-    }
-
-    /** Makes a text of chars, in {@code n log n} time. */
-    public static String valueOf(char[] chars) {
-        return zuqelash.Texts.of(chars, 0, chars.length);
     }
 
     /** Makes a text of {@code count} chars from {@code start} on, in {@code n log n} time. */
@@ -45,7 +42,7 @@ public final class String implements java.io.Serializable, Comparable<String>, C
         return zuqelash.Texts.of(chars, start, start + count);
     }
 
-    /** Makes a text of chars, in {@code n log n} time. */
+    /** Makes a text of chars, in linear time. */
     public static String copyValueOf(char[] chars) {
         return valueOf(chars);
     }
@@ -189,7 +186,7 @@ public final class String implements java.io.Serializable, Comparable<String>, C
         return text.length() == 0 ? this : new StringBuilder().append(this).append(text).toString();
     }
 
-    /** Returns it with another char in place of each one of a value, in {@code n log n} time. */
+    /** Returns it with another char in place of each one of a value, in linear time. */
     public String replace(char value, char other) {
         if (indexOf(value) < 0) {
             return this;
@@ -248,7 +245,7 @@ public final class String implements java.io.Serializable, Comparable<String>, C
         }
     }
 
-    /** Returns it with each char as {@code Character.toLowerCase} has it, in {@code n log n} time. */
+    /** Returns it with each char as {@code Character.toLowerCase} has it, in linear time. */
     public String toLowerCase() {
         char[] chars = toCharArray();
         for (int index = 0; index < chars.length; index++) {
@@ -257,7 +254,7 @@ public final class String implements java.io.Serializable, Comparable<String>, C
         return valueOf(chars);
     }
 
-    /** Returns it with each char as {@code Character.toUpperCase} has it, in {@code n log n} time. */
+    /** Returns it with each char as {@code Character.toUpperCase} has it, in linear time. */
     public String toUpperCase() {
         char[] chars = toCharArray();
         for (int index = 0; index < chars.length; index++) {

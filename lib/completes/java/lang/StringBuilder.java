@@ -1,6 +1,6 @@
 package java.lang;
 
-/** What a builder has besides what is built in. What looks at its chars takes the whole text first, in the time of its length. */
+/** What a builder has besides what is built in. What looks at more than one of its chars takes the whole text first, in the time of its length. */
 public final class StringBuilder implements CharSequence {
     public StringBuilder() {
     }
@@ -36,6 +36,10 @@ public final class StringBuilder implements CharSequence {
 
     public native String toString();
 
+    public native char charAt(int index);
+
+    public native void setLength(int length);
+
     /** Appends an object's text, in the time of its {@code toString}. */
     public StringBuilder append(Object value) {
         return append(String.valueOf(value));
@@ -56,7 +60,7 @@ public final class StringBuilder implements CharSequence {
         return append(String.valueOf(value));
     }
 
-    /** Appends chars, in {@code n log n} time. */
+    /** Appends chars, in the time of both lengths. */
     public StringBuilder append(char[] value) {
         return append(String.valueOf(value));
     }
@@ -64,11 +68,6 @@ public final class StringBuilder implements CharSequence {
     /** Appends {@code count} chars from {@code start} on, in {@code n log n} time. */
     public StringBuilder append(char[] value, int start, int count) {
         return append(String.valueOf(value, start, count));
-    }
-
-    /** Returns the char at an index, in the time of the whole length. */
-    public char charAt(int index) {
-        return toString().charAt(index);
     }
 
     /** Returns the chars from {@code start} on, in the time of the whole length. */
@@ -101,7 +100,128 @@ public final class StringBuilder implements CharSequence {
         return toString().lastIndexOf(text);
     }
 
+    /** Returns where a text begins last up to an index, or -1. */
+    public int lastIndexOf(String text, int from) {
+        return toString().lastIndexOf(text, from);
+    }
+
+    /** Puts the chars from {@code start} to before {@code end} into an array from a place on, in the time of their number. */
+    public void getChars(int start, int end, char[] chars, int place) {
+        Places.within(start, end, length());
+        Places.check_range(place, place + end - start, chars.length);
+        for (int index = start; index < end; index++) {
+            chars[place + index - start] = charAt(index);
+        }
+    }
+
+    /** Puts a char in place of the one at an index, in the time of the whole length. */
+    public void setCharAt(int index, char value) {
+        String text = toString();
+        Places.check(index, text.length());
+        setLength(index);
+        append(value).append(text.substring(index + 1, text.length()));
+    }
+
+    /** Takes out the char at an index, in the time of the whole length. */
+    public StringBuilder deleteCharAt(int index) {
+        String text = toString();
+        Places.check(index, text.length());
+        setLength(index);
+        return append(text.substring(index + 1, text.length()));
+    }
+
+    /** Takes out the chars from {@code start} to before {@code end}, in the time of the whole length. */
+    public StringBuilder delete(int start, int end) {
+        String text = toString();
+        int past = Places.past(start, end, text.length());
+        setLength(start);
+        return append(text.substring(past, text.length()));
+    }
+
+    /** Puts a text in place of the chars from {@code start} to before {@code end}, in the time of both lengths. */
+    public StringBuilder replace(int start, int end, String by) {
+        String text = toString();
+        int past = Places.past(start, end, text.length());
+        String added = by.toString();
+        setLength(start);
+        return append(added).append(text.substring(past, text.length()));
+    }
+
+    /** Puts a text before the char at an index, in the time of both lengths. */
+    public StringBuilder insert(int index, String value) {
+        String text = toString();
+        Places.check_offset(index, text.length());
+        setLength(index);
+        return append(value).append(text.substring(index, text.length()));
+    }
+
+    /** Puts an object's text before the char at an index, in the time of both lengths. */
+    public StringBuilder insert(int index, Object value) {
+        return insert(index, String.valueOf(value));
+    }
+
+    /** Puts the chars of a sequence before the char at an index, in the time of both lengths. */
+    public StringBuilder insert(int index, CharSequence value) {
+        return insert(index, String.valueOf(value));
+    }
+
+    /** Puts the chars of a sequence from {@code start} to before {@code end} before the char at an index, in the time of both lengths. */
+    public StringBuilder insert(int index, CharSequence value, int start, int end) {
+        Places.check_offset(index, length());
+        String added = String.valueOf(value);
+        Places.check_range(start, end, added.length());
+        return insert(index, added.substring(start, end));
+    }
+
+    /** Puts chars before the char at an index, in the time of both lengths. */
+    public StringBuilder insert(int index, char[] value) {
+        Places.check_offset(index, length());
+        return insert(index, String.valueOf(value));
+    }
+
+    /** Puts {@code count} chars from {@code start} on before the char at an index, in the time of both lengths. */
+    public StringBuilder insert(int index, char[] value, int start, int count) {
+        Places.check_offset(index, length());
+        int past = Places.within(start, start + count, value.length);
+        char[] part = new char[count];
+        for (int place = start; place < past; place++) {
+            part[place - start] = value[place];
+        }
+        return insert(index, String.valueOf(part));
+    }
+
+    /** Puts {@code true} or {@code false} before the char at an index, in the time of the whole length. */
+    public StringBuilder insert(int index, boolean value) {
+        return insert(index, String.valueOf(value));
+    }
+
+    /** Puts a char before the char at an index, in the time of the whole length. */
+    public StringBuilder insert(int index, char value) {
+        return insert(index, String.valueOf(value));
+    }
+
+    /** Puts a number before the char at an index, in the time of the whole length. */
+    public StringBuilder insert(int index, int value) {
+        return insert(index, String.valueOf(value));
+    }
+
+    /** Puts a number before the char at an index, in the time of the whole length. */
+    public StringBuilder insert(int index, long value) {
+        return insert(index, String.valueOf(value));
+    }
+
+    /** Turns the chars round, but for pairs of surrogates, which stay as they are, in the time of the whole length. */
+    public StringBuilder reverse() {
+        String chars = Places.reversed(toString());
+        setLength(0);
+        return append(chars);
+    }
+
     /** Does nothing: a builder takes what it needs. */
     public void ensureCapacity(int least) {
+    }
+
+    /** Does nothing: a builder has what it needs. */
+    public void trimToSize() {
     }
 }
