@@ -401,8 +401,12 @@ public final class Format {
     }
 
     private static void addZeros(StringBuilder text, int count) {
-        for (int index = 0; index < count; index++) {
-            text.append('0');
+        if (count > 0) {
+            char[] zeros = new char[count];
+            for (int index = 0; index < count; index++) {
+                zeros[index] = '0';
+            }
+            text.append(String.valueOf(zeros));
         }
     }
 
@@ -410,11 +414,11 @@ public final class Format {
         if (!has(CAPITALS)) {
             return text;
         }
-        StringBuilder result = new StringBuilder();
-        for (int index = 0; index < text.length(); index++) {
-            result.append(Character.toUpperCase(text.charAt(index)));
+        char[] chars = new char[text.length()];
+        for (int index = 0; index < chars.length; index++) {
+            chars[index] = Character.toUpperCase(text.charAt(index));
         }
-        return result.toString();
+        return String.valueOf(chars);
     }
 
     /** A text as long as the precision allows, in capital letters where they are asked for, and justified. */
@@ -426,13 +430,11 @@ public final class Format {
         if (width <= text.length()) {
             return text;
         }
-        StringBuilder result = new StringBuilder();
-        if (has(LEFT)) {
-            result.append(text);
+        char[] chars = new char[width];
+        int first = has(LEFT) ? 0 : width - text.length();
+        for (int index = 0; index < width; index++) {
+            chars[index] = index < first || index >= first + text.length() ? ' ' : text.charAt(index - first);
         }
-        for (int index = text.length(); index < width; index++) {
-            result.append(' ');
-        }
-        return has(LEFT) ? result.toString() : result.append(text).toString();
+        return String.valueOf(chars);
     }
 }

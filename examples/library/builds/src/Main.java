@@ -82,12 +82,19 @@ public class Main {
             case 47: text.append(text); return text.lastIndexOf("bc", 3) + " " + text.lastIndexOf("bc", 4) + " " + text.lastIndexOf("bc", 0) + " " + text.lastIndexOf("", 9);
             case 48: return buffer.append(buffer).lastIndexOf("x", -1) + " " + buffer.lastIndexOf("x", 2) + " " + buffer.lastIndexOf("zz", 9);
             case 49: text.trimToSize(); buffer.trimToSize(); return text.append(buffer);
+            case 50: return text.append("xyz", 1, 3).append("xyz", 3, 3).append(no_sequence, 0, 2).append(chars, 1, 2).append(chars, 3, 0);
+            case 51: return text.append("xyz", 2, 1);
+            case 52: return text.append(no_sequence, 3, 5);
+            case 53: return text.append(chars, 2, 2);
+            case 54: return buffer.append("xyz", -1, 2);
+            case 55: return buffer.append(chars, -1, 2);
+            case 56: return buffer.append("xyz", 0, 1).append(chars, 0, 3).append(no_chars, 0, 0);
             default: return text.append(buffer).append(chars, 0, 2);
         }
     }
 
     public static void main(String[] args) {
-        for (int which = 0; which <= 50; which++) {
+        for (int which = 0; which <= 57; which++) {
             try {
                 say(changed(which));
             } catch (NullPointerException e) {

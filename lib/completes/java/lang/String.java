@@ -34,7 +34,7 @@ public final class String implements java.io.Serializable, Comparable<String>, C
         return value == null ? "null" : value.toString();
     }
 
-    /** Makes a text of {@code count} chars from {@code start} on, in {@code n log n} time. */
+    /** Makes a text of {@code count} chars from {@code start} on, in linear time. */
     public static String valueOf(char[] chars, int start, int count) {
         if (start < 0 || count < 0 || start > chars.length - count) {
             throw new StringIndexOutOfBoundsException();

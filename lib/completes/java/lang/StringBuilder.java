@@ -52,7 +52,9 @@ public final class StringBuilder implements CharSequence {
 
     /** Appends the chars of a sequence from {@code start} to before {@code end}, in the time of their number. */
     public StringBuilder append(CharSequence value, int start, int end) {
-        return append(String.valueOf(value).substring(start, end));
+        String text = String.valueOf(value);
+        Places.check_range(start, end, text.length());
+        return append(text.substring(start, end));
     }
 
     /** Appends the text of another builder, in the time of its length. */
@@ -65,9 +67,10 @@ public final class StringBuilder implements CharSequence {
         return append(String.valueOf(value));
     }
 
-    /** Appends {@code count} chars from {@code start} on, in {@code n log n} time. */
+    /** Appends {@code count} chars from {@code start} on, in the time of both lengths. */
     public StringBuilder append(char[] value, int start, int count) {
-        return append(String.valueOf(value, start, count));
+        Places.check_range(start, start + count, value.length);
+        return append(zuqelash.Texts.of(value, start, start + count));
     }
 
     /** Returns the chars from {@code start} on, in the time of the whole length. */
@@ -182,12 +185,7 @@ public final class StringBuilder implements CharSequence {
     /** Puts {@code count} chars from {@code start} on before the char at an index, in the time of both lengths. */
     public StringBuilder insert(int index, char[] value, int start, int count) {
         Places.check_offset(index, length());
-        int past = Places.within(start, start + count, value.length);
-        char[] part = new char[count];
-        for (int place = start; place < past; place++) {
-            part[place - start] = value[place];
-        }
-        return insert(index, String.valueOf(part));
+        return insert(index, zuqelash.Texts.of(value, start, Places.within(start, start + count, value.length)));
     }
 
     /** Puts {@code true} or {@code false} before the char at an index, in the time of the whole length. */

@@ -54,7 +54,7 @@ public class BufferedReader extends Reader {
         return count;
     }
 
-    /** Reads a line without its end, or returns null behind the last one, in {@code n log n} time. */
+    /** Reads a line without its end, or returns null behind the last one, in linear time. */
     public String readLine() throws IOException {
         int value = read();
         if (value < 0) {

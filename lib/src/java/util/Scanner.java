@@ -124,7 +124,7 @@ public final class Scanner implements Iterator<String> {
         return text(from, wordEnd(from));
     }
 
-    /** Returns the next word, or throws NoSuchElementException, in {@code n log n} time. */
+    /** Returns the next word, or throws NoSuchElementException, in linear time. */
     public String next() {
         String word = word();
         pass(wordEnd(0));
@@ -248,7 +248,7 @@ public final class Scanner implements Iterator<String> {
         return at(0) >= 0;
     }
 
-    /** Returns the rest of the line, or throws NoSuchElementException, in {@code n log n} time. */
+    /** Returns the rest of the line, or throws NoSuchElementException, in linear time. */
     public String nextLine() {
         checkOpen();
         if (at(0) < 0) {
