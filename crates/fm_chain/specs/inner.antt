@@ -1,0 +1,2 @@
+-- What only serves the proofs: the state of a walk.
+pub mod LoopWalks
