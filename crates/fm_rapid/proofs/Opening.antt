@@ -12,7 +12,7 @@ use Rattle.fm_world.proofs.ElementLemmas.{Contains-from_filter_map}
 use Rattle.fm_rapid.specs.Reach.{AreIn, IsClosed, starts_of}
 use Rattle.fm_flow.specs.inner.LiveWalks.{list_of}
 use Rattle.fm_rapid.specs.inner.Walks.{AreNeeded, Goes, IsNew, IsUnderWay, IsWalk, Sets}
-use Rattle.fm_law_sound.proofs.FoundMethods.{own_method_found}
+use Rattle.fm_world.proofs.OwnedMethods.{own_method_found}
 use Rattle.fm_world.specs.BuiltIns.{built_in}
 use Rattle.fm_world.specs.Chains.{chain_of, class_at}
 use Rattle.fm_world.specs.Members.{methods_of, start_of}

@@ -4,7 +4,7 @@ use Rattle.fm_conn.proofs.CodedLemmas.{coded_at}
 use Rattle.fm_rapid.proofs.ItemLemmas.{method_done, method_needed, with_no_states}
 use Rattle.fm_rapid.proofs.WalkSteps.{Goes-none}
 use Rattle.fm_rapid.specs.inner.Walks.{sets_of}
-use Rattle.fm_types.specs.Typings.{type_state}
+use Rattle.fm_types.specs.Typings.{known_state}
 use Rattle.fm_world.specs.declared.records.MethodInfo.{MethodInfo}
 use Rattle.fm_rapid.proofs.walk.Walk.follow.Goals as goal
 
@@ -25,11 +25,11 @@ follow_items-requires-clause-needed c =
     let p = c.args.program.now in
     let code_is = coded_at p c.args.method.0 c.in-Coded.code (ap (λ (m : MethodInfo). m.body) (sym c.method.ensures) ∙ c.in-Coded.is) in
     method_needed p c.args.method.0 c.in-Coded.code _
-    (with_no_states p c.args.method.0 c.in-Coded.code _ (ap (map (option_map type_state)) c.empty.ensures)) c.requires.needed code_is
+    (with_no_states p c.args.method.0 c.in-Coded.code _ (ap (map (option_map known_state)) c.empty.ensures)) c.requires.needed code_is
 
 pub returns-clause-done : goal.returns-clause-done
 returns-clause-done c =
     let p = c.args.program.now in
     let code_is = coded_at p c.args.method.0 c.in-Coded.code (ap (λ (m : MethodInfo). m.body) (sym c.method.ensures) ∙ c.in-Coded.is) in
     method_done p (sets_of c.follow_items.new.self) c.args.method.0 c.in-Coded.code _
-    (with_no_states p c.args.method.0 c.in-Coded.code _ (ap (map (option_map type_state)) c.empty.ensures)) code_is c.in_ok-follow_items.ensures.gone
+    (with_no_states p c.args.method.0 c.in-Coded.code _ (ap (map (option_map known_state)) c.empty.ensures)) code_is c.in_ok-follow_items.ensures.gone
