@@ -56,14 +56,19 @@ public final class Format {
         at = 0;
     }
 
-    /** Makes the whole text, in the time of its length for each part. */
+    /** Makes the whole text, in linear time beside its parts. */
     public static String of(String format, Object[] arguments) {
         Format parts = new Format(format, arguments);
-        StringBuilder text = new StringBuilder();
-        while (parts.hasNext()) {
-            text.append(parts.next());
+        int most = 1;
+        for (int index = 0; index < format.length(); index++) {
+            most += format.charAt(index) == '%' ? 2 : 0;
         }
-        return text.toString();
+        String[] texts = new String[most];
+        int count = 0;
+        while (parts.hasNext()) {
+            texts[count++] = parts.next();
+        }
+        return Texts.joined("", texts, count, "", "", "");
     }
 
     /** Returns whether there is a further part, in constant time. */
@@ -359,6 +364,9 @@ public final class Format {
     }
 
     private String decimal(long number) {
+        if ((flags & ~LEFT) == 0) {
+            return justified(String.valueOf(number));
+        }
         boolean isNegative = number < 0;
         StringBuilder text = new StringBuilder();
         if (isNegative) {

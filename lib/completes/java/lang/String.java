@@ -52,29 +52,33 @@ public final class String implements java.io.Serializable, Comparable<String>, C
         return zuqelash.Format.of(format, arguments);
     }
 
-    /** Joins texts with one between each two, in the time of the whole for each part. */
+    /** Joins texts with one between each two, in linear time. */
     public static String join(CharSequence between, CharSequence... parts) {
-        StringBuilder text = new StringBuilder();
-        for (int index = 0; index < parts.length; index++) {
-            if (index > 0) {
-                text.append(between.toString());
-            }
-            text.append(String.valueOf(parts[index]));
+        String separator = between.toString();
+        String[] texts = new String[parts.length];
+        for (int index = 0; index < texts.length; index++) {
+            texts[index] = String.valueOf(parts[index]);
         }
-        return text.toString();
+        return zuqelash.Texts.joined("", texts, texts.length, separator, separator, "");
     }
 
-    /** Joins texts with one between each two, in the time of the whole for each part. */
+    /** Joins texts with one between each two, in linear time. */
     public static String join(CharSequence between, Iterable<? extends CharSequence> parts) {
-        StringBuilder text = new StringBuilder();
+        String separator = between.toString();
+        String[] texts = new String[8];
+        int count = 0;
         java.util.Iterator<? extends CharSequence> each = parts.iterator();
         while (each.hasNext()) {
-            text.append(String.valueOf(each.next()));
-            if (each.hasNext()) {
-                text.append(between.toString());
+            if (count == texts.length) {
+                String[] more = new String[2 * count];
+                for (int index = 0; index < count; index++) {
+                    more[index] = texts[index];
+                }
+                texts = more;
             }
+            texts[count++] = String.valueOf(each.next());
         }
-        return text.toString();
+        return zuqelash.Texts.joined("", texts, count, separator, separator, "");
     }
 
     /** Returns whether it has no chars. */

@@ -1,9 +1,9 @@
 package java.util;
 
+import zuqelash.Texts;
+
 /** What collections have in common: a class adds {@code size} and {@code iterator}, and {@code add} where it can grow. */
 public abstract class AbstractCollection<E> implements Collection<E> {
-    private static final int FEW = 8;
-
     /** Makes a collection, in constant time. */
     protected AbstractCollection() {
     }
@@ -126,21 +126,15 @@ public abstract class AbstractCollection<E> implements Collection<E> {
         }
     }
 
-    /** Returns the elements in brackets, with commas between them, in {@code n log n} time. */
+    /** Returns the elements in brackets, with commas between them, in linear time. */
     public String toString() {
-        return append(new StringBuilder().append('['), iterator(), size()).append(']').toString();
-    }
-
-    /** Appends further elements, with commas between them: of many, two halves, since a builder leaves each text that it dropped. */
-    private StringBuilder append(StringBuilder text, Iterator<E> elements, int count) {
-        if (count > FEW) {
-            text.append(append(new StringBuilder(), elements, count / 2).toString()).append(elements.hasNext() ? ", " : "");
-            return text.append(append(new StringBuilder(), elements, count - count / 2).toString());
-        }
-        for (int index = 0; index < count && elements.hasNext(); index++) {
+        String[] texts = new String[size()];
+        int count = 0;
+        Iterator<E> elements = iterator();
+        while (count < texts.length && elements.hasNext()) {
             E each = elements.next();
-            text.append(index == 0 ? "" : ", ").append(each == this ? "(this Collection)" : Objects.toString(each));
+            texts[count++] = each == this ? "(this Collection)" : Objects.toString(each);
         }
-        return text;
+        return Texts.joined("[", texts, count, ", ", ", ", "]");
     }
 }

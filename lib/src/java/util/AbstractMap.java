@@ -1,11 +1,10 @@
 package java.util;
 
 import java.io.Serializable;
+import zuqelash.Texts;
 
 /** What maps have in common: a class adds {@code entrySet}, and {@code put} where it can grow. */
 public abstract class AbstractMap<K, V> implements Map<K, V> {
-    private static final int FEW = 4;
-
     /** Makes a map, in constant time. */
     protected AbstractMap() {
     }
@@ -153,25 +152,19 @@ public abstract class AbstractMap<K, V> implements Map<K, V> {
         return hash;
     }
 
-    /** Returns keys and values in braces, with commas between them, in {@code n log n} time. */
+    /** Returns keys and values in braces, with commas between them, in linear time. */
     public String toString() {
-        return append(new StringBuilder().append('{'), entries(), size()).append('}').toString();
-    }
-
-    /** Appends further entries, with commas between them: of many, two halves, since a builder leaves each text that it dropped. */
-    private StringBuilder append(StringBuilder text, Iterator<Map.Entry<K, V>> entries, int count) {
-        if (count > FEW) {
-            text.append(append(new StringBuilder(), entries, count / 2).toString()).append(entries.hasNext() ? ", " : "");
-            return text.append(append(new StringBuilder(), entries, count - count / 2).toString());
-        }
-        for (int index = 0; index < count && entries.hasNext(); index++) {
+        String[] texts = new String[2 * size()];
+        int count = 0;
+        Iterator<Map.Entry<K, V>> entries = entries();
+        while (count < texts.length && entries.hasNext()) {
             Map.Entry<K, V> each = entries.next();
             K key = each.getKey();
             V value = each.getValue();
-            text.append(index == 0 ? "" : ", ").append(key == this ? "(this Map)" : Objects.toString(key)).append('=');
-            text.append(value == this ? "(this Map)" : Objects.toString(value));
+            texts[count++] = key == this ? "(this Map)" : Objects.toString(key);
+            texts[count++] = value == this ? "(this Map)" : Objects.toString(value);
         }
-        return text;
+        return Texts.joined("{", texts, count, "=", ", ", "}");
     }
 
     /** A key with a value, for itself. */

@@ -1,5 +1,7 @@
 package java.util;
 
+import zuqelash.Texts;
+
 /** What entries have in common. */
 abstract class AnyEntry<K, V> implements Map.Entry<K, V> {
     AnyEntry() {
@@ -18,6 +20,7 @@ abstract class AnyEntry<K, V> implements Map.Entry<K, V> {
     }
 
     public String toString() {
-        return new StringBuilder().append(Objects.toString(getKey())).append('=').append(Objects.toString(getValue())).toString();
+        String[] texts = {Objects.toString(getKey()), Objects.toString(getValue())};
+        return Texts.joined("", texts, texts.length, "=", "", "");
     }
 }

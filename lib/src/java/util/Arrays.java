@@ -1,5 +1,7 @@
 package java.util;
 
+import zuqelash.Texts;
+
 /**
  * Operations on arrays. Those of doubles and floats aren't here, as there are none; neither are {@code copyOf} and
  * {@code copyOfRange} of an array of objects, since an array of the same type can't be made.
@@ -408,88 +410,84 @@ public final class Arrays {
         return hash;
     }
 
-    /** Returns the elements in brackets, with commas between them: the time of a text that grows by each element. */
+    /** Returns the elements in brackets, with commas between them, in linear time. */
     public static String toString(int[] array) {
         if (array == null) {
             return "null";
         }
-        StringBuilder text = new StringBuilder().append('[');
+        long[] numbers = new long[array.length];
         for (int index = 0; index < array.length; index++) {
-            text.append(index == 0 ? "" : ", ").append(array[index]);
+            numbers[index] = array[index];
         }
-        return text.append(']').toString();
+        return Texts.listed('[', numbers, ']');
     }
 
-    /** Returns the elements in brackets, with commas between them: the time of a text that grows by each element. */
+    /** Returns the elements in brackets, with commas between them, in linear time. */
     public static String toString(long[] array) {
         if (array == null) {
             return "null";
         }
-        StringBuilder text = new StringBuilder().append('[');
-        for (int index = 0; index < array.length; index++) {
-            text.append(index == 0 ? "" : ", ").append(array[index]);
-        }
-        return text.append(']').toString();
+        return Texts.listed('[', array, ']');
     }
 
-    /** Returns the elements in brackets, with commas between them: the time of a text that grows by each element. */
+    /** Returns the elements in brackets, with commas between them, in linear time. */
     public static String toString(short[] array) {
         if (array == null) {
             return "null";
         }
-        StringBuilder text = new StringBuilder().append('[');
+        long[] numbers = new long[array.length];
         for (int index = 0; index < array.length; index++) {
-            text.append(index == 0 ? "" : ", ").append(array[index]);
+            numbers[index] = array[index];
         }
-        return text.append(']').toString();
+        return Texts.listed('[', numbers, ']');
     }
 
-    /** Returns the elements in brackets, with commas between them: the time of a text that grows by each element. */
-    public static String toString(char[] array) {
-        if (array == null) {
-            return "null";
-        }
-        StringBuilder text = new StringBuilder().append('[');
-        for (int index = 0; index < array.length; index++) {
-            text.append(index == 0 ? "" : ", ").append(array[index]);
-        }
-        return text.append(']').toString();
-    }
-
-    /** Returns the elements in brackets, with commas between them: the time of a text that grows by each element. */
+    /** Returns the elements in brackets, with commas between them, in linear time. */
     public static String toString(byte[] array) {
         if (array == null) {
             return "null";
         }
-        StringBuilder text = new StringBuilder().append('[');
+        long[] numbers = new long[array.length];
         for (int index = 0; index < array.length; index++) {
-            text.append(index == 0 ? "" : ", ").append(array[index]);
+            numbers[index] = array[index];
         }
-        return text.append(']').toString();
+        return Texts.listed('[', numbers, ']');
     }
 
-    /** Returns the elements in brackets, with commas between them: the time of a text that grows by each element. */
+    /** Returns the elements in brackets, with commas between them, in linear time. */
+    public static String toString(char[] array) {
+        if (array == null) {
+            return "null";
+        }
+        String[] texts = new String[array.length];
+        for (int index = 0; index < texts.length; index++) {
+            texts[index] = String.valueOf(array[index]);
+        }
+        return Texts.joined("[", texts, texts.length, ", ", ", ", "]");
+    }
+
+    /** Returns the elements in brackets, with commas between them, in linear time. */
     public static String toString(boolean[] array) {
         if (array == null) {
             return "null";
         }
-        StringBuilder text = new StringBuilder().append('[');
-        for (int index = 0; index < array.length; index++) {
-            text.append(index == 0 ? "" : ", ").append(array[index]);
+        String[] texts = new String[array.length];
+        for (int index = 0; index < texts.length; index++) {
+            texts[index] = array[index] ? "true" : "false";
         }
-        return text.append(']').toString();
+        return Texts.joined("[", texts, texts.length, ", ", ", ", "]");
     }
 
-    /** Returns the elements in brackets, with commas between them: the time of a text that grows by each element. */
+    /** Returns the elements in brackets, with commas between them, in linear time. */
     public static String toString(Object[] array) {
         if (array == null) {
             return "null";
         }
-        StringBuilder text = new StringBuilder().append('[');
-        for (int index = 0; index < array.length; index++) {
-            text.append(index == 0 ? "" : ", ").append(Objects.toString(array[index]));
+        String[] texts = new String[array.length];
+        for (int index = 0; index < texts.length; index++) {
+            texts[index] = Objects.toString(array[index]);
         }
-        return text.append(']').toString();
+        return Texts.joined("[", texts, texts.length, ", ", ", ", "]");
     }
 
     /** Sorts the elements in place, in {@code n log n} time. */
@@ -755,8 +753,8 @@ public final class Arrays {
         return DeepArrays.hashCode(array);
     }
 
-    /** Returns an array as a text, with the texts of arrays in it: the time of a text that grows by each element. */
+    /** Returns an array as a text, with the texts of arrays in it, in the time of the text for each array around its parts. */
     public static String deepToString(Object[] array) {
-        return array == null ? "null" : DeepArrays.append(new StringBuilder(), array, new ArrayList<Object[]>()).toString();
+        return array == null ? "null" : DeepArrays.toString(array, new ArrayList<Object[]>());
     }
 }

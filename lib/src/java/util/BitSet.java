@@ -1,6 +1,7 @@
 package java.util;
 
 import java.io.Serializable;
+import zuqelash.Texts;
 
 /**
  * Bits in longs, as many as are needed.
@@ -357,12 +358,13 @@ public class BitSet implements Cloneable, Serializable {
         return (int) (hash >> 32 ^ hash);
     }
 
-    /** Returns the set bits in braces, with commas between them: the time of a text that grows by each. */
+    /** Returns the set bits in braces, with commas between them, in the time of the bits and of the text. */
     public String toString() {
-        StringBuilder text = new StringBuilder().append('{');
+        long[] bits = new long[cardinality()];
+        int count = 0;
         for (int index = nextSetBit(0); index >= 0; index = nextSetBit(index + 1)) {
-            text.append(text.length() == 1 ? "" : ", ").append(index);
+            bits[count++] = index;
         }
-        return text.append('}').toString();
+        return Texts.listed('{', bits, '}');
     }
 }

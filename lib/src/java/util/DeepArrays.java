@@ -1,5 +1,7 @@
 package java.util;
 
+import zuqelash.Texts;
+
 /** Arrays with the arrays in them. */
 final class DeepArrays {
     DeepArrays() {
@@ -81,23 +83,20 @@ final class DeepArrays {
         return Objects.hashCode(element);
     }
 
-    /** Appends an array: {@code above} are those that it is in. */
-    static StringBuilder append(StringBuilder text, Object[] array, ArrayList<Object[]> above) {
+    /** Returns an array as a text: {@code above} are those that it is in. */
+    static String toString(Object[] array, ArrayList<Object[]> above) {
         above.add(array);
-        text.append('[');
-        for (int index = 0; index < array.length; index++) {
-            text.append(index == 0 ? "" : ", ");
+        String[] texts = new String[array.length];
+        for (int index = 0; index < texts.length; index++) {
             Object element = array[index];
             if (!(element instanceof Object[])) {
-                text.append(textOf(element));
-            } else if (isAmong(above, element)) {
-                text.append("[...]");
+                texts[index] = textOf(element);
             } else {
-                append(text, (Object[]) element, above);
+                texts[index] = isAmong(above, element) ? "[...]" : toString((Object[]) element, above);
             }
         }
         above.remove(above.size() - 1);
-        return text.append(']');
+        return Texts.joined("[", texts, texts.length, ", ", ", ", "]");
     }
 
     private static boolean isAmong(ArrayList<Object[]> arrays, Object wanted) {
