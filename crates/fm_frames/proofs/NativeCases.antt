@@ -7,13 +7,13 @@ use Rattle.fm_types.specs.Fits.{fits_type}
 use Rattle.fm_types.specs.Named.{throwable_type}
 use Rattle.fm_world.specs.Programs.{Outline}
 use Rattle.fm_frames.specs.Effects.{acting, Effect, Exits, Free, FreeChain, going, int_word, making, OfOperand, OfPlace, Plain, printing, Put, SameOperands, SetChain, words}
-use Rattle.fm_frames.specs.NativeRows.{arguments_words, at_sign, builder_native, char_at, free_native, has_text, is_builder, linked, native_effect, native_words, object_native, on_builder, on_built, on_shown, resized, shown_words, stream_native, string_native, text_kind, text_made, throwable_native, throwable_text, thrown_outside, type_name, with_length}
-use Rattle.fm_frames.specs.Natives.{a_boolean, a_char, a_text, AGiven, an_int, AnObject, AnyReceiver, AShown, BuilderReceiver, Given, native_type, Nothing, Receiver, Returned, SomeChars, TextReceiver, ThrowableReceiver}
+use Rattle.fm_frames.specs.NativeRows.{arguments_words, at_sign, builder_native, class_native, char_at, free_native, has_text, is_builder, linked, native_effect, native_words, object_native, on_builder, on_built, on_shown, resized, shown_words, stream_native, string_native, text_kind, text_made, throwable_native, throwable_text, thrown_outside, type_name, with_length}
+use Rattle.fm_frames.specs.Natives.{a_boolean, a_char, a_text, AGiven, an_int, AnObject, AnyReceiver, AShown, BuilderReceiver, ClassReceiver, Given, native_type, Nothing, Receiver, Returned, SomeChars, TextReceiver, ThrowableReceiver}
 use Rattle.fm_frames.specs.declared.natives.Shown.{Shown}
 use Rattle.fm_frames.specs.declared.natives.Native.{Native}
-use Rattle.fm_frames.specs.declared.natives.Native.TheVariants.{ObjectInit, ObjectHashCode, ObjectEquals, ObjectToString, StringLength, CharAt, StringEquals, StringHashCode, CompareTo, StringToString, Substring, ValueOf, ValueOfChars, BuilderInit, Append, BuilderLength, BuilderToString, BuilderCharAt, BuilderSetLength, BufferInitOf, Exit, Print, Println, PrintlnNothing, Read, ThrowableInit, ThrowableInitOf, GetMessage, ThrowableToString, FreeMeFree, FreeMeLink, FreeMeFreeChain}
+use Rattle.fm_frames.specs.declared.natives.Native.TheVariants.{ObjectInit, ObjectHashCode, ObjectEquals, ObjectToString, StringLength, CharAt, StringEquals, StringHashCode, CompareTo, StringToString, Substring, ValueOf, ValueOfChars, BuilderInit, Append, BuilderLength, BuilderToString, BuilderCharAt, BuilderSetLength, BufferInitOf, Exit, Print, Println, PrintlnNothing, Read, ThrowableInit, ThrowableInitOf, GetMessage, ThrowableToString, FreeMeFree, FreeMeLink, FreeMeFreeChain, ClassGetName}
 use Rattle.fm_frames.specs.declared.natives.Shown.TheVariants.{Int as ShownInt, Long as ShownLong, Char as ShownChar, Boolean as ShownBoolean, Text as ShownText}
-use Rattle.fm_frames.specs.Operands.{on_any, on_chars, on_held, on_inner, on_int, on_object, on_text}
+use Rattle.fm_frames.specs.Operands.{on_any, on_class, on_chars, on_held, on_inner, on_int, on_object, on_text}
 use Rattle.fm_frames.specs.Sights.{Looks, Sight, Thing}
 use Rattle.fm_frames.specs.States.{null}
 
@@ -92,6 +92,7 @@ pub record NativeAsks (o : Outline) (s : List Sight) (native : Native) (Units : 
   -- the receiver, and what a hidden field of it leads to
   pub receiver_any : (n : ℕ) → IsReceiver native AnyReceiver n → (k : Looks → Effect) → ((it : Looks) → IsAt s n it → A (k it)) → A (on_any o s n k)
   pub receiver_text : (n : ℕ) → IsReceiver native TextReceiver n → (k : List ℕ → Effect) → ((units : List ℕ) → Units units → A (k units)) → A (on_text o s n k)
+  pub receiver_class : (n : ℕ) → IsReceiver native ClassReceiver n → (k : List ℕ → Effect) → ((units : List ℕ) → Units units → A (k units)) → A (on_class o s n k)
   pub builder : (n : ℕ) → IsReceiver native BuilderReceiver n → (k : Looks → Effect)
       → ((it : Looks) → IsAt s n it → is_builder o it ≡ true → A (k it)) → A (on_builder o s n k)
   pub built : (n : ℕ) → IsReceiver native BuilderReceiver n → (k : List ℕ → Effect)
@@ -151,7 +152,7 @@ module _ (o : Outline) (s : List Sight) where
 
   pub native_cases : (native : Native) (Units : List ℕ → Type 0) (A : Effect → Type 0) → KeepsUnits o s Units → NativeAsks o s native Units A
       → NativeLeaves o s native Units A → (byte : Option ℕ) → A (native_effect o native byte s)
-  unfolding native_effect object_native string_native builder_native stream_native throwable_native free_native
+  unfolding native_effect object_native string_native builder_native stream_native throwable_native free_native class_native
   native_cases ObjectInit Units A keeps a l byte = l.nothing 1 refl refl
   native_cases ObjectHashCode Units A keeps a l byte = a.receiver_any 0 (refl, refl) _ (λ it seen. l.number 1 ShownInt refl refl refl _)
   native_cases ObjectEquals Units A keeps a l byte = l.same 2 refl refl
@@ -218,3 +219,4 @@ module _ (o : Outline) (s : List Sight) where
       (λ it seen. cond_both it.fixed (words 2 (OfOperand 0 ∷ [])) (record (acting 2 (SetChain 1 0 ∷ [])) { gives = OfOperand 1 ∷ [] }) A
       (λ fixed. l.unlinked refl) (λ loose. l.linked refl it seen loose))
   native_cases FreeMeFreeChain Units A keeps a l byte = l.chain_freed refl
+  native_cases ClassGetName Units A keeps a l byte = a.receiver_class 0 (refl, refl) _ (λ units fit. l.text_given 1 refl refl units fit)

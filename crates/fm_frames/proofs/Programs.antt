@@ -1,11 +1,11 @@
 -- What is known of a program that the machine can run.
-use Rattle.std.proofs.Common.{◌≡◌, ℕ, ◌<◌, List, ◌++◌, Option, Some, None, if◌then◌else◌, ◌==◌, refl, ap, sym, ◌∙◌, subst, unwrap_or, option_map, Bool, false, length, arith}
+use Rattle.std.proofs.Common.{◌≡◌, ℕ, ◌<◌, List, ◌++◌, Option, Some, None, if◌then◌else◌, ◌==◌, ◌||◌, refl, ap, sym, ◌∙◌, subst, unwrap_or, option_map, Bool, false, length, arith}
 use Rattle.std.specs.Str.{bytes_eq}
 use Rattle.std.proofs.lemmas.Iterator.Adapters.{position_from-zero}
 use Rattle.fm_base.specs.declared.kinds.TypeRef.{TypeRef}
 use Rattle.fm_code.specs.declared.code_array.Code.{Code}
 use Rattle.fm_types.specs.Named.{built_in_type}
-use Rattle.fm_world.specs.BuiltIns.{built_in, built_in_classes, string_name}
+use Rattle.fm_world.specs.BuiltIns.{built_in, built_in_classes, class_literal_class, class_literal_name, string_name}
 use Rattle.fm_world.specs.Chains.{same_type}
 use Rattle.fm_world.specs.Descriptors.{class_number}
 use Rattle.fm_world.specs.Members.{method_at}
@@ -46,11 +46,25 @@ pub string-is : (o : Outline) (given : List DeclaredClass) → o.classes ≡ bui
 string-is o given classes =
     ap (λ n. type_of_class (unwrap_or n 0)) (ap (λ all. class_number all string_name) classes ∙ string_number given)
 
-pub is_text-by : (p : Program) (t : TypeRef) → IsRunnable p → same_type (type_of_class 1) t ≡ is_text_type p.outline t
-is_text-by p t runnable = ap (λ text. same_type text t) (sym (string-is p.outline runnable.given runnable.classes))
+pub class_literal_number : (given : List DeclaredClass) → class_number (built_in ++ given) class_literal_name ≡ Some class_literal_class
+unfolding built_in
+class_literal_number given = position_from-zero (λ (c : DeclaredClass). bytes_eq c.name class_literal_name) (built_in ++ given)
+
+-- the type of class literals
+pub class_literal-is : (o : Outline) (given : List DeclaredClass) → o.classes ≡ built_in ++ given
+    → built_in_type o class_literal_name ≡ type_of_class class_literal_class
+class_literal-is o given classes =
+    ap (λ n. type_of_class (unwrap_or n 0)) (ap (λ all. class_number all class_literal_name) classes ∙ class_literal_number given)
+
+pub is_text-by : (p : Program) (t : TypeRef) → IsRunnable p
+    → (same_type (type_of_class 1) t || same_type (type_of_class class_literal_class) t) ≡ is_text_type p.outline t
+is_text-by p t runnable =
+    let text = sym (string-is p.outline runnable.given runnable.classes) in
+    let literal = sym (class_literal-is p.outline runnable.given runnable.classes) in λ i. same_type (text i) t || same_type (literal i) t
 
 pub pack-is : (p : Program) (t : TypeRef) → IsRunnable p
-    → (if t.dims == 1 then pack_of_base t.base else (if same_type (type_of_class 1) t then 4 else 1)) ≡ pack_of p.outline t
+    → (if t.dims == 1 then pack_of_base t.base else (if same_type (type_of_class 1) t || same_type (type_of_class class_literal_class) t then 4 else 1))
+    ≡ pack_of p.outline t
 pack-is p t runnable = ap (λ text. if t.dims == 1 then pack_of_base t.base else (if text then 4 else 1)) (is_text-by p t runnable)
 
 -- ---- classes of methods, and types

@@ -4,7 +4,7 @@ use Rattle.std.specs.Fmt.{signed_decimal}
 use Rattle.fm_alu.specs.TwosComplement.{low_bits}
 use Rattle.fm_types.specs.Fits.{fits_type}
 use Rattle.fm_types.specs.Named.{built_in_type, throwable_type}
-use Rattle.fm_world.specs.BuiltIns.{string_name}
+use Rattle.fm_world.specs.BuiltIns.{class_literal_name, string_name}
 use Rattle.fm_world.specs.Programs.{Outline}
 use Rattle.fm_frames.specs.Effects.{Effect, faulty, Faults, going, OfPlace}
 use Rattle.fm_frames.specs.Elements.{chars_type}
@@ -12,7 +12,7 @@ use Rattle.fm_frames.specs.NativeRows.{is_builder, native_effect, on_built, on_s
 use Rattle.fm_frames.specs.declared.natives.Native.{Native}
 use Rattle.fm_frames.specs.declared.natives.Shown.{Shown}
 use Rattle.fm_frames.specs.declared.natives.Shown.TheVariants.{Boolean as ShownBoolean, Char as ShownChar, Int as ShownInt, Long as ShownLong, Text as ShownText}
-use Rattle.fm_frames.specs.Operands.{on_inner, on_inner_of, on_text, thrown_null}
+use Rattle.fm_frames.specs.Operands.{on_class, on_inner, on_inner_of, on_text, thrown_null}
 use Rattle.fm_frames.specs.Sights.{Inner, Looks, Lost, Missing, NoField, Sight, Text}
 use Rattle.fm_frames.proofs.Cases.{by_any, by_held, by_if, by_int, by_long, by_object, by_passing}
 use Rattle.fm_frames.proofs.Failures.{Failures, NullPointer}
@@ -52,6 +52,10 @@ module _ (o : Outline) (s : List Sight) (Units : List ℕ → Type 0) (A : Effec
   ask_text n k some =
       by_object A o (built_in_type o string_name) s n (λ it. k it.units) null f.none (f.lost n) (λ it seen passes. some it.units (sees.seen n it seen))
 
+  ask_class : (n : ℕ) (k : List ℕ → Effect) → ((units : List ℕ) → Units units → A (k units)) → A (on_class o s n k)
+  ask_class n k some =
+      by_object A o (built_in_type o class_literal_name) s n (λ it. k it.units) null f.none (f.lost n) (λ it seen passes. some it.units (sees.seen n it seen))
+
   ask_inside : (n : ℕ) (it : Looks) → IsAt s n it → HidesText o it → (k : Option (List ℕ) → Effect) → A (k None)
       → ((units : List ℕ) → Units units → A (k (Some units))) → A (on_inner o n it k)
   ask_inside n it seen hides k no_text some = by_case it.inner refl where
@@ -81,6 +85,7 @@ module _ (o : Outline) (s : List Sight) (Units : List ℕ → Type 0) (A : Effec
   usual_asks row = record {
     receiver_any = λ n is k some. by_any A o s n k null f.none (f.lost n) some;
     receiver_text = λ n is k some. ask_text n k some;
+    receiver_class = λ n is k some. ask_class n k some;
     builder = λ n is k some. by_passing A o (is_builder o) s n k null f.none (f.lost n) some;
     built = λ n is k some. ask_built n k some;
     throwable = λ n is k some. by_object A o (throwable_type o) s n k null f.none (f.lost n) some;

@@ -7,7 +7,7 @@ use Rattle.fm_base.specs.declared.kinds.Kind.{Kind}
 use Rattle.fm_base.specs.declared.kinds.Kind.TheVariants as kind
 use Rattle.fm_base.specs.declared.kinds.TypeRef.{TypeRef}
 use Rattle.fm_types.specs.Named.{built_in_type}
-use Rattle.fm_world.specs.BuiltIns.{string_name}
+use Rattle.fm_world.specs.BuiltIns.{class_literal_name, string_name}
 use Rattle.fm_world.specs.Chains.{same_type}
 use Rattle.fm_world.specs.Programs.{Outline}
 use Rattle.fm_frames.specs.States.{ref}
@@ -63,9 +63,13 @@ pack_of_base base.Int = 2
 pack_of_base base.Long = 1
 pack_of_base (base.OfClass class) = 1
 
--- whether a type is String, whose objects keep their units as chars
+-- whether a type is String
+abbrev pub is_string_type : Outline → TypeRef → Bool
+is_string_type o t = same_type (built_in_type o string_name) t
+
+-- whether objects of a type are kept as units, which are chars: those of String, and those of Class, whose units are the name of a type
 abbrev pub is_text_type : Outline → TypeRef → Bool
-is_text_type o t = same_type (built_in_type o string_name) t
+is_text_type o t = is_string_type o t || same_type (built_in_type o class_literal_name) t
 
 -- the type of arrays of chars
 abbrev pub chars_type : TypeRef

@@ -13,16 +13,16 @@ use Rattle.fm_base.specs.declared.kinds.Kind.TheVariants as kind
 use Rattle.fm_base.specs.declared.kinds.TypeRef.{TypeRef}
 use Rattle.fm_types.specs.Fits.{fits_type}
 use Rattle.fm_types.specs.Named.{built_in_type, throwable_type}
-use Rattle.fm_world.specs.BuiltIns.{string_name}
+use Rattle.fm_world.specs.BuiltIns.{class_literal_name, string_name}
 use Rattle.fm_world.specs.Chains.{class_at}
 use Rattle.fm_world.specs.Programs.{Outline}
 use Rattle.fm_frames.specs.Effects.{Effect, Plain, OfOperand, OfPlace, OfMade, SameOperands, Action, Make, Put, Free, SetChain, FreeChain, Exits, words, acting, making, printing, going, stuck, int_word}
 use Rattle.fm_frames.specs.Natives.{AnObject, AShown, Given, has_receiver, native_type, SomeChars}
 use Rattle.fm_frames.specs.declared.natives.Shown.{Shown}
 use Rattle.fm_frames.specs.declared.natives.Native.{Native}
-use Rattle.fm_frames.specs.declared.natives.Native.TheVariants.{ObjectInit, ObjectHashCode, ObjectEquals, ObjectToString, StringLength, CharAt, StringEquals, StringHashCode, CompareTo, StringToString, Substring, ValueOf, ValueOfChars, BuilderInit, Append, BuilderLength, BuilderToString, BuilderCharAt, BuilderSetLength, BufferInitOf, Exit, Print, Println, PrintlnNothing, Read, ThrowableInit, ThrowableInitOf, GetMessage, ThrowableToString, FreeMeFree, FreeMeLink, FreeMeFreeChain}
+use Rattle.fm_frames.specs.declared.natives.Native.TheVariants.{ObjectInit, ObjectHashCode, ObjectEquals, ObjectToString, StringLength, CharAt, StringEquals, StringHashCode, CompareTo, StringToString, Substring, ValueOf, ValueOfChars, BuilderInit, Append, BuilderLength, BuilderToString, BuilderCharAt, BuilderSetLength, BufferInitOf, Exit, Print, Println, PrintlnNothing, Read, ThrowableInit, ThrowableInitOf, GetMessage, ThrowableToString, FreeMeFree, FreeMeLink, FreeMeFreeChain, ClassGetName}
 use Rattle.fm_frames.specs.declared.natives.Shown.TheVariants.{Int as ShownInt, Long as ShownLong, Char as ShownChar, Boolean as ShownBoolean, Text as ShownText}
-use Rattle.fm_frames.specs.Operands.{on_any, on_chars, on_held, on_inner, on_int, on_long, on_object, on_passing, on_text, on_text_or_null, thrown}
+use Rattle.fm_frames.specs.Operands.{on_any, on_class, on_chars, on_held, on_inner, on_int, on_long, on_object, on_passing, on_text, on_text_or_null, thrown}
 use Rattle.fm_frames.specs.Sights.{Sight, Looks}
 use Rattle.fm_frames.specs.States.{null}
 
@@ -31,6 +31,10 @@ use Rattle.fm_frames.specs.States.{null}
 -- the type of texts, String
 abbrev pub text_type : Outline → TypeRef
 text_type o = built_in_type o string_name
+
+-- the type of class literals, Class
+abbrev pub class_type : Outline → TypeRef
+class_type o = built_in_type o class_literal_name
 
 -- a new text of these units
 abbrev pub text_made : Outline → List ℕ → Action
@@ -265,6 +269,13 @@ free_native o FreeMeLink s = on_held (words 2 (OfOperand 0 ∷ [])) s 1 linked
 free_native o FreeMeFreeChain s = acting 1 (FreeChain 0 ∷ [])
 free_native o row s = stuck
 
+-- ---- class literals
+
+-- the rows of Class: a class literal is kept as the name of its type
+unfoldable pub class_native : Outline → Native → List Sight → Effect
+class_native o ClassGetName s = on_class o s 0 (λ units. making 1 (text_made o units))
+class_native o row s = stuck
+
 -- ---- all together
 
 -- by the class that has the row
@@ -301,3 +312,4 @@ native_effect o ThrowableToString byte s = throwable_native o ThrowableToString 
 native_effect o FreeMeFree byte s = free_native o FreeMeFree s
 native_effect o FreeMeLink byte s = free_native o FreeMeLink s
 native_effect o FreeMeFreeChain byte s = free_native o FreeMeFreeChain s
+native_effect o ClassGetName byte s = class_native o ClassGetName s

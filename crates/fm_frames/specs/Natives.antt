@@ -1,7 +1,7 @@
 -- The built-in methods, which are the variants of an enum of the code (src/natives.rt), by the numbers of their rows, with what each of them takes and gives.
 use Rattle.std.specs.Prelude.{ℕ, Bool, true, false, List, [], ◌∷◌, ◌++◌, Option, slice_get}
 use Rattle.fm_frames.specs.declared.natives.Native.{Native}
-use Rattle.fm_frames.specs.declared.natives.Native.TheVariants.{ObjectInit, ObjectHashCode, ObjectEquals, ObjectToString, StringLength, CharAt, StringEquals, StringHashCode, CompareTo, StringToString, Substring, ValueOf, ValueOfChars, BuilderInit, Append, BuilderLength, BuilderToString, BuilderCharAt, BuilderSetLength, BufferInitOf, Exit, Print, Println, PrintlnNothing, Read, ThrowableInit, ThrowableInitOf, GetMessage, ThrowableToString, FreeMeFree, FreeMeLink, FreeMeFreeChain}
+use Rattle.fm_frames.specs.declared.natives.Native.TheVariants.{ObjectInit, ObjectHashCode, ObjectEquals, ObjectToString, StringLength, CharAt, StringEquals, StringHashCode, CompareTo, StringToString, Substring, ValueOf, ValueOfChars, BuilderInit, Append, BuilderLength, BuilderToString, BuilderCharAt, BuilderSetLength, BufferInitOf, Exit, Print, Println, PrintlnNothing, Read, ThrowableInit, ThrowableInitOf, GetMessage, ThrowableToString, FreeMeFree, FreeMeLink, FreeMeFreeChain, ClassGetName}
 use Rattle.fm_frames.specs.declared.natives.Shown.{Shown}
 use Rattle.fm_frames.specs.declared.natives.Shown.TheVariants.{Int as ShownInt, Long as ShownLong, Char as ShownChar, Boolean as ShownBoolean, Text as ShownText}
 
@@ -20,6 +20,7 @@ natives =
     ∷ Read
     ∷ ThrowableInit ∷ ThrowableInitOf ∷ GetMessage ∷ ThrowableToString
     ∷ FreeMeFree ∷ FreeMeLink ∷ FreeMeFreeChain
+    ∷ ClassGetName
     ∷ []
 
 -- the built-in method of a row of that table
@@ -28,13 +29,14 @@ native_of_row row = slice_get natives row
 
 -- ---- what they take and give
 
--- what may be the receiver of a built-in method: nothing, any object, a text, what builds a text, or a throwable
+-- what may be the receiver of a built-in method: nothing, any object, a text, what builds a text, a throwable, or a class literal
 pub data Receiver : Type 0 where
   NoReceiver : Receiver
   AnyReceiver : Receiver
   TextReceiver : Receiver
   BuilderReceiver : Receiver
   ThrowableReceiver : Receiver
+  ClassReceiver : Receiver
 
 -- the type of an argument: of what is shown, an array of chars, or any object
 pub data Given : Type 0 where
@@ -116,6 +118,7 @@ native_type ThrowableToString = giving ThrowableReceiver [] a_text
 native_type FreeMeFree = taking NoReceiver (AnObject ∷ [])
 native_type FreeMeLink = giving NoReceiver (AnObject ∷ AnObject ∷ []) AnObject
 native_type FreeMeFreeChain = taking NoReceiver (AnObject ∷ [])
+native_type ClassGetName = giving ClassReceiver [] a_text
 
 -- whether a method with this receiver has one
 abbrev pub has_one : Receiver → Bool

@@ -4,7 +4,7 @@ use Rattle.std.specs.Prelude.{ℕ, ℤ, Bool, true, false, List, [], ◌∷◌, 
 use Rattle.fm_base.specs.declared.kinds.TypeRef.{TypeRef}
 use Rattle.fm_types.specs.Fits.{fits_type}
 use Rattle.fm_types.specs.Named.{built_in_type}
-use Rattle.fm_world.specs.BuiltIns.{string_name}
+use Rattle.fm_world.specs.BuiltIns.{class_literal_name, string_name}
 use Rattle.fm_world.specs.Members.{size_of}
 use Rattle.fm_world.specs.Programs.{class_of_type, Outline}
 use Rattle.fm_frames.specs.Effects.{Effect, Make, OfMade, OfPlace, Throws, Faults, faulty, going, stuck}
@@ -113,6 +113,10 @@ on_text o sights operand follows = on_object o (built_in_type o string_name) sig
 -- the units of an array of chars
 abbrev pub on_chars : Outline → List Sight → ℕ → (List ℕ → Effect) → Effect
 on_chars o sights operand follows = on_object o chars_type sights operand (λ it. follows it.units)
+
+-- the units of a class literal, which are the name of its type
+abbrev pub on_class : Outline → List Sight → ℕ → (List ℕ → Effect) → Effect
+on_class o sights operand follows = on_object o (built_in_type o class_literal_name) sights operand (λ it. follows it.units)
 
 -- the units of a text, or of null those of the word null
 abbrev pub on_text_or_null : Outline → List Sight → ℕ → (List ℕ → Effect) → Effect

@@ -43,3 +43,6 @@ pub const STRING_INDEX_EXCEPTION: ClassId = ClassId(23);
 
 /// `java/lang/IncompatibleClassChangeError`.
 pub const CLASS_CHANGE_ERROR: ClassId = ClassId(25);
+
+/// `java/lang/Class`.
+pub const CLASS: ClassId = ClassId(29);

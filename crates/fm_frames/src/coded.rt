@@ -8,11 +8,12 @@ ghost use Rattle.fm_frames.specs.Runnable.{IsRunnable};
 ghost use Rattle.fm_frames.specs.Sights.{type_numbered};
 ghost use Rattle.fm_frames.specs.States.{Frame};
 ghost use Rattle.fm_frames.specs.Steps.{offset_at};
+ghost use Rattle.fm_world.specs.BuiltIns.{class_literal_class};
 ghost use Rattle.fm_world.specs.Chains.{same_type};
 ghost use Rattle.fm_world.specs.Numbers.{type_number, type_of_class};
 ghost use Rattle.fm_world.specs.Programs.{code_at, IsTypeIn};
 
-use crate::built_ins::STRING;
+use crate::built_ins::{CLASS, STRING};
 use fm_base::{Base, ClassId, MethodId, TypeId, TypeRef};
 use fm_code::Code;
 use fm_world::{Body, Program, type_of_class};
@@ -58,17 +59,24 @@ fn pack_of_base(base: Base) -> u8
     }
 }
 
-/// Whether the type is that of texts. Takes no memory.
-pub fn is_text(t: TypeRef) -> bool
-    ensures { result ≡ same_type (type_of_class 1) t }
+/// Whether the type is that of objects of this class. Takes no memory.
+fn is_class(t: TypeRef, class: ClassId) -> bool
+    ensures { result ≡ same_type (type_of_class class.0) t }
 {
     if t.dims != 0 {
         return false;
     }
     match t.base {
-        Base::OfClass(class) => class.0 == STRING.0,
+        Base::OfClass(of) => of.0 == class.0,
         _ => false,
     }
+}
+
+/// Whether objects of the type are kept as units: texts, and class literals. Takes no memory.
+pub fn is_text(t: TypeRef) -> bool
+    ensures { result ≡ (same_type (type_of_class 1) t || same_type (type_of_class class_literal_class) t) }
+{
+    is_class(t, STRING) || is_class(t, CLASS)
 }
 
 /// The type of arrays of chars. Takes no memory.
@@ -91,18 +99,20 @@ fn is_chars(t: TypeRef) -> bool
     matches!(t.base, Base::Char)
 }
 
-/// Whether the elements of objects of the type are seen as units: those of texts and of arrays of
-/// chars. Takes no memory.
+/// Whether the elements of objects of the type are seen as units: those of what is kept as units, and
+/// of arrays of chars. Takes no memory.
 pub fn shows_units(t: TypeRef) -> bool
-    ensures { result ≡ (same_type (type_of_class 1) t || same_type chars_type t) }
+    ensures { result ≡ ((same_type (type_of_class 1) t
+        || same_type (type_of_class class_literal_class) t) || same_type chars_type t) }
 {
     is_text(t) || is_chars(t)
 }
 
-// The same by the number of the class of texts.
+// The same by the numbers of the classes of texts.
 fn pack_by(t: TypeRef) -> u8
     ensures value { result ≡ (if t.dims == 1 then pack_of_base t.base
-        else (if same_type (type_of_class 1) t then 4 else 1)) }
+        else (if same_type (type_of_class 1) t || same_type (type_of_class class_literal_class) t
+        then 4 else 1)) }
     ensures pack { IsPack result }
 {
     if t.dims == 1 {

@@ -51,10 +51,11 @@ pub enum Native {
     FreeMeFree,
     FreeMeLink,
     FreeMeFreeChain,
+    ClassGetName,
 }
 
 // The built-in methods in the order of their rows.
-const NATIVES: [Native; 47] = [
+const NATIVES: [Native; 48] = [
     Native::ObjectInit,
     Native::ObjectHashCode,
     Native::ObjectEquals,
@@ -102,6 +103,7 @@ const NATIVES: [Native; 47] = [
     Native::FreeMeFree,
     Native::FreeMeLink,
     Native::FreeMeFreeChain,
+    Native::ClassGetName,
 ];
 
 // The built-in method at a place of a table, if there is that place.

@@ -22,7 +22,7 @@ use Rattle.fm_code.specs.declared.class_file.ClassDef.{ClassDef}
 use Rattle.fm_code.specs.AccessFlags.{is_interface}
 use Rattle.fm_frames.proofs.BuiltInTypes.{below_named, buffer_there, builder_there, named_class, object_first, throwable_there}
 use Rattle.fm_frames.proofs.Programs.{string-is, string_number}
-use Rattle.fm_frames.specs.Elements.{is_text_type}
+use Rattle.fm_frames.specs.Elements.{is_string_type}
 use Rattle.fm_frames.specs.NativeRows.{text_kind, text_type}
 use Rattle.fm_frames.specs.Runnable.{IsRunnable}
 use Rattle.fm_frames.specs.Sights.{has_hidden_field}
@@ -282,12 +282,12 @@ no_interface more = refl
 
 -- what fits String is one
 pub texts_are : (p : Program) (runnable : IsRunnable p) (given : List ClassDef) → p.outline.classes ≡ classes_of given → AllByRecursion HasSpelling given
-    → refused_parents given ≡ [] → (t : TypeRef) → fits_type p.outline.classes t (text_type p.outline) ≡ true → is_text_type p.outline t ≡ true
+    → refused_parents given ≡ [] → (t : TypeRef) → fits_type p.outline.classes t (text_type p.outline) ≡ true → is_string_type p.outline t ≡ true
 texts_are p runnable given same spelled none t fits =
     let below = below_named p string_name 1 runnable refl (λ more. string_number more) no_interface t fits in
     let alone = string_alone given spelled none below.0 (sym (ap (λ classes. is_among 1 (chain_of classes below.0)) same) ∙ below.2) in
     let is : t ≡ text_type p.outline = below.1 ∙ ap type_of_class alone ∙ sym (named_class p string_name 1 runnable (λ more. string_number more)) in
-    ap (is_text_type p.outline) is ∙ same_type-refl (text_type p.outline)
+    ap (is_string_type p.outline) is ∙ same_type-refl (text_type p.outline)
 
 -- ---- hidden fields
 

@@ -16,7 +16,7 @@ use Rattle.fm_types.proofs.LeastJoins.{same_type-refl}
 use Rattle.fm_world.specs.Programs.{kind_at, Outline}
 use Rattle.fm_frames.specs.Acts.{cell_of, Choose, Did, FullAt, is_there, literal_made, literal_text, LostAt, made_object, made_then, performed, Performed, put_value, requested, set_static, Sources, value_of}
 use Rattle.fm_frames.specs.Effects.{Action, Make, MakeFixed, MakeLiteral, Put, SetStatic, Start, Free, SetChain, FreeChain, Source, Plain, OfOperand, OfMade, OfLiteral}
-use Rattle.fm_frames.specs.Elements.{cut, is_text_type, kept, read}
+use Rattle.fm_frames.specs.Elements.{cut, is_string_type, kept, read}
 use Rattle.fm_frames.specs.NativeRows.{text_type}
 use Rattle.fm_frames.specs.Sights.{has_hidden_field, type_numbered}
 use Rattle.fm_frames.specs.States.{Areas, word_at}
@@ -187,14 +187,14 @@ module _ (o : Outline) (t : TypeRef) (len : ℕ) (fixed : Bool) (number : HasNum
 literal_goes : (o : Outline) (store : Store) (types : List TypeRef) (y : Areas) (made : List ℕ) (text cell : ℕ) → Went o store types y made
     → IsAn o y.store (text_type o) cell → Went o store types (literal_made y text cell) made
 literal_goes o store types y made text cell went is =
-    let leads : LeadsToA o y.store (is_text_type o) cell =
-    inr (record { object = is.object; held = is.held; passes = ap (is_text_type o) is.type_is ∙ same_type-refl (text_type o) }) in
+    let leads : LeadsToA o y.store (is_string_type o) cell =
+    inr (record { object = is.object; held = is.held; passes = ap (is_string_type o) is.type_is ∙ same_type-refl (text_type o) }) in
     record {
       areas = record {
         statics = went.areas.statics;
         literals = λ other. ⊎_elim
-            (λ this. subst (λ c. LeadsToA o y.store (is_text_type o) c) (sym this.1) leads)
-            (λ before. subst (λ c. LeadsToA o y.store (is_text_type o) c) (sym before) (went.areas.literals other))
+            (λ this. subst (λ c. LeadsToA o y.store (is_string_type o) c) (sym this.1) leads)
+            (λ before. subst (λ c. LeadsToA o y.store (is_string_type o) c) (sym before) (went.areas.literals other))
             (set_at y.literals text cell other 0);
         heap = went.areas.heap;
       };
@@ -238,7 +238,7 @@ module _ (o : Outline) (store : Store) (locals stack : List Value) (types : List
     tt,
     ⊎_elim
         (λ e. inl e)
-        (λ (is : HoldsA o x.store (is_text_type o) (slice_index_or x.literals text 0)).
+        (λ (is : HoldsA o x.store (is_string_type o) (slice_index_or x.literals text 0)).
         inr (record { object = is.object; held = is.held; passes = h (type_numbered o is.object.class) is.passes }))
         (went.areas.literals text),
   )
@@ -271,8 +271,8 @@ module _ (o : Outline) (store : Store) (locals stack : List Value) (types : List
     hidden = λ has. ⊎_elim
         (λ here.
         let given = takes.text here.0 (ap (λ w. has_hidden_field o w) (sym type_is) ∙ has) in
-        subst (λ c. LeadsToA o later (is_text_type o) c) (sym here.1) (kept_leads later more k _ v given.0 given.1))
-        (λ there. subst (λ c. LeadsToA o later (is_text_type o) c) (sym there) (leads-later o x.store later more _ _ (whole.hidden has)))
+        subst (λ c. LeadsToA o later (is_string_type o) c) (sym here.1) (kept_leads later more k _ v given.0 given.1))
+        (λ there. subst (λ c. LeadsToA o later (is_string_type o) c) (sym there) (leads-later o x.store later more _ _ (whole.hidden has)))
         (set_at old.elements place (kept k (value_of sources v)) 0 0);
     fixed = whole.fixed;
   }

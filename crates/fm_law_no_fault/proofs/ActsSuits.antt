@@ -15,7 +15,7 @@ use Rattle.fm_world.specs.Numbers.{type_of_class}
 use Rattle.fm_world.specs.Programs.{kind_at, Outline, Program}
 use Rattle.fm_frames.specs.Acts.{literal_text}
 use Rattle.fm_frames.specs.Effects.{Action, Free, FreeChain, Make, MakeFixed, MakeLiteral, OfLiteral, OfMade, OfOperand, Plain, Put, SetChain, SetStatic, Source, Start}
-use Rattle.fm_frames.specs.Elements.{is_text_type}
+use Rattle.fm_frames.specs.Elements.{is_string_type}
 use Rattle.fm_frames.specs.NativeRows.{text_kind, text_type}
 use Rattle.fm_frames.specs.Sights.{type_numbered}
 use Rattle.fm_frames.specs.States.{Frame}
@@ -40,7 +40,7 @@ leads_weaker o store test other each cell (inl e) = inl e
 leads_weaker o store test other each cell (inr h) = inr (holds_weaker o store test other each cell h)
 
 -- a text is one that fits String
-pub text_fits : (o : Outline) → AreTree o.classes → (t : TypeRef) → is_text_type o t ≡ true → fits_type o.classes t (text_type o) ≡ true
+pub text_fits : (o : Outline) → AreTree o.classes → (t : TypeRef) → is_string_type o t ≡ true → fits_type o.classes t (text_type o) ≡ true
 text_fits o tree t is = subst (λ u. fits_type o.classes u (text_type o) ≡ true) (same_type-eq (text_type o) t is) (type-refl o.classes tree (text_type o))
 
 -- the kind of a static field by its slot
@@ -105,7 +105,7 @@ module _ (p : Program) (ready : CellsAreResolved p) (store : Store) (f : Frame) 
     text = λ first has.
         let text : k ≡ text_kind o = same_Some k (text_kind o) (sym fits.kind ∙ ap (λ n. kind_of n) first ∙ ready.places.hidden t has) in
         let leads = reference_leads types k (text_type o) v text suits in
-        (leads.0, source_weaker types (λ w. fits_type o.classes w (text_type o)) (is_text_type o) ready.places.texts v leads.1);
+        (leads.0, source_weaker types (λ w. fits_type o.classes w (text_type o)) (is_string_type o) ready.places.texts v leads.1);
   } where
     kind_of : ℕ → Option Kind
     kind_of n = kind_at o.classes t n

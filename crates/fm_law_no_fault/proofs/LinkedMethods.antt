@@ -20,7 +20,7 @@ use Rattle.fm_types.specs.Named.{built_in_type, throwable_type}
 use Rattle.fm_types.specs.States.{local_slots, stack_slots}
 use Rattle.fm_types.specs.declared.slots.Slot.{Slot}
 use Rattle.fm_types.specs.declared.slots.Slot.TheVariants as slot
-use Rattle.fm_world.specs.BuiltIns.{built_in, built_in_classes, object_name, string_name}
+use Rattle.fm_world.specs.BuiltIns.{built_in, built_in_classes, class_literal_class, class_literal_name, object_name, string_name}
 use Rattle.fm_world.proofs.Completions.{count_is, self_built_in}
 use Rattle.fm_world.specs.Chains.{chain_of, is_among, self_of}
 use Rattle.fm_world.specs.Declarations.{no_method}
@@ -30,10 +30,10 @@ use Rattle.fm_world.specs.Numbers.{type_of_class}
 use Rattle.fm_world.specs.Programs.{Outline, Program}
 use Rattle.fm_world.specs.declared.declarations.DeclaredClass.{DeclaredClass}
 use Rattle.fm_frames.proofs.BuiltInTypes.{buffer_there, builder_there, named_class, object_there, throwable_there}
-use Rattle.fm_frames.proofs.Programs.{completed-are, string_number}
+use Rattle.fm_frames.proofs.Programs.{class_literal_number, completed-are, string_number}
 use Rattle.fm_frames.specs.CallRows.{native_of}
-use Rattle.fm_frames.specs.NativeRows.{text_type}
-use Rattle.fm_frames.specs.Natives.{AGiven, AnObject, AShown, BuilderReceiver, from_top, Given, has_receiver, native_of_row, native_type, Nothing, OwnObject, Receiver, Returned, SomeChars, TextReceiver, ThrowableReceiver}
+use Rattle.fm_frames.specs.NativeRows.{class_type, text_type}
+use Rattle.fm_frames.specs.Natives.{AGiven, AnObject, AShown, BuilderReceiver, ClassReceiver, from_top, Given, has_receiver, native_of_row, native_type, Nothing, OwnObject, Receiver, Returned, SomeChars, TextReceiver, ThrowableReceiver}
 use Rattle.fm_frames.specs.declared.natives.Native.{Native}
 use Rattle.fm_frames.specs.declared.natives.Shown.{Shown}
 use Rattle.fm_frames.specs.declared.natives.Shown.TheVariants.{Boolean as ShownBoolean, Char as ShownChar, Int as ShownInt, Long as ShownLong, Text as ShownText}
@@ -88,6 +88,7 @@ abbrev declares : ℕ → Receiver → Bool
 declares class TextReceiver = class == 1
 declares class BuilderReceiver = (class == 2) || (class == 3)
 declares class ThrowableReceiver = is_among class throwables
+declares class ClassReceiver = class == class_literal_class
 declares class other = true
 
 -- which classes declare methods that return an object of their own
@@ -318,6 +319,12 @@ module _ (p : Program) (runnable : IsRunnable p) (tree : AreTree p.outline.class
       subst (λ w. fits_type out.classes t w ≡ true)
       (ap type_of_class (eqb-true class 1 is) ∙ sym (named_class p string_name 1 runnable (λ more. string_number more))) fits
 
+  literal_fits : (class : ℕ) → (class == class_literal_class) ≡ true → (t : TypeRef) → fits_type out.classes t (type_of_class class) ≡ true
+      → fits_type out.classes t (class_type out) ≡ true
+  literal_fits class is t fits =
+      subst (λ w. fits_type out.classes t w ≡ true)
+      (ap type_of_class (eqb-true class class_literal_class is) ∙ sym (named_class p class_literal_name class_literal_class runnable (λ more. class_literal_number more))) fits
+
   builder_fits : (class : ℕ) → ((class == 2) || (class == 3)) ≡ true → (t : TypeRef) → fits_type out.classes t (type_of_class class) ≡ true
       → (fits_type out.classes t (built_in_type out (codes "java/lang/StringBuilder")) || fits_type out.classes t (built_in_type out (codes "java/lang/StringBuffer")))
       ≡ true
@@ -345,6 +352,7 @@ module _ (p : Program) (runnable : IsRunnable p) (tree : AreTree p.outline.class
   receives class TextReceiver is t fits = text_fits class is t fits
   receives class BuilderReceiver is t fits = builder_fits class is t fits
   receives class ThrowableReceiver is t fits = throwable_fits class is t fits
+  receives class ClassReceiver is t fits = literal_fits class is t fits
   receives class other is t fits = refl
 
   -- ---- all together

@@ -17,7 +17,7 @@ use Rattle.fm_world.specs.declared.uses.Use.{Use}
 use Rattle.fm_world.specs.declared.uses.Use.TheVariants as resolved
 use Rattle.fm_frames.specs.Acts.{Sources, sum_of}
 use Rattle.fm_frames.specs.Effects.{int_word, long_words, OfOperand, Source, words}
-use Rattle.fm_frames.specs.Elements.{is_text_type}
+use Rattle.fm_frames.specs.Elements.{is_string_type}
 use Rattle.fm_frames.specs.NativeRows.{text_type}
 use Rattle.fm_frames.specs.NumberRows.{constant_effect, increment_effect, load_effect, move_effect, moved_words, store_effect}
 use Rattle.fm_frames.specs.States.{Areas, word_at}
@@ -57,7 +57,7 @@ module _ (r : Row) where
     acts = tt;
     next = pushed_leaves r (slot.Ref (text_type o) ∷ []) (constant_effect (resolved.OfText text)) row refl refl
         (λ y made went. (
-          leads_weaker o y.store (is_text_type o) (λ u. fits_type o.classes u (text_type o)) (text_fits o r.steps.tree) _ (went.areas.literals text),
+          leads_weaker o y.store (is_string_type o) (λ u. fits_type o.classes u (text_type o)) (text_fits o r.steps.tree) _ (went.areas.literals text),
           tt,
         ));
   }

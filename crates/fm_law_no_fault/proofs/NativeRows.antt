@@ -1,7 +1,7 @@
 -- The rows of the built-in methods, but for those of FreeMe: where the words of a call fit what they ask, none is a fault, and what they put and give fits.
 use Rattle.std.proofs.Common.{arith, ◌≡◌, ℕ, zero, suc, ℤ, ◌+◌, ◌⊎◌, cond, Bool, true, false, List, [], ◌∷◌, length, codes, Option, Some, None, refl, sym, ◌∙◌, ap, subst, inl, inr, slice_get, slice_index_or}
 use Rattle.std.specs.Prelude.{if◌then◌else◌}
-use Rattle.std.proofs.lemmas.Bool.{false≢true}
+use Rattle.std.proofs.lemmas.Bool.{false≢true, or_left}
 use Rattle.fm_base.specs.declared.kinds.TypeRef.{TypeRef}
 use Rattle.fm_cells.specs.Objects.{Object}
 use Rattle.fm_cells.specs.Stores.{object_at}
@@ -14,9 +14,9 @@ use Rattle.fm_types.proofs.Order.{type-refl}
 use Rattle.fm_world.specs.Programs.{Outline}
 use Rattle.fm_frames.specs.Acts.{cell_of}
 use Rattle.fm_frames.specs.Effects.{acting, Effect, Exits, Falls, faulty, int_word, Next, OfMade, OfOperand, OfPlace, Put, SameOperands, Source, Throws, words}
-use Rattle.fm_frames.specs.Elements.{chars_type, is_text_type}
-use Rattle.fm_frames.specs.NativeRows.{arguments_words, given_words, native_words, has_text, native_effect, on_shown, shown_words, text_kind, text_type, thrown_outside}
-use Rattle.fm_frames.specs.Natives.{a_boolean, a_text, AGiven, an_int, AnObject, AnyReceiver, AShown, BuilderReceiver, from_top, Given, has_one, has_receiver, native_type, Nothing, Receiver, Returned, SomeChars, TextReceiver, ThrowableReceiver}
+use Rattle.fm_frames.specs.Elements.{is_string_type, chars_type, is_text_type}
+use Rattle.fm_frames.specs.NativeRows.{arguments_words, class_type, given_words, native_words, has_text, native_effect, on_shown, shown_words, text_kind, text_type, thrown_outside}
+use Rattle.fm_frames.specs.Natives.{a_boolean, a_text, AGiven, an_int, AnObject, AnyReceiver, AShown, BuilderReceiver, ClassReceiver, from_top, Given, has_one, has_receiver, native_type, Nothing, Receiver, Returned, SomeChars, TextReceiver, ThrowableReceiver}
 use Rattle.fm_frames.specs.declared.natives.Native.{Native}
 use Rattle.fm_frames.specs.declared.natives.Shown.{Shown}
 use Rattle.fm_frames.specs.declared.natives.Native.TheVariants.{Append, GetMessage, StringToString, ThrowableInitOf}
@@ -40,6 +40,7 @@ use Rattle.fm_law_no_fault.proofs.Owing.{ActsSuit, GivesCells, SourceIsA}
 use Rattle.fm_law_no_fault.proofs.RowCases.{Row}
 use Rattle.fm_law_no_fault.proofs.StoresKeep.{leads-later}
 use Rattle.fm_law_no_fault.proofs.Wanted.{slot_held, slot_passing, wanted_held, wanted_int, wanted_leads, wanted_long, wanted_object}
+use Rattle.fm_world.specs.Chains.{same_type}
 
 -- the words of a receiver
 abbrev pub receiver_count : Native → ℕ
@@ -186,12 +187,15 @@ module _ (r : Row) (t : TypeRef) where
   abbrev LeadsInside : Inner → Type 0
   LeadsInside inner = (inner ≡ Missing) ⊎ ((units : List ℕ) × (inner ≡ Text units))
 
-  text_inside : (found : Option Object) (object : Object) → found ≡ Some object → is_text_type o (type_numbered o object.class) ≡ true
+  text_inside : (found : Option Object) (object : Object) → found ≡ Some object → is_string_type o (type_numbered o object.class) ≡ true
       → (units : List ℕ) × (text_in o found ≡ Text units)
   text_inside found object is text =
-      (object.elements, ap (text_in o) is ∙ ap (λ b. cond b (Text object.elements) Lost) text)
+      let t : TypeRef = type_numbered o object.class in (
+        object.elements,
+        ap (text_in o) is ∙ ap (λ b. cond b (Text object.elements) Lost) (or_left (is_string_type o t) (same_type (class_type o) t) text),
+      )
 
-  cell_inside : (cell : ℕ) → LeadsToA o r.areas.store (is_text_type o) cell → LeadsInside (led_to o r.areas.store cell)
+  cell_inside : (cell : ℕ) → LeadsToA o r.areas.store (is_string_type o) cell → LeadsInside (led_to o r.areas.store cell)
   cell_inside zero leads = inl refl
   cell_inside (suc cell) (inl none) = absurd (cc)
   cell_inside (suc cell) (inr holds) = inr (text_inside (object_at r.areas.store (suc cell)) holds.object holds.held holds.passes)
@@ -253,6 +257,7 @@ module _ (r : Row) (t : TypeRef) where
     asks = record {
       receiver_any = λ n is k each. ask_any row h n is k (λ it found fits_it. each it found);
       receiver_text = λ n is k each. ask_passing row h TextReceiver refl n is (λ it. k it.units) (λ it found fits_it. each it.units tt);
+      receiver_class = λ n is k each. ask_passing row h ClassReceiver refl n is (λ it. k it.units) (λ it found fits_it. each it.units tt);
       builder = λ n is k each. ask_passing row h BuilderReceiver refl n is k each;
       built = λ n is k each. ask_passing row h BuilderReceiver refl n is _
           (λ it found built. ask_inner row n it found (r.cells.built_in.builders it.type built) _ (λ units. each it found built _ tt));

@@ -21,9 +21,9 @@ use Rattle.fm_world.specs.Programs.{class_of_type, IsTypeIn, kind_at, Outline, P
 use Rattle.fm_world.specs.declared.declarations.Constant.TheVariants as constant
 use Rattle.fm_world.specs.declared.uses.Use.TheVariants as resolved
 use Rattle.fm_frames.specs.CallRows.{native_of}
-use Rattle.fm_frames.specs.Elements.{chars_type, is_text_type}
-use Rattle.fm_frames.specs.NativeRows.{text_kind, text_type}
-use Rattle.fm_frames.specs.Natives.{AGiven, AnObject, AShown, BuilderReceiver, from_top, Given, has_receiver, native_type, Nothing, OwnObject, Receiver, Returned, SomeChars, TextReceiver, ThrowableReceiver}
+use Rattle.fm_frames.specs.Elements.{is_string_type, chars_type, is_text_type}
+use Rattle.fm_frames.specs.NativeRows.{class_type, text_kind, text_type}
+use Rattle.fm_frames.specs.Natives.{AGiven, AnObject, AShown, BuilderReceiver, ClassReceiver, from_top, Given, has_receiver, native_type, Nothing, OwnObject, Receiver, Returned, SomeChars, TextReceiver, ThrowableReceiver}
 use Rattle.fm_frames.specs.declared.natives.Native.{Native}
 use Rattle.fm_frames.specs.declared.natives.Shown.{Shown}
 use Rattle.fm_frames.specs.declared.natives.Shown.TheVariants.{Boolean as ShownBoolean, Char as ShownChar, Int as ShownInt, Long as ShownLong, Text as ShownText}
@@ -92,11 +92,12 @@ given_asked o AnObject = object_slot o ∷ []
 abbrev pub arguments_asked : Outline → Native → List Slot
 arguments_asked o row = from_top (given_asked o) (native_type row).arguments
 
--- whether an object of the type may be a receiver: a text, one that builds a text, or a throwable
+-- whether an object of the type may be a receiver: a text, one that builds a text, a throwable, or a class literal
 abbrev pub suits : Outline → Receiver → TypeRef → Bool
 suits o TextReceiver t = fits_type o.classes t (text_type o)
 suits o BuilderReceiver t = is_built o t
 suits o ThrowableReceiver t = fits_type o.classes t (throwable_type o)
+suits o ClassReceiver t = fits_type o.classes t (class_type o)
 suits o other t = true
 
 -- whether it may be the receiver of a built-in method
@@ -146,7 +147,7 @@ pub record BuiltInsFit (p : Program) : Type 0 where
 pub record PlacesFit (p : Program) : Type 0 where
   pub subtypes : SubtypesFit p.outline
   -- no class is below String
-  pub texts : (t : TypeRef) → fits_type p.outline.classes t (text_type p.outline) ≡ true → is_text_type p.outline t ≡ true
+  pub texts : (t : TypeRef) → fits_type p.outline.classes t (text_type p.outline) ≡ true → is_string_type p.outline t ≡ true
   -- a hidden field is the first place of its object, and one for texts
   pub hidden : (t : TypeRef) → has_hidden_field p.outline t ≡ true → kind_at p.outline.classes t 0 ≡ Some (text_kind p.outline)
   -- main takes the array of the arguments (JVMS 5.2)

@@ -12,7 +12,7 @@ use Rattle.fm_world.specs.Numbers.{type_number}
 use Rattle.fm_world.specs.Programs.{kind_at, Outline}
 use Rattle.fm_frames.specs.Acts.{cell_of, Did, FullAt, LostAt, Performed}
 use Rattle.fm_frames.specs.Effects.{Action, Make, MakeFixed, MakeLiteral, Put, SetStatic, Start, Free, SetChain, FreeChain, Source, Plain, OfOperand, OfMade, OfLiteral}
-use Rattle.fm_frames.specs.Elements.{is_text_type}
+use Rattle.fm_frames.specs.Elements.{is_string_type}
 use Rattle.fm_frames.specs.NativeRows.{text_type}
 use Rattle.fm_frames.specs.Sights.{has_hidden_field, type_numbered}
 use Rattle.fm_frames.specs.States.{null, word_at}
@@ -27,7 +27,7 @@ abbrev pub SourceLeadsTo : Outline → Store → List Value → List TypeRef →
 SourceLeadsTo o store stack types test (Plain v) = v ≡ null
 SourceLeadsTo o store stack types test (OfOperand n) = IsReference (word_at stack n) × LeadsToA o store test (cell_of (word_at stack n))
 SourceLeadsTo o store stack types test (OfMade n) = (t : TypeRef) × (slice_get types n ≡ Some t) × (test t ≡ true)
-SourceLeadsTo o store stack types test (OfLiteral text) = (t : TypeRef) → is_text_type o t ≡ true → test t ≡ true
+SourceLeadsTo o store stack types test (OfLiteral text) = (t : TypeRef) → is_string_type o t ≡ true → test t ≡ true
 SourceLeadsTo o store stack types test other = ⊥
 
 -- the source leads to an object of exactly this type
@@ -57,7 +57,7 @@ pub record HoldsNoCell (o : Outline) (t : TypeRef) : Type 0 where
 pub record PlaceTakes (o : Outline) (store : Store) (stack : List Value) (types : List TypeRef) (t : TypeRef) (place : ℕ) (k : Kind) (v : Source) : Type 0 where
   pub reference : (u : TypeRef) → kind_at o.classes t place ≡ Some (kind.Ref u)
       → IsReferenceKind k × SourceLeadsTo o store stack types (λ w. fits_type o.classes w u) v
-  pub text : place ≡ 0 → has_hidden_field o t ≡ true → IsReferenceKind k × SourceLeadsTo o store stack types (is_text_type o) v
+  pub text : place ≡ 0 → has_hidden_field o t ≡ true → IsReferenceKind k × SourceLeadsTo o store stack types (is_string_type o) v
 
 -- the same of a static field
 abbrev pub StaticTakes : Outline → Store → List Value → List TypeRef → ℕ → Kind → Source → Type 0

@@ -20,7 +20,7 @@ use Rattle.fm_types.specs.declared.slots.Slot.TheVariants as slot
 use Rattle.fm_world.specs.Chains.{chain_of, is_among}
 use Rattle.fm_world.specs.Programs.{class_of_type, code_at, Outline, Program}
 use Rattle.fm_frames.specs.Acts.{cell_of}
-use Rattle.fm_frames.specs.Elements.{is_text_type}
+use Rattle.fm_frames.specs.Elements.{is_string_type}
 use Rattle.fm_frames.specs.Sights.{has_hidden_field, type_numbered}
 use Rattle.fm_frames.specs.States.{Areas, Frame, State, word_at}
 use Rattle.fm_frames.specs.declared.ends.Ended.TheVariants as end
@@ -93,14 +93,14 @@ FrameIsWhole p typings store f =
 pub record ObjectIsWhole (o : Outline) (store : Store) (object : Object) : Type 0 where
   pub elements : (place : ℕ) (t : TypeRef) → kind_in o object place ≡ Some (kind.Ref t)
       → LeadsToA o store (λ u. fits_type o.classes u t) (slice_index_or object.elements place 0)
-  pub hidden : has_hidden_field o (type_numbered o object.class) ≡ true → LeadsToA o store (is_text_type o) (slice_index_or object.elements 0 0)
+  pub hidden : has_hidden_field o (type_numbered o object.class) ≡ true → LeadsToA o store (is_string_type o) (slice_index_or object.elements 0 0)
   pub fixed : object.fixed ≡ true → (place : ℕ) (t : TypeRef) → kind_in o object place ≡ Some (kind.Ref t) → ⊥
 
 -- static fields fit their kinds, literals are texts, and what is held is whole
 pub record AreasAreWhole (o : Outline) (x : Areas) : Type 0 where
   pub statics : (field : ℕ) (t : TypeRef) → slice_get (static_slots o) field ≡ Some (slot.Ref t)
       → LeadsToA o x.store (λ u. fits_type o.classes u t) (cell_of (word_at x.statics field))
-  pub literals : (text : ℕ) → LeadsToA o x.store (is_text_type o) (slice_index_or x.literals text 0)
+  pub literals : (text : ℕ) → LeadsToA o x.store (is_string_type o) (slice_index_or x.literals text 0)
   pub heap : (cell : ℕ) (object : Object) → object_at x.store cell ≡ Some object → ObjectIsWhole o x.store object
 
 -- ---- a state

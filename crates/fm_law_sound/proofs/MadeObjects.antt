@@ -1,8 +1,8 @@
 -- Objects that rows make are of types that have a number, and have their length.
-use Rattle.std.proofs.Common.{◌≡◌, ℕ, zero, suc, ◌+◌, ◌^◌, ◌<◌, ◌≤◌, ◌==◌, not, Bool, true, false, cond, List, [], ◌∷◌, ◌++◌, length, codes, Option, Some, None, refl, sym, ◌∙◌, ap, subst, inl, inr, slice_get, get_or, arith}
+use Rattle.std.proofs.Common.{◌≡◌, ℕ, zero, suc, ◌+◌, ◌^◌, ◌<◌, ◌≤◌, ◌==◌, not, Bool, true, false, cond, List, [], ◌∷◌, ◌++◌, length, codes, Option, Some, None, refl, sym, ◌∙◌, ap, subst, inl, inr, slice_get, get_or, arith, ⊎_elim}
 use Rattle.std.specs.List.{position_or_len}
 use Rattle.std.specs.Str.{bytes_eq}
-use Rattle.std.proofs.lemmas.Bool.{and_parts, false≢true, lt-ltb, ne_eqb, not-true}
+use Rattle.std.proofs.lemmas.Bool.{and_parts, false≢true, lt-ltb, ne_eqb, not-true, or_cases, or_left}
 use Rattle.std.proofs.lemmas.Iterator.Adapters.{position_from-zero}
 use Rattle.std.proofs.lemmas.List.Quantifiers.{position-Some}
 use Rattle.std.proofs.lemmas.Option.{none-some, same_Some, slice_get-get_or}
@@ -17,7 +17,7 @@ use Rattle.fm_types.proofs.LeastJoins.{same_type-eq, same_type-refl}
 use Rattle.fm_types.specs.Named.{built_in_type}
 use Rattle.fm_types.specs.ObjectRows.{has_objects}
 use Rattle.fm_world.proofs.Completions.{count_is, kinds_completed}
-use Rattle.fm_world.specs.BuiltIns.{built_in, built_in_classes}
+use Rattle.fm_world.specs.BuiltIns.{built_in, built_in_classes, class_literal_class}
 use Rattle.fm_world.specs.Chains.{chain_of, class_at, same_type}
 use Rattle.fm_world.specs.Descriptors.{class_number}
 use Rattle.fm_world.specs.Members.{kinds_of, size_of}
@@ -26,10 +26,10 @@ use Rattle.fm_world.specs.Programs.{class_of_type, kind_at, Outline, Program}
 use Rattle.fm_world.specs.declared.declarations.DeclaredClass.{DeclaredClass}
 use Rattle.fm_world.specs.inner.Completions.{AreCompleted}
 use Rattle.fm_frames.proofs.BuiltInTypes.{named_class}
-use Rattle.fm_frames.proofs.Programs.{completed-are, built_in-inside, string-is}
+use Rattle.fm_frames.proofs.Programs.{built_in-inside, class_literal-is, completed-are, string-is}
 use Rattle.fm_frames.specs.Effects.{Make}
-use Rattle.fm_frames.specs.Elements.{is_text_type, pack_of}
-use Rattle.fm_frames.specs.NativeRows.{text_type}
+use Rattle.fm_frames.specs.Elements.{is_string_type, is_text_type, pack_of}
+use Rattle.fm_frames.specs.NativeRows.{class_type, text_type}
 use Rattle.fm_frames.specs.Operands.{size_of_type}
 use Rattle.fm_law_sound.specs.Acting.{ContentFits, MakeFits}
 use Rattle.fm_law_sound.specs.Making.{AreUnits, IsFew, IsMakeable, IsNumbered}
@@ -49,6 +49,10 @@ output_kinds given completed = kinds_completed given completed 5 (omega (arith, 
 pub input_kinds : (given : List DeclaredClass) → AreCompleted (built_in ++ given) → kinds_of (built_in ++ given) 6 ≡ []
 unfolding built_in chain_of
 input_kinds given completed = kinds_completed given completed 6 (omega (arith, count_is)) refl
+
+pub class_literal_kinds : (given : List DeclaredClass) → AreCompleted (built_in ++ given) → kinds_of (built_in ++ given) class_literal_class ≡ []
+unfolding built_in chain_of
+class_literal_kinds given completed = kinds_completed given completed class_literal_class (omega (arith, count_is)) refl
 
 -- ---- numbers of types
 
@@ -250,13 +254,23 @@ module _ (p : Program) (ready : IsMakeable p) where
   text_is = string-is o ready.runnable.given ready.runnable.classes
 
   text_class : is_text_type o (type_of_class 1) ≡ true
-  text_class = ap (λ t. same_type t (type_of_class 1)) text_is
+  text_class =
+      or_left (is_string_type o (type_of_class 1)) (same_type (class_type o) (type_of_class 1)) (ap (λ t. same_type t (type_of_class 1)) text_is)
+
+  class_is : class_type o ≡ type_of_class class_literal_class
+  class_is = class_literal-is o ready.runnable.given ready.runnable.classes
 
   -- a text has no places
   pub text_places : (place : ℕ) → kind_at o.classes (text_type o) place ≡ None
   text_places place =
       ap (λ t. kind_at o.classes t place) text_is
       ∙ ap (λ kinds. slice_get kinds place) (ap (λ classes. kinds_of classes 1) ready.runnable.classes ∙ string_kinds ready.runnable.given (completed-are ready.runnable.given ready.runnable.completed))
+
+  -- nor has a class literal
+  class_places : (place : ℕ) → kind_at o.classes (class_type o) place ≡ None
+  class_places place =
+      ap (λ t. kind_at o.classes t place) class_is
+      ∙ ap (λ kinds. slice_get kinds place) (ap (λ classes. kinds_of classes class_literal_class) ready.runnable.classes ∙ class_literal_kinds ready.runnable.given (completed-are ready.runnable.given ready.runnable.completed))
 
   text_content : (units : List ℕ) → AreUnits units → ContentFits o (type_of_class 1) (length units) units
   text_content [] fit = tt
@@ -276,5 +290,7 @@ module _ (p : Program) (ready : IsMakeable p) where
     by_test : (b : Bool) → is_text_type o t ≡ b → is_text_type o t ≡ false
     by_test false is = is
     by_test true is =
-        let same : text_type o ≡ t = same_type-eq (text_type o) t is in
-        absurd (none-some k (sym (text_places place) ∙ ap (λ u. kind_at o.classes u place) same ∙ at))
+        ⊎_elim
+        (λ text. absurd (none-some k (sym (text_places place) ∙ ap (λ u. kind_at o.classes u place) (same_type-eq (text_type o) t text) ∙ at)))
+        (λ literal. absurd (none-some k (sym (class_places place) ∙ ap (λ u. kind_at o.classes u place) (same_type-eq (class_type o) t literal) ∙ at)))
+        (or_cases (is_string_type o t) (same_type (class_type o) t) is)

@@ -1,6 +1,6 @@
 -- The actions that make arrays of arrays fit: each is made before it is put at its place in the one
 -- that was made before.
-use Rattle.std.proofs.Common.{◌≡◌, ℕ, zero, suc, ◌+◌, ◌*◌, ◌<◌, ◌≤◌, ◌&&◌, false, cond, List, [], ◌∷◌, ◌++◌, length, Some, option_and_then, refl, sym, ◌∙◌, ap, subst, slice_get, append_assoc, arith}
+use Rattle.std.proofs.Common.{◌≡◌, ℕ, zero, suc, ◌+◌, ◌*◌, ◌<◌, ◌≤◌, ◌&&◌, ◌||◌, false, cond, List, [], ◌∷◌, ◌++◌, length, Some, option_and_then, refl, sym, ◌∙◌, ap, subst, slice_get, append_assoc, arith}
 use Rattle.std.specs.List.{AllByRecursion, flat_map, range_with_len}
 use Rattle.std.proofs.Math.Nat.{suc-mul}
 use Rattle.std.proofs.lemmas.Bool.{lt-ltb, ne_eqb}
@@ -18,7 +18,7 @@ use Rattle.fm_world.specs.declared.declarations.DeclaredClass.{DeclaredClass}
 use Rattle.fm_frames.specs.ArrayRows.{array_actions, arrays_made, element_kind, element_type}
 use Rattle.fm_frames.specs.Effects.{Action, OfMade, Put}
 use Rattle.fm_frames.specs.Elements.{is_text_type}
-use Rattle.fm_frames.specs.NativeRows.{text_type}
+use Rattle.fm_frames.specs.NativeRows.{class_type, text_type}
 use Rattle.fm_frames.specs.States.{Frame}
 use Rattle.fm_law_sound.specs.Acting.{ActsFit, PlaceFits, ValueFits}
 use Rattle.fm_law_sound.specs.Making.{AreFew, IsFew, IsMakeable, IsNumbered}
@@ -34,7 +34,7 @@ array_kind classes t place deep =
 
 pub array_is_no_text : (o : Outline) (t : TypeRef) → 0 < t.dims → is_text_type o t ≡ false
 array_is_no_text o t deep =
-    ap (λ b. b && same_base (text_type o).base t.base) (ne_eqb 0 t.dims (λ same. omega (arith, deep, same)))
+    ap (λ b. (b && same_base (text_type o).base t.base) || (b && same_base (class_type o).base t.base)) (ne_eqb 0 t.dims (λ same. omega (arith, deep, same)))
 
 pub array_place : (o : Outline) (t : TypeRef) (place : ℕ) → 0 < t.dims → PlaceFits o t place (element_kind t)
 array_place o t place deep = record { kind = array_kind o.classes t place deep; no_text = array_is_no_text o t deep }

@@ -29,7 +29,7 @@ use fm_world::DeclaredClass;
 use std::alloc::Global;
 
 // The classes whose subclasses are refused.
-const SEALED: [&str; 7] = [
+const SEALED: [&str; 8] = [
     "java/lang/String",
     "java/lang/StringBuilder",
     "java/lang/StringBuffer",
@@ -37,6 +37,7 @@ const SEALED: [&str; 7] = [
     "java/io/PrintStream",
     "java/io/InputStream",
     "FreeMe",
+    "java/lang/Class",
 ];
 
 // What superclasses and interfaces are judged by: the classes with their superclasses, their numbers by

@@ -11,11 +11,13 @@ use Rattle.fm_cells.specs.Objects.{Object}
 use Rattle.fm_cells.specs.Stores.{elements_at, object_at, Store}
 use Rattle.fm_cells.specs.declared.answers.Cell.{Cell}
 use Rattle.fm_cells.specs.declared.answers.Head.{Head}
+use Rattle.fm_frames.proofs.Programs.{is_text-by}
 use Rattle.fm_frames.proofs.Refusals.{cell-no-int, cell-no-long, object-in}
 use Rattle.fm_frames.specs.Effects.{Effect, faulty}
 use Rattle.fm_frames.specs.Elements.{chars_type, is_text_type, shows_units}
 use Rattle.fm_frames.specs.NativeRows.{text_type}
 use Rattle.fm_frames.specs.Operands.{on_held_of, on_int_of, on_long_of, thrown_null}
+use Rattle.fm_frames.specs.Runnable.{IsRunnable}
 use Rattle.fm_frames.specs.Sights.{looks, Looks, sight, sight_of_cell, sight_of_object, sights, Sight, type_numbered, units_of}
 use Rattle.fm_frames.specs.States.{State}
 use Rattle.fm_frames.specs.Steps.{stack_of}
@@ -33,7 +35,8 @@ use Rattle.fm_native.specs.inner.Asked.{asked, asked_by, AsksHeld, AsksInt, Asks
 use Rattle.fm_types.specs.Fits.{fits_type}
 use Rattle.fm_world.specs.Chains.{same_type}
 use Rattle.fm_world.specs.Numbers.{type_of_class}
-use Rattle.fm_world.specs.Programs.{Outline}
+use Rattle.fm_world.specs.Programs.{Outline, Program}
+use Rattle.fm_world.specs.BuiltIns.{class_literal_class}
 
 -- ---- objects
 
@@ -181,21 +184,22 @@ fits-told o t text held object told head_is t_is text_is is =
     ap (fits_type o.classes (type_numbered o object.class)) (sym text_is) ∙ fits-named o t text held object told head_is t_is is
 
 -- whether its units are seen
-pub units-told : (o : Outline) (t : TypeRef) (held : Held) (object : Object) (told : Bool) → head_of object ≡ held.head
-    → t ≡ type_numbered o held.head.class → text_type o ≡ type_of_class 1 → told ≡ (same_type (type_of_class 1) t || same_type chars_type t)
-    → shows_units o (type_numbered o object.class) ≡ told
-units-told o t held object told head_is t_is text_is is =
+pub units-told : (p : Program) → IsRunnable p → (t : TypeRef) (held : Held) (object : Object) (told : Bool) → head_of object ≡ held.head
+    → t ≡ type_numbered p.outline held.head.class
+    → told ≡ ((same_type (type_of_class 1) t || same_type (type_of_class class_literal_class) t) || same_type chars_type t)
+    → shows_units p.outline (type_numbered p.outline object.class) ≡ told
+units-told p runnable t held object told head_is t_is is =
     let class : object.class ≡ held.head.class = ap (λ (h : Head). h.class) head_is in
-    ap (λ n. shows_units o (type_numbered o n)) class
-    ∙ (λ i. same_type (text_is i) (sym t_is i) || same_type chars_type (sym t_is i)) ∙ sym is
+    ap (λ n. shows_units p.outline (type_numbered p.outline n)) class ∙ ap (shows_units p.outline) (sym t_is)
+    ∙ ap (λ b. b || same_type chars_type t) (sym (is_text-by p t runnable)) ∙ sym is
 
--- whether it is a text
-pub is_text-told : (o : Outline) (t text : TypeRef) (held : Held) (object : Object) (told : Bool) → head_of object ≡ held.head
-    → t ≡ type_numbered o held.head.class → text ≡ text_type o → told ≡ same_type text t
-    → is_text_type o (type_numbered o object.class) ≡ told
-is_text-told o t text held object told head_is t_is text_is is =
+-- whether it is kept as units
+pub is_text-told : (p : Program) → IsRunnable p → (t : TypeRef) (held : Held) (object : Object) (told : Bool) → head_of object ≡ held.head
+    → t ≡ type_numbered p.outline held.head.class → told ≡ (same_type (type_of_class 1) t || same_type (type_of_class class_literal_class) t)
+    → is_text_type p.outline (type_numbered p.outline object.class) ≡ told
+is_text-told p runnable t held object told head_is t_is is =
     let class : object.class ≡ held.head.class = ap (λ (h : Head). h.class) head_is in
-    ap (λ n. is_text_type o (type_numbered o n)) class ∙ (λ i. same_type (sym text_is i) (sym t_is i)) ∙ sym is
+    ap (λ n. is_text_type p.outline (type_numbered p.outline n)) class ∙ ap (is_text_type p.outline) (sym t_is) ∙ sym (is_text-by p t runnable) ∙ sym is
 
 -- ---- numbers
 

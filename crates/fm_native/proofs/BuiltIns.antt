@@ -3,11 +3,11 @@ use Rattle.std.proofs.Common.{◌≡◌, List, ◌++◌, codes, Some}
 use Rattle.std.specs.Str.{bytes_eq}
 use Rattle.std.proofs.lemmas.Iterator.Adapters.{position_from-zero}
 use Rattle.fm_frames.proofs.BuiltInTypes.{named_class}
-use Rattle.fm_frames.proofs.Programs.{string-is}
-use Rattle.fm_frames.specs.NativeRows.{text_type}
+use Rattle.fm_frames.proofs.Programs.{class_literal-is, string-is}
+use Rattle.fm_frames.specs.NativeRows.{class_type, text_type}
 use Rattle.fm_frames.specs.Runnable.{IsRunnable}
 use Rattle.fm_types.specs.Named.{built_in_type}
-use Rattle.fm_world.specs.BuiltIns.{built_in}
+use Rattle.fm_world.specs.BuiltIns.{built_in, class_literal_class}
 use Rattle.fm_world.specs.Descriptors.{class_number}
 use Rattle.fm_world.specs.Numbers.{type_of_class}
 use Rattle.fm_world.specs.Programs.{Program}
@@ -15,6 +15,9 @@ use Rattle.fm_world.specs.declared.declarations.DeclaredClass.{DeclaredClass}
 
 pub text-is : (p : Program) → IsRunnable p → text_type p.outline ≡ type_of_class 1
 text-is p runnable = string-is p.outline runnable.given runnable.classes
+
+pub class-is : (p : Program) → IsRunnable p → class_type p.outline ≡ type_of_class class_literal_class
+class-is p runnable = class_literal-is p.outline runnable.given runnable.classes
 
 index-found : (given : List DeclaredClass) → class_number (built_in ++ given) (codes "java/lang/StringIndexOutOfBoundsException") ≡ Some 23
 unfolding built_in

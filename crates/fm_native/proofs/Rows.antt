@@ -3,10 +3,10 @@ use Rattle.std.proofs.Common.{◌≡◌, ℕ, ℤ, pos, List, [], ◌∷◌, len
 use Rattle.fm_cells.specs.Stores.{Store}
 use Rattle.fm_cells.specs.declared.answers.Head.{Head}
 use Rattle.fm_frames.specs.Acts.{Choose}
-use Rattle.fm_frames.specs.Effects.{Effect, Exits, OfOperand, SameOperands, going, int_word, words}
-use Rattle.fm_frames.specs.NativeRows.{byte_read, char_at, compared, hash_from, hash_of, native_effect, object_native, stream_native, string_native}
+use Rattle.fm_frames.specs.Effects.{Effect, Exits, OfOperand, SameOperands, going, int_word, making, words}
+use Rattle.fm_frames.specs.NativeRows.{byte_read, char_at, class_native, compared, hash_from, hash_of, native_effect, object_native, stream_native, string_native, text_made}
 use Rattle.fm_frames.specs.declared.natives.Native.{Native}
-use Rattle.fm_frames.specs.declared.natives.Native.TheVariants.{CharAt, CompareTo, Exit, ObjectEquals, ObjectHashCode, ObjectInit, Read, StringHashCode, StringLength, StringToString}
+use Rattle.fm_frames.specs.declared.natives.Native.TheVariants.{CharAt, ClassGetName, CompareTo, Exit, ObjectEquals, ObjectHashCode, ObjectInit, Read, StringHashCode, StringLength, StringToString}
 use Rattle.fm_frames.specs.Operands.{on_int, on_text, thrown_null}
 use Rattle.fm_frames.specs.Sights.{looks, Looks, Sight}
 use Rattle.fm_frames.specs.States.{State}
@@ -15,7 +15,7 @@ use Rattle.fm_native.specs.Doing.{DoesRow}
 use Rattle.fm_native.specs.declared.asked.Held.{Held}
 use Rattle.fm_native.specs.declared.asked.OperandRefusal.{OperandRefusal}
 use Rattle.fm_native.specs.declared.asked.Text.{Text}
-use Rattle.fm_native.specs.inner.Asked.{asked, AsksHeld, AsksInt, AsksText, IsHeldAt, on_cell, on_found, refused, units_in}
+use Rattle.fm_native.specs.inner.Asked.{asked, AsksClass, AsksHeld, AsksInt, AsksText, IsHeldAt, on_cell, on_found, refused, units_in}
 use Rattle.fm_world.specs.Programs.{Outline, Program}
 
 -- ---- rows
@@ -49,6 +49,13 @@ pub hashed-at : (o : Outline) (store : Store) (x : State) (operand : ℕ) (held 
 unfolding looks
 hashed-at o store x operand held known =
     ap (on_found o store hashed) known.at ∙ ap (λ (h : Head). words 1 (int_word (hash_of h.birth))) known.head_is
+
+-- ---- Class
+
+pub name-is : (o : Outline) (store : Store) (byte : Option ℕ) (s : List Sight) (found : Result Text OperandRefusal) → AsksClass o store s 0 found
+    → native_effect o ClassGetName byte s ≡ asked o 0 found (λ text. making 1 (text_made o (units_in store text)))
+unfolding native_effect class_native
+name-is o store byte s found asks = asks (λ units. making 1 (text_made o units))
 
 -- ---- String
 

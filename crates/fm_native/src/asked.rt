@@ -5,14 +5,14 @@
 
 ghost use Rattle.std.specs.Prelude.{◌≡◌, ◌<◌, ◌^◌, ℕ, IfErr, IfOk, IfSome, OnOk};
 ghost use Rattle.fm_native.specs.Texts.{HoldsTexts};
-ghost use Rattle.fm_native.specs.inner.Asked.{refused, text_of, units_in, AsksChars, AsksHeld, AsksHeldOrNull, AsksInt, AsksLong, AsksText, AsksTextOrNull, AsksUnitsOf, IsAt, IsHeldAt, IsTextAt};
+ghost use Rattle.fm_native.specs.inner.Asked.{refused, text_of, units_in, AsksClass, AsksChars, AsksHeld, AsksHeldOrNull, AsksInt, AsksLong, AsksText, AsksTextOrNull, AsksUnitsOf, IsAt, IsHeldAt, IsTextAt};
 ghost use Rattle.fm_frames.specs.Runnable.{IsRunnable};
 ghost use Rattle.fm_frames.specs.inner.Doings.{seen, CanStep, DoesIn};
 
 use fm_base::{NoMemory, TypeId, TypeRef};
 use fm_cells::{Cell, Head, Memory};
 use fm_frames::{
-    Look, Machine, NULL_POINTER_EXCEPTION, STRING, chars_type, shows_units, type_numbered,
+    CLASS, Look, Machine, NULL_POINTER_EXCEPTION, STRING, chars_type, shows_units, type_numbered,
 };
 use fm_types::fits_type;
 use fm_world::{Program, type_of_class};
@@ -125,8 +125,8 @@ pub(crate) fn text_of(held: Held, shows_units: bool) -> Text
     }
 }
 
-// The object that an operand leads to, whose units are seen: a text or an array of chars, whose type
-// fits this one.
+// The object that an operand leads to, whose units are seen: a text, a class literal or an array of
+// chars, whose type fits this one.
 fn units_held_at<M: Memory>(
     machine: &Machine<M>,
     program: &Program,
@@ -163,6 +163,22 @@ pub fn text_at<M: Memory>(
     ensures at { IfErr result (IsAt program.now.outline machine.now place) }
 {
     units_held_at(machine, program, place, type_of_class(STRING))
+}
+
+/// The name of a type that is kept by the class literal to which an operand leads. Takes no memory.
+pub fn class_at<M: Memory>(
+    machine: &Machine<M>,
+    program: &Program,
+    place: usize,
+) -> Result<Text, OperandRefusal>
+    requires runnable { IsRunnable program.now }
+    requires texts { HoldsTexts program.now.outline machine.now.areas.store }
+    ensures value { AsksClass program.now.outline machine.now.areas.store
+        (seen program.now machine.now) place result }
+    ensures text { IfOk result (IsTextAt machine.now.areas.store) }
+    ensures at { IfErr result (IsAt program.now.outline machine.now place) }
+{
+    units_held_at(machine, program, place, type_of_class(CLASS))
 }
 
 /// The array of chars that an operand leads to, as a text of its units. Takes no memory.

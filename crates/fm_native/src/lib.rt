@@ -6,6 +6,7 @@
 
 pub mod asked;
 pub mod builders;
+pub mod classes;
 pub mod contents;
 pub mod free_me;
 pub mod hidden;

@@ -9,7 +9,7 @@ ghost use Rattle.fm_native.specs.Doing.{quiet, turn_of, DoesRow, FailsRow, Print
 ghost use Rattle.fm_native.specs.Serving.{ServesNatives};
 ghost use Rattle.fm_native.specs.inner.Quiet.{is_quiet};
 
-use crate::{builders, free_me, objects, streams, strings, throwables};
+use crate::{builders, classes, free_me, objects, streams, strings, throwables};
 use fm_base::NoMemory;
 use fm_cells::Memory;
 use fm_files::Sink;
@@ -67,6 +67,7 @@ fn quiet_method<M: Memory>(
         Native::FreeMeFree => free_me::free(machine, program),
         Native::FreeMeLink => free_me::link(machine, program),
         Native::FreeMeFreeChain => free_me::free_chain(alloc, machine, program),
+        Native::ClassGetName => classes::get_name(alloc, machine, program),
         _ => unreachable!(),
     }
 }

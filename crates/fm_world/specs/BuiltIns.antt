@@ -37,6 +37,10 @@ object_name = codes "java/lang/Object"
 abbrev pub string_name : List ℕ
 string_name = codes "java/lang/String"
 
+-- the class of class literals (JVMS 4.9.1)
+abbrev pub class_literal_name : List ℕ
+class_literal_name = codes "java/lang/Class"
+
 -- an interface of arrays
 abbrev pub cloneable_name : List ℕ
 cloneable_name = codes "java/lang/Cloneable"
@@ -49,7 +53,7 @@ serializable_name = codes "java/io/Serializable"
 abbrev pub sealed_names : List (List ℕ)
 sealed_names =
     codes "java/lang/String" ∷ codes "java/lang/StringBuilder" ∷ codes "java/lang/StringBuffer" ∷ codes "java/lang/System"
-    ∷ codes "java/io/PrintStream" ∷ codes "java/io/InputStream" ∷ codes "FreeMe" ∷ []
+    ∷ codes "java/io/PrintStream" ∷ codes "java/io/InputStream" ∷ codes "FreeMe" ∷ codes "java/lang/Class" ∷ []
 
 -- ---- methods, in rows that follow one another
 
@@ -154,6 +158,10 @@ free_me_methods =
     ∷ static_method (codes "freeChain") (codes "(Ljava/lang/Object;)V")
     ∷ []
 
+-- the methods of Class
+abbrev pub class_methods : List (ℕ → DeclaredMethod)
+class_methods = method (codes "getName") (codes "()Ljava/lang/String;") ∷ []
+
 -- ---- the row at which the methods of a class begin: those of Object at 0, and each after those of the class before it
 
 -- that of String
@@ -184,13 +192,17 @@ throwable_row = input_stream_row + length input_stream_methods
 abbrev pub free_me_row : ℕ
 free_me_row = throwable_row + length throwable_methods
 
+-- that of Class
+abbrev pub class_row : ℕ
+class_row = free_me_row + length free_me_methods
+
 -- how many rows there are
 abbrev pub built_in_rows : ℕ
-built_in_rows = free_me_row + length free_me_methods
+built_in_rows = class_row + length class_methods
 
 -- how many methods all classes have: those of a program come after them
 abbrev pub built_in_methods : ℕ
-built_in_methods = 93
+built_in_methods = 94
 
 -- ---- fields
 
@@ -241,7 +253,11 @@ marker name = record {
 
 -- how many there are: the classes of a program come after them
 abbrev pub built_in_classes : ℕ
-built_in_classes = 29
+built_in_classes = 30
+
+-- the number of Class
+abbrev pub class_literal_class : ℕ
+class_literal_class = 29
 
 -- the classes by the numbers that they have in each program
 unfoldable pub built_in : List DeclaredClass
@@ -275,4 +291,5 @@ built_in =
     ∷ marker cloneable_name
     ∷ marker serializable_name
     ∷ throwable_under (codes "java/lang/Exception") (codes "java/lang/CloneNotSupportedException")
+    ∷ plain_class class_literal_name false (numbered class_row class_methods)
     ∷ []

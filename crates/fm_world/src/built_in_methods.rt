@@ -8,7 +8,7 @@ const PUBLIC: u16 = 0x0001;
 const PUBLIC_STATIC: u16 = 0x0009;
 
 /// How many methods the built-in classes have: those of a program come after them.
-pub const BUILT_IN_METHODS: u32 = 93;
+pub const BUILT_IN_METHODS: u32 = 94;
 
 // Methods by their flags, names and descriptors, in rows that follow one another from the first one on.
 macro_rules! methods {
@@ -48,6 +48,8 @@ pub const THROWABLE_ROW: u16 = INPUT_STREAM_ROW + INPUT_STREAM_METHODS.len() as 
 
 /// The row at which those of FreeMe begin.
 pub const FREE_ME_ROW: u16 = THROWABLE_ROW + THROWABLE_METHODS.len() as u16;
+
+const CLASS_ROW: u16 = FREE_ME_ROW + FREE_ME_METHODS.len() as u16;
 
 pub const OBJECT_METHODS: [BuiltInMethod; 4] = methods![0;
     PUBLIC "<init>" "()V",
@@ -136,4 +138,8 @@ pub const FREE_ME_METHODS: [BuiltInMethod; 3] = methods![FREE_ME_ROW;
     PUBLIC_STATIC "free" "(Ljava/lang/Object;)V",
     PUBLIC_STATIC "link" "(Ljava/lang/Object;Ljava/lang/Object;)Ljava/lang/Object;",
     PUBLIC_STATIC "freeChain" "(Ljava/lang/Object;)V",
+];
+
+pub const CLASS_METHODS: [BuiltInMethod; 1] = methods![CLASS_ROW;
+    PUBLIC "getName" "()Ljava/lang/String;",
 ];

@@ -6,7 +6,7 @@ ghost use Rattle.fm_world.specs.Descriptors.{class_number};
 ghost use Rattle.fm_world.specs.inner.BuiltInTable.{class_of_row};
 
 use crate::built_in_methods::{
-    FREE_ME_METHODS, INPUT_STREAM_METHODS, OBJECT_METHODS, PRINT_STREAM_METHODS,
+    CLASS_METHODS, FREE_ME_METHODS, INPUT_STREAM_METHODS, OBJECT_METHODS, PRINT_STREAM_METHODS,
     STRING_BUFFER_METHODS, STRING_BUILDER_METHODS, STRING_METHODS, SYSTEM_METHODS,
     THROWABLE_CONSTRUCTORS, THROWABLE_METHODS,
 };
@@ -43,7 +43,7 @@ pub struct BuiltInMethod {
 }
 
 /// How many classes are built in: those of a program come after them.
-pub const BUILT_IN_CLASSES: u32 = 29;
+pub const BUILT_IN_CLASSES: u32 = 30;
 
 /// The built-in classes, by the numbers that they have in each program. Takes no memory.
 pub fn built_in_classes() -> &'static [BuiltInClass]
@@ -107,7 +107,7 @@ const CLONEABLE: BuiltInClass = BuiltInClass {
     methods: &[],
 };
 
-static CLASSES: [BuiltInClass; 29] = [
+static CLASSES: [BuiltInClass; 30] = [
     BuiltInClass {
         name: "java/lang/Object",
         superclass: None,
@@ -278,5 +278,14 @@ static CLASSES: [BuiltInClass; 29] = [
         name: "java/lang/CloneNotSupportedException",
         superclass: Some("java/lang/Exception"),
         ..EXCEPTION
+    },
+    BuiltInClass {
+        name: "java/lang/Class",
+        superclass: Some("java/lang/Object"),
+        interfaces: &[],
+        flags: CLASS,
+        hidden: false,
+        fields: &[],
+        methods: &CLASS_METHODS,
     },
 ];

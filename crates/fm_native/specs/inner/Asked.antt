@@ -1,4 +1,5 @@
 -- What rows require of their operands, as the code finds it out.
+use Rattle.fm_base.specs.declared.kinds.TypeRef.{TypeRef}
 use Rattle.std.specs.Prelude.{◌≡◌, ℕ, ◌<◌, ◌^◌, ℤ, pos, Bool, false, List, codes, take, length, Option, Some, None, Result, Ok, Err, if◌then◌else◌}
 use Rattle.std.specs.List.{All}
 use Rattle.std.specs.Str.{bytes_eq}
@@ -8,8 +9,8 @@ use Rattle.fm_cells.specs.Objects.{Object}
 use Rattle.fm_cells.specs.Stores.{elements_at, object_at, Store}
 use Rattle.fm_frames.specs.Acts.{cell_of, value_of}
 use Rattle.fm_frames.specs.Effects.{Effect, Faults, OfPlace, faulty, going, int_word, stuck, words}
-use Rattle.fm_frames.specs.NativeRows.{equal_to, part_of, text_kind}
-use Rattle.fm_frames.specs.Operands.{on_chars, on_held, on_int, on_long, on_object, on_text, on_text_or_null, thrown_null}
+use Rattle.fm_frames.specs.NativeRows.{class_type, equal_to, part_of, text_kind, text_type}
+use Rattle.fm_frames.specs.Operands.{on_chars, on_held, on_int, on_long, on_object, on_text_or_null, thrown_null}
 use Rattle.fm_frames.specs.Sights.{Sight, looks, Looks}
 use Rattle.fm_frames.specs.States.{State, word_at}
 use Rattle.fm_frames.specs.Steps.{stack_of}
@@ -108,8 +109,11 @@ AsksChars o store s operand found =
 
 -- a text was asked for at an operand, and this is what was found
 abbrev pub AsksText : Outline → Store → List Sight → ℕ → Result Text OperandRefusal → Type 0
-AsksText o store s operand found =
-    (follows : List ℕ → Effect) → on_text o s operand follows ≡ asked o operand found (λ text. follows (units_in store text))
+AsksText o store s operand found = AsksUnitsOf o store (text_type o) s operand found
+
+-- a class literal was asked for at an operand, and this is what was found
+abbrev pub AsksClass : Outline → Store → List Sight → ℕ → Result Text OperandRefusal → Type 0
+AsksClass o store s operand found = AsksUnitsOf o store (class_type o) s operand found
 
 -- the same where null is read as the word null
 abbrev pub AsksTextOrNull : Outline → Store → List Sight → ℕ → Result (Option Text) OperandRefusal → Type 0

@@ -34,8 +34,8 @@ returns-then-fits-clause-value g c =
     fits-told o c.type_numbered-t.result c.type_of_class.result c.in-Some.held known.object true known.head_is c.type_numbered-t.ensures.value
     (c.type_of_class.ensures ∙ named) c.if-fits.ensures in
     let text =
-    units-told o c.type_numbered-t.result c.in-Some.held known.object c.shows_units.result known.head_is
-    c.type_numbered-t.ensures.value (text-is p c.requires.runnable) c.shows_units.ensures in
+    units-told p c.requires.runnable c.type_numbered-t.result c.in-Some.held known.object c.shows_units.result known.head_is
+    c.type_numbered-t.ensures.value c.shows_units.ensures in
     subst (λ t. AsksTextOrNull o x.areas.store (seen p x) c.args.place (Ok (Some t))) (sym c.text_of.ensures)
     (null-text-found o x.areas.store (seen p x) c.args.place c.in-Some.held known.object c.shows_units.result asks known.at known.head_is fits text)
 
@@ -46,8 +46,8 @@ returns-then-fits-clause-text g c =
     let x = c.args.machine.now in
     let known = subst (λ found. IfSome found (IsHeldAt x.areas.store x c.args.place)) c.in-Some.is c.in_ok-held.ensures.held in
     let text =
-    units-told o c.type_numbered-t.result c.in-Some.held known.object c.shows_units.result known.head_is
-    c.type_numbered-t.ensures.value (text-is p c.requires.runnable) c.shows_units.ensures in
+    units-told p c.requires.runnable c.type_numbered-t.result c.in-Some.held known.object c.shows_units.result known.head_is
+    c.type_numbered-t.ensures.value c.shows_units.ensures in
     subst (IsTextAt x.areas.store) (sym c.text_of.ensures)
     (text-known o x.areas.store c.in-Some.held known.object c.shows_units.result c.requires.texts known.at known.head_is text)
 

@@ -1,6 +1,5 @@
 use Rattle.std.proofs.Common.{◌≡◌, Ok, Err, false, true, sym, ◌∙◌, subst, rules}
 use Rattle.fm_native.proofs.Asks.{fits-named, text-known, units-found, units-refused, units-told, units-unfit}
-use Rattle.fm_native.proofs.BuiltIns.{text-is}
 use Rattle.fm_native.proofs.asked.units_held_at.Goals as goal
 use Rattle.fm_frames.specs.inner.Doings.{seen}
 use Rattle.fm_native.specs.inner.Asked.{AsksUnitsOf, IsTextAt}
@@ -22,8 +21,8 @@ returns-then-fits-clause-value g c =
     let fits =
     fits-named o c.type_numbered-t.result c.args.named c.in_ok-held.held known.object true known.head_is c.type_numbered-t.ensures.value c.if-fits.ensures in
     let text =
-    units-told o c.type_numbered-t.result c.in_ok-held.held known.object c.shows_units.result known.head_is
-    c.type_numbered-t.ensures.value (text-is p c.requires.runnable) c.shows_units.ensures in
+    units-told p c.requires.runnable c.type_numbered-t.result c.in_ok-held.held known.object c.shows_units.result known.head_is
+    c.type_numbered-t.ensures.value c.shows_units.ensures in
     subst (λ t. AsksUnitsOf o x.areas.store c.args.named (seen p x) c.args.place (Ok t)) (sym c.text_of.ensures)
     (units-found o x.areas.store c.args.named (seen p x) c.args.place c.in_ok-held.held known.object c.shows_units.result c.in_ok-held.ensures.value known.at known.head_is fits
     text)
@@ -35,8 +34,8 @@ returns-then-fits-clause-text g c =
     let x = c.args.machine.now in
     let known = c.in_ok-held.ensures.held in
     let text =
-    units-told o c.type_numbered-t.result c.in_ok-held.held known.object c.shows_units.result known.head_is
-    c.type_numbered-t.ensures.value (text-is p c.requires.runnable) c.shows_units.ensures in
+    units-told p c.requires.runnable c.type_numbered-t.result c.in_ok-held.held known.object c.shows_units.result known.head_is
+    c.type_numbered-t.ensures.value c.shows_units.ensures in
     subst (IsTextAt x.areas.store) (sym c.text_of.ensures)
     (text-known o x.areas.store c.in_ok-held.held known.object c.shows_units.result c.requires.texts known.at known.head_is text)
 

@@ -3,12 +3,10 @@ use Rattle.std.proofs.lemmas.Bool.{ne_eqb}
 use Rattle.fm_frames.specs.Elements.{chars_type}
 use Rattle.fm_frames.specs.Sights.{type_numbered}
 use Rattle.fm_native.proofs.Asks.{is_text-told, text-known}
-use Rattle.fm_native.proofs.BuiltIns.{text-is}
 use Rattle.fm_native.proofs.HiddenSteps.{lost-at}
 use Rattle.fm_native.proofs.Hidings.{head-held, inner-found, inner-gone, inner-lost, inner-none}
 use Rattle.fm_native.proofs.hidden.inner_of.Goals as goal
 use Rattle.fm_world.specs.Chains.{same_type}
-use Rattle.fm_world.specs.Numbers.{type_of_class}
 
 pub returns-then-cell-eq0-clause-value : goal.returns-then-cell-eq0-clause-value
 returns-then-cell-eq0-clause-value g c =
@@ -33,8 +31,8 @@ returns-then-fits-clause-value g c =
     let there : (c.element.result == 0) ≡ false = ne_eqb c.element.result 0 (λ e. absurd (omega (arith, e, c.if-cell-eq0.false))) in
     let (object, at, head_is) = head-held store c.element.result c.in-Some.head (sym c.in-Some.is ∙ c.head.ensures) in
     let text =
-    is_text-told o c.type_numbered.result (type_of_class 1) (record { cell = record { 0 = c.element.result }; head = c.in-Some.head }) object true head_is
-    c.type_numbered.ensures.value (sym (text-is p c.requires.runnable)) c.if-fits.ensures in
+    is_text-told p c.requires.runnable c.type_numbered.result (record { cell = record { 0 = c.element.result }; head = c.in-Some.head }) object true head_is
+    c.type_numbered.ensures.value c.if-fits.ensures in
     inner-found o store c.args.held (record { 0 = c.element.result }) c.in-Some.head object c.requires.hides c.element.ensures there at head_is text
 
 pub returns-then-fits-clause-text : goal.returns-then-fits-clause-text
@@ -44,8 +42,8 @@ returns-then-fits-clause-text g c =
     let store = c.args.machine.now.areas.store in
     let (object, at, head_is) = head-held store c.element.result c.in-Some.head (sym c.in-Some.is ∙ c.head.ensures) in
     let text =
-    is_text-told o c.type_numbered.result (type_of_class 1) (record { cell = record { 0 = c.element.result }; head = c.in-Some.head }) object true head_is
-    c.type_numbered.ensures.value (sym (text-is p c.requires.runnable)) c.if-fits.ensures in
+    is_text-told p c.requires.runnable c.type_numbered.result (record { cell = record { 0 = c.element.result }; head = c.in-Some.head }) object true head_is
+    c.type_numbered.ensures.value c.if-fits.ensures in
     text-known o store (record { cell = record { 0 = c.element.result }; head = c.in-Some.head }) object true c.requires.texts at head_is
     (ap (λ b. b || same_type chars_type (type_numbered o object.class)) text)
 
@@ -57,8 +55,8 @@ returns-clause-value g c =
     let there : (c.element.result == 0) ≡ false = ne_eqb c.element.result 0 (λ e. absurd (omega (arith, e, c.if-cell-eq0.false))) in
     let (object, at, head_is) = head-held store c.element.result c.in-Some.head (sym c.in-Some.is ∙ c.head.ensures) in
     let text =
-    is_text-told o c.type_numbered.result (type_of_class 1) (record { cell = record { 0 = c.element.result }; head = c.in-Some.head }) object false head_is
-    c.type_numbered.ensures.value (sym (text-is p c.requires.runnable)) c.if-fits.ensures in
+    is_text-told p c.requires.runnable c.type_numbered.result (record { cell = record { 0 = c.element.result }; head = c.in-Some.head }) object false head_is
+    c.type_numbered.ensures.value c.if-fits.ensures in
     inner-lost o store c.args.held (record { 0 = c.element.result }) object c.requires.hides c.element.ensures there at text
 
 pub returns-clause-at : goal.returns-clause-at
