@@ -227,6 +227,11 @@ pub fn constant_row(program: &Program, resolved: Use, state: &mut State) -> Resu
             state.stack.push(Slot::Ref(string))?;
             Ok(true)
         }
+        Use::OfType(_) => {
+            let class = built_in_type(program, b"java/lang/Class");
+            state.stack.push(Slot::Ref(class))?;
+            Ok(true)
+        }
         _ => Ok(false),
     }
 }

@@ -136,11 +136,12 @@ abbrev pub is_left_out : Insn → Bool
 is_left_out (insn.LeftOut opcode) = true
 is_left_out i = false
 
--- what ldc, ldc_w and ldc2_w may load: an int, a long or a text
+-- what ldc, ldc_w and ldc2_w may load: an int, a long, a text or the literal of a class
 abbrev pub is_supported_constant : Entry → Bool
 is_supported_constant (entry.Integer value) = true
 is_supported_constant (entry.Long value) = true
 is_supported_constant (entry.Text units) = true
+is_supported_constant (entry.Class name) = true
 is_supported_constant e = false
 
 -- whether an instruction loads no other constant

@@ -1,16 +1,20 @@
 // The rows of constants (JVMS 6.5.aconst_null, 6.5.bipush and its like, 6.5.ldc).
 
-ghost use Rattle.std.specs.Prelude.{◌<◌, length, OnOk, []};
+ghost use Rattle.std.specs.Prelude.{◌<◌, ◌^◌, length, OnOk, []};
+ghost use Rattle.std.specs.List.{All};
 ghost use Rattle.fm_exec.specs.Steps.{Steps};
+ghost use Rattle.fm_frames.specs.Acts.{name_numbered};
 ghost use Rattle.fm_frames.specs.Effects.{int_word, long_words, null_word, words};
+ghost use Rattle.fm_frames.specs.Literals.{class_literal};
 ghost use Rattle.fm_frames.specs.NumberRows.{constant_effect};
 ghost use Rattle.fm_frames.specs.inner.Doings.{CanStep};
 ghost use Rattle.fm_world.specs.declared.uses.Use.TheVariants as used;
 
-use fm_base::NoMemory;
+use fm_base::{NoMemory, TypeId};
 use fm_cells::{Cell, Memory};
 use fm_frames::{Machine, Value};
 use fm_world::Program;
+use std::alloc::Global;
 
 /// nop. Takes no memory.
 #[inline(always)]
@@ -75,7 +79,25 @@ pub fn text_constant<M: Memory>(
     requires text { text < length program.now.outline.texts }
     requires literals { text < length machine.old.areas.literals }
     ensures { OnOk result (Steps program.now M.choose machine.old machine.new
-        (constant_effect (used.OfText text))) }
+        (constant_effect program.now.outline (used.OfText text))) }
 {
     machine.give_literal(program, text)
+}
+
+/// ldc of a class, by the number of its type: the class literal is made at its first use.
+#[inline(always)]
+pub fn class_constant<M: Memory>(
+    alloc: Global,
+    machine: &mut Machine<M>,
+    program: &Program,
+    t: TypeId,
+) -> Result<(), NoMemory>
+    requires can { CanStep program.now machine.old }
+    requires inside { t.0 < length program.now.outline.types }
+    requires literals { class_literal program.now.outline t.0 < length machine.old.areas.literals }
+    requires name { All (λ unit. unit < 2 ^ 16) (name_numbered program.now.outline t.0) }
+    ensures { OnOk result (Steps program.now M.choose machine.old machine.new
+        (constant_effect program.now.outline (used.OfType t))) }
+{
+    machine.give_class(alloc, program, 0, t)
 }

@@ -21,7 +21,7 @@ mod throws;
 pub use arrays::{array_length, int_of, len_of, new_array, new_references};
 pub use calls::{leave, words_of_arguments};
 pub use casts::{cast, is_instance};
-pub use constants::{int_constant, long_constant, nop, null, text_constant};
+pub use constants::{class_constant, int_constant, long_constant, nop, null, text_constant};
 pub use elements::{
     array_load, array_store, element_kind, element_type, is_array_of, place_in, reference_store,
 };

@@ -9,9 +9,8 @@ use Rattle.fm_exec_calls.specs.inner.Actions.{Acts, ActsAll, AllSuit, CanAct}
 use Rattle.fm_cells.specs.Soundness.{IsSound}
 use Rattle.fm_cells.specs.declared.answers.Cell.{Cell}
 use Rattle.fm_frames.proofs.Underways.{literal-full, literal-next, literal-there, static-next}
-use Rattle.fm_frames.specs.Acts.{Choose, class_started, is_there, literal_made, literal_text, requested, set_static}
+use Rattle.fm_frames.specs.Acts.{Choose, class_started, is_there, literal_made, literal_text, literal_type, requested, set_static}
 use Rattle.fm_frames.specs.Effects.{Action, Effect, MakeLiteral, OfLiteral, Plain, SetStatic, Start}
-use Rattle.fm_frames.specs.NativeRows.{text_type}
 use Rattle.fm_frames.specs.States.{ref, State}
 use Rattle.fm_frames.specs.declared.values.Value.{Value}
 use Rattle.fm_frames.specs.inner.Doings.{Makes, Underway}
@@ -50,10 +49,10 @@ there-acts p choose y text there =
 
 pub made-acts : (p : Program) (choose : Choose) (y w z : State) (text : ℕ) (units : List ℕ) (cell : Cell) → is_there y.areas text ≡ false → text < length y.areas.literals
     → literal_text p.outline text ≡ units
-    → Makes choose y w (requested p.outline (text_type p.outline) (length units) true) units (Some cell)
+    → Makes choose y w (requested p.outline (literal_type p.outline text) (length units) true) units (Some cell)
     → z ≡ record w { areas = literal_made w.areas text cell.0 } → IsSound z.areas.store → Acts p choose y z (MakeLiteral text) true
 made-acts p choose y w z text units cell none inside is makes kept sound =
-    let made = subst (λ units. Makes choose y w (requested p.outline (text_type p.outline) (length units) true) units (Some cell)) (sym is) makes in
+    let made = subst (λ units. Makes choose y w (requested p.outline (literal_type p.outline text) (length units) true) units (Some cell)) (sym is) makes in
     let (grows, taken, free, changed) = made in (
       (λ x e made_before left so. literal-next p choose x y w z e made_before text left cell none so made kept),
       (λ left own can. can-after p.outline choose y w z text cell none inside made kept sound left own can),
@@ -61,10 +60,10 @@ made-acts p choose y w z text units cell none inside is makes kept sound =
     )
 
 pub full-acts : (p : Program) (choose : Choose) (y z : State) (text : ℕ) (units : List ℕ) → is_there y.areas text ≡ false → literal_text p.outline text ≡ units
-    → Makes choose y z (requested p.outline (text_type p.outline) (length units) true) units None → Acts p choose y z (MakeLiteral text) false
+    → Makes choose y z (requested p.outline (literal_type p.outline text) (length units) true) units None → Acts p choose y z (MakeLiteral text) false
 full-acts p choose y z text units none is makes =
     λ x e made left so. literal-full p choose x y z e made text left none so
-    (subst (λ units. Makes choose y z (requested p.outline (text_type p.outline) (length units) true) units None) (sym is) makes)
+    (subst (λ units. Makes choose y z (requested p.outline (literal_type p.outline text) (length units) true) units None) (sym is) makes)
 
 -- ---- all actions
 

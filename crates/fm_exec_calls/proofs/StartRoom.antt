@@ -12,9 +12,8 @@ use Rattle.fm_cells.specs.Sizes.{packed_words}
 use Rattle.fm_cells.specs.Soundness.{IsSound}
 use Rattle.fm_cells.specs.Stores.{live_words, object_at, Store}
 use Rattle.fm_frames.proofs.Contents.{content_in}
-use Rattle.fm_frames.specs.Acts.{Choose, is_there, literal_made, literal_text, requested, with_content}
+use Rattle.fm_frames.specs.Acts.{Choose, is_there, literal_made, literal_text, literal_type, requested, with_content}
 use Rattle.fm_frames.specs.Effects.{Action, Make, MakeFixed, MakeLiteral, Put, SetStatic, Start, Free, SetChain, FreeChain}
-use Rattle.fm_frames.specs.NativeRows.{text_type}
 use Rattle.fm_frames.specs.States.{Areas, State}
 use Rattle.fm_frames.specs.Steps.{literal_of, words_among, words_of}
 use Rattle.fm_frames.specs.inner.Doings.{Makes}
@@ -32,7 +31,7 @@ or-swap false false c = refl
 
 literal_needs : Outline → ℕ → Bool → ℕ
 literal_needs o text there =
-    if there then 0 else packed_words (length (literal_text o text)) (requested o (text_type o) (length (literal_text o text)) true).pack
+    if there then 0 else packed_words (length (literal_text o text)) (requested o (literal_type o text) (length (literal_text o text)) true).pack
 
 -- actions need as many words in areas where the same literals are made or counted
 words-alike : (o : Outline) (x y : Areas) (counted known : List ℕ) (actions : List Action)
@@ -127,17 +126,17 @@ none-is n none = by_case (cases_eq n 0) where
 
 literal-needs : (o : Outline) (x : Areas) (text : ℕ) (left : List Action) → is_there x text ≡ false
     → words_among o x [] (MakeLiteral text ∷ left)
-    ≡ request_words (requested o (text_type o) (length (literal_text o text)) true) + words_among o x (text ∷ []) left
+    ≡ request_words (requested o (literal_type o text) (length (literal_text o text)) true) + words_among o x (text ∷ []) left
 unfolding literal_needs
 literal-needs o x text left none = ap (λ there. literal_needs o text (there || false) + words_among o x (text ∷ []) left) none
 
 pub can-after : (o : Outline) (choose : Choose) (y w z : State) (text : ℕ) (cell : Cell) → is_there y.areas text ≡ false → text < length y.areas.literals
-    → Makes choose y w (requested o (text_type o) (length (literal_text o text)) true) (literal_text o text) (Some cell)
+    → Makes choose y w (requested o (literal_type o text) (length (literal_text o text)) true) (literal_text o text) (Some cell)
     → z ≡ record w { areas = literal_made w.areas text cell.0 } → IsSound z.areas.store
     → (left : List Action) (own : ℕ) → CanAct o y (MakeLiteral text ∷ left) own → CanAct o z left own
 can-after o choose y w z text cell none inside (grows, taken, free, is) kept sound left own can =
     let units = literal_text o text in
-    let r : Request = requested o (text_type o) (length units) true in
+    let r : Request = requested o (literal_type o text) (length units) true in
     let made : Store = made_by y.areas.store r (Take cell.0 grows) in
     let object : Object = new_object y.areas.store.births r in
     let at : object_at made cell.0 ≡ Some object =

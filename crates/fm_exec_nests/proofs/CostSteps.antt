@@ -1,5 +1,5 @@
 -- What the next step costs, by the instruction at which the topmost frame is.
-use Rattle.std.proofs.Common.{◌≡◌, ℕ, ℤ, zero, suc, ◌+◌, ◌*◌, ◌≤◌, Bool, true, false, if◌then◌else◌, List, [], ◌∷◌, ◌++◌, length, max, Option, Some, None, option_map, option_and_then, slice_get, refl, ap, sym, ◌∙◌, subst, append_assoc, arith}
+use Rattle.std.proofs.Common.{◌≡◌, ℕ, ℤ, zero, suc, ◌+◌, ◌*◌, ◌≤◌, Bool, true, false, if◌then◌else◌, List, [], ◌∷◌, ◌++◌, length, max, Option, Some, None, option_map, option_and_then, slice_get, refl, ap, sym, ◌∙◌, subst, append_assoc, arith, ◌<◌}
 use Rattle.std.specs.Prelude.{int_lt, pos}
 use Rattle.std.specs.List.{AllByRecursion, flat_map, list_any, range_with_len}
 use Rattle.std.specs.Prelude.{reverse}
@@ -82,7 +82,8 @@ module _ (o : Outline) where
       let set : Action = SetStatic (slot_of o.classes field) (kind_of_field o field) (OfLiteral number) in
       let literal : objects_made (MakeLiteral number ∷ set ∷ rest) ≡ 0 + objects_made (set ∷ rest) = sum_by-cons _ (MakeLiteral number) (set ∷ rest) in
       let static : objects_made (set ∷ rest) ≡ 0 + objects_made rest = sum_by-cons _ set rest in
-      record { same = omega (arith, literal, static); made = ((position-Some (bytes_eq text) o.texts number [] is).0, (tt, made)) }
+      let inside : number < length o.texts = (position-Some (bytes_eq text) o.texts number [] is).0 in
+      record { same = omega (arith, literal, static); made = (omega (arith, inside), (tt, made)) }
 
   number-quiet : (field : ℕ) (v : Value) (rest : List Action) → AllByRecursion (IsMade o) rest
       → Quiet (SetStatic (slot_of o.classes field) (kind_of_field o field) (Plain v) ∷ []) rest

@@ -14,16 +14,16 @@ use Rattle.fm_cells.specs.Stores.{object_at, Store}
 use Rattle.fm_frames.proofs.Contents.{content_in}
 use Rattle.fm_frames.proofs.OpeningSteps.{put_kept}
 use Rattle.fm_frames.proofs.StepCounts.{step_is, stepped}
-use Rattle.fm_frames.specs.Acts.{all_freed, cell_of, chain_freed, chain_from, chained, Choose, class_started, Did, freed, freed_object, FullAt, is_there, literal_made, literal_text, LostAt, made_then, performed, Performed, put_value, requested, set_static, Sources, value_of, with_content}
+use Rattle.fm_frames.specs.Acts.{all_freed, cell_of, chain_freed, chain_from, chained, Choose, class_started, Did, freed, freed_object, FullAt, is_there, literal_made, literal_text, literal_type, LostAt, made_then, performed, Performed, put_value, requested, set_static, Sources, value_of, with_content}
 use Rattle.fm_frames.specs.Effects.{Action, Effect, Make, MakeFixed, MakeLiteral, Put, SetStatic, Start, Free, SetChain, FreeChain}
 use Rattle.fm_frames.specs.Elements.{kept}
-use Rattle.fm_frames.specs.NativeRows.{text_type}
 use Rattle.fm_frames.specs.States.{Areas, Frame, Moved, State, word_at}
 use Rattle.fm_frames.specs.Steps.{attempted, cost, finished, input_after, is_deep, is_done, is_over, next_effect, objects_made, step}
 use Rattle.fm_frames.specs.declared.ends.Ended.{Ended}
 use Rattle.fm_frames.specs.declared.values.Value.{Value}
 use Rattle.fm_exec_nests.proofs.CostSteps.{next-made}
 use Rattle.fm_exec_nests.proofs.RowMakes.{IsMade}
+use Rattle.fm_frames.specs.Literals.{literal_count}
 use Rattle.fm_law_sound.proofs.Following.{continued_is, followed_areas}
 use Rattle.fm_law_sound.specs.Leading.{sources_of}
 use Rattle.fm_law_sound.specs.Making.{MakesAreResolved}
@@ -139,14 +139,14 @@ module _ (o : Outline) (choose : Choose) (lawful : IsLawful choose) (locals stac
 
   -- an action that makes nothing, before others
   quiet : (x later : Areas) (action : Action) (more : List Action) (made : List ℕ) → objects_made (action ∷ more) ≡ 0 + objects_made more
-      → later.store.births ≡ x.store.births → later.literals ≡ x.literals → (length o.texts ≤ length later.literals → Grown later (objects_made more) (result more later made))
-      → length o.texts ≤ length x.literals → Grown x (objects_made (action ∷ more)) (result more later made)
+      → later.store.births ≡ x.store.births → later.literals ≡ x.literals → (literal_count o ≤ length later.literals → Grown later (objects_made more) (result more later made))
+      → literal_count o ≤ length x.literals → Grown x (objects_made (action ∷ more)) (result more later made)
   quiet x later action more made none births literals rest room =
       let grown = still-grown x later births literals in
       let many = grown.many in
       grown-then x later 0 (objects_made more) (objects_made (action ∷ more)) (result more later made) grown none (rest (omega (arith, room, many)))
 
-  pub acts-grown : (actions : List Action) (x : Areas) (made : List ℕ) → AllByRecursion (IsMade o) actions → length o.texts ≤ length x.literals
+  pub acts-grown : (actions : List Action) (x : Areas) (made : List ℕ) → AllByRecursion (IsMade o) actions → literal_count o ≤ length x.literals
       → Grown x (objects_made actions) (performed o choose locals stack actions x made)
   unfolding performed
   acts-grown [] x made all room = record { few = omega arith; many = refl }
@@ -159,7 +159,7 @@ module _ (o : Outline) (choose : Choose) (lawful : IsLawful choose) (locals stac
       (record { few = omega (arith, born); many = refl }) count (acts-grown more (record x { store = later }) (made ++ cell ∷ []) all.1 room))
   acts-grown (MakeFixed t ∷ more) x made all room = absurd all.0
   acts-grown (MakeLiteral text ∷ more) x made all room =
-      let request : Request = requested o (text_type o) (length (literal_text o text)) true in
+      let request : Request = requested o (literal_type o text) (length (literal_text o text)) true in
       let count : objects_made (MakeLiteral text ∷ more) ≡ 0 + objects_made more = sum_by-cons _ (MakeLiteral text) more in
       let inside : text < length x.literals = (let there = all.0 in omega (arith, there, room)) in
       either-grown x (objects_made (MakeLiteral text ∷ more)) (is_there x text) (result more x made)
@@ -195,7 +195,7 @@ module _ (o : Outline) (choose : Choose) (lawful : IsLawful choose) (locals stac
       let count : objects_made (FreeChain operand ∷ more) ≡ 0 + objects_made more = sum_by-cons _ (FreeChain operand) more in
       by_chain count (λ later enough. acts-grown more later made all.1 enough) (chain_from x.store (cell_of (word_at stack operand))) where
         by_chain : objects_made (FreeChain operand ∷ more) ≡ 0 + objects_made more
-            → ((later : Areas) → length o.texts ≤ length later.literals → Grown later (objects_made more) (result more later made))
+            → ((later : Areas) → literal_count o ≤ length later.literals → Grown later (objects_made more) (result more later made))
             → (cells : Option (List ℕ))
             → Grown x (objects_made (FreeChain operand ∷ more)) (chain_freed x (word_at stack operand) cells (λ y. result more y made))
         by_chain count rest None = tt
@@ -235,7 +235,7 @@ module _ (p : Program) (z : State) (f : Frame) (callers : List Frame) (e : Effec
   finished-grown price n (LostAt v) grown within = record { few = λ goes. absurd (none-some _ (sym goes)) }
 
 frame-grown : (p : Program) (choose : Choose) → IsLawful choose → (z : State) (f : Frame) (callers : List Frame) (e : Effect) → AllByRecursion (IsMade p.outline) e.actions
-    → length p.outline.texts ≤ length z.areas.literals
+    → literal_count p.outline ≤ length z.areas.literals
     → IsCounted (record z { frames = f ∷ callers }) (max 1 (objects_made e.actions)) (attempted p choose (record z { frames = f ∷ callers }) e).state
 frame-grown p choose lawful z f callers e made room =
     let x : State = record z { frames = f ∷ callers } in
@@ -247,7 +247,7 @@ frame-grown p choose lawful z f callers e made room =
     (acts-grown p.outline choose lawful f.locals f.stack e.actions z.areas [] made room) within))
 
 frames-grown : (p : Program) (choose : Choose) → IsLawful choose → (z : State) (frames : List Frame) → 0 < length frames
-    → AllByRecursion (IsMade p.outline) (next_effect p (record z { frames = frames })).actions → length p.outline.texts ≤ length z.areas.literals
+    → AllByRecursion (IsMade p.outline) (next_effect p (record z { frames = frames })).actions → literal_count p.outline ≤ length z.areas.literals
     → IsCounted (record z { frames = frames }) (cost p (record z { frames = frames })) (attempted p choose (record z { frames = frames }) (next_effect p (record z { frames = frames }))).state
 unfolding cost
 frames-grown p choose lawful z [] some made room = absurd (omega (arith, some))

@@ -1,5 +1,5 @@
 -- What each instruction but one makes: at most one object, and literals of texts that are there.
-use Rattle.std.proofs.Common.{◌≡◌, ℕ, ◌<◌, ◌≤◌, List, [], ◌∷◌, length, Option, None, refl, sym, ◌∙◌, ap, subst, arith}
+use Rattle.std.proofs.Common.{◌≡◌, ℕ, ◌<◌, ◌≤◌, List, [], ◌∷◌, Option, None, refl, sym, ◌∙◌, ap, subst, arith}
 use Rattle.std.specs.List.{AllByRecursion}
 use Rattle.std.proofs.lemmas.Option.{none-some}
 use Rattle.fm_code.specs.declared.instructions.Insn.{Insn}
@@ -15,11 +15,13 @@ use Rattle.fm_world.specs.declared.uses.Use.TheVariants as resolved
 use Rattle.fm_frames.specs.Runnable.{IsUseIn}
 use Rattle.fm_exec_nests.specs.inner.Costs.{nest_of}
 use Rattle.fm_frames.proofs.EachRow.{each_row, Leaves}
+use Rattle.fm_frames.proofs.Programs.{literal-inside}
+use Rattle.fm_frames.specs.Literals.{literal_count}
 
 -- no object is made that lives for ever, but for literals of texts that are there
 abbrev pub IsMade : Outline → Action → Type 0
 IsMade o (MakeFixed t) = ⊥
-IsMade o (MakeLiteral text) = text < length o.texts
+IsMade o (MakeLiteral literal) = literal < literal_count o
 IsMade o action = Unit {0}
 
 -- the effect makes at most one object beside such literals
@@ -48,12 +50,8 @@ module _ (o : Outline) where
     chain_freed = λ e starts operand is. counted e (FreeChain operand ∷ []) (omega arith) (tt, tt) is;
   }
 
-  -- a literal that the instruction names is one that is there
-  named : (u : Use) (text : ℕ) → IsUseIn o u → u ≡ resolved.OfText text → text < length o.texts
-  named u text inside is = subst (IsUseIn o) is inside
-
   pub insn-cheap : (s : List Sight) (method : ℕ) (i : Insn) (u : Use) (byte : Option ℕ) → IsUseIn o u → nest_of i ≡ None → IsCheap o (effect_of o method u i byte s)
   insn-cheap s method i u byte inside other =
       each_row o (IsCheap o) leaves s method i u byte
-      (λ e text is_text is. counted e (MakeLiteral text ∷ []) (omega arith) (named u text inside is_text, tt) is)
+      (λ e literal named is. counted e (MakeLiteral literal ∷ []) (omega arith) (literal-inside o u literal inside named, tt) is)
       (λ index dimensions is_it e t counts is. absurd (none-some _ (sym other ∙ ap nest_of is_it)))

@@ -14,7 +14,7 @@ use fm_world::Use;
 #[inline(always)]
 pub fn constant(frames: &mut Frames, named: Use) -> bool
     requires fits { NextFits frames.old }
-    ensures did { result ≡ true → Flows frames.old frames.new (λ p x. constant_effect named) }
+    ensures did { result ≡ true → Flows frames.old frames.new (λ p x. constant_effect p.outline named) }
     ensures same { result ≡ false → frames.new ≡ frames.old }
 {
     match named {

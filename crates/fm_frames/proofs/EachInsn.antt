@@ -1,5 +1,5 @@
 -- One lemma over the instructions: what holds of each sort of effect that a row of the machine's table can have holds of the row.
-use Rattle.std.proofs.Common.{◌≡◌, ℕ, ℤ, pos, ◌+◌, ◌-◌, ◌<◌, ◌||◌, not, Bool, true, false, arith, List, [], ◌∷◌, codes, reverse, length, take, Option, Some, None, option_map, refl, slice_get}
+use Rattle.std.proofs.Common.{◌≡◌, ℕ, ℤ, pos, ◌+◌, ◌-◌, ◌<◌, ◌||◌, not, Bool, true, false, arith, List, [], ◌∷◌, codes, reverse, length, take, Option, Some, None, option_map, refl, ap, slice_get}
 use Rattle.std.specs.Prelude.{int_lt, unsigned_abs, nat_lt}
 use Rattle.std.specs.List.{AllByRecursion, list_any, range_with_len}
 use Rattle.fm_base.specs.Kinds.{kind_words}
@@ -30,7 +30,7 @@ use Rattle.fm_world.specs.declared.uses.Use.TheVariants as resolved
 use Rattle.fm_frames.specs.ArrayRows as arrays
 use Rattle.fm_frames.specs.ArrayRows.{array_actions, element_kind, element_type, on_element, put_element, put_reference}
 use Rattle.fm_frames.specs.CallRows as calls
-use Rattle.fm_frames.specs.Effects.{acting, Effect, Enters, Exits, Falls, Faults, faulty, given_number, going, int_word, Jumps, JumpsIfSame, loaded, long_words, Make, MakeLiteral, making, Next, null_word, OfLiteral, OfLocal, OfMade, OfOperand, OfPlace, OfStatic, LocalPlus, Plain, Put, Returns, SetStatic, Source, Throws, words}
+use Rattle.fm_frames.specs.Effects.{acting, Effect, Enters, Exits, Falls, Faults, faulty, given_number, giving_literal, going, int_word, Jumps, JumpsIfSame, loaded, long_words, Make, making, Next, null_word, OfLocal, OfMade, OfOperand, OfPlace, OfStatic, LocalPlus, Plain, Put, Returns, SetStatic, Source, Throws, words}
 use Rattle.fm_frames.specs.JumpRows as jumps
 use Rattle.fm_frames.specs.NumberRows as numbers
 use Rattle.fm_frames.specs.ObjectRows as objects
@@ -42,6 +42,7 @@ use Rattle.fm_frames.proofs.Cases.{by_held, by_if, by_int, by_long, by_object, b
 use Rattle.fm_frames.proofs.EachNumber.{each_number}
 use Rattle.fm_frames.proofs.Failures.{Arithmetic, ArrayStore, ClassCast, Failures, IndexOutside, NegativeSize, NullPointer}
 use Rattle.fm_frames.proofs.SwitchTargets.{few_keys, key_within, table_within}
+use Rattle.fm_frames.specs.Literals.{class_literal, literal_named}
 
 -- ---- what an instruction names
 
@@ -101,8 +102,7 @@ pub record InsnLeaves (o : Outline) (s : List Sight) (method : ℕ) (i : Insn) (
   pub goes : (e : Effect) (next : Next) → LeadsOn i next → A (record e { actions = []; gives = []; writes = []; next = next })
   pub throws : (it : Looks) → i ≡ insn.Throw → slice_get s 0 ≡ Some (Thing it) → fits_type o.classes it.type (throwable_type o) ≡ true
       → A (going 0 (Throws (OfOperand 0)))
-  pub literal : (index text : ℕ) → i ≡ insn.LoadPool index → u ≡ resolved.OfText text
-      → A (record (words 0 (OfLiteral text ∷ [])) { actions = MakeLiteral text ∷ [] })
+  pub literal : (index literal : ℕ) → i ≡ insn.LoadPool index → literal_named o u ≡ Some literal → A (giving_literal 0 literal)
   -- objects and arrays are made
   pub new : (index : ℕ) (n : TypeId) (t : TypeRef) (class : ℕ) → i ≡ insn.New index → u ≡ resolved.OfType n → slice_get o.types n.0 ≡ Some t
       → class_of_type t ≡ Some class → A (objects.starting class (making 0 (Make t (size_of_type o t) [])))
@@ -165,12 +165,12 @@ module _ (o : Outline) (s : List Sight) (method : ℕ) (byte : Option ℕ) (A : 
 
     -- ---- constants, numbers and jumps
 
-    constant_row : (index : ℕ) → i ≡ insn.LoadPool index → (used : Use) → u ≡ used → A (numbers.constant_effect used)
+    constant_row : (index : ℕ) → i ≡ insn.LoadPool index → (used : Use) → u ≡ used → A (numbers.constant_effect o used)
     unfolding numbers.constant_effect
     constant_row index it_is (resolved.OfInt n) is = given 0 (int_word n) (tt, tt)
     constant_row index it_is (resolved.OfLong n) is = given 0 (long_words n) (tt, (tt, tt))
-    constant_row index it_is (resolved.OfText text) is = l.literal index text it_is is
-    constant_row index it_is (resolved.OfType t) is = l.failures.none
+    constant_row index it_is (resolved.OfText text) is = l.literal index text it_is (ap (literal_named o) is)
+    constant_row index it_is (resolved.OfType t) is = l.literal index (class_literal o t.0) it_is (ap (literal_named o) is)
     constant_row index it_is (resolved.OfField f t) is = l.failures.none
     constant_row index it_is (resolved.OfMethod m t) is = l.failures.none
     constant_row index it_is resolved.Unused is = l.failures.none

@@ -23,6 +23,7 @@ use Rattle.fm_frames.proofs.EachCall.{call_rows, entered_cases}
 use Rattle.fm_frames.proofs.EachInsn.{each_insn}
 use Rattle.fm_frames.proofs.Failures.{Failures, name_of, TextOutside}
 use Rattle.fm_frames.proofs.UsualAsks.{each_native}
+use Rattle.fm_frames.specs.Literals.{literal_named}
 
 -- no class has to be started, or that of a method that has a row
 abbrev pub IsOfRow : Outline → Option ℕ → Type 0
@@ -92,9 +93,9 @@ each_row_of_native o A l s row byte =
     })
     byte
 
--- what holds of an effect by the text that is named, and of one that makes arrays of arrays
-abbrev pub LiteralLeaf : (Effect → Type 0) → Use → Type 0
-LiteralLeaf A u = (e : Effect) (text : ℕ) → u ≡ resolved.OfText text → e.actions ≡ MakeLiteral text ∷ [] → A e
+-- what holds of an effect by the literal that is named, and of one that makes arrays of arrays
+abbrev pub LiteralLeaf : Outline → (Effect → Type 0) → Use → Type 0
+LiteralLeaf o A u = (e : Effect) (literal : ℕ) → literal_named o u ≡ Some literal → e.actions ≡ MakeLiteral literal ∷ [] → A e
 
 abbrev pub NestedLeaf : (Effect → Type 0) → Type 0
 NestedLeaf A = (e : Effect) (t : TypeRef) (counts : List ℕ) → e.actions ≡ array_actions t counts 0 → A e
@@ -116,7 +117,7 @@ module _ (o : Outline) (A : Effect → Type 0) (l : Leaves o A) (s : List Sight)
         entered_cases o s byte Started count method (l.plain _ refl) (λ n is. built_in_row n (method_at o.classes method).method.row refl is)
 
   -- each row: a literal is one that the instruction names, and only one instruction makes arrays of arrays
-  pub each_row : (method : ℕ) (i : Insn) (u : Use) (byte : Option ℕ) → LiteralLeaf A u
+  pub each_row : (method : ℕ) (i : Insn) (u : Use) (byte : Option ℕ) → LiteralLeaf o A u
       → ((index dimensions : ℕ) → i ≡ insn.MultiArray index dimensions → NestedLeaf A) → A (effect_of o method u i byte s)
   each_row method i u byte literal nested =
       each_insn o s method byte A i u
@@ -125,7 +126,7 @@ module _ (o : Outline) (A : Effect → Type 0) (l : Leaves o A) (s : List Sight)
         plain = λ e gives writes named written. l.plain (record e { actions = []; gives = gives; writes = writes; next = Falls }) refl;
         goes = λ e next leads. l.plain (record e { actions = []; gives = []; writes = []; next = next }) refl;
         throws = λ it it_is seen fits. l.plain _ refl;
-        literal = λ index text it_is used. literal _ text used refl;
+        literal = λ index n it_is named. literal _ n named refl;
         new = λ index n t class it_is used at is. l.made _ t _ refl;
         number_array = λ e b len it_is is. l.made _ _ len refl;
         reference_array = λ index n t array len it_is used at is. l.made _ array len refl;

@@ -38,3 +38,4 @@ pub mod EachCall
 pub mod UsualAsks
 pub mod EachRow
 pub mod NativeWords
+pub mod NameTexts

@@ -1,11 +1,12 @@
 -- The opening as a whole: what is there before it, main's frame, and the frames that its class's start needs.
-use Rattle.std.proofs.Common.{◌≡◌, ℕ, ◌+◌, ◌<◌, ◌≤◌, Bool, true, false, nat_lt, if◌then◌else◌, List, [], ◌∷◌, ◌++◌, length, length-append, map, drop, replicate, None, Some, refl, ap, sym, ◌∙◌, arith}
+use Rattle.std.proofs.Common.{◌≡◌, ℕ, ◌+◌, ◌<◌, ◌≤◌, Bool, true, false, nat_lt, if◌then◌else◌, List, [], ◌∷◌, ◌++◌, length, length-append, map, drop, replicate, None, Some, refl, ap, sym, ◌∙◌, arith, zero, suc}
 use Rattle.std.proofs.lemmas.Bool.{le-ltb, lt-ltb}
 use Rattle.std.proofs.lemmas.List.{length-map}
 use Rattle.std.specs.List.{slice_index_or}
 use Rattle.fm_cells.specs.Stores.{Store}
 use Rattle.fm_cells.specs.declared.answers.Cell.{Cell}
 use Rattle.fm_frames.specs.Acts.{Choose}
+use Rattle.fm_frames.specs.Literals.{literal_count}
 use Rattle.fm_frames.specs.Runs.{first_areas, first_statics, framed, Job, opened_by, opening, opening_actions, opening_frames, unopened, with_streams}
 use Rattle.fm_frames.specs.Starts.{start_actions, start_methods, to_start}
 use Rattle.fm_frames.specs.States.{Frame, ref, State}
@@ -61,16 +62,16 @@ module _ (p : Program) (choose : Choose) (x y : State) (classes : List ℕ) (act
 
 -- ---- before it
 
-no_literals : (texts : List (List ℕ)) → map (λ (c : Cell). c.0) (replicate (length texts) (record { 0 = 0 })) ≡ map (λ text. 0) texts
-no_literals [] = refl
-no_literals (t ∷ texts) = ap (λ cells. 0 ∷ cells) (no_literals texts)
+no_literals : (count : ℕ) → map (λ (c : Cell). c.0) (replicate count (record { 0 = 0 })) ≡ replicate count 0
+no_literals zero = refl
+no_literals (suc count) = ap (λ cells. 0 ∷ cells) (no_literals count)
 
 none_started : {A : Type 0} (classes : List A) → replicate (length classes) false ≡ map (λ class. false) classes
 none_started [] = refl
 none_started (c ∷ classes) = ap (λ marks. false ∷ marks) (none_started classes)
 
 pub unopened-is : (p : Program) (job : Job) (store : Store) (frames : List Frame) (statics : List Value) (started : List Bool) (literals : List Cell) (bytes : List ℕ) (depth : ℕ)
-    → frames ≡ [] → statics ≡ first_statics p.outline → started ≡ replicate (length p.outline.classes) false → literals ≡ replicate (length p.outline.texts) (record { 0 = 0 })
+    → frames ≡ [] → statics ≡ first_statics p.outline → started ≡ replicate (length p.outline.classes) false → literals ≡ replicate (literal_count p.outline) (record { 0 = 0 })
     → bytes ≡ job.input → depth ≡ job.depth
     → ◌≡◌ {A = State} (record {
       frames = frames;
@@ -87,12 +88,12 @@ pub unopened-is : (p : Program) (job : Job) (store : Store) (frames : List Frame
       steps = 0;
       ended = None;
     }) (unopened p job (first_areas p.outline store))
-unopened-is p job store frames statics started literals bytes depth alone first none zero read most = λ i. record {
+unopened-is p job store frames statics started literals bytes depth alone first none unmade read most = λ i. record {
   frames = alone i;
   areas = record {
     store = store;
     statics = first i;
-    literals = (ap (map (λ (cell : Cell). cell.0)) zero ∙ no_literals p.outline.texts) i;
+    literals = (ap (map (λ (cell : Cell). cell.0)) unmade ∙ no_literals (literal_count p.outline)) i;
     started = (none ∙ none_started p.outline.classes) i;
     frees = 0;
     freed_words = 0;

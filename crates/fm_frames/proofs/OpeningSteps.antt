@@ -13,10 +13,9 @@ use Rattle.fm_frames.proofs.Contents.{content_in}
 use Rattle.fm_frames.proofs.Makings.{made-object}
 use Rattle.fm_frames.proofs.TextSteps.{wide-after}
 use Rattle.fm_frames.proofs.Underways.{over, over_by, within}
-use Rattle.fm_frames.specs.Acts.{cell_of, Choose, class_started, put_value, Did, is_there, literal_made, literal_text, made_then, performed, Performed, requested, set_static, with_content}
+use Rattle.fm_frames.specs.Acts.{cell_of, Choose, class_started, put_value, Did, is_there, literal_made, literal_text, literal_type, made_then, performed, Performed, requested, set_static, with_content}
 use Rattle.fm_frames.specs.Effects.{Action, Make, MakeFixed, MakeLiteral, OfLiteral, Plain, SetStatic, Start}
 use Rattle.fm_frames.specs.Elements.{int_bits, kept, pack_of}
-use Rattle.fm_frames.specs.NativeRows.{text_type}
 use Rattle.fm_frames.specs.Runs.{after_action, opened_by}
 use Rattle.fm_frames.specs.States.{Areas, ref, State}
 use Rattle.fm_frames.specs.Steps.{makes, most_words, stopped, words_made}
@@ -114,27 +113,28 @@ asks-object o x t len content r is =
 
 literal_words : Outline → ℕ → Bool → ℕ
 literal_words o text there =
-    (if there || is_among text [] then 0 else request_words (requested o (text_type o) (length (literal_text o text)) true)) + 0
+    (if there || is_among text [] then 0 else request_words (requested o (literal_type o text) (length (literal_text o text)) true)) + 0
 
 literal_after : Outline → Choose → Areas → ℕ → List ℕ → Bool → Performed
 literal_after o choose x text made there =
     if there then Did x made
-    else made_then x (requested o (text_type o) (length (literal_text o text)) true) (literal_text o text)
-    (choose x.store (requested o (text_type o) (length (literal_text o text)) true)) (λ y cell. Did (literal_made y text cell) made)
+    else made_then x (requested o (literal_type o text) (length (literal_text o text)) true) (literal_text o text)
+    (choose x.store (requested o (literal_type o text) (length (literal_text o text)) true)) (λ y cell. Did (literal_made y text cell) made)
 
-pub asks-literal : (o : Outline) (x : Areas) (text : ℕ) (units : List ℕ) → is_there x text ≡ false → literal_text o text ≡ units
-    → Asks o x (MakeLiteral text) (requested o (text_type o) (length units) true) units (λ y cell. literal_made y text cell) (λ made cell. made)
+pub asks-literal : (o : Outline) (x : Areas) (text : ℕ) (t : TypeRef) (units : List ℕ) → is_there x text ≡ false → literal_type o text ≡ t → literal_text o text ≡ units
+    → Asks o x (MakeLiteral text) (requested o t (length units) true) units (λ y cell. literal_made y text cell) (λ made cell. made)
 unfolding performed literal_words literal_after
-asks-literal o x text units none is =
-    subst (λ units. Asks o x (MakeLiteral text) (requested o (text_type o) (length units) true) units (λ y cell. literal_made y text cell) (λ made cell. made))
+asks-literal o x text t units none of_type is =
+    subst (λ t. Asks o x (MakeLiteral text) (requested o t (length units) true) units (λ y cell. literal_made y text cell) (λ made cell. made)) of_type
+    (subst (λ units. Asks o x (MakeLiteral text) (requested o (literal_type o text) (length units) true) units (λ y cell. literal_made y text cell) (λ made cell. made))
     is
     (record {
       making = refl;
       needs = λ few.
           ap (λ there. min (literal_words o text there) most_words) none
-          ∙ one_word (request_words (requested o (text_type o) (length (literal_text o text)) true)) few;
+          ∙ one_word (request_words (requested o (literal_type o text) (length (literal_text o text)) true)) few;
       does = λ choose made. ap (literal_after o choose x text made) none;
-    })
+    }))
 
 -- ---- actions that ask for none
 

@@ -2,6 +2,7 @@
 use Rattle.std.proofs.Common.{◌≡◌, ℕ, ◌<◌, List, ◌++◌, Option, Some, None, if◌then◌else◌, ◌==◌, ◌||◌, refl, ap, sym, ◌∙◌, subst, unwrap_or, option_map, Bool, false, length, arith}
 use Rattle.std.specs.Str.{bytes_eq}
 use Rattle.std.proofs.lemmas.Iterator.Adapters.{position_from-zero}
+use Rattle.std.proofs.lemmas.Option.{same_Some}
 use Rattle.fm_base.specs.declared.kinds.TypeRef.{TypeRef}
 use Rattle.fm_code.specs.declared.code_array.Code.{Code}
 use Rattle.fm_types.specs.Named.{built_in_type}
@@ -17,9 +18,12 @@ use Rattle.fm_world.specs.Programs.{class_info, code_at, IsTypeIn, method_id, me
 use Rattle.fm_frames.specs.Steps.{is_start}
 use Rattle.fm_world.specs.declared.declarations.DeclaredClass.{DeclaredClass}
 use Rattle.fm_world.specs.declared.declarations.DeclaredMethod.{DeclaredMethod}
+use Rattle.fm_world.specs.declared.uses.Use.{Use}
+use Rattle.fm_world.specs.declared.uses.Use.TheVariants as resolved
 use Rattle.fm_world.specs.inner.Tables.{code_in}
 use Rattle.fm_frames.specs.Elements.{is_text_type, pack_of, pack_of_base}
-use Rattle.fm_frames.specs.Runnable.{IsRunnable, KeepsTable}
+use Rattle.fm_frames.specs.Literals.{class_literal, literal_count, literal_named}
+use Rattle.fm_frames.specs.Runnable.{IsRunnable, IsUseIn, KeepsTable}
 use Rattle.fm_world.specs.inner.Completions.{AreCompleted}
 
 -- ---- code
@@ -117,3 +121,14 @@ unfolding built_in
 built_in-inside p class runnable within =
     let P : List DeclaredClass → Type 0 = λ classes. class < length classes in
     subst P (sym runnable.classes) (omega arith)
+
+-- a literal that is named is there
+pub literal-inside : (o : Outline) (u : Use) (literal : ℕ) → IsUseIn o u → literal_named o u ≡ Some literal → literal < literal_count o
+literal-inside o (resolved.OfText text) literal inside named = let same : text ≡ literal = same_Some text literal named in omega (arith, inside, same)
+literal-inside o (resolved.OfType t) literal inside named =
+    let same : class_literal o t.0 ≡ literal = same_Some (class_literal o t.0) literal named in omega (arith, inside, same)
+literal-inside o (resolved.OfField f t) literal inside named = absurd (cc)
+literal-inside o (resolved.OfMethod m t) literal inside named = absurd (cc)
+literal-inside o (resolved.OfInt n) literal inside named = absurd (cc)
+literal-inside o (resolved.OfLong n) literal inside named = absurd (cc)
+literal-inside o resolved.Unused literal inside named = absurd (cc)

@@ -1,9 +1,10 @@
 -- Texts are made: what is asked of the memory, and what follows for each result.
-use Rattle.std.proofs.Common.{◌≡◌, ◌≢◌, ℕ, ◌+◌, ◌<◌, ◌≤◌, min, ◌^◌, ◌==◌, Bool, false, cond, List, [], ◌∷◌, length, Option, Some, None, unwrap_or, refl, ap, sym, ◌∙◌, subst, arith}
+use Rattle.std.proofs.Common.{◌≡◌, ◌≢◌, ℕ, ◌+◌, ◌<◌, ◌≤◌, min, ◌^◌, ◌==◌, nat_lt, Bool, true, false, cond, List, [], ◌∷◌, length, Option, Some, None, unwrap_or, refl, ap, sym, ◌∙◌, subst, arith}
 use Rattle.std.proofs.lemmas.Bool.{eq-eqb, ne_eqb}
 use Rattle.std.proofs.lemmas.Option.{none-some}
 use Rattle.std.proofs.lemmas.List.{length-replicate}
 use Rattle.fm_base.specs.declared.kinds.Kind.{Kind}
+use Rattle.fm_base.specs.declared.kinds.TypeRef.{TypeRef}
 use Rattle.fm_cells.proofs.Changes.{object_at-made_by, object_at-with_object}
 use Rattle.fm_cells.proofs.Elements.{pack_at-some}
 use Rattle.fm_cells.specs.Changes.{made_by, Take}
@@ -12,18 +13,19 @@ use Rattle.fm_cells.specs.Sizes.{element_bits, packed_words}
 use Rattle.fm_cells.specs.Stores.{object_at, Store}
 use Rattle.fm_cells.specs.declared.answers.Cell.{Cell}
 use Rattle.fm_frames.proofs.Contents.{content_in}
-use Rattle.fm_frames.proofs.Programs.{pack-is, string-is}
+use Rattle.fm_frames.proofs.Programs.{class_literal-is, pack-is, string-is}
 use Rattle.fm_frames.proofs.Underways.{ended-one, made-next, put-next, told-whole}
-use Rattle.fm_frames.specs.Acts.{Choose, put_value, requested, with_content}
+use Rattle.fm_frames.specs.Acts.{Choose, literal_type, put_value, requested, with_content}
 use Rattle.fm_frames.specs.Effects.{Effect, OfMade, OfOperand, Plain, Put, making, words}
 use Rattle.fm_frames.specs.Elements.{pack_of}
-use Rattle.fm_frames.specs.NativeRows.{has_text, text_kind, text_made, text_type}
+use Rattle.fm_frames.specs.NativeRows.{class_type, has_text, text_kind, text_made, text_type}
 use Rattle.fm_frames.specs.Runnable.{IsRunnable}
 use Rattle.fm_frames.specs.States.{Areas, ref, State, word_at}
 use Rattle.fm_frames.specs.Steps.{attempted, most_words, stack_of, words_made}
 use Rattle.fm_frames.specs.declared.values.Value.TheVariants as value
 use Rattle.fm_frames.specs.inner.Doings.{DoesIn, IsReady, Makes, NextFits, silent, Underway}
 use Rattle.fm_frames.specs.inner.Places.{FitsIn, IsWide, TakesUnits}
+use Rattle.fm_world.specs.BuiltIns.{class_literal_class}
 use Rattle.fm_world.specs.Numbers.{type_number, type_of_class}
 use Rattle.fm_world.specs.Programs.{Program}
 
@@ -33,12 +35,22 @@ pub text-pack : (p : Program) → IsRunnable p → pack_of p.outline (text_type 
 text-pack p runnable =
     ap (pack_of p.outline) (string-is p.outline runnable.given runnable.classes) ∙ sym (pack-is p (type_of_class 1) runnable)
 
-pub text-request : (p : Program) (id len : ℕ) (fixed : Bool) → IsRunnable p → id ≡ unwrap_or (type_number p.outline.types (type_of_class 1)) 0
-    → requested p.outline (text_type p.outline) len fixed ≡ request_of id len 4 fixed
-text-request p id len fixed runnable number =
-    let t = string-is p.outline runnable.given runnable.classes in
-    let n : unwrap_or (type_number p.outline.types (text_type p.outline)) 0 ≡ id = ap (λ t. unwrap_or (type_number p.outline.types t) 0) t ∙ sym number in
-    λ i. request_of (n i) len (text-pack p runnable i) fixed
+-- so are class literals packed, and so each literal
+pub class-pack : (p : Program) → IsRunnable p → pack_of p.outline (class_type p.outline) ≡ 4
+class-pack p runnable =
+    ap (pack_of p.outline) (class_literal-is p.outline runnable.given runnable.classes) ∙ sym (pack-is p (type_of_class class_literal_class) runnable)
+
+pub literal-pack : (p : Program) (literal : ℕ) → IsRunnable p → pack_of p.outline (literal_type p.outline literal) ≡ 4
+literal-pack p literal runnable = by_text (nat_lt literal (length p.outline.texts)) where
+  by_text : (b : Bool) → pack_of p.outline (cond b (text_type p.outline) (class_type p.outline)) ≡ 4
+  by_text true = text-pack p runnable
+  by_text false = class-pack p runnable
+
+pub kept-request : (p : Program) (id class len : ℕ) (fixed : Bool) (t : TypeRef) → id ≡ unwrap_or (type_number p.outline.types (type_of_class class)) 0
+    → t ≡ type_of_class class → pack_of p.outline t ≡ 4 → requested p.outline t len fixed ≡ request_of id len 4 fixed
+kept-request p id class len fixed t number is pack =
+    let n : unwrap_or (type_number p.outline.types t) 0 ≡ id = ap (λ t. unwrap_or (type_number p.outline.types t) 0) is ∙ sym number in
+    λ i. request_of (n i) len (pack i) fixed
 
 pub text-words : (p : Program) (x : Areas) (units : List ℕ) → IsRunnable p → packed_words (length units) 4 ≤ most_words
     → words_made p.outline x (text_made p.outline units ∷ []) ≡ packed_words (length units) 4

@@ -9,9 +9,8 @@ use Rattle.fm_cells.specs.Sizes.{cell_words}
 use Rattle.fm_cells.specs.Stores.{live_words}
 use Rattle.fm_cells.specs.declared.answers.Cell.{Cell}
 use Rattle.fm_world.specs.Programs.{Outline, Program}
-use Rattle.fm_frames.specs.Acts.{Choose, Did, is_there, literal_made, literal_text, made_then, performed, Performed, put_value, requested, set_static, value_of, with_content}
+use Rattle.fm_frames.specs.Acts.{Choose, Did, is_there, literal_made, literal_text, literal_type, made_then, performed, Performed, put_value, requested, set_static, value_of, with_content}
 use Rattle.fm_frames.specs.Effects.{Action, Make, MakeFixed, MakeLiteral, Put, SetStatic, Start, Free, SetChain, FreeChain, Source, Plain, Effect, acting, words}
-use Rattle.fm_frames.specs.NativeRows.{text_type}
 use Rattle.fm_frames.specs.States.{Areas, Moved, ref, State}
 use Rattle.fm_frames.specs.Steps.{attempted, done_by, halted, is_deep, is_over, locals_of, makes, most_words, objects_made, stack_of, stopped, words_among, words_made}
 use Rattle.fm_frames.specs.declared.ends.Ended.TheVariants as end
@@ -134,8 +133,8 @@ literal_then : Program → Choose → State → State → Effect → List ℕ �
 literal_then p choose x y e made text left there =
     done_by p (max 1 (objects_made e.actions)) e x
     (if there then performed p.outline choose (locals_of x) (stack_of x) left y.areas made
-    else made_then y.areas (requested p.outline (text_type p.outline) (length (literal_text p.outline text)) true) (literal_text p.outline text)
-    (choose y.areas.store (requested p.outline (text_type p.outline) (length (literal_text p.outline text)) true))
+    else made_then y.areas (requested p.outline (literal_type p.outline text) (length (literal_text p.outline text)) true) (literal_text p.outline text)
+    (choose y.areas.store (requested p.outline (literal_type p.outline text) (length (literal_text p.outline text)) true))
     (λ a cell. performed p.outline choose (locals_of x) (stack_of x) left (literal_made a text cell) made))
 
 pub literal-there : (p : Program) (choose : Choose) (x y : State) (e : Effect) (made : List ℕ) (text : ℕ) (left : List Action)
@@ -148,14 +147,14 @@ literal-there p choose x y e made text left there so = record {
 
 pub literal-next : (p : Program) (choose : Choose) (x y z w : State) (e : Effect) (made : List ℕ) (text : ℕ) (left : List Action) (cell : Cell)
     → is_there y.areas text ≡ false → Underway p choose x y e made (MakeLiteral text ∷ left)
-    → Makes choose y z (requested p.outline (text_type p.outline) (length (literal_text p.outline text)) true) (literal_text p.outline text) (Some cell)
+    → Makes choose y z (requested p.outline (literal_type p.outline text) (length (literal_text p.outline text)) true) (literal_text p.outline text) (Some cell)
     → w ≡ record z { areas = literal_made z.areas text cell.0 } → Underway p choose x w e made left
 unfolding performed literal_then
 literal-next p choose x y z w e made text left cell there so (grows, taken, free, is) kept = record {
   so_far =
       so.so_far ∙ ap (literal_then p choose x y e made text left) there
       ∙ ap (λ choice. done_by p (max 1 (objects_made e.actions)) e x
-      (made_then y.areas (requested p.outline (text_type p.outline) (length (literal_text p.outline text)) true) (literal_text p.outline text) choice
+      (made_then y.areas (requested p.outline (literal_type p.outline text) (length (literal_text p.outline text)) true) (literal_text p.outline text) choice
       (λ a c. performed p.outline choose (locals_of x) (stack_of x) left (literal_made a text c) made))) taken
       ∙ ap (λ (z : State). done_by p (max 1 (objects_made e.actions)) e x
       (performed p.outline choose (locals_of x) (stack_of x) left (literal_made z.areas text cell.0) made)) (sym is)
@@ -168,15 +167,15 @@ literal-next p choose x y z w e made text left cell there so (grows, taken, free
 
 pub literal-full : (p : Program) (choose : Choose) (x y z : State) (e : Effect) (made : List ℕ) (text : ℕ) (left : List Action)
     → is_there y.areas text ≡ false → Underway p choose x y e made (MakeLiteral text ∷ left)
-    → Makes choose y z (requested p.outline (text_type p.outline) (length (literal_text p.outline text)) true) (literal_text p.outline text) None
+    → Makes choose y z (requested p.outline (literal_type p.outline text) (length (literal_text p.outline text)) true) (literal_text p.outline text) None
     → DoesIn p choose x z e
 unfolding performed literal_then
 literal-full p choose x y z e made text left there so (refused, is) =
     ap silent (is ∙ ap (λ (w : State). stopped w (end.StoreFull y.areas.store.made_words
-    (cell_words (request_words (requested p.outline (text_type p.outline) (length (literal_text p.outline text)) true))))) so.same)
+    (cell_words (request_words (requested p.outline (literal_type p.outline text) (length (literal_text p.outline text)) true))))) so.same)
     ∙ sym (so.so_far ∙ ap (literal_then p choose x y e made text left) there
     ∙ ap (λ choice. done_by p (max 1 (objects_made e.actions)) e x
-    (made_then y.areas (requested p.outline (text_type p.outline) (length (literal_text p.outline text)) true) (literal_text p.outline text) choice
+    (made_then y.areas (requested p.outline (literal_type p.outline text) (length (literal_text p.outline text)) true) (literal_text p.outline text) choice
     (λ a c. performed p.outline choose (locals_of x) (stack_of x) left (literal_made a text c) made))) refused)
 
 -- ---- a value is put

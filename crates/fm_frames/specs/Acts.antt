@@ -1,5 +1,5 @@
 -- What actions do to the areas that frames share. Objects are made in cells that the memory chooses.
-use Rattle.std.specs.Prelude.{ℕ, zero, suc, ◌+◌, ◌==◌, ℤ, pos, ◌+ℤ◌, Bool, true, false, List, [], ◌∷◌, ◌++◌, length, Option, Some, None, option_map, unwrap_or, nat_lt, slice_set, if◌then◌else◌}
+use Rattle.std.specs.Prelude.{ℕ, zero, suc, ◌+◌, ◌-◌, ◌==◌, ℤ, pos, ◌+ℤ◌, Bool, true, false, List, [], ◌∷◌, ◌++◌, length, Option, Some, None, option_map, unwrap_or, nat_lt, slice_get, slice_set, if◌then◌else◌}
 use Rattle.std.specs.FinMap as map
 use Rattle.std.specs.List.{slice_index_or}
 use Rattle.fm_alu.specs.TwosComplement.{signed}
@@ -12,7 +12,7 @@ use Rattle.fm_world.specs.Numbers.{type_number}
 use Rattle.fm_world.specs.Programs.{Outline}
 use Rattle.fm_frames.specs.Effects.{Source, Plain, OfOperand, OfLocal, LocalPlus, OfPlace, OfStatic, OfMade, OfLiteral, SameOperands, Action, Make, MakeFixed, MakeLiteral, Put, SetStatic, Start, Free, SetChain, FreeChain}
 use Rattle.fm_frames.specs.Elements.{cut, kept, pack_of, read}
-use Rattle.fm_frames.specs.NativeRows.{text_type}
+use Rattle.fm_frames.specs.NativeRows.{class_type, text_type, type_name}
 use Rattle.fm_frames.specs.States.{Areas, ref, word_at}
 use Rattle.fm_frames.specs.declared.values.Value.{Value}
 use Rattle.fm_frames.specs.declared.values.Value.TheVariants as value
@@ -70,9 +70,18 @@ value_of x SameOperands = told_same (word_at x.stack 0) (word_at x.stack 1)
 abbrev pub requested : Outline → TypeRef → ℕ → Bool → Request
 requested o t len fixed = request_of (unwrap_or (type_number o.types t) 0) len (pack_of o t) fixed
 
--- the text of a literal by its number
+-- the name of a type that has a number
+abbrev pub name_numbered : Outline → ℕ → List ℕ
+name_numbered o type = unwrap_or (option_map (type_name o) (slice_get o.types type)) []
+
+-- the units of a literal by its number: a text, or the name of a type
 abbrev pub literal_text : Outline → ℕ → List ℕ
-literal_text o text = slice_index_or o.texts text []
+literal_text o literal =
+    if nat_lt literal (length o.texts) then slice_index_or o.texts literal [] else name_numbered o (literal - length o.texts)
+
+-- the type of its object
+abbrev pub literal_type : Outline → ℕ → TypeRef
+literal_type o literal = if nat_lt literal (length o.texts) then text_type o else class_type o
 
 -- whether a literal is made already
 abbrev pub is_there : Areas → ℕ → Bool
@@ -158,7 +167,7 @@ chained x cell to = record x { store = chained_by x.store cell to }
 abbrev pub class_started : Areas → ℕ → Areas
 class_started x class = record x { started = slice_set x.started class true }
 
--- the object of a text's literal is in this cell from now on (JVMS 5.1)
+-- the object of a literal is in this cell from now on (JVMS 5.1)
 abbrev pub literal_made : Areas → ℕ → ℕ → Areas
 literal_made x text cell = record x { literals = slice_set x.literals text cell }
 
@@ -178,7 +187,7 @@ performed o choose locals stack (MakeFixed t ∷ more) x made =
     made_object o choose t 0 true [] x (λ y cell. performed o choose locals stack more y (made ++ cell ∷ []))
 performed o choose locals stack (MakeLiteral text ∷ more) x made =
     if is_there x text then performed o choose locals stack more x made
-    else made_object o choose (text_type o) (length (literal_text o text)) true (literal_text o text) x
+    else made_object o choose (literal_type o text) (length (literal_text o text)) true (literal_text o text) x
     (λ y cell. performed o choose locals stack more (literal_made y text cell) made)
 performed o choose locals stack (Put object place kind v ∷ more) x made =
     let from : Sources = record { locals = locals; stack = stack; areas = x; made = made } in

@@ -31,7 +31,7 @@ pub data Action : Type 0 where
   Make : (type : TypeRef) (len : ℕ) (content : List ℕ) → Action
   -- an object without elements that lives for ever: only the opening makes such
   MakeFixed : TypeRef → Action
-  -- the object of a text, unless it is there
+  -- the object of a literal, unless it is there
   MakeLiteral : ℕ → Action
   Put : (object : Source) (place : ℕ) → Kind → (value : Source) → Action
   SetStatic : ℕ → Kind → Source → Action
@@ -92,6 +92,10 @@ acting takes actions = record (words takes []) { actions = actions }
 -- words are taken, and the object that is made is given
 abbrev pub making : ℕ → Action → Effect
 making takes action = record (words takes (OfMade 0 ∷ [])) { actions = action ∷ [] }
+
+-- words are taken, and a literal is given, which is made unless it is there
+abbrev pub giving_literal : ℕ → ℕ → Effect
+giving_literal takes literal = record (words takes (OfLiteral literal ∷ [])) { actions = MakeLiteral literal ∷ [] }
 
 -- words are taken, and bytes are printed
 abbrev pub printing : ℕ → List ℕ → Effect

@@ -9,6 +9,7 @@ pub mod JumpRows
 pub mod ObjectRows
 pub mod ArrayRows
 pub mod Natives
+pub mod Literals
 pub mod NativeRows
 pub mod CallRows
 pub mod Rows

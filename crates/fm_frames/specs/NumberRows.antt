@@ -15,22 +15,23 @@ use Rattle.fm_types.specs.Moves.{Moves, moves_of}
 use Rattle.fm_world.specs.Programs.{Outline}
 use Rattle.fm_world.specs.declared.uses.Use.{Use}
 use Rattle.fm_world.specs.declared.uses.Use.TheVariants as resolved
-use Rattle.fm_frames.specs.Effects.{Effect, Plain, OfOperand, OfLocal, LocalPlus, OfLiteral, MakeLiteral, words, stuck, given_number, int_word, long_words}
+use Rattle.fm_frames.specs.Effects.{Effect, Plain, OfOperand, OfLocal, LocalPlus, giving_literal, words, stuck, given_number, int_word, long_words}
+use Rattle.fm_frames.specs.Literals.{class_literal}
 use Rattle.fm_frames.specs.Operands.{on_int, on_long, on_number, or_thrown}
 use Rattle.fm_frames.specs.Sights.{Sight}
 use Rattle.fm_frames.specs.declared.values.Value.TheVariants as value
 
 -- ---- constants
 
--- ldc, ldc_w and ldc2_w: a text is made at its first use
-unfoldable pub constant_effect : Use → Effect
-constant_effect (resolved.OfType t) = stuck
-constant_effect (resolved.OfField f t) = stuck
-constant_effect (resolved.OfMethod m t) = stuck
-constant_effect (resolved.OfInt n) = words 0 (int_word n)
-constant_effect (resolved.OfLong n) = words 0 (long_words n)
-constant_effect (resolved.OfText text) = record (words 0 (OfLiteral text ∷ [])) { actions = MakeLiteral text ∷ [] }
-constant_effect resolved.Unused = stuck
+-- ldc, ldc_w and ldc2_w: the object of a text, or of a type's class literal, is made at its first use
+unfoldable pub constant_effect : Outline → Use → Effect
+constant_effect o (resolved.OfType t) = giving_literal 0 (class_literal o t.0)
+constant_effect o (resolved.OfField f t) = stuck
+constant_effect o (resolved.OfMethod m t) = stuck
+constant_effect o (resolved.OfInt n) = words 0 (int_word n)
+constant_effect o (resolved.OfLong n) = words 0 (long_words n)
+constant_effect o (resolved.OfText text) = giving_literal 0 text
+constant_effect o resolved.Unused = stuck
 
 -- ---- locals
 

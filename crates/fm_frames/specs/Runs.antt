@@ -1,5 +1,5 @@
 -- The opening of a run and the run itself: its states one after the other, as far as the budget of steps allows.
-use Rattle.std.specs.Prelude.{ℕ, zero, suc, ◌+◌, ◌≤◌, ◌<◌, ◌≡◌, false, List, [], ◌∷◌, ◌++◌, length, map, None, unwrap_or, nat_lt, slice_set, codes, if◌then◌else◌}
+use Rattle.std.specs.Prelude.{ℕ, zero, suc, ◌+◌, ◌≤◌, ◌<◌, ◌≡◌, false, List, [], ◌∷◌, ◌++◌, length, map, None, unwrap_or, nat_lt, replicate, slice_set, codes, if◌then◌else◌}
 use Rattle.std.specs.List.{flat_map, slice_index_or}
 use Rattle.fm_cells.specs.Sizes.{cell_words}
 use Rattle.fm_cells.specs.Stores.{Store, live_words}
@@ -11,6 +11,7 @@ use Rattle.fm_world.specs.Programs.{Outline, Program}
 use Rattle.fm_frames.specs.Acts.{Choose, performed, Performed, Did, FullAt, LostAt}
 use Rattle.fm_frames.specs.Effects.{Action, Make, MakeFixed, Put, OfMade}
 use Rattle.fm_frames.specs.Elements.{first_of}
+use Rattle.fm_frames.specs.Literals.{literal_count}
 use Rattle.fm_frames.specs.NativeRows.{text_kind, text_made, text_type}
 use Rattle.fm_frames.specs.Starts.{start_actions, start_methods, to_start}
 use Rattle.fm_frames.specs.States.{Areas, Frame, Moved, ref, State}
@@ -38,7 +39,7 @@ abbrev pub first_areas : Outline → Store → Areas
 first_areas o store = record {
   store = store;
   statics = first_statics o;
-  literals = map (λ text. 0) o.texts;
+  literals = replicate (literal_count o) 0;
   started = map (λ class. false) o.classes;
   frees = 0;
   freed_words = 0;

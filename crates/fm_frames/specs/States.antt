@@ -23,7 +23,7 @@ pub record Frame : Type 0 where
   pub locals : List Value
   pub stack : List Value
 
--- The data areas that all frames share (JVMS 2.5.3, 2.5.4): the objects, the static fields, for each text the cell of its literal or 0, which classes have started, and what was
+-- The data areas that all frames share (JVMS 2.5.3, 2.5.4): the objects, the static fields, for each literal the cell of its object or 0, which classes have started, and what was
 -- freed so far.
 pub record Areas : Type 0 where
   pub store : Store

@@ -16,9 +16,8 @@ use Rattle.fm_types.specs.Typed.{type_of_use, use_by, use_in}
 use Rattle.fm_world.specs.Chains.{is_among, is_sub}
 use Rattle.fm_world.specs.Members.{start_of}
 use Rattle.fm_world.specs.Programs.{class_of_type, code_at, Outline, Program}
-use Rattle.fm_frames.specs.Acts.{cell_of, Choose, is_there, literal_text, performed, Performed, Did, FullAt, LostAt, requested, same_cell, Sources, value_of}
+use Rattle.fm_frames.specs.Acts.{cell_of, Choose, is_there, literal_text, literal_type, performed, Performed, Did, FullAt, LostAt, requested, same_cell, Sources, value_of}
 use Rattle.fm_frames.specs.Effects.{Action, Make, MakeFixed, MakeLiteral, Effect, Next, Falls, Jumps, JumpsIfSame, Calls, Returns, Throws, Enters, Exits, Faults, Source, stuck}
-use Rattle.fm_frames.specs.NativeRows.{text_type}
 use Rattle.fm_frames.specs.Rows.{effect_of}
 use Rattle.fm_frames.specs.Sights.{sights, type_numbered}
 use Rattle.fm_frames.specs.Starts.{with_start}
@@ -58,7 +57,7 @@ abbrev pub words_of : Outline → Areas → List ℕ → Action → ℕ
 words_of o x literals (Make t len content) = request_words (requested o t len false)
 words_of o x literals (MakeFixed t) = request_words (requested o t 0 true)
 words_of o x literals (MakeLiteral text) =
-    if is_there x text || is_among text literals then 0 else request_words (requested o (text_type o) (length (literal_text o text)) true)
+    if is_there x text || is_among text literals then 0 else request_words (requested o (literal_type o text) (length (literal_text o text)) true)
 words_of o x literals action = 0
 
 -- the literals that an action makes

@@ -7,3 +7,4 @@ pub mod Places
 pub mod Targets
 pub mod StartActions
 pub mod Opening
+pub mod Names

@@ -8,6 +8,7 @@ ghost use Rattle.fm_cells.specs.Stores.{object_at};
 ghost use Rattle.fm_cells.specs.declared.answers.Cell as cells;
 ghost use Rattle.fm_frames.specs.Acts.{literal_text, requested};
 ghost use Rattle.fm_frames.specs.Effects.{MakeLiteral};
+ghost use Rattle.fm_frames.specs.Literals.{literal_count};
 ghost use Rattle.fm_frames.specs.NativeRows.{text_type};
 ghost use Rattle.fm_frames.specs.Runnable.{IsRunnable};
 ghost use Rattle.fm_frames.specs.Runs.{first_areas, first_statics, opening, unopened};
@@ -45,6 +46,13 @@ fn add_first(statics: &mut Vec<Value>, field: &FieldInfo) -> Result<(), NoMemory
     }
     statics.push(read(field.kind, 0))?;
     Ok(())
+}
+
+// How many literals there are.
+fn literal_count(program: &Program) -> usize
+    ensures { result ≡ literal_count program.now.outline }
+{
+    program.texts() as usize + program.types() as usize
 }
 
 // What the static fields hold at first, in the order of their places.
@@ -343,7 +351,7 @@ impl<M: Memory + Drop> Machine<M> {
     {
         let statics = first_statics(alloc, program)?;
         let started = Row::new(alloc, program.classes())?;
-        let literals = vec![in alloc; Cell(0); program.texts() as usize]?;
+        let literals = vec![in alloc; Cell(0); literal_count(program)]?;
         let input = Vec::from_slice(alloc, input)?;
         Ok(Machine {
             frames: Frames::new(alloc),

@@ -5,7 +5,9 @@ ghost use Rattle.fm_cells.specs.Sizes.{packed_words};
 ghost use Rattle.fm_cells.specs.Stores.{live_words};
 ghost use Rattle.fm_base.specs.declared.kinds.Kind.TheVariants as kind;
 ghost use Rattle.fm_frames.specs.Acts.{put_value, requested, with_content};
+ghost use Rattle.fm_base.specs.declared.kinds.TypeRef.{TypeRef};
 ghost use Rattle.fm_frames.specs.Effects.{acting, making, Effect, OfOperand};
+ghost use Rattle.fm_frames.specs.Elements.{pack_of};
 ghost use Rattle.fm_frames.specs.NativeRows.{has_text, text_made, text_type};
 ghost use Rattle.fm_frames.specs.Runnable.{IsRunnable};
 ghost use Rattle.fm_frames.specs.States.{ref, word_at};
@@ -18,7 +20,7 @@ use crate::built_ins::STRING;
 use crate::coded::type_id;
 use crate::machine::Machine;
 use crate::values::Value;
-use fm_base::{Kind, NoMemory};
+use fm_base::{ClassId, Kind, NoMemory};
 use fm_cells::{Cell, Memory};
 use fm_world::{Program, type_of_class};
 
@@ -49,6 +51,32 @@ fn write_units<M: Memory>(machine: &mut Machine<M>, cell: Cell, units: &[u16])
 }
 
 impl<M: Memory> Machine<M> {
+    // Makes an object of a class whose objects are kept as units, of these units, where its words may
+    // live. None where the store is full: the run has ended then.
+    pub(crate) fn make_kept(
+        &mut self,
+        program: &Program,
+        class: ClassId,
+        units: &[u16],
+        fixed: bool,
+    ) -> Result<Option<Cell>, NoMemory>
+        requires runnable { IsRunnable program.now }
+        requires birth_fits { self.old.areas.store.births < 2 ^ 32 - 1 }
+        requires budget_fits { self.old.areas.store.budget ≤ 2 ^ 27 }
+        requires room { live_words self.old.areas.store + packed_words (length units.now) 4
+            ≤ self.old.areas.store.budget }
+        ensures { IfOk result (λ made. (t : TypeRef) → t ≡ type_of_class class.0
+            → pack_of program.now.outline t ≡ 4 → Makes M.choose self.old self.new
+            (requested program.now.outline t (length units.now) fixed) units.now made) }
+    {
+        let id = type_id(program, type_of_class(class));
+        let Some(cell) = self.make_object(id, units.len() as u32, TEXT_PACK, fixed)? else {
+            return Ok(None);
+        };
+        write_units(self, cell, units);
+        Ok(Some(cell))
+    }
+
     /// Makes a text of these units, where its words may live. None where the store is full: the run has
     /// ended then.
     pub fn make_units(
@@ -66,12 +94,7 @@ impl<M: Memory> Machine<M> {
             (requested program.now.outline (text_type program.now.outline) (length units.now) fixed)
             units.now made) }
     {
-        let id = type_id(program, type_of_class(STRING));
-        let Some(cell) = self.make_object(id, units.len() as u32, TEXT_PACK, fixed)? else {
-            return Ok(None);
-        };
-        write_units(self, cell, units);
-        Ok(Some(cell))
+        self.make_kept(program, STRING, units, fixed)
     }
 
     /// Makes a text of these units and puts it in place of `takes` words; or the run ends.

@@ -12,6 +12,7 @@ use Rattle.fm_exec_calls.specs.Calls.{AreRowsBuiltIn}
 use Rattle.fm_exec_calls.specs.Constants.{ConstantsSuit}
 use Rattle.fm_exec_calls.specs.inner.Actions.{AllSuit}
 use Rattle.fm_frames.specs.Elements.{int_bits}
+use Rattle.fm_frames.specs.Literals.{literal_count}
 use Rattle.fm_frames.specs.ObjectRows.{kind_of_field}
 use Rattle.fm_frames.specs.Starts.{fields_at, set_constant, start_actions, start_of_class}
 use Rattle.fm_frames.specs.States.{State}
@@ -30,7 +31,7 @@ number_inside texts text number is = (position-Some (bytes_eq text) texts number
 
 -- ---- in the midst of a run
 
-module _ (p : Program) (can : CanRun p) (literals : ℕ) (same : literals ≡ length p.outline.texts) (field : ℕ) where
+module _ (p : Program) (can : CanRun p) (literals : ℕ) (same : literals ≡ literal_count p.outline) (field : ℕ) where
   text_suits : (t : TypeRef) → kind_of_field p.outline field ≡ kind.Ref t → (found : Option ℕ) → ((number : ℕ) → found ≡ Some number → number < length p.outline.texts)
       → AllSuit p literals (with_text p.outline field found)
   text_suits t is None inside = tt

@@ -1,7 +1,9 @@
 -- What the next instruction names is there, is of the sort that the instruction wants, and is what linking knows of it.
-use Rattle.std.proofs.Common.{◌≡◌, ℕ, ◌<◌, ◌≤◌, ◌&&◌, nat_lt, nat_le, true, [], ◌∷◌, List, length, replicate, Option, Some, None, option_and_then, refl, sym, ◌∙◌, ap, subst, slice_get, arith}
+use Rattle.std.proofs.Common.{◌≡◌, ℕ, ◌^◌, ◌<◌, ◌≤◌, ◌&&◌, nat_lt, nat_le, true, [], ◌∷◌, List, length, replicate, Option, Some, None, option_and_then, option_map, unwrap_or, refl, sym, ◌∙◌, ap, subst, slice_get, arith}
 use Rattle.std.proofs.lemmas.Bool.{and_parts, leb-true, ltb-true}
+use Rattle.std.proofs.lemmas.List.Elements.{All-from_recursion, All-nil}
 use Rattle.std.proofs.lemmas.Option.{slice_get-get_or}
+use Rattle.std.specs.List.{All}
 use Rattle.fm_base.proofs.OptionFacts.{cond-some_then, option_and_then-some, Some-from_some_and}
 use Rattle.fm_base.specs.declared.ids.TypeId.{TypeId}
 use Rattle.fm_base.specs.declared.kinds.TypeRef.{TypeRef}
@@ -9,6 +11,10 @@ use Rattle.fm_code.specs.Edges.{insn_of, IsNormalEdge}
 use Rattle.fm_code.specs.declared.code_array.Code.{Code}
 use Rattle.fm_code.specs.declared.instructions.Insn.{Insn}
 use Rattle.fm_code.specs.declared.instructions.Insn.TheVariants as insn
+use Rattle.fm_frames.proofs.Programs.{literal-inside}
+use Rattle.fm_frames.specs.Acts.{name_numbered}
+use Rattle.fm_frames.specs.Literals.{literal_count, literal_named}
+use Rattle.fm_frames.specs.NativeRows.{type_name}
 use Rattle.fm_frames.specs.Runnable.{IsUseIn}
 use Rattle.fm_frames.specs.Sights.{type_numbered}
 use Rattle.fm_frames.specs.States.{Frame, State}
@@ -45,12 +51,20 @@ index_inside p can method (Some index) = can.steps.calls.runnable.uses (class_of
 pub use_inside : (p : Program) (x : State) (i : Insn) (u : Use) → CanRun p → IsNext p x i u → IsUseIn p.outline u
 use_inside p x i u can next = subst (λ w. IsUseIn p.outline w) next.use_is (index_inside p can next.frame.method (pool_index i))
 
--- a text that is named has a place for its literal
-pub literal_inside : (p : Program) (x : State) (i : Insn) (text : ℕ) → CanRun p → IsGoing p x → IsNext p x i (resolved.OfText text)
-    → text < length x.areas.literals
-literal_inside p x i text can going next =
-    let inside : text < length p.outline.texts = use_inside p x i (resolved.OfText text) can next in
+-- a literal that is named has a place
+pub literal_inside : (p : Program) (x : State) (i : Insn) (u : Use) (literal : ℕ) → CanRun p → IsGoing p x → IsNext p x i u
+    → literal_named p.outline u ≡ Some literal → literal < length x.areas.literals
+literal_inside p x i u literal can going next named =
+    let inside : literal < literal_count p.outline = literal-inside p.outline u literal (use_inside p x i u can next) named in
     let same = going.sound.1.areas.literals in omega (arith, inside, same)
+
+-- the name of each type is of 16-bit units
+pub name_units : (p : Program) → CanRun p → (type : ℕ) → All (λ unit. unit < 2 ^ 16) (name_numbered p.outline type)
+name_units p can type = by_type (slice_get p.outline.types type) refl where
+  by_type : (found : Option TypeRef) → slice_get p.outline.types type ≡ found
+      → All (λ unit. unit < 2 ^ 16) (unwrap_or (option_map (type_name p.outline) found) [])
+  by_type None at = All-nil (λ unit. unit < 2 ^ 16)
+  by_type (Some t) at = All-from_recursion (λ unit. unit < 2 ^ 16) (type_name p.outline t) (can.makes.names type t at)
 
 -- the instruction is in a method that has code
 pub named_at : (p : Program) (x : State) (i : Insn) (u : Use) → (next : IsNext p x i u) → IsNamed p next.frame.method i u
@@ -103,7 +117,7 @@ unfolding constant_row
 constant_wanted o (resolved.OfInt n) s after row = refl
 constant_wanted o (resolved.OfLong n) s after row = refl
 constant_wanted o (resolved.OfText text) s after row = refl
-constant_wanted o (resolved.OfType t) s after row = absurd (cc)
+constant_wanted o (resolved.OfType t) s after row = refl
 constant_wanted o (resolved.OfField f t) s after row = absurd (cc)
 constant_wanted o (resolved.OfMethod m t) s after row = absurd (cc)
 constant_wanted o resolved.Unused s after row = absurd (cc)

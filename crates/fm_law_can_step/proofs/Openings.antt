@@ -1,7 +1,7 @@
 -- How many objects the opening makes: those of its actions, and literals.
-use Rattle.std.proofs.Common.{◌≡◌, ℕ, zero, ◌+◌, ◌==◌, ◌<◌, ◌≤◌, Bool, true, false, cond, List, [], ◌∷◌, ◌++◌, length, map, Some, refl, ◌∙◌, ap, subst, nat_lt, slice_set, slice_index_or, arith}
+use Rattle.std.proofs.Common.{◌≡◌, ℕ, ◌+◌, ◌==◌, ◌<◌, ◌≤◌, Bool, true, false, cond, List, [], ◌∷◌, ◌++◌, length, replicate, Some, refl, ◌∙◌, ap, subst, nat_lt, slice_set, slice_index_or, arith}
 use Rattle.std.specs.List.{AllByRecursion}
-use Rattle.std.proofs.lemmas.List.{length-map, length-set}
+use Rattle.std.proofs.lemmas.List.{length-replicate, length-set}
 use Rattle.std.proofs.lemmas.List.Sums.{count_by-le-length}
 use Rattle.fm_exec_calls.proofs.StartRoom.{none-is, unmade-set}
 use Rattle.fm_exec_calls.specs.inner.Actions.{unmade}
@@ -10,10 +10,10 @@ use Rattle.fm_cells.specs.Choices.{IsLawful, MayReuse}
 use Rattle.fm_cells.specs.Objects.{Request}
 use Rattle.fm_cells.specs.Stores.{live_words, Store}
 use Rattle.fm_frames.proofs.OpeningSteps.{grows-made, put_kept}
-use Rattle.fm_frames.specs.Acts.{cell_of, Choose, Did, FullAt, is_there, literal_made, literal_text, LostAt, made_then, performed, Performed, requested, Sources, value_of, with_content}
+use Rattle.fm_frames.specs.Acts.{cell_of, Choose, Did, FullAt, is_there, literal_made, literal_text, literal_type, LostAt, made_then, performed, Performed, requested, Sources, value_of, with_content}
 use Rattle.fm_frames.specs.Effects.{Action, Free, FreeChain, Make, MakeFixed, MakeLiteral, Put, SetChain, SetStatic, Start}
 use Rattle.fm_frames.specs.Elements.{kept}
-use Rattle.fm_frames.specs.NativeRows.{text_type}
+use Rattle.fm_frames.specs.Literals.{literal_count}
 use Rattle.fm_frames.specs.Runs.{after_action, argument_actions, first_areas, framed, Job, opened_by, opening, opening_actions, opening_frames, unopened, with_streams}
 use Rattle.fm_frames.specs.Starts.{start_actions, start_methods}
 use Rattle.fm_frames.specs.States.{Areas, Frame, State}
@@ -37,9 +37,9 @@ abbrev weights : List Action → ℕ
 weights [] = 0
 weights (action ∷ more) = weight action + weights more
 
--- a literal's text is there, and nothing is freed
+-- a literal is there, and nothing is freed
 abbrev IsFirst : Outline → Action → Type 0
-IsFirst o (MakeLiteral text) = text < length o.texts
+IsFirst o (MakeLiteral text) = text < literal_count o
 IsFirst o (Free operand) = ⊥
 IsFirst o (SetChain operand to) = ⊥
 IsFirst o (FreeChain operand) = ⊥
@@ -48,7 +48,7 @@ IsFirst o action = Unit {0}
 -- at most this many objects were made, with the literals that aren't made yet
 record Counts (p : Program) (n : ℕ) (x : State) : Type 0 where
   births : x.areas.store.births + unmade x.areas.literals ≤ n
-  literals : length x.areas.literals ≡ length p.outline.texts
+  literals : length x.areas.literals ≡ literal_count p.outline
 
 weaker : (p : Program) (n m : ℕ) (x : State) → n ≤ m → Counts p n x → Counts p m x
 weaker p n m x few h = let all = h.births in record { births = omega (arith, all, few); literals = h.literals }
@@ -76,7 +76,7 @@ module _ (p : Program) (choose : Choose) (may : IsLawful choose) (x : State) (n 
       let left = ap unmade same in
       let all = h.births in record { births = omega (arith, one, left, all); literals = ap length same ∙ h.literals }
 
-  literal_counts : (text : ℕ) → text < length p.outline.texts → is_there x.areas text ≡ false → (y : Areas) (cell : ℕ) → 0 < cell
+  literal_counts : (text : ℕ) → text < literal_count p.outline → is_there x.areas text ≡ false → (y : Areas) (cell : ℕ) → 0 < cell
       → y.store.births ≤ x.areas.store.births + 1 → y.literals ≡ x.areas.literals → Counts p (n + 0) (record x { areas = literal_made y text cell })
   literal_counts text inside none y cell some one same =
       let long = h.literals in
@@ -104,7 +104,7 @@ module _ (p : Program) (choose : Choose) (may : IsLawful choose) (x : State) (n 
       (λ y cell some one same. one_more y one same) (choose x.areas.store (requested p.outline t 0 true)) refl
   action_counts (MakeLiteral text) first made = by_there (is_there x.areas text) refl where
     r : Request
-    r = requested p.outline (text_type p.outline) (length (literal_text p.outline text)) true
+    r = requested p.outline (literal_type p.outline text) (length (literal_text p.outline text)) true
 
     by_there : (b : Bool) → is_there x.areas text ≡ b
         → CountsAfter p x (n + 0) (cond b (Did x.areas made)
@@ -177,7 +177,7 @@ unfolding opening_actions
 objects_weigh o job = let rest = arguments_weigh o 0 job.arguments in omega (arith, rest)
 
 start_first : (o : Outline) (action : Action) → IsOfStart action → StartFits o action → IsFirst o action × (weight action ≡ 0)
-start_first o (MakeLiteral text) of_start fits = (fits.0, refl)
+start_first o (MakeLiteral text) of_start fits = let inside = fits.0 in (omega (arith, inside), refl)
 start_first o (SetStatic slot k v) of_start fits = (tt, refl)
 start_first o (Start class) of_start fits = (tt, refl)
 start_first o action of_start fits = absurd of_start
@@ -199,19 +199,19 @@ framed_counts p n x frames h = by_deep (nat_lt x.depth (length frames)) where
   by_deep true = record { births = h.births; literals = h.literals }
   by_deep false = record { births = h.births; literals = h.literals }
 
-first_counts : (p : Program) (job : Job) (store : Store) → Counts p (store.births + length p.outline.texts) (unopened p job (first_areas p.outline store))
+first_counts : (p : Program) (job : Job) (store : Store) → Counts p (store.births + literal_count p.outline) (unopened p job (first_areas p.outline store))
 first_counts p job store =
-    let long : length (map (λ (text : List ℕ). zero) p.outline.texts) ≡ length p.outline.texts = length-map p.outline.texts (λ text. zero) in
-    let left : unmade (map (λ (text : List ℕ). zero) p.outline.texts) ≤ length (map (λ (text : List ℕ). zero) p.outline.texts) =
-    count_by-le-length (λ cell. cell == 0) (map (λ text. zero) p.outline.texts) in
+    let cells : List ℕ = replicate (literal_count p.outline) 0 in
+    let long : length cells ≡ literal_count p.outline = length-replicate (literal_count p.outline) 0 in
+    let left : unmade cells ≤ length cells = count_by-le-length (λ cell. cell == 0) cells in
     record { births = omega (arith, long, left); literals = long }
 
 opening_counts : (p : Program) (choose : Choose) (job : Job) (store : Store) → IsLawful choose → CanRun p
-    → Counts p (store.births + length p.outline.texts + (length job.arguments + 3)) (opening p choose job store).state
+    → Counts p (store.births + literal_count p.outline + (length job.arguments + 3)) (opening p choose job store).state
 unfolding opening
 opening_counts p choose job store may can =
     let o : Outline = p.outline in
-    let n : ℕ = store.births + length o.texts in
+    let n : ℕ = store.births + literal_count o in
     let objects = objects_weigh o job in
     let starts = starts_first o (start_actions o (opening_classes o)) (start_made o (opening_classes o)) (start_fits p can) in
     let none = starts.1 in
@@ -228,8 +228,8 @@ opening_counts p choose job store may can =
     (weaker p (n + weights (opening_actions o job) + weights (start_actions o (opening_classes o))) (n + (length job.arguments + 3)) y
     (omega (arith, objects, none)) last)))
 
--- the objects of the opening, with all literals, are no more than the texts and what main is given
+-- the objects of the opening, with all literals, are no more than the literals and what main is given
 pub opened_births : (p : Program) (choose : Choose) (job : Job) (store : Store) → IsLawful choose → CanRun p
     → (opening p choose job store).state.areas.store.births + unmade (opening p choose job store).state.areas.literals
-    ≤ store.births + length p.outline.texts + (length job.arguments + 3)
+    ≤ store.births + literal_count p.outline + (length job.arguments + 3)
 opened_births p choose job store may can = (opening_counts p choose job store may can).births

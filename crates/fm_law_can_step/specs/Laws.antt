@@ -33,6 +33,7 @@ use Rattle.fm_law_sound.specs.HeldCells.{HoldsCells}
 use Rattle.fm_law_sound.specs.Making.{ArgumentsFit}
 use Rattle.fm_law_sound.specs.Sound.{AreTyped, IsSound, Typings}
 use Rattle.fm_base.specs.Kinds.{kind_words}
+use Rattle.fm_frames.specs.Literals.{literal_count, literal_named}
 use Rattle.fm_world.specs.Programs.{Program}
 use Rattle.fm_world.specs.declared.uses.Use.{Use}
 use Rattle.fm_world.specs.declared.uses.Use.TheVariants as resolved
@@ -51,10 +52,11 @@ NamesAreThere = (p : Program) (x : State) (i : Insn) (u : Use) → CanRun p → 
 abbrev pub NamesAreWanted : Type 0
 NamesAreWanted = (p : Program) (x : State) (i : Insn) (u : Use) → CanRun p → IsGoing p x → IsNext p x i u → is_wanted i u ≡ true
 
--- a text has a place for its literal
+-- a literal that is named has a place
 abbrev pub LiteralsHavePlaces : Type 0
 LiteralsHavePlaces =
-    (p : Program) (x : State) (i : Insn) (text : ℕ) → CanRun p → IsGoing p x → IsNext p x i (resolved.OfText text) → text < length x.areas.literals
+    (p : Program) (x : State) (i : Insn) (u : Use) (literal : ℕ) → CanRun p → IsGoing p x → IsNext p x i u → literal_named p.outline u ≡ Some literal
+    → literal < length x.areas.literals
 
 -- at least one dimension is made, and no more than the named type has (JVMS 6.5.multianewarray)
 abbrev pub DimensionsAreWithin : Type 0
@@ -130,9 +132,9 @@ OpeningsAreSteady =
 abbrev pub OpeningStartsFit : Type 0
 OpeningStartsFit = (p : Program) → CanRun p → AllByRecursion (StartFits p.outline) (start_actions p.outline (opening_classes p.outline))
 
--- the objects of the opening, with all literals, are no more than the texts, what main is given, its array and the two streams
+-- the objects of the opening, with all literals, are no more than the literals, what main is given, its array and the two streams
 abbrev pub OpeningsMakeFew : Type 0
 OpeningsMakeFew =
     (p : Program) (choose : Choose) (job : Job) (store : Store) → IsLawful choose → CanRun p
     → (opening p choose job store).state.areas.store.births + unmade (opening p choose job store).state.areas.literals
-    ≤ store.births + length p.outline.texts + (length job.arguments + 3)
+    ≤ store.births + literal_count p.outline + (length job.arguments + 3)

@@ -38,7 +38,7 @@ pub record CanRun (p : Program) : Type 0 where
   -- the class that was named is there
   pub main_class : p.outline.main_class < length p.outline.classes
   pub constants : TextsAreReferences p.outline
-  -- the texts, and what the start of main's class does, are so few that the numbers of births fit
+  -- the texts, and what the start of main's class does, are so few that the numbers of births fit, as the types are
   pub few_texts : length p.outline.texts ≤ 2 ^ 28
   pub few_starts : length (start_actions p.outline (opening_classes p.outline)) ≤ 2 ^ 30
 
@@ -63,12 +63,12 @@ pub record IsNext (p : Program) (x : State) (i : Insn) (u : Use) : Type 0 where
 
 -- ---- what instructions name
 
--- an int, a long or a text
+-- an int, a long, a text or the literal of a class
 abbrev pub is_constant : Use → Bool
 is_constant (resolved.OfInt n) = true
 is_constant (resolved.OfLong n) = true
 is_constant (resolved.OfText text) = true
-is_constant (resolved.OfType t) = false
+is_constant (resolved.OfType t) = true
 is_constant (resolved.OfField f t) = false
 is_constant (resolved.OfMethod m t) = false
 is_constant resolved.Unused = false

@@ -11,11 +11,10 @@ use Rattle.fm_cells.specs.Stores.{object_at, Store}
 use Rattle.fm_cells.proofs.Changes.{object_at-made_by}
 use Rattle.fm_cells.proofs.Choices.{lawful_choice-left, MayReuse-last_choice}
 use Rattle.fm_world.specs.Programs.{Outline}
-use Rattle.fm_frames.specs.Acts.{all_freed, cell_of, chain_freed, chain_from, chained, Choose, Did, freed, freed_object, FullAt, is_there, literal_made, literal_text, LostAt, made_then, performed, Performed, requested, set_static, value_of, with_content}
+use Rattle.fm_frames.specs.Acts.{all_freed, cell_of, chain_freed, chain_from, chained, Choose, Did, freed, freed_object, FullAt, is_there, literal_made, literal_text, literal_type, LostAt, made_then, performed, Performed, requested, set_static, value_of, with_content}
 use Rattle.fm_frames.specs.Acts as acts
 use Rattle.fm_frames.specs.Effects.{Action, Free, FreeChain, Make, MakeFixed, MakeLiteral, Put, SetChain, SetStatic, Start}
 use Rattle.fm_frames.specs.Elements.{kept}
-use Rattle.fm_frames.specs.NativeRows.{text_type}
 use Rattle.fm_frames.specs.States.{Areas, word_at}
 use Rattle.fm_frames.specs.declared.values.Value.{Value}
 use Rattle.fm_law_cells_made.proofs.Counts.{chain_grows, content_grows, Follows, freed_shrinks, Grows, HasContent, made_grows, put_grows, same_shrinks, Shrinks, then_grows, then_shrinks}
@@ -106,7 +105,7 @@ module _ (o : Outline) (locals stack : List Value) where
       (λ y cell. performed o choice locals stack more y (made ++ cell ∷ [])) h.last tt h refl
       (λ later cell goes. acts_grow store more (record x { store = later }) (made ++ cell ∷ []) all.1 goes)
   acts_grow store (MakeLiteral text ∷ more) x made all h =
-      let request : Request = requested o (text_type o) (length (literal_text o text)) true in
+      let request : Request = requested o (literal_type o text) (length (literal_text o text)) true in
       either_goes store (is_there x text) _ _ (acts_grow store more x made all.1 h)
       (goes_on store x request (literal_text o text) (choice x.store request)
       (λ y cell. performed o choice locals stack more (literal_made y text cell) made) h.last (own_content (literal_text o text)) h refl

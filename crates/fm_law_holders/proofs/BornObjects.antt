@@ -8,10 +8,9 @@ use Rattle.fm_cells.specs.Stores.{object_at, Store}
 use Rattle.fm_cells.proofs.Changes.{object_at-with_object}
 use Rattle.fm_cells.proofs.Elements.{put_by-none, put_by-some}
 use Rattle.fm_world.specs.Programs.{Outline}
-use Rattle.fm_frames.specs.Acts.{cell_of, Choose, Did, FullAt, is_there, literal_made, literal_text, LostAt, made_object, made_then, performed, Performed, put_value, requested, set_static, Sources, value_of}
+use Rattle.fm_frames.specs.Acts.{cell_of, Choose, Did, FullAt, is_there, literal_made, literal_text, literal_type, LostAt, made_object, made_then, performed, Performed, put_value, requested, set_static, Sources, value_of}
 use Rattle.fm_frames.specs.Effects.{Action, Free, FreeChain, Make, MakeFixed, MakeLiteral, Put, SetChain, SetStatic, Start}
 use Rattle.fm_frames.specs.Elements.{kept}
-use Rattle.fm_frames.specs.NativeRows.{text_type}
 use Rattle.fm_frames.specs.States.{Areas}
 use Rattle.fm_frames.specs.declared.values.Value.{Value}
 use Rattle.fm_law_sound.proofs.Opening.{IsMade as IsFreeless}
@@ -182,9 +181,9 @@ module _ (o : Outline) (choose : Choose) (may : (s : Store) (request : Request) 
       (λ y cell. performed o choose locals stack more y (made ++ cell ∷ [])) went (may x.store (requested o t 0 true))
       (λ y cell later new. acts_go more y (made ++ cell ∷ []) h.1 (went_pushed store y made cell later new))
   acts_go (MakeLiteral text ∷ more) x made h went =
-      let request : Request = requested o (text_type o) (length (literal_text o text)) true in
+      let request : Request = requested o (literal_type o text) (length (literal_text o text)) true in
       either_goes store (is_there x text) (performed o choose locals stack more x made)
-      (made_object o choose (text_type o) (length (literal_text o text)) true (literal_text o text) x
+      (made_object o choose (literal_type o text) (length (literal_text o text)) true (literal_text o text) x
       (λ y cell. performed o choose locals stack more (literal_made y text cell) made))
       (acts_go more x made h.1 went)
       (made_goes store x made request (literal_text o text) (choose x.store request)

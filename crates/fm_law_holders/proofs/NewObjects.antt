@@ -7,9 +7,8 @@ use Rattle.fm_cells.specs.Choices.{MayReuse}
 use Rattle.fm_cells.specs.Objects.{Object, Request}
 use Rattle.fm_cells.specs.Stores.{object_at, Store}
 use Rattle.fm_world.specs.Programs.{Outline}
-use Rattle.fm_frames.specs.Acts.{Choose, Did, is_there, literal_made, literal_text, made_object, made_then, performed, Performed, requested, set_static, value_of}
+use Rattle.fm_frames.specs.Acts.{Choose, Did, is_there, literal_made, literal_text, literal_type, made_object, made_then, performed, Performed, requested, set_static, value_of}
 use Rattle.fm_frames.specs.Effects.{Action, Make, MakeLiteral, SetStatic, Start}
-use Rattle.fm_frames.specs.NativeRows.{text_type}
 use Rattle.fm_frames.specs.States.{Areas}
 use Rattle.fm_frames.specs.declared.values.Value.{Value}
 use Rattle.fm_same.proofs.ActsKeep.{made_as, make_is, stored_as}
@@ -71,12 +70,12 @@ module _ (o : Outline) (choose : Choose) (may : (s : Store) (request : Request) 
   new_first t n (MakeLiteral text ∷ more) each x le =
       let len : ℕ = length (literal_text o text) in
       either_first births (is_there x text) (performed o choose locals stack (more ++ Make t n [] ∷ []) x [])
-      (made_object o choose (text_type o) len true (literal_text o text) x
+      (made_object o choose (literal_type o text) len true (literal_text o text) x
       (λ y cell. performed o choose locals stack (more ++ Make t n [] ∷ []) (literal_made y text cell) []))
       (new_first t n more each.1 x le)
-      (literal_then x (requested o (text_type o) len true) (literal_text o text) (choose x.store (requested o (text_type o) len true))
+      (literal_then x (requested o (literal_type o text) len true) (literal_text o text) (choose x.store (requested o (literal_type o text) len true))
       (λ y cell. performed o choose locals stack (more ++ Make t n [] ∷ []) (literal_made y text cell) []) le
-      (may x.store (requested o (text_type o) len true)) (λ y cell later. new_first t n more each.1 (literal_made y text cell) later))
+      (may x.store (requested o (literal_type o text) len true)) (λ y cell later. new_first t n more each.1 (literal_made y text cell) later))
   new_first t n (SetStatic field k v ∷ more) each x le =
       new_first t n more each.1 (set_static x field k (value_of (record { locals = locals; stack = stack; areas = x; made = [] }) v)) le
   new_first t n (Start class ∷ more) each x le = new_first t n more each.1 _ le

@@ -100,16 +100,17 @@ module _ (r : Row) where
 
   -- ---- constants
 
-  constant_goes : (index : ℕ) (u : Use) → constant_row o u r.before ≡ Some r.after → Keeps (insn.LoadPool index) (constant_effect u)
+  constant_goes : (index : ℕ) (u : Use) → constant_row o u r.before ≡ Some r.after → Keeps (insn.LoadPool index) (constant_effect o u)
   unfolding constant_row constant_effect
-  constant_goes index (resolved.OfType t) row leads = absurd (cc)
+  constant_goes index (resolved.OfType t) row leads =
+      pushed_goes r (slot.Ref _ ∷ []) (insn.LoadPool index) (constant_effect o (resolved.OfType t)) row (tt, tt) (refl, refl) leads
   constant_goes index (resolved.OfField g t) row leads = absurd (cc)
   constant_goes index (resolved.OfMethod m t) row leads = absurd (cc)
   constant_goes index (resolved.OfInt n) row leads = pushed_goes r (slot.Int ∷ []) (insn.LoadPool index) (words 0 (int_word n)) row (tt, tt) (refl, refl) leads
   constant_goes index (resolved.OfLong n) row leads =
       pushed_goes r (slot.Top ∷ slot.Long ∷ []) (insn.LoadPool index) (words 0 (long_words n)) row (tt, (tt, tt)) (refl, refl) leads
   constant_goes index (resolved.OfText text) row leads =
-      pushed_goes r (slot.Ref _ ∷ []) (insn.LoadPool index) (constant_effect (resolved.OfText text)) row (tt, tt) (refl, refl) leads
+      pushed_goes r (slot.Ref _ ∷ []) (insn.LoadPool index) (constant_effect o (resolved.OfText text)) row (tt, tt) (refl, refl) leads
   constant_goes index resolved.Unused row leads = absurd (cc)
 
   -- ---- locals

@@ -236,6 +236,14 @@ module _ (classes : List DeclaredClass) (given : List ClassDef) (spelled : AllBy
 
 -- ---- so there are few
 
+-- a type that has a number has no more dimensions than an array may
+pub numbered_shallow : (given : List ClassDef) (main : List ℕ) → AllByRecursion HasSpelling given → (k : ℕ) (t : TypeRef)
+    → slice_get (outline_of given main).types k ≡ Some t → t.dims < 256
+unfolding outline_of types_of
+numbered_shallow given main spelled k t at =
+    let all = Listed (classes_of given) given in
+    listed_shallow (classes_of given) given spelled t (from_distinct all t (contains_at (distinct same_type all) k t at))
+
 number_below : (given : List ClassDef) (main : List ℕ) → AllByRecursion HasSpelling given → (k : ℕ) (t : TypeRef)
     → slice_get (distinct same_type (Listed (classes_of given) given)) k ≡ Some t
     → number_of t < (6 + length (classes_of given)) * 256

@@ -22,6 +22,7 @@ pub mod MadeTypes
 pub mod Making
 pub mod TextUnits
 pub mod TypeNames
+pub mod LiteralTexts
 pub mod MainMethod
 pub mod FewTypes
 pub mod ObjectSizes

@@ -1,6 +1,6 @@
 -- The texts that uses name are of 16-bit units, and none is too long (JVMS 4.4.7).
 use Rattle.std.proofs.Common.{◌≡◌, refl, ap, subst, ℕ, suc, ◌+◌, ◌^◌, ◌<◌, ◌≤◌, Bool, true, false, not, cond, List, [], ◌∷◌, length, filter, Option, Some, None, arith}
-use Rattle.std.specs.List.{AllByRecursion, cons_option, filter_map, flat_map}
+use Rattle.std.specs.List.{AllByRecursion, cons_option, filter_map, flat_map, slice_index_or}
 use Rattle.std.specs.Str.{bytes_eq}
 use Rattle.std.proofs.lemmas.Option.{none-some, same_Some}
 use Rattle.fm_base.proofs.ListFacts.{AllByRecursion-append, AllByRecursion-get_or}
@@ -11,7 +11,6 @@ use Rattle.fm_code.specs.Spells.{HasSpelling}
 use Rattle.fm_code.specs.declared.class_file.ClassDef.{ClassDef}
 use Rattle.fm_code.specs.declared.constant_pool.Entry.{Entry}
 use Rattle.fm_code.specs.declared.constant_pool.Entry.TheVariants as entry
-use Rattle.fm_frames.specs.Acts.{literal_text}
 use Rattle.fm_law_sound.specs.Making.{AreUnits}
 use Rattle.fm_world.specs.Chains.{distinct}
 use Rattle.fm_world.specs.Declarations.{text_at}
@@ -31,7 +30,7 @@ parted_step b bytes true is = rw is refl
 parted_step b bytes false is = rw is refl
 
 -- bytes and units, counted together
-abbrev parts : Parted → ℕ
+abbrev pub parts : Parted → ℕ
 parts p = length p.going_on + length p.units
 
 one_part : (b : ℕ) (p : Parted) (on : Bool) → parts (parted_before b p on) ≤ suc (parts p)
@@ -39,7 +38,7 @@ one_part b p true = omega arith
 one_part b p false = omega arith
 
 -- the bytes that go on, and the units, are no more than the bytes
-parted_few : (bytes : List ℕ) → parts (parted bytes) ≤ length bytes
+pub parted_few : (bytes : List ℕ) → parts (parted bytes) ≤ length bytes
 parted_few [] = omega arith
 parted_few (b ∷ bytes) =
     let before = parted_few bytes in
@@ -54,7 +53,7 @@ pub record IsShortText (us : List ℕ) : Type 0 where
   pub few : length us < 2 ^ 31
   pub fit : AreUnits us
 
-empty_text : IsShortText []
+pub empty_text : IsShortText []
 empty_text = record { few = omega arith; fit = tt }
 
 of_entry : (entries : List Entry) (index : ℕ) (e : Entry) → entry_at entries index ≡ e → EntryFits e → EntryIsValid entries e
@@ -71,6 +70,16 @@ short_text c spelled index =
     of_entry entries index (entry_at entries index) refl
     (AllByRecursion-get_or EntryFits entries entry.Second spelled.1.pool.fits.each tt index)
     (AllByRecursion-get_or (EntryIsValid entries) entries entry.Second spelled.1.pool.entries tt index)
+
+-- its bytes are fewer than 2^16
+bytes_few : (entries : List Entry) (index : ℕ) (e : Entry) → entry_at entries index ≡ e → EntryFits e → length (text_at entries index) < 2 ^ 16
+bytes_few entries index (entry.Utf8 name) is fits = let short = fits.0 in rw is (omega (arith, short))
+bytes_few entries index e is fits = rw is (omega arith)
+
+pub text_few : (c : ClassDef) → HasSpelling c → (index : ℕ) → length (text_at c.pool.entries index) < 2 ^ 16
+text_few c spelled index =
+    let entries = c.pool.entries in
+    bytes_few entries index (entry_at entries index) refl (AllByRecursion-get_or EntryFits entries entry.Second spelled.1.pool.fits.each tt index)
 
 -- ---- the texts that are numbered
 
@@ -112,11 +121,10 @@ distinct_short : (texts : List (List ℕ)) → AllByRecursion IsShortText texts 
 distinct_short [] all = tt
 distinct_short (us ∷ texts) all = (all.0, kept_short (λ y. not (bytes_eq us y)) (distinct bytes_eq texts) (distinct_short texts all.1))
 
--- the texts that instructions name are short, and of units
-pub literals_short : (given : List ClassDef) (main : List ℕ) → AllByRecursion HasSpelling given → (text : ℕ)
-    → (length (literal_text (outline_of given main) text) < 2 ^ 31) × AreUnits (literal_text (outline_of given main) text)
+-- the texts that have numbers are short, and of units
+pub numbered_short : (given : List ClassDef) (main : List ℕ) → AllByRecursion HasSpelling given → (text : ℕ)
+    → IsShortText (slice_index_or (outline_of given main).texts text [])
 unfolding outline_of texts_of
-literals_short given main spelled text =
+numbered_short given main spelled text =
     let texts = flat_map (λ (c : ClassDef). filter_map (text_units c.pool.entries) (uses_in_order c)) given in
-    let its = AllByRecursion-get_or IsShortText (distinct bytes_eq texts) [] (distinct_short texts (all_texts_short given spelled)) empty_text text in
-    (its.few, its.fit)
+    AllByRecursion-get_or IsShortText (distinct bytes_eq texts) [] (distinct_short texts (all_texts_short given spelled)) empty_text text

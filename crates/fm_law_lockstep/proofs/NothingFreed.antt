@@ -6,9 +6,8 @@ use Rattle.fm_cells.specs.Changes.{Choice, made_by, RefuseStore, Take}
 use Rattle.fm_cells.specs.Choices.{lawful}
 use Rattle.fm_cells.specs.Objects.{Request}
 use Rattle.fm_cells.specs.Stores.{Store}
-use Rattle.fm_frames.specs.Acts.{Choose, Did, FullAt, is_there, literal_made, literal_text, LostAt, made_object, made_then, performed, Performed, put_value, requested, set_static, Sources, value_of, with_content}
+use Rattle.fm_frames.specs.Acts.{Choose, Did, FullAt, is_there, literal_made, literal_text, literal_type, LostAt, made_object, made_then, performed, Performed, put_value, requested, set_static, Sources, value_of, with_content}
 use Rattle.fm_frames.specs.Effects.{Action, Effect, Free, FreeChain, Make, MakeFixed, MakeLiteral, Put, SetChain, SetStatic, Start}
-use Rattle.fm_frames.specs.NativeRows.{text_type}
 use Rattle.fm_frames.specs.States.{Areas, Frame, State}
 use Rattle.fm_frames.specs.Steps.{next_effect, step}
 use Rattle.fm_frames.specs.declared.values.Value.{Value}
@@ -69,9 +68,9 @@ module _ (o : Outline) (choose : Choose) (words : ℕ) (locals stack : List Valu
       made_freed words x (requested o t 0 true) [] (choose x.store (requested o t 0 true))
       (λ y cell. performed o choose locals stack more y (made ++ cell ∷ [])) same (λ y cell is. acts_freed more y (made ++ cell ∷ []) h.1 is)
   acts_freed (MakeLiteral text ∷ more) x made h same =
-      let request : Request = requested o (text_type o) (length (literal_text o text)) true in
+      let request : Request = requested o (literal_type o text) (length (literal_text o text)) true in
       either_freed words (is_there x text) (performed o choose locals stack more x made)
-      (made_object o choose (text_type o) (length (literal_text o text)) true (literal_text o text) x
+      (made_object o choose (literal_type o text) (length (literal_text o text)) true (literal_text o text) x
       (λ y cell. performed o choose locals stack more (literal_made y text cell) made))
       (acts_freed more x made h.1 same)
       (made_freed words x request (literal_text o text) (choose x.store request)

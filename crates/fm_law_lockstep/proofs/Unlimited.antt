@@ -7,10 +7,9 @@ use Rattle.fm_cells.specs.Changes.{chained_by, Choice, freed_by, made_by, on_obj
 use Rattle.fm_cells.specs.Choices.{lawful, MayReuse}
 use Rattle.fm_cells.specs.Objects.{Object, object_words, Request}
 use Rattle.fm_cells.specs.Stores.{object_at, Store}
-use Rattle.fm_frames.specs.Acts.{all_freed, cell_of, chain_freed, chain_from, chained, Choose, class_started, Did, freed, freed_object, FullAt, is_there, literal_made, literal_text, LostAt, made_then, performed, Performed, put_value, requested, set_static, Sources, value_of, with_content}
+use Rattle.fm_frames.specs.Acts.{all_freed, cell_of, chain_freed, chain_from, chained, Choose, class_started, Did, freed, freed_object, FullAt, is_there, literal_made, literal_text, literal_type, LostAt, made_then, performed, Performed, put_value, requested, set_static, Sources, value_of, with_content}
 use Rattle.fm_frames.specs.Effects.{Action, Free, FreeChain, Make, MakeFixed, MakeLiteral, Put, SetChain, SetStatic, Start}
 use Rattle.fm_frames.specs.Elements.{kept}
-use Rattle.fm_frames.specs.NativeRows.{text_type}
 use Rattle.fm_frames.specs.States.{Areas, word_at}
 use Rattle.fm_frames.specs.declared.values.Value.{Value}
 use Rattle.fm_law_lockstep.specs.Limits.{UnlimitedIsNeverFull}
@@ -103,7 +102,7 @@ module _ (lossy : Bool) (o : Outline) (choose : Choose) (locals stack : List Val
       (λ y cell. performed o (lawful choose) locals stack more y (made ++ cell ∷ [])) is
       (λ later cell none. acts_room more fine.1 (record x { store = later }) (made ++ cell ∷ []) none)
   acts_room (MakeLiteral text ∷ more) fine x made is =
-      let request : Request = requested o (text_type o) (length (literal_text o text)) true in
+      let request : Request = requested o (literal_type o text) (length (literal_text o text)) true in
       let follows : Areas → ℕ → Performed = λ y cell. performed o (lawful choose) locals stack more (literal_made y text cell) made in
       either_room lossy (is_there x text) (performed o (lawful choose) locals stack more x made)
       (made_then x request (literal_text o text) (lawful choose x.store request) follows) (acts_room more fine.1 x made is)

@@ -12,10 +12,10 @@ use Rattle.fm_cells.specs.Objects.{Request, request_words}
 use Rattle.fm_cells.specs.Stores.{live_words, Store}
 use Rattle.fm_frames.proofs.StepCounts.{step_going}
 use Rattle.fm_frames.proofs.Underways.{none-made}
-use Rattle.fm_frames.specs.Acts.{cell_of, Choose, class_started, Did, FullAt, is_there, literal_made, literal_text, LostAt, made_then, performed, Performed, requested, set_static, Sources, value_of, with_content}
+use Rattle.fm_frames.specs.Acts.{cell_of, Choose, class_started, Did, FullAt, is_there, literal_made, literal_text, literal_type, LostAt, made_then, performed, Performed, requested, set_static, Sources, value_of, with_content}
 use Rattle.fm_frames.specs.Effects.{Action, Effect, Free, FreeChain, Make, MakeFixed, MakeLiteral, Put, SetChain, SetStatic, Start}
 use Rattle.fm_frames.specs.Elements.{kept}
-use Rattle.fm_frames.specs.NativeRows.{text_type}
+use Rattle.fm_frames.specs.Literals.{literal_count}
 use Rattle.fm_frames.specs.States.{Areas, Frame, Moved, State}
 use Rattle.fm_frames.specs.Steps.{finished, input_after, is_deep, is_done, is_over, makes, most_words, next_effect, objects_made, step, words_among}
 use Rattle.fm_law_lockstep.specs.Limits.{StepsStayWithin}
@@ -103,7 +103,7 @@ module _ (budget : ℕ) (o : Outline) (choose : Choose) (store : Store) (f : Fra
       (words_filled o t x.store (requested o t len fixed) cell grows content fits may_be.1)
 
   acts_within : (actions : List Action) (x : Areas) (types : List TypeRef) (made : List ℕ) → Within o (room_of budget) x actions → ActsFit o store f types actions
-      → AllByRecursion (ActsAlike o store f) actions → length x.literals ≡ length o.texts → live_words x.store ≤ budget
+      → AllByRecursion (ActsAlike o store f) actions → length x.literals ≡ literal_count o → live_words x.store ≤ budget
       → LivesWithin budget (performed o (lawful choose) f.locals f.stack actions x made)
   unfolding performed
   acts_within [] x types made within fit alikes literals live = live
@@ -126,10 +126,10 @@ module _ (budget : ℕ) (o : Outline) (choose : Choose) (store : Store) (f : Fra
       (within_rest o room x (MakeFixed t) more (record x { store = later }) refl refl (omega (arith, is)) within) fit.1 alikes.1 literals
       (omega (arith, fits, is)))
   acts_within (MakeLiteral text ∷ more) x types made within fit alikes literals live =
-      let t : TypeRef = text_type o in
+      let t : TypeRef = literal_type o text in
       let len : ℕ = length (literal_text o text) in
       let words : ℕ = request_words (requested o t len true) in
-      let known : text < length o.texts = alikes.0 in
+      let known : text < literal_count o = alikes.0 in
       either_within budget (is_there x text) _ _
       (λ there. acts_within more x types made (within_there o room x text more there within) fit.1 alikes.1 literals live)
       (λ none.

@@ -12,12 +12,11 @@ use Rattle.fm_cells.proofs.Changes.{object_at-with_object}
 use Rattle.fm_cells.proofs.Choices.{lawful_choice-may}
 use Rattle.fm_cells.proofs.Elements.{put_by-some}
 use Rattle.fm_types.specs.Fits.{fits_type}
-use Rattle.fm_types.proofs.LeastJoins.{same_type-refl}
+use Rattle.fm_types.proofs.LeastJoins.{same_type-eq, same_type-refl}
 use Rattle.fm_world.specs.Programs.{kind_at, Outline}
-use Rattle.fm_frames.specs.Acts.{cell_of, Choose, Did, FullAt, is_there, literal_made, literal_text, LostAt, made_object, made_then, performed, Performed, put_value, requested, set_static, Sources, value_of}
+use Rattle.fm_frames.specs.Acts.{cell_of, Choose, Did, FullAt, is_there, literal_made, literal_text, literal_type, LostAt, made_object, made_then, performed, Performed, put_value, requested, set_static, Sources, value_of}
 use Rattle.fm_frames.specs.Effects.{Action, Make, MakeFixed, MakeLiteral, Put, SetStatic, Start, Free, SetChain, FreeChain, Source, Plain, OfOperand, OfMade, OfLiteral}
 use Rattle.fm_frames.specs.Elements.{cut, is_string_type, kept, read}
-use Rattle.fm_frames.specs.NativeRows.{text_type}
 use Rattle.fm_frames.specs.Sights.{has_hidden_field, type_numbered}
 use Rattle.fm_frames.specs.States.{Areas, word_at}
 use Rattle.fm_frames.specs.declared.values.Value.{Value}
@@ -30,6 +29,7 @@ use Rattle.fm_law_sound.proofs.ActsKeep.{zeros_at}
 use Rattle.fm_law_no_fault.specs.Doing.{ActsLead, HasNumber, HoldsNoCell, IsReferenceKind, LeavesWhole, PlaceTakes, SourceIsOf, SourceLeadsTo, StaticTakes}
 use Rattle.fm_law_no_fault.specs.Whole.{AreasAreWhole, HoldsA, LeadsToA, ObjectIsWhole}
 use Rattle.fm_law_no_fault.proofs.StoresKeep.{leads-later}
+use Rattle.fm_world.specs.Chains.{same_type}
 
 -- ---- lists
 
@@ -185,16 +185,17 @@ module _ (o : Outline) (t : TypeRef) (len : ℕ) (fixed : Bool) (number : HasNum
       then (record x { store = stored_as x.store (requested o t len fixed) cell grows content }) cell goes.0 goes.1
 
 literal_goes : (o : Outline) (store : Store) (types : List TypeRef) (y : Areas) (made : List ℕ) (text cell : ℕ) → Went o store types y made
-    → IsAn o y.store (text_type o) cell → Went o store types (literal_made y text cell) made
+    → IsAn o y.store (literal_type o text) cell → Went o store types (literal_made y text cell) made
 literal_goes o store types y made text cell went is =
-    let leads : LeadsToA o y.store (is_string_type o) cell =
-    inr (record { object = is.object; held = is.held; passes = ap (is_string_type o) is.type_is ∙ same_type-refl (text_type o) }) in
+    let leads : LeadsToA o y.store (same_type (literal_type o text)) cell =
+    inr (record { object = is.object; held = is.held; passes = ap (same_type (literal_type o text)) is.type_is ∙ same_type-refl (literal_type o text) }) in
     record {
       areas = record {
         statics = went.areas.statics;
         literals = λ other. ⊎_elim
-            (λ this. subst (λ c. LeadsToA o y.store (is_string_type o) c) (sym this.1) leads)
-            (λ before. subst (λ c. LeadsToA o y.store (is_string_type o) c) (sym before) (went.areas.literals other))
+            (λ this. subst (λ c. LeadsToA o y.store (same_type (literal_type o other)) c) (sym this.1)
+            (subst (λ n. LeadsToA o y.store (same_type (literal_type o n)) cell) this.0 leads))
+            (λ before. subst (λ c. LeadsToA o y.store (same_type (literal_type o other)) c) (sym before) (went.areas.literals other))
             (set_at y.literals text cell other 0);
         heap = went.areas.heap;
       };
@@ -238,8 +239,12 @@ module _ (o : Outline) (store : Store) (locals stack : List Value) (types : List
     tt,
     ⊎_elim
         (λ e. inl e)
-        (λ (is : HoldsA o x.store (is_string_type o) (slice_index_or x.literals text 0)).
-        inr (record { object = is.object; held = is.held; passes = h (type_numbered o is.object.class) is.passes }))
+        (λ (is : HoldsA o x.store (same_type (literal_type o text)) (slice_index_or x.literals text 0)).
+        inr (record {
+          object = is.object;
+          held = is.held;
+          passes = subst (λ t. test t ≡ true) (same_type-eq (literal_type o text) (type_numbered o is.object.class) is.passes) h;
+        }))
         (went.areas.literals text),
   )
   source_leads test other h = absurd h
@@ -360,12 +365,12 @@ module _ (o : Outline) (choose : Choose) (may : (s : Store) (request : Request) 
   acts_go (MakeLiteral text ∷ more) types x made h went =
       let len : ℕ = length (literal_text o text) in
       either_to o store (types_after types more) (is_there x text) (performed o choose locals stack more x made)
-      (made_object o choose (text_type o) len true (literal_text o text) x
+      (made_object o choose (literal_type o text) len true (literal_text o text) x
       (λ y cell. performed o choose locals stack more (literal_made y text cell) made))
       (acts_go more types x made h.2 went)
-      (made_goes o (text_type o) len true h.0 store types (types_after types more) x made (literal_text o text)
-      (choose x.store (requested o (text_type o) len true)) (λ y cell. performed o choose locals stack more (literal_made y text cell) made) went
-      (may x.store (requested o (text_type o) len true)) (inr h.1)
+      (made_goes o (literal_type o text) len true h.0 store types (types_after types more) x made (literal_text o text)
+      (choose x.store (requested o (literal_type o text) len true)) (λ y cell. performed o choose locals stack more (literal_made y text cell) made) went
+      (may x.store (requested o (literal_type o text) len true)) (inr h.1)
       (λ y cell goes is. acts_go more types (literal_made y text cell) made h.2 (literal_goes o store types y made text cell goes is)))
   acts_go (Put object place k v ∷ more) types x made h went =
       acts_go more types (put_value x (value_of (before x made) object) place k (value_of (before x made) v)) made h.1

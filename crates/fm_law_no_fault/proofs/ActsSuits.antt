@@ -1,5 +1,5 @@
 -- Actions that fit by their kinds, and put what suits them, lead each place to what fits it.
-use Rattle.std.proofs.Common.{◌≡◌, ℕ, ◌⊎◌, Bool, true, List, [], ◌∷◌, ◌++◌, Option, Some, refl, sym, ◌∙◌, ap, subst, inl, inr, slice_get}
+use Rattle.std.proofs.Common.{◌≡◌, ℕ, ◌⊎◌, cond, Bool, true, false, List, [], ◌∷◌, ◌++◌, length, nat_lt, Option, Some, refl, sym, ◌∙◌, ap, subst, inl, inr, slice_get}
 use Rattle.std.specs.Prelude.{unwrap_or}
 use Rattle.std.proofs.lemmas.Option.{get_or_from_slice_get, same_Some}
 use Rattle.fm_base.proofs.ListFacts.{slice_get-append_left}
@@ -7,16 +7,14 @@ use Rattle.fm_base.specs.declared.kinds.Kind.{Kind}
 use Rattle.fm_base.specs.declared.kinds.Kind.TheVariants as kind
 use Rattle.fm_base.specs.declared.kinds.TypeRef.{TypeRef}
 use Rattle.fm_cells.specs.Stores.{Store}
-use Rattle.fm_types.specs.Fits.{AreTree, fits_type}
+use Rattle.fm_types.specs.Fits.{fits_type}
 use Rattle.fm_types.specs.declared.slots.Slot.TheVariants as slot
-use Rattle.fm_types.proofs.LeastJoins.{same_type-eq}
-use Rattle.fm_types.proofs.Order.{type-refl}
 use Rattle.fm_world.specs.Numbers.{type_of_class}
 use Rattle.fm_world.specs.Programs.{kind_at, Outline, Program}
-use Rattle.fm_frames.specs.Acts.{literal_text}
+use Rattle.fm_frames.specs.Acts.{literal_text, literal_type}
 use Rattle.fm_frames.specs.Effects.{Action, Free, FreeChain, Make, MakeFixed, MakeLiteral, OfLiteral, OfMade, OfOperand, Plain, Put, SetChain, SetStatic, Source, Start}
 use Rattle.fm_frames.specs.Elements.{is_string_type}
-use Rattle.fm_frames.specs.NativeRows.{text_kind, text_type}
+use Rattle.fm_frames.specs.NativeRows.{class_type, text_kind, text_type}
 use Rattle.fm_frames.specs.Sights.{type_numbered}
 use Rattle.fm_frames.specs.States.{Frame}
 use Rattle.fm_law_sound.specs.Acting.{ActsFit, MakeFits, ObjectFits, PlaceFits}
@@ -38,10 +36,6 @@ pub leads_weaker : (o : Outline) (store : Store) (test other : TypeRef → Bool)
     → LeadsToA o store test cell → LeadsToA o store other cell
 leads_weaker o store test other each cell (inl e) = inl e
 leads_weaker o store test other each cell (inr h) = inr (holds_weaker o store test other each cell h)
-
--- a text is one that fits String
-pub text_fits : (o : Outline) → AreTree o.classes → (t : TypeRef) → is_string_type o t ≡ true → fits_type o.classes t (text_type o) ≡ true
-text_fits o tree t is = subst (λ u. fits_type o.classes u (text_type o) ≡ true) (same_type-eq (text_type o) t is) (type-refl o.classes tree (text_type o))
 
 -- the kind of a static field by its slot
 slot_reference : (k : Kind) (t : TypeRef) → field_slot k ≡ slot.Ref t → k ≡ kind.Ref t
@@ -78,7 +72,7 @@ module _ (p : Program) (ready : CellsAreResolved p) (store : Store) (f : Frame) 
   source_weaker types test other each (Plain v) h = h
   source_weaker types test other each (OfOperand n) h = (h.0, leads_weaker o store test other each _ h.1)
   source_weaker types test other each (OfMade n) h = (h.0, h.1, each h.0 h.2)
-  source_weaker types test other each (OfLiteral text) h = λ t is. each t (h t is)
+  source_weaker types test other each (OfLiteral literal) h = each (literal_type o literal) h
   source_weaker types test other each s h = absurd h
 
   -- ---- makes
@@ -86,6 +80,12 @@ module _ (p : Program) (ready : CellsAreResolved p) (store : Store) (f : Frame) 
   numbered : (t : TypeRef) (len : ℕ) (content : List ℕ) → MakeFits o t len content → HasNumber o t
   numbered t len content h =
       ap (λ n. type_numbered o (unwrap_or n 0)) h.number_is ∙ get_or_from_slice_get o.types h.number t (type_of_class 0) h.there
+
+  literal_plain : (literal : ℕ) → HoldsNoCell o (literal_type o literal)
+  literal_plain literal = by_text (nat_lt literal (length o.texts)) where
+    by_text : (b : Bool) → HoldsNoCell o (cond b (text_type o) (class_type o))
+    by_text true = ready.built_in.text_plain
+    by_text false = ready.built_in.class_plain
 
   content_leads : (t : TypeRef) (content : List ℕ) → (content ≡ []) ⊎ (t ≡ text_type o) → (content ≡ []) ⊎ HoldsNoCell o t
   content_leads t content (inl none) = inl none
@@ -132,7 +132,7 @@ module _ (p : Program) (ready : CellsAreResolved p) (store : Store) (f : Frame) 
       (numbered t len content fit.0, content_leads t content suit.0, acts_lead more (types ++ t ∷ []) fit.1 suit.1)
   acts_lead (MakeFixed t ∷ more) types fit suit = (numbered t 0 [] fit.0, suit.0, acts_lead more (types ++ t ∷ []) fit.1 suit.1)
   acts_lead (MakeLiteral text ∷ more) types fit suit =
-      (numbered (text_type o) _ (literal_text o text) fit.0, ready.built_in.text_plain, acts_lead more types fit.1 suit)
+      (numbered (literal_type o text) _ (literal_text o text) fit.0, literal_plain text, acts_lead more types fit.1 suit)
   acts_lead (Put object place k v ∷ more) types fit suit =
       (put_leads types object place k v fit.0 suit.0, acts_lead more types fit.2 suit.1)
   acts_lead (SetStatic field k v ∷ more) types fit suit = (static_takes types field k v fit.0 suit.0, acts_lead more types fit.1 suit.1)

@@ -15,7 +15,7 @@ use Rattle.fm_types.specs.Fits.{fits_type}
 use Rattle.fm_types.specs.Named.{built_in_type, throwable_type}
 use Rattle.fm_types.specs.declared.slots.Slot.TheVariants as slot
 use Rattle.fm_world.proofs.Completions.{among_completed, count_is, none_completed}
-use Rattle.fm_world.specs.BuiltIns.{built_in, built_in_classes}
+use Rattle.fm_world.specs.BuiltIns.{built_in, built_in_classes, class_literal_class}
 use Rattle.fm_world.specs.Chains.{chain_of, class_at, is_among}
 use Rattle.fm_world.specs.Descriptors.{class_number, kind_with, of_class}
 use Rattle.fm_world.specs.Lookups.{is_interface_at}
@@ -25,14 +25,14 @@ use Rattle.fm_world.specs.Programs.{kind_at, Outline, Program}
 use Rattle.fm_world.specs.declared.declarations.DeclaredClass.{DeclaredClass}
 use Rattle.fm_world.specs.inner.Completions.{AreCompleted}
 use Rattle.fm_frames.proofs.BuiltInTypes.{below_named, buffer_there, builder_there, named_class, no_interfaces, throwable_there}
-use Rattle.fm_frames.proofs.Programs.{completed-are, string-is}
-use Rattle.fm_frames.specs.NativeRows.{text_type}
+use Rattle.fm_frames.proofs.Programs.{class_literal-is, completed-are, string-is}
+use Rattle.fm_frames.specs.NativeRows.{class_type, text_type}
 use Rattle.fm_frames.specs.ObjectRows.{kind_of_field}
 use Rattle.fm_frames.specs.Runnable.{IsRunnable}
 use Rattle.fm_frames.specs.Sights.{has_hidden_field}
 use Rattle.fm_law_sound.specs.Making.{is_built}
 use Rattle.fm_law_sound.specs.Sound.{field_slot, static_slots}
-use Rattle.fm_law_sound.proofs.MadeObjects.{input_kinds, output_kinds, string_kinds}
+use Rattle.fm_law_sound.proofs.MadeObjects.{class_literal_kinds, input_kinds, output_kinds, string_kinds}
 use Rattle.fm_law_sound.proofs.ObjectRows.{static_slot_at}
 use Rattle.fm_law_no_fault.specs.CellsResolved.{input_type, output_type, thrown_names}
 use Rattle.fm_law_no_fault.specs.Doing.{HoldsNoCell}
@@ -107,8 +107,9 @@ module _ (given : List DeclaredClass) where
         none_completed given completed is_hidden (λ k f within is. (completed k f within is).not_hidden) class (omega (arith, early, count_is)) none
 
     none_hidden : (list_any is_hidden (chain_of all 1) ≡ false) × (list_any is_hidden (chain_of all 5) ≡ false) × (list_any is_hidden (chain_of all 6) ≡ false)
+        × (list_any is_hidden (chain_of all class_literal_class) ≡ false)
     unfolding built_in chain_of
-    none_hidden = (unhidden 1 (omega arith) refl, unhidden 5 (omega arith) refl, unhidden 6 (omega arith) refl)
+    none_hidden = (unhidden 1 (omega arith) refl, unhidden 5 (omega arith) refl, unhidden 6 (omega arith) refl, unhidden class_literal_class (omega arith) refl)
 
   some_hidden : (is_hidden 2 ≡ true) × (is_hidden 3 ≡ true) × (is_hidden 7 ≡ true)
   unfolding built_in
@@ -194,6 +195,9 @@ module _ (p : Program) (runnable : IsRunnable p) where
 
   pub text_is_plain : HoldsNoCell o (text_type o)
   text_is_plain = plain_type (text_type o) 1 (string-is o given runnable.classes) (string_kinds given (completed-are given runnable.completed)) (none_hidden given (completed-are given runnable.completed)).0
+
+  pub class_is_plain : HoldsNoCell o (class_type o)
+  class_is_plain = plain_type (class_type o) class_literal_class (class_literal-is o given runnable.classes) (class_literal_kinds given (completed-are given runnable.completed)) (none_hidden given (completed-are given runnable.completed)).3
 
   pub output_is_plain : HoldsNoCell o (output_type o)
   output_is_plain = plain_type (output_type o) 5 (named_class p (codes "java/io/PrintStream") 5 runnable output_there) (output_kinds given (completed-are given runnable.completed)) (none_hidden given (completed-are given runnable.completed)).1

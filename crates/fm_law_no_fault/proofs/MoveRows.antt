@@ -1,11 +1,12 @@
 -- The rows of constants, locals and moves of the stack: what is moved goes on fitting, and a text is given once its object is there.
-use Rattle.std.proofs.Common.{◌≡◌, sym, ℕ, ℤ, true, List, [], ◌∷◌, map, cond, Option, Some, None, option_and_then, refl, subst}
+use Rattle.std.proofs.Common.{◌≡◌, ◌∙◌, sym, ℕ, ℤ, true, List, [], ◌∷◌, map, cond, Option, Some, None, option_and_then, refl, subst}
 use Rattle.std.proofs.lemmas.Bool.{false≢true}
 use Rattle.fm_base.specs.declared.kinds.TypeRef.{TypeRef}
 use Rattle.fm_cells.specs.Stores.{Store}
 use Rattle.fm_code.specs.declared.instructions.Insn.{Insn}
 use Rattle.fm_code.specs.declared.operations.Reg.{Reg}
 use Rattle.fm_code.specs.declared.operations.Reg.TheVariants as reg
+use Rattle.fm_frames.proofs.LiteralSteps.{class-literal, text-literal}
 use Rattle.fm_types.specs.Fits.{fits_type}
 use Rattle.fm_types.specs.Moves.{moved, Moves, moves_of}
 use Rattle.fm_types.specs.NumberRows.{constant_row, increment_row, is_int, load_row, move_row, store_row}
@@ -15,21 +16,25 @@ use Rattle.fm_types.specs.declared.slots.Slot.TheVariants as slot
 use Rattle.fm_world.specs.Programs.{Outline}
 use Rattle.fm_world.specs.declared.uses.Use.{Use}
 use Rattle.fm_world.specs.declared.uses.Use.TheVariants as resolved
-use Rattle.fm_frames.specs.Acts.{Sources, sum_of}
-use Rattle.fm_frames.specs.Effects.{int_word, long_words, OfOperand, Source, words}
-use Rattle.fm_frames.specs.Elements.{is_string_type}
-use Rattle.fm_frames.specs.NativeRows.{text_type}
+use Rattle.fm_frames.specs.Acts.{literal_type, Sources, sum_of}
+use Rattle.fm_frames.specs.Effects.{giving_literal, int_word, long_words, OfOperand, Source, words}
+use Rattle.fm_frames.specs.Literals.{class_literal}
+use Rattle.fm_frames.specs.NativeRows.{class_type, text_type}
 use Rattle.fm_frames.specs.NumberRows.{constant_effect, increment_effect, load_effect, move_effect, moved_words, store_effect}
+use Rattle.fm_frames.specs.Runnable.{IsUseIn}
 use Rattle.fm_frames.specs.States.{Areas, word_at}
 use Rattle.fm_frames.specs.declared.values.Value.{Value}
 use Rattle.fm_same.proofs.StoreChanges.{Extends}
 use Rattle.fm_law_sound.specs.Leading.{sources_of}
 use Rattle.fm_law_sound.proofs.FramesLeft as left
 use Rattle.fm_law_sound.proofs.FramesLeft.{AreAs}
-use Rattle.fm_law_no_fault.proofs.ActsSuits.{leads_weaker, text_fits}
+use Rattle.fm_law_no_fault.proofs.ActsSuits.{leads_weaker}
 use Rattle.fm_law_no_fault.proofs.CellsLeave.{cells_before, cells_left}
 use Rattle.fm_law_no_fault.proofs.Owing.{Cell, CellsFit}
 use Rattle.fm_law_no_fault.proofs.RowCases.{Gives, Leaves, pushed_leaves, Row, Whole}
+use Rattle.fm_types.proofs.LeastJoins.{same_type-eq}
+use Rattle.fm_types.proofs.Order.{type-refl}
+use Rattle.fm_world.specs.Chains.{same_type}
 
 -- an int is written where an int was
 int_cell : (o : Outline) (store : Store) (own : ℕ) (news : ℕ → Option TypeRef) (s : Slot) (v : Value) → is_int s ≡ true → Cell o store own news s v
@@ -46,22 +51,29 @@ module _ (r : Row) where
   pub given_whole : (slots : List Slot) (gives : List Source) → Some (pushed slots r.before) ≡ Some r.after → Gives r [] slots gives → Whole r (words 0 gives)
   given_whole slots gives row fits = record { acts = tt; next = pushed_leaves r slots (words 0 gives) row refl refl fits }
 
-  pub constant_whole : (u : Use) → constant_row o u r.before ≡ Some r.after → Whole r (constant_effect u)
-  unfolding constant_row constant_effect
-  constant_whole (resolved.OfType t) row = absurd (cc)
-  constant_whole (resolved.OfField g t) row = absurd (cc)
-  constant_whole (resolved.OfMethod m t) row = absurd (cc)
-  constant_whole (resolved.OfInt n) row = given_whole (slot.Int ∷ []) (int_word n) row (λ y made went. (tt, tt))
-  constant_whole (resolved.OfLong n) row = given_whole (slot.Top ∷ slot.Long ∷ []) (long_words n) row (λ y made went. (tt, (tt, tt)))
-  constant_whole (resolved.OfText text) row = record {
+  -- a literal of a type is given
+  literal_whole : (literal : ℕ) (t : TypeRef) → literal_type o literal ≡ t → Some (pushed (slot.Ref t ∷ []) r.before) ≡ Some r.after
+      → Whole r (giving_literal 0 literal)
+  literal_whole literal t is row = record {
     acts = tt;
-    next = pushed_leaves r (slot.Ref (text_type o) ∷ []) (constant_effect (resolved.OfText text)) row refl refl
+    next = pushed_leaves r (slot.Ref t ∷ []) (giving_literal 0 literal) row refl refl
         (λ y made went. (
-          leads_weaker o y.store (is_string_type o) (λ u. fits_type o.classes u (text_type o)) (text_fits o r.steps.tree) _ (went.areas.literals text),
+          leads_weaker o y.store (same_type (literal_type o literal)) (λ u. fits_type o.classes u t)
+              (λ u same. subst (λ w. fits_type o.classes w t ≡ true) (sym is ∙ same_type-eq (literal_type o literal) u same)
+              (type-refl o.classes r.steps.tree t)) _ (went.areas.literals literal),
           tt,
         ));
   }
-  constant_whole resolved.Unused row = absurd (cc)
+
+  pub constant_whole : (u : Use) → IsUseIn o u → constant_row o u r.before ≡ Some r.after → Whole r (constant_effect o u)
+  unfolding constant_row constant_effect
+  constant_whole (resolved.OfType t) inside row = literal_whole (class_literal o t.0) (class_type o) (class-literal o t.0) row
+  constant_whole (resolved.OfField g t) inside row = absurd (cc)
+  constant_whole (resolved.OfMethod m t) inside row = absurd (cc)
+  constant_whole (resolved.OfInt n) inside row = given_whole (slot.Int ∷ []) (int_word n) row (λ y made went. (tt, tt))
+  constant_whole (resolved.OfLong n) inside row = given_whole (slot.Top ∷ slot.Long ∷ []) (long_words n) row (λ y made went. (tt, (tt, tt)))
+  constant_whole (resolved.OfText text) inside row = literal_whole text (text_type o) (text-literal o text inside) row
+  constant_whole resolved.Unused inside row = absurd (cc)
 
   -- ---- locals
 

@@ -24,6 +24,7 @@ use Rattle.fm_world.specs.Programs.{Outline, Program}
 use Rattle.fm_frames.specs.Acts.{cell_of, Choose, Did, FullAt, LostAt, performed, Performed}
 use Rattle.fm_frames.specs.Effects.{Action, Free, FreeChain, Make, MakeFixed, MakeLiteral, Put, SetChain, SetStatic, Start}
 use Rattle.fm_frames.specs.Elements.{first_of, read}
+use Rattle.fm_frames.specs.Literals.{literal_count}
 use Rattle.fm_frames.specs.NativeRows.{text_type}
 use Rattle.fm_frames.specs.Runs.{after_action, argument_actions, arguments_type, first_areas, framed, Job, opened_by, opening, opening_actions, opening_frames, unopened, with_streams}
 use Rattle.fm_frames.specs.Starts.{start_actions, start_methods, to_start}
@@ -156,7 +157,7 @@ null_statics o (f ∷ fields) n =
 first_whole : (o : Outline) (budget : ℕ) (limit : Option ℕ) (free : List (List ℕ)) → AreasAreWhole o (first_areas o (opened budget limit free))
 first_whole o budget limit free = record {
   statics = λ field t is. inl (null_statics o (fields_of o.classes) field);
-  literals = λ text. inl (zeros_found o.texts text);
+  literals = λ text. inl (zeros_found (literal_count o) text);
   heap = λ cell held there. absurd (nothing_held cell held there);
 } where
   nothing_held : (cell : ℕ) (held : Object) → object_at (opened budget limit free) cell ≡ Some held → ⊥

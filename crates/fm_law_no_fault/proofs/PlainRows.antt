@@ -1,12 +1,12 @@
 -- All rows but those of calls: the effect of each leads on to cells that fit, and none is a fault.
-use Rattle.std.proofs.Common.{◌≡◌, ℕ, ℤ, Bool, true, false, List, [], ◌∷◌, codes, length, position, take, Option, Some, refl, sym}
+use Rattle.std.proofs.Common.{◌≡◌, ℕ, ℤ, Bool, true, false, List, [], ◌∷◌, codes, length, position, take, Option, Some, refl, sym, subst}
 use Rattle.std.specs.Ordering.{int_eq}
 use Rattle.std.proofs.lemmas.Bool.{false≢true}
 use Rattle.fm_code.specs.StackWords.{number_given}
 use Rattle.fm_code.specs.declared.instructions.Insn.{Insn}
 use Rattle.fm_code.specs.declared.instructions.Insn.TheVariants as insn
 use Rattle.fm_types.proofs.EachCheckRow.{given_by, is_number, wanted_by}
-use Rattle.fm_types.specs.Named.{object_slot}
+use Rattle.fm_types.specs.Named.{class_of_method, object_slot}
 use Rattle.fm_types.specs.NumberRows.{convert_row, number_slots}
 use Rattle.fm_types.specs.Rows.{row_after}
 use Rattle.fm_types.specs.States.{worked}
@@ -19,6 +19,7 @@ use Rattle.fm_frames.proofs.EachNumber.{each_number}
 use Rattle.fm_frames.specs.Effects.{Falls, given_number, going, int_word, Jumps, JumpsIfSame, long_words, Next, null_word, words}
 use Rattle.fm_frames.specs.JumpRows.{int_jump_effect, jumps_if, key_target, lookup_effect, null_jump_effect, pair_jump_effect, table_effect, table_target}
 use Rattle.fm_frames.specs.Rows.{effect_of}
+use Rattle.fm_frames.specs.Runnable.{IsUseIn}
 use Rattle.fm_frames.specs.Sights.{Sight, sights}
 use Rattle.fm_law_sound.specs.Leading.{is_call, NamesField}
 use Rattle.fm_law_sound.specs.Resolved.{IsNamed}
@@ -85,7 +86,8 @@ module _ (r : Row) where
   plain_whole insn.Null u byte names named makes call typed = given_whole r (slot.Null ∷ []) null_word typed (λ y made went. (refl, tt))
   plain_whole (insn.Const n) u byte names named makes call typed = given_whole r one_int (int_word n) typed (λ y made went. (tt, tt))
   plain_whole (insn.LongConst n) u byte names named makes call typed = given_whole r one_long (long_words n) typed (λ y made went. (tt, (tt, tt)))
-  plain_whole (insn.LoadPool index) u byte names named makes call typed = constant_whole r u typed
+  plain_whole (insn.LoadPool index) u byte names named makes call typed =
+      constant_whole r u (subst (IsUseIn o) named.use_is (r.steps.calls.runnable.uses (class_of_method o r.frame.method) index)) typed
   plain_whole (insn.Load q k) u byte names named makes call typed = load_whole r q k typed
   plain_whole (insn.Store q k) u byte names named makes call typed = store_whole r q k typed
   plain_whole (insn.Inc k by) u byte names named makes call typed = increment_whole r k by typed

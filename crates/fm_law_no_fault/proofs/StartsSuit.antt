@@ -1,5 +1,5 @@
 -- The start of classes gives static fields what suits them, and makes nothing but literals; so an effect owes what it should with it, too.
-use Rattle.std.proofs.Common.{◌≡◌, ℕ, Bool, List, [], ◌∷◌, ◌++◌, Option, Some, None, refl, sym, subst}
+use Rattle.std.proofs.Common.{◌≡◌, ℕ, Bool, List, [], ◌∷◌, ◌++◌, Option, Some, None, refl, sym, subst, length, true, ◌<◌}
 use Rattle.std.specs.List.{AllByRecursion, flat_map}
 use Rattle.fm_base.proofs.ListFacts.{AllByRecursion-append}
 use Rattle.fm_base.specs.Texts.{units}
@@ -7,6 +7,7 @@ use Rattle.fm_base.specs.declared.kinds.Kind.{Kind}
 use Rattle.fm_base.specs.declared.kinds.Kind.TheVariants as kind
 use Rattle.fm_base.specs.declared.kinds.TypeRef.{TypeRef}
 use Rattle.fm_cells.specs.Stores.{Store}
+use Rattle.fm_frames.proofs.LiteralSteps.{text-literal}
 use Rattle.fm_types.specs.Fits.{AreTree, fits_type}
 use Rattle.fm_types.specs.Named.{throwable_type}
 use Rattle.fm_types.specs.States.{TypeState}
@@ -16,7 +17,7 @@ use Rattle.fm_world.specs.Programs.{Outline, Program}
 use Rattle.fm_world.specs.declared.declarations.Constant.{Constant}
 use Rattle.fm_world.specs.declared.declarations.Constant.TheVariants as constant
 use Rattle.fm_frames.specs.Effects.{Action, Effect, Calls, Enters, Exits, Falls, Faults, Free, FreeChain, Jumps, JumpsIfSame, Make, MakeFixed, MakeLiteral, Next, nothing, OfLiteral, Put, Returns, SetChain, SetStatic, Source, Start, Throws}
-use Rattle.fm_frames.specs.NativeRows.{text_kind}
+use Rattle.fm_frames.specs.NativeRows.{text_kind, text_type}
 use Rattle.fm_frames.specs.ObjectRows.{kind_of_field}
 use Rattle.fm_frames.specs.Starts.{fields_at, set_constant, start_actions, start_methods, start_of_class, started_by, to_start, with_start}
 use Rattle.fm_frames.specs.States.{Areas, Frame}
@@ -26,8 +27,10 @@ use Rattle.fm_same.specs.Evenness.{IsNumber, IsPlainKind}
 use Rattle.fm_law_sound.specs.Leading.{sources_of}
 use Rattle.fm_law_no_fault.specs.CellsResolved.{CellsAreResolved}
 use Rattle.fm_law_no_fault.proofs.ActsKeep.{types_after, Went}
-use Rattle.fm_law_no_fault.proofs.ActsSuits.{text_fits}
 use Rattle.fm_law_no_fault.proofs.Owing.{ActsSuit, CellsFit, NextSuits, RowIsWhole, SourceIsA, Suits}
+use Rattle.fm_types.proofs.Order.{type-refl}
+use Rattle.std.proofs.lemmas.List.Quantifiers.{position-Some}
+use Rattle.std.specs.Str.{bytes_eq}
 
 -- a number is the constant of a field of numbers
 abbrev pub NumbersAreConstants : Outline → Type 0
@@ -58,18 +61,21 @@ module _ (p : Program) (cells : CellsAreResolved p) (tree : AreTree p.outline.cl
   plain_suits kind.Long v is types = tt
   plain_suits (kind.Ref t) v is types = absurd is
 
-  literal_suits : (k : Kind) (text : ℕ) → k ≡ text_kind o → (types : List TypeRef) → Suits o store stack types k (OfLiteral text)
-  literal_suits k text is types =
-      subst (λ q. Suits o store stack types q (OfLiteral text)) (sym is) (λ t found. text_fits o tree t found)
+  literal_suits : (k : Kind) (text : ℕ) → text < length o.texts → k ≡ text_kind o → (types : List TypeRef) → Suits o store stack types k (OfLiteral text)
+  literal_suits k text inside is types =
+      subst (λ q. Suits o store stack types q (OfLiteral text)) (sym is)
+      (subst (λ t. fits_type o.classes t (text_type o) ≡ true) (sym (text-literal o text inside)) (type-refl o.classes tree (text_type o)))
 
   -- the constant of a field that holds a text
   abbrev text_set : ℕ → Option ℕ → List Action
   text_set field None = []
   text_set field (Some number) = MakeLiteral number ∷ SetStatic (slot_of o.classes field) (kind_of_field o field) (OfLiteral number) ∷ []
 
-  text_suits : (field : ℕ) → kind_of_field o field ≡ text_kind o → (number : Option ℕ) → AllByRecursion StartSuits (text_set field number)
-  text_suits field is None = tt
-  text_suits field is (Some number) = (tt, (literal_suits (kind_of_field o field) number is, tt))
+  text_suits : (field : ℕ) → kind_of_field o field ≡ text_kind o → (text : List ℕ) (number : Option ℕ) → text_number o.texts text ≡ number
+      → AllByRecursion StartSuits (text_set field number)
+  text_suits field is text None found = tt
+  text_suits field is text (Some number) found =
+      (tt, (literal_suits (kind_of_field o field) number (position-Some (bytes_eq text) o.texts number [] found).0 is, tt))
 
   constant_suits : (field : ℕ) (value : Option Constant) → (field_at o.classes field).field.value ≡ value
       → AllByRecursion StartSuits (set_constant o field value)
@@ -78,7 +84,7 @@ module _ (p : Program) (cells : CellsAreResolved p) (tree : AreTree p.outline.cl
       (plain_suits (kind_of_field o field) _ (numbers field (subst IsNumber (sym is) tt)), tt)
   constant_suits field (Some (constant.Long n)) is =
       (plain_suits (kind_of_field o field) _ (numbers field (subst IsNumber (sym is) tt)), tt)
-  constant_suits field (Some (constant.Text text)) is = text_suits field (cells.places.constants field text is) (text_number o.texts (units text))
+  constant_suits field (Some (constant.Text text)) is = text_suits field (cells.places.constants field text is) (units text) (text_number o.texts (units text)) refl
 
   all_flat : {X : Type 0} (f : X → List Action) → ((x : X) → AllByRecursion StartSuits (f x)) → (xs : List X) → AllByRecursion StartSuits (flat_map f xs)
   all_flat f each [] = tt

@@ -128,6 +128,7 @@ pub record TakesAsAsked (o : Outline) (method : ℕ) (row : Native) : Type 0 whe
 pub record BuiltInsFit (p : Program) : Type 0 where
   -- objects that live for ever have no place for references
   pub text_plain : HoldsNoCell p.outline (text_type p.outline)
+  pub class_plain : HoldsNoCell p.outline (class_type p.outline)
   pub output_plain : HoldsNoCell p.outline (output_type p.outline)
   pub input_plain : HoldsNoCell p.outline (input_type p.outline)
   -- what builds texts has a hidden field, and so has what is thrown

@@ -10,10 +10,9 @@ use Rattle.fm_types.specs.Fits.{fits_type}
 use Rattle.fm_types.specs.declared.slots.Slot.TheVariants as slot
 use Rattle.fm_world.specs.Numbers.{type_number}
 use Rattle.fm_world.specs.Programs.{kind_at, Outline}
-use Rattle.fm_frames.specs.Acts.{cell_of, Did, FullAt, LostAt, Performed}
+use Rattle.fm_frames.specs.Acts.{cell_of, Did, FullAt, literal_type, LostAt, Performed}
 use Rattle.fm_frames.specs.Effects.{Action, Make, MakeFixed, MakeLiteral, Put, SetStatic, Start, Free, SetChain, FreeChain, Source, Plain, OfOperand, OfMade, OfLiteral}
 use Rattle.fm_frames.specs.Elements.{is_string_type}
-use Rattle.fm_frames.specs.NativeRows.{text_type}
 use Rattle.fm_frames.specs.Sights.{has_hidden_field, type_numbered}
 use Rattle.fm_frames.specs.States.{null, word_at}
 use Rattle.fm_frames.specs.declared.values.Value.{Value}
@@ -27,7 +26,7 @@ abbrev pub SourceLeadsTo : Outline → Store → List Value → List TypeRef →
 SourceLeadsTo o store stack types test (Plain v) = v ≡ null
 SourceLeadsTo o store stack types test (OfOperand n) = IsReference (word_at stack n) × LeadsToA o store test (cell_of (word_at stack n))
 SourceLeadsTo o store stack types test (OfMade n) = (t : TypeRef) × (slice_get types n ≡ Some t) × (test t ≡ true)
-SourceLeadsTo o store stack types test (OfLiteral text) = (t : TypeRef) → is_string_type o t ≡ true → test t ≡ true
+SourceLeadsTo o store stack types test (OfLiteral literal) = test (literal_type o literal) ≡ true
 SourceLeadsTo o store stack types test other = ⊥
 
 -- the source leads to an object of exactly this type
@@ -71,7 +70,8 @@ ActsLead o store stack types [] = Unit {0}
 ActsLead o store stack types (Make t len content ∷ more) =
     HasNumber o t × ((content ≡ []) ⊎ HoldsNoCell o t) × ActsLead o store stack (types ++ t ∷ []) more
 ActsLead o store stack types (MakeFixed t ∷ more) = HasNumber o t × HoldsNoCell o t × ActsLead o store stack (types ++ t ∷ []) more
-ActsLead o store stack types (MakeLiteral text ∷ more) = HasNumber o (text_type o) × HoldsNoCell o (text_type o) × ActsLead o store stack types more
+ActsLead o store stack types (MakeLiteral literal ∷ more) =
+    HasNumber o (literal_type o literal) × HoldsNoCell o (literal_type o literal) × ActsLead o store stack types more
 ActsLead o store stack types (Put object place k v ∷ more) =
     ((t : TypeRef) × SourceIsOf o store stack types t object × PlaceTakes o store stack types t place k v) × ActsLead o store stack types more
 ActsLead o store stack types (SetStatic field k v ∷ more) = StaticTakes o store stack types field k v × ActsLead o store stack types more

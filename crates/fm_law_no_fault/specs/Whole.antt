@@ -17,9 +17,9 @@ use Rattle.fm_types.specs.States.{TypeState}
 use Rattle.fm_types.specs.Typed.{made_at, state_at}
 use Rattle.fm_types.specs.declared.slots.Slot.{Slot}
 use Rattle.fm_types.specs.declared.slots.Slot.TheVariants as slot
-use Rattle.fm_world.specs.Chains.{chain_of, is_among}
+use Rattle.fm_world.specs.Chains.{chain_of, is_among, same_type}
 use Rattle.fm_world.specs.Programs.{class_of_type, code_at, Outline, Program}
-use Rattle.fm_frames.specs.Acts.{cell_of}
+use Rattle.fm_frames.specs.Acts.{cell_of, literal_type}
 use Rattle.fm_frames.specs.Elements.{is_string_type}
 use Rattle.fm_frames.specs.Sights.{has_hidden_field, type_numbered}
 use Rattle.fm_frames.specs.States.{Areas, Frame, State, word_at}
@@ -96,11 +96,11 @@ pub record ObjectIsWhole (o : Outline) (store : Store) (object : Object) : Type 
   pub hidden : has_hidden_field o (type_numbered o object.class) ≡ true → LeadsToA o store (is_string_type o) (slice_index_or object.elements 0 0)
   pub fixed : object.fixed ≡ true → (place : ℕ) (t : TypeRef) → kind_in o object place ≡ Some (kind.Ref t) → ⊥
 
--- static fields fit their kinds, literals are texts, and what is held is whole
+-- static fields fit their kinds, literals are of their types, and what is held is whole
 pub record AreasAreWhole (o : Outline) (x : Areas) : Type 0 where
   pub statics : (field : ℕ) (t : TypeRef) → slice_get (static_slots o) field ≡ Some (slot.Ref t)
       → LeadsToA o x.store (λ u. fits_type o.classes u t) (cell_of (word_at x.statics field))
-  pub literals : (text : ℕ) → LeadsToA o x.store (is_string_type o) (slice_index_or x.literals text 0)
+  pub literals : (literal : ℕ) → LeadsToA o x.store (same_type (literal_type o literal)) (slice_index_or x.literals literal 0)
   pub heap : (cell : ℕ) (object : Object) → object_at x.store cell ≡ Some object → ObjectIsWhole o x.store object
 
 -- ---- a state

@@ -6,10 +6,9 @@ use Rattle.fm_cells.specs.Stores.{object_at, Store}
 use Rattle.fm_world.specs.Programs.{Outline, Program}
 use Rattle.fm_frames.proofs.OpeningSteps.{put_kept}
 use Rattle.fm_frames.proofs.StepCounts.{step_is, stepped}
-use Rattle.fm_frames.specs.Acts.{all_freed, cell_of, chain_freed, chain_from, chained, Choose, class_started, Did, freed, freed_object, FullAt, is_there, literal_made, literal_text, LostAt, made_then, performed, Performed, put_value, requested, set_static, Sources, value_of, with_content}
+use Rattle.fm_frames.specs.Acts.{all_freed, cell_of, chain_freed, chain_from, chained, Choose, class_started, Did, freed, freed_object, FullAt, is_there, literal_made, literal_text, literal_type, LostAt, made_then, performed, Performed, put_value, requested, set_static, Sources, value_of, with_content}
 use Rattle.fm_frames.specs.Effects.{Action, Effect, Free, FreeChain, Make, MakeFixed, MakeLiteral, Put, SetChain, SetStatic, Start}
 use Rattle.fm_frames.specs.Elements.{kept}
-use Rattle.fm_frames.specs.NativeRows.{text_type}
 use Rattle.fm_frames.specs.Runs.{after, after_action, first_areas, Job, opened_by, opening, opening_actions, opening_frames, unopened, with_streams}
 use Rattle.fm_frames.specs.Starts.{start_actions, start_methods, to_start}
 use Rattle.fm_frames.specs.States.{Areas, Frame, Moved, State, word_at}
@@ -103,7 +102,7 @@ module _ (budget : ℕ) where
       (λ y cell. performed o choose locals stack more y (made ++ cell ∷ [])) is
       (λ later cell same. acts_budget o choose locals stack more (record x { store = later }) (made ++ cell ∷ []) same)
   acts_budget o choose locals stack (MakeLiteral text ∷ more) x made is =
-      let request : Request = requested o (text_type o) (length (literal_text o text)) true in
+      let request : Request = requested o (literal_type o text) (length (literal_text o text)) true in
       let follows : Areas → ℕ → Performed = λ y cell. performed o choose locals stack more (literal_made y text cell) made in
       either_within (is_there x text) (performed o choose locals stack more x made)
       (made_then x request (literal_text o text) (choose x.store request) follows) (acts_budget o choose locals stack more x made is)

@@ -19,10 +19,9 @@ use Rattle.fm_cells.specs.Soundness.{CellsFit}
 use Rattle.fm_cells.specs.Stores.{elements_at, IsHeld, object_at, Store}
 use Rattle.fm_world.specs.Members.{size_of}
 use Rattle.fm_world.specs.Programs.{kind_at, Outline}
-use Rattle.fm_frames.specs.Acts.{all_freed, cell_of, chain_from, chain_freed, chained, Choose, Did, freed, freed_object, FullAt, is_there, literal_made, literal_text, LostAt, made_then, performed, Performed, put_value, requested, set_static, sum_of, value_of, with_content}
+use Rattle.fm_frames.specs.Acts.{all_freed, cell_of, chain_from, chain_freed, chained, Choose, Did, freed, freed_object, FullAt, is_there, literal_made, literal_text, literal_type, LostAt, made_then, performed, Performed, put_value, requested, set_static, sum_of, value_of, with_content}
 use Rattle.fm_frames.specs.Effects.{Action, Make, MakeFixed, MakeLiteral, Put, SetStatic, Start, Free, SetChain, FreeChain, Source, Plain, OfOperand, OfLocal, LocalPlus, OfPlace, OfStatic, OfMade, OfLiteral, SameOperands}
 use Rattle.fm_frames.specs.Elements.{cut, kept, read}
-use Rattle.fm_frames.specs.NativeRows.{text_type}
 use Rattle.fm_frames.specs.Sights.{type_numbered}
 use Rattle.fm_frames.specs.States.{Areas, Frame, word_at}
 use Rattle.fm_frames.specs.declared.values.Value.{Value}
@@ -391,7 +390,7 @@ module _ (o : Outline) (sizes : (class : ℕ) → size_of o.classes class < 2 ^ 
       (λ later cell one within_range now. acts_hold more (record x { store = later }) (types ++ t ∷ []) (made ++ cell ∷ []) fit.1 agrees.1
       (one_made o store x later types made cell t h one) now (All-push (λ c. c < 2 ^ 32) made cell small within_range))
   acts_hold (MakeLiteral text ∷ more) x types made fit agrees h leads small =
-      let t : TypeRef = text_type o in
+      let t : TypeRef = literal_type o text in
       let len : ℕ = length (literal_text o text) in
       either_holds (is_there x text) (performed o choose f.locals f.stack more x made)
       (made_then x (requested o t len true) (literal_text o text) (choose x.store (requested o t len true))

@@ -14,10 +14,9 @@ use Rattle.fm_cells.specs.Changes.{Choice, chained_by, freed_by, made_by, put_by
 use Rattle.fm_cells.specs.Objects.{new_object, Object, object_words, Request}
 use Rattle.fm_cells.specs.Stores.{IsHeld, object_at, Store}
 use Rattle.fm_world.specs.Programs.{Outline}
-use Rattle.fm_frames.specs.Acts.{all_freed, cell_of, cells_with, chain_cells, chain_freed, chain_from, chained, Choose, Did, freed, freed_object, FullAt, is_there, literal_made, literal_text, LostAt, made_then, performed, Performed, requested, set_static, value_of, with_content}
+use Rattle.fm_frames.specs.Acts.{all_freed, cell_of, cells_with, chain_cells, chain_freed, chain_from, chained, Choose, Did, freed, freed_object, FullAt, is_there, literal_made, literal_text, literal_type, LostAt, made_then, performed, Performed, requested, set_static, value_of, with_content}
 use Rattle.fm_frames.specs.Effects.{Action, Make, MakeFixed, MakeLiteral, Put, SetStatic, Start, Free, SetChain, FreeChain}
 use Rattle.fm_frames.specs.Elements.{kept}
-use Rattle.fm_frames.specs.NativeRows.{text_type}
 use Rattle.fm_frames.specs.States.{Areas, Frame, word_at}
 use Rattle.fm_frames.specs.declared.values.Value.{Value}
 use Rattle.fm_frames.specs.declared.values.Value.TheVariants as value
@@ -203,7 +202,7 @@ module _ (o : Outline) (choose : Choose) (f : Frame) (within : FrameLeadsWithin 
       (λ y c. performed o choose f.locals f.stack more y (made ++ c ∷ [])) cell chains held
       (λ later c fits still. acts_stay more (record x { store = later }) (made ++ c ∷ []) fits cell still)
   acts_stay (MakeLiteral text ∷ more) x made chains cell held =
-      let request : Request = requested o (text_type o) (length (literal_text o text)) true in
+      let request : Request = requested o (literal_type o text) (length (literal_text o text)) true in
       either_in cell (is_there x text) _ _ (acts_stay more x made chains cell held)
       (made_stay x request (literal_text o text) (choose x.store request)
       (λ y c. performed o choose f.locals f.stack more (literal_made y text c) made) cell chains held

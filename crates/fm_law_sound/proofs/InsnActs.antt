@@ -33,7 +33,6 @@ use Rattle.fm_world.specs.Programs.{kind_at, Outline, Program}
 use Rattle.fm_world.specs.Uses.{array_of}
 use Rattle.fm_world.specs.declared.uses.Use.{Use}
 use Rattle.fm_world.specs.declared.uses.Use.TheVariants as resolved
-use Rattle.fm_frames.specs.Acts.{literal_text}
 use Rattle.fm_frames.specs.ArrayRows as arrays
 use Rattle.fm_frames.specs.ArrayRows.{element_kind, put_element}
 use Rattle.fm_frames.specs.Effects.{acting, Effect, Falls, faulty, loaded, Make, making, OfMade, OfOperand, OfPlace, Put, stuck, words}
@@ -54,7 +53,7 @@ use Rattle.fm_law_sound.specs.Sound.{field_slot, FrameHasKinds, HasKind, HaveKin
 use Rattle.fm_law_sound.proofs.ArrayRows.{number_slots, reference_kind}
 use Rattle.fm_law_sound.proofs.HiddenFields.{field_seen}
 use Rattle.fm_law_sound.proofs.KindLemmas.{taken_words}
-use Rattle.fm_law_sound.proofs.MadeObjects.{arithmetic_thrown, array_fits, cast_thrown, change_thrown, index_thrown, IsThrown, negative_thrown, no_text, null_thrown, numbered, object_fits, outside_thrown, store_thrown, text_fits}
+use Rattle.fm_law_sound.proofs.MadeObjects.{arithmetic_thrown, array_fits, cast_thrown, change_thrown, index_thrown, IsThrown, literal_fits, negative_thrown, no_text, null_thrown, numbered, object_fits, outside_thrown, store_thrown}
 use Rattle.fm_law_sound.proofs.NestedArrays.{array_kind, arrays_fit}
 use Rattle.fm_law_sound.proofs.SeenObjects.{seen_at}
 use Rattle.fm_law_sound.proofs.ObjectRows.{row_of_field, row_of_type, static_slot_at}
@@ -328,8 +327,7 @@ module _ (p : Program) (ready : IsMakeable p) (store : Store) (f : Frame) where
           plain = λ e gives writes named written. quiet (record e { actions = []; gives = gives; writes = writes; next = Falls }) refl;
           goes = λ e next leads. quiet (record e { actions = []; gives = []; writes = []; next = next }) refl;
           throws = λ it it_is seen fits. quiet _ refl;
-          literal = λ index text it_is used.
-              record { fits = λ few. (text_fits p ready (literal_text o text) (ready.texts text).0 (ready.texts text).1, tt) };
+          literal = λ index n it_is named. record { fits = λ few. (literal_fits p ready n, tt) };
           new = λ index n t class it_is used at is.
               let there : new_row o f.item u known ≡ Some after = subst (λ j. row_after o f.method f.item news u j known ≡ Some after) it_is row in
               made_fits f.item n.0 t class at (row_of_type o u _ n t after used at there);

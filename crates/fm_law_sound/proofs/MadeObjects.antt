@@ -1,8 +1,8 @@
 -- Objects that rows make are of types that have a number, and have their length.
-use Rattle.std.proofs.Common.{◌≡◌, ℕ, zero, suc, ◌+◌, ◌^◌, ◌<◌, ◌≤◌, ◌==◌, not, Bool, true, false, cond, List, [], ◌∷◌, ◌++◌, length, codes, Option, Some, None, refl, sym, ◌∙◌, ap, subst, inl, inr, slice_get, get_or, arith, ⊎_elim}
+use Rattle.std.proofs.Common.{◌≡◌, ℕ, zero, suc, ◌+◌, ◌^◌, ◌<◌, ◌≤◌, ◌==◌, nat_lt, not, Bool, true, false, cond, List, [], ◌∷◌, ◌++◌, length, codes, Option, Some, None, refl, sym, ◌∙◌, ap, subst, inl, inr, slice_get, get_or, arith, ⊎_elim}
 use Rattle.std.specs.List.{position_or_len}
 use Rattle.std.specs.Str.{bytes_eq}
-use Rattle.std.proofs.lemmas.Bool.{and_parts, false≢true, lt-ltb, ne_eqb, not-true, or_cases, or_left}
+use Rattle.std.proofs.lemmas.Bool.{and_parts, false≢true, lt-ltb, ne_eqb, not-true, or_cases, or_left, or_right}
 use Rattle.std.proofs.lemmas.Iterator.Adapters.{position_from-zero}
 use Rattle.std.proofs.lemmas.List.Quantifiers.{position-Some}
 use Rattle.std.proofs.lemmas.Option.{none-some, same_Some, slice_get-get_or}
@@ -27,6 +27,7 @@ use Rattle.fm_world.specs.declared.declarations.DeclaredClass.{DeclaredClass}
 use Rattle.fm_world.specs.inner.Completions.{AreCompleted}
 use Rattle.fm_frames.proofs.BuiltInTypes.{named_class}
 use Rattle.fm_frames.proofs.Programs.{built_in-inside, class_literal-is, completed-are, string-is}
+use Rattle.fm_frames.specs.Acts.{literal_text, literal_type}
 use Rattle.fm_frames.specs.Effects.{Make}
 use Rattle.fm_frames.specs.Elements.{is_string_type, is_text_type, pack_of}
 use Rattle.fm_frames.specs.NativeRows.{class_type, text_type}
@@ -283,6 +284,33 @@ module _ (p : Program) (ready : IsMakeable p) where
       subst (λ t. MakeFits o t (length units) units) (sym text_is)
       (class_fits 1 (length units) units (omega arith) (λ given. (refl, refl))
       (subst (λ b. HasLengthBy o b (Some 1) (length units)) (sym text_class) below) (text_content units fit))
+
+  class_content : (units : List ℕ) → AreUnits units → ContentFits o (type_of_class class_literal_class) (length units) units
+  class_content [] fit = tt
+  class_content (unit ∷ units) fit = (refl, fit, λ place. sym (ap (λ t. kind_at o.classes t place) class_is) ∙ class_places place)
+
+  class_kept : is_text_type o (type_of_class class_literal_class) ≡ true
+  class_kept =
+      or_right (is_string_type o (type_of_class class_literal_class)) (same_type (class_type o) (type_of_class class_literal_class))
+      (ap (λ t. same_type t (type_of_class class_literal_class)) class_is)
+
+  -- a class literal of 16-bit units
+  class_literal_fits : (units : List ℕ) → length units < 2 ^ 31 → AreUnits units → MakeFits o (class_type o) (length units) units
+  unfolding built_in
+  class_literal_fits units below fit =
+      subst (λ t. MakeFits o t (length units) units) (sym class_is)
+      (class_fits class_literal_class (length units) units (omega arith) (λ given. (refl, refl))
+      (subst (λ b. HasLengthBy o b (Some class_literal_class) (length units)) (sym class_kept) below) (class_content units fit))
+
+  -- each literal
+  pub literal_fits : (literal : ℕ) → MakeFits o (literal_type o literal) (length (literal_text o literal)) (literal_text o literal)
+  literal_fits literal = by_text (nat_lt literal (length o.texts)) where
+    units : List ℕ
+    units = literal_text o literal
+
+    by_text : (b : Bool) → MakeFits o (cond b (text_type o) (class_type o)) (length units) units
+    by_text true = text_fits units (ready.texts literal).0 (ready.texts literal).1
+    by_text false = class_literal_fits units (ready.texts literal).0 (ready.texts literal).1
 
   -- what has a place is no text
   pub no_text : (t : TypeRef) (place : ℕ) (k : Kind) → kind_at o.classes t place ≡ Some k → is_text_type o t ≡ false

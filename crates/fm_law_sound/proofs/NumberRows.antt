@@ -51,9 +51,10 @@ module _ (o : Outline) (s : TypeState) (f : Frame) (h : FrameHasKinds s f.locals
 
   -- ---- constants
 
-  pub constant_leads : (index : ℕ) (u : Use) → constant_row o u s ≡ Some after → Leads (insn.LoadPool index) (constant_effect u)
+  pub constant_leads : (index : ℕ) (u : Use) → constant_row o u s ≡ Some after → Leads (insn.LoadPool index) (constant_effect o u)
   unfolding constant_row constant_effect
-  constant_leads index (resolved.OfType t) row = absurd (cc)
+  constant_leads index (resolved.OfType t) row =
+      (refl, pushed_leaves o s f h (slot.Ref _ ∷ []) after (constant_effect o (resolved.OfType t)) row refl refl (λ areas made statics. (tt, tt)))
   constant_leads index (resolved.OfField g t) row = absurd (cc)
   constant_leads index (resolved.OfMethod m t) row = absurd (cc)
   constant_leads index (resolved.OfInt n) row =
@@ -61,7 +62,7 @@ module _ (o : Outline) (s : TypeState) (f : Frame) (h : FrameHasKinds s f.locals
   constant_leads index (resolved.OfLong n) row =
       (refl, pushed_leaves o s f h (slot.Top ∷ slot.Long ∷ []) after (words 0 (long_words n)) row refl refl (long_gives o f n))
   constant_leads index (resolved.OfText text) row =
-      (refl, pushed_leaves o s f h (slot.Ref _ ∷ []) after (constant_effect (resolved.OfText text)) row refl refl (λ areas made statics. (tt, tt)))
+      (refl, pushed_leaves o s f h (slot.Ref _ ∷ []) after (constant_effect o (resolved.OfText text)) row refl refl (λ areas made statics. (tt, tt)))
   constant_leads index resolved.Unused row = absurd (cc)
 
   -- ---- locals

@@ -4,7 +4,7 @@ use Rattle.std.specs.Prelude.{option_map, unwrap_or}
 use Rattle.std.specs.List.{AllByRecursion, flat_map}
 use Rattle.std.specs.FinMap.{gets}
 use Rattle.std.proofs.lemmas.Bool.Decides.{nat_tests}
-use Rattle.std.proofs.lemmas.List.{length-append, length-map}
+use Rattle.std.proofs.lemmas.List.{length-append, length-map, length-replicate}
 use Rattle.fm_base.specs.Texts.{units}
 use Rattle.fm_base.specs.declared.kinds.Kind.TheVariants as kind
 use Rattle.fm_base.specs.declared.kinds.TypeRef.{TypeRef}
@@ -27,10 +27,9 @@ use Rattle.fm_world.specs.declared.declarations.Constant.{Constant}
 use Rattle.fm_world.specs.declared.declarations.Constant.TheVariants as constant
 use Rattle.fm_world.specs.declared.declarations.DeclaredClass.{DeclaredClass}
 use Rattle.fm_world.specs.declared.declarations.DeclaredField.{DeclaredField}
-use Rattle.fm_frames.specs.Acts.{Choose, Did, is_there, literal_made, literal_text, made_then, performed, Performed, put_value, requested, set_static, value_of, with_content}
+use Rattle.fm_frames.specs.Acts.{Choose, Did, is_there, literal_made, literal_text, literal_type, made_then, performed, Performed, put_value, requested, set_static, value_of, with_content}
 use Rattle.fm_frames.specs.Effects.{Action, Free, FreeChain, Make, MakeFixed, MakeLiteral, OfLiteral, Put, SetChain, SetStatic, Start}
 use Rattle.fm_frames.specs.Elements.{first_of}
-use Rattle.fm_frames.specs.NativeRows.{text_type}
 use Rattle.fm_frames.specs.ObjectRows.{kind_of_field}
 use Rattle.fm_frames.specs.Runs.{after_action, argument_actions, first_areas, framed, Job, opened_by, opening, opening_actions, opening_frames, with_streams}
 use Rattle.fm_frames.specs.Starts.{fields_at, set_constant, start_actions, start_methods, start_of_class, to_start}
@@ -51,6 +50,7 @@ use Rattle.fm_law_sound.proofs.CallsStand.{new_stands, started_stand}
 use Rattle.fm_law_sound.proofs.ClassStarts.{starts_are_methods}
 use Rattle.fm_law_sound.proofs.Leaving.{read_kind}
 use Rattle.fm_frames.proofs.HeldCounts.{held_total}
+use Rattle.fm_frames.specs.Literals.{literal_count}
 
 -- the actions of the opening fit, and so do those that start classes
 pub record OpeningActsFit (p : Program) (job : Job) (store : Store) : Type 0 where
@@ -185,7 +185,7 @@ module _ (p : Program) (typings : Typings) (typed : AreTyped p typings) (sizes :
       (λ later cell one. each_sound more (record areas { store = later }) (types ++ t ∷ []) (made ++ cell ∷ []) follows goes all.1 fit.1
       (one_made o store areas later types made cell t h one)))
   each_sound (MakeLiteral text ∷ more) areas types made follows goes all fit h =
-      let t : TypeRef = text_type o in
+      let t : TypeRef = literal_type o text in
       let len : ℕ = length (literal_text o text) in
       either_sound (is_over o areas (MakeLiteral text ∷ [])) _ _ (ended_sound areas h.sound (exhausted areas (MakeLiteral text)))
       (either_after areas _ (is_there areas text) _ _
@@ -230,7 +230,7 @@ pub first_sound : (o : Outline) (budget : ℕ) (limit : Option ℕ) (free : List
 first_sound o budget limit free = record {
   statics = first_kinds o.classes (fields_of o.classes);
   started = length-map o.classes (λ class. false);
-  literals = length-map o.texts (λ text. 0);
+  literals = length-replicate (literal_count o) 0;
   heap = λ cell held there. absurd (nothing_held cell held there);
   freed = ap (λ n. 0 + n) (held_total (opened budget limit free).held ∙ total-empty (λ (held : Object). 1));
   freed_words = omega arith;

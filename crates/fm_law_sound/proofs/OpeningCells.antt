@@ -3,7 +3,7 @@ use Rattle.std.proofs.Common.{◌≡◌, ℕ, ◌+◌, ◌^◌, ◌<◌, ◌⊎�
 use Rattle.std.specs.List.{All, AllByRecursion, flat_map}
 use Rattle.std.specs.FinMap.{gets}
 use Rattle.std.proofs.lemmas.Bool.Decides.{nat_tests}
-use Rattle.std.proofs.lemmas.List.Elements.{All-append, All-cons, All-from_recursion, All-map, All-nil, All-push, All-set}
+use Rattle.std.proofs.lemmas.List.Elements.{All-append, All-cons, All-from_recursion, All-nil, All-push, All-replicate, All-set}
 use Rattle.fm_base.specs.declared.kinds.TypeRef.{TypeRef}
 use Rattle.fm_cells.proofs.Choices.{lawful_choice-may}
 use Rattle.fm_cells.specs.Changes.{Choice, made_by, put_by, RefuseStore, Take}
@@ -15,10 +15,10 @@ use Rattle.fm_code.specs.AccessFlags.{is_static}
 use Rattle.fm_world.specs.Members.{field_kind, fields_of, OwnedField, size_of}
 use Rattle.fm_world.specs.Programs.{Outline, Program}
 use Rattle.fm_world.specs.declared.declarations.DeclaredClass.{DeclaredClass}
-use Rattle.fm_frames.specs.Acts.{cell_of, Choose, Did, is_there, literal_made, literal_text, made_then, performed, Performed, put_value, requested, set_static, value_of, with_content}
+use Rattle.fm_frames.specs.Acts.{cell_of, Choose, Did, is_there, literal_made, literal_text, literal_type, made_then, performed, Performed, put_value, requested, set_static, value_of, with_content}
 use Rattle.fm_frames.specs.Effects.{Action, Make, MakeFixed, MakeLiteral, Put, SetStatic, Start}
 use Rattle.fm_frames.specs.Elements.{first_of, kept}
-use Rattle.fm_frames.specs.NativeRows.{text_type}
+use Rattle.fm_frames.specs.Literals.{literal_count}
 use Rattle.fm_frames.specs.Runs.{after_action, argument_actions, first_areas, framed, Job, opened_by, opening, opening_actions, opening_frames, unopened, with_streams}
 use Rattle.fm_frames.specs.Starts.{start_actions, start_methods, to_start}
 use Rattle.fm_frames.specs.States.{Areas, Frame, ref, State}
@@ -118,7 +118,7 @@ module _ (p : Program) (choose : Choose) (z : State) where
       (made_stay areas (requested o t 0 true) [] (choose areas.store (requested o t 0 true)) (λ y c. Did y (made ++ c ∷ [])) _ cell chains held
       (λ later c fits still. each_stays more (record areas { store = later }) (made ++ c ∷ []) follows stays all.1 fits cell still))
   each_stays (MakeLiteral text ∷ more) areas made follows stays all chains cell held =
-      let request : Request = requested o (text_type o) (length (literal_text o text)) true in
+      let request : Request = requested o (literal_type o text) (length (literal_text o text)) true in
       either_in cell (is_over o areas (MakeLiteral text ∷ [])) _ _ (over_in areas (MakeLiteral text) cell held)
       (either_after areas _ cell (is_there areas text) _ _ (each_stays more areas made follows stays all.1 chains cell held)
       (made_stay areas request (literal_text o text) (choose areas.store request) (λ y c. Did (literal_made y text c) made) _ cell chains held
@@ -193,7 +193,7 @@ module _ (p : Program) (choose : Choose) (z : State) where
         (λ later cell one within now. each_holds more (record areas { store = later }) (types ++ t ∷ []) (made ++ cell ∷ []) follows goes stays all.1 fit.1
         agrees.1 (one_made o store areas later types made cell t h one) now (All-push (λ c. c < 2 ^ 32) made cell small within)))
     each_holds (MakeLiteral text ∷ more) areas types made follows goes stays all fit agrees h leads small =
-        let t : TypeRef = text_type o in
+        let t : TypeRef = literal_type o text in
         let len : ℕ = length (literal_text o text) in
         either_holds p (is_over o areas (MakeLiteral text ∷ [])) _ _ (ended_holds areas leads (exhausted areas (MakeLiteral text)))
         (after_holds areas _ (is_there areas text) _ _ (each_holds more areas types made follows goes stays all.1 fit.1 agrees.1 h leads small)
@@ -247,7 +247,7 @@ first_values cs (f ∷ fields) = by_flag _ (is_static f.field.flags) (first_valu
 first_leads : (o : Outline) (budget : ℕ) (limit : Option ℕ) (free : List (List ℕ)) → AreasLeadWithin o (first_areas o (opened budget limit free))
 first_leads o budget limit free = record {
   statics = All-from_recursion LeadsWithin (first_areas o (opened budget limit free)).statics (first_values o.classes (fields_of o.classes));
-  literals = All-map (λ cell. cell < 2 ^ 32) (λ text. 0) o.texts (λ n d inside. omega arith);
+  literals = All-replicate (λ cell. cell < 2 ^ 32) (literal_count o) 0 (omega arith);
   heap = λ cell object held. absurd (nothing_held cell object held);
 } where
   nothing_held : (cell : ℕ) (held : Object) → object_at (opened budget limit free) cell ≡ Some held → ⊥

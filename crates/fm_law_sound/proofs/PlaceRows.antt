@@ -114,7 +114,7 @@ module _ (o : Outline) (store : Store) (stack : List Value) where
             (AllByRecursion-weaker (IsNamed i) Reads (named_agrees i) gives named));
         goes = λ e next leads. plain (record e { actions = []; gives = []; writes = []; next = next }) tt (none_thrown i next leads);
         throws = λ it it_is seen fits. plain _ tt (tt, tt);
-        literal = λ index text it_is used. plain _ (tt, tt) (tt, tt);
+        literal = λ index n it_is named. plain _ (tt, tt) (tt, tt);
         new = λ index n t class it_is used at is. plain _ (tt, tt) (tt, tt);
         number_array = λ e b len it_is is. plain _ (tt, tt) (tt, tt);
         reference_array = λ index n t array len it_is used at is. plain _ (tt, tt) (tt, tt);

@@ -13,14 +13,13 @@ use Rattle.fm_world.specs.Numbers.{text_number}
 use Rattle.fm_world.specs.Programs.{Outline, Program}
 use Rattle.fm_world.specs.declared.declarations.Constant.{Constant}
 use Rattle.fm_world.specs.declared.declarations.Constant.TheVariants as constant
-use Rattle.fm_frames.specs.Acts.{literal_text}
 use Rattle.fm_frames.specs.Effects.{Action, Effect, Enters, MakeLiteral, nothing, OfLiteral, SetStatic}
 use Rattle.fm_frames.specs.ObjectRows.{kind_of_field}
 use Rattle.fm_frames.specs.Starts.{fields_at, set_constant, start_actions, start_methods, start_of_class, started_by, to_start, with_start}
 use Rattle.fm_frames.specs.States.{Frame}
+use Rattle.fm_law_sound.proofs.MadeObjects.{literal_fits}
 use Rattle.fm_law_sound.specs.Acting.{ActsFit}
 use Rattle.fm_law_sound.specs.Making.{AreFew, ConstantsAreStatic, IsFew, IsMakeable}
-use Rattle.fm_law_sound.proofs.MadeObjects.{text_fits}
 use Rattle.fm_law_sound.proofs.ObjectRows.{static_slot_at}
 
 -- past the last field there is none, and no value
@@ -61,7 +60,7 @@ module _ (p : Program) (ready : IsMakeable p) (statics : ConstantsAreStatic p.ou
       → Fits (of_number field number ++ rest)
   text_set field c None rest is follows = follows
   text_set field c (Some number) rest is follows = (
-    text_fits p ready (literal_text o number) (ready.texts number).0 (ready.texts number).1,
+    literal_fits p ready number,
     (static_slot_at o field (valued_within field c is) (statics field c is), follows),
   )
 

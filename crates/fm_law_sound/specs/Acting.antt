@@ -8,10 +8,9 @@ use Rattle.fm_cells.specs.Objects.{Object}
 use Rattle.fm_cells.specs.Stores.{object_at, Store}
 use Rattle.fm_world.specs.Numbers.{type_number}
 use Rattle.fm_world.specs.Programs.{kind_at, Outline}
-use Rattle.fm_frames.specs.Acts.{cell_of, literal_text, value_of}
+use Rattle.fm_frames.specs.Acts.{cell_of, literal_text, literal_type, value_of}
 use Rattle.fm_frames.specs.Effects.{Action, Make, MakeFixed, MakeLiteral, Put, SetStatic, Start, Free, SetChain, FreeChain, Source, OfOperand, OfMade}
 use Rattle.fm_frames.specs.Elements.{is_text_type}
-use Rattle.fm_frames.specs.NativeRows.{text_type}
 use Rattle.fm_frames.specs.Sights.{type_numbered}
 use Rattle.fm_frames.specs.States.{Areas, Frame, word_at}
 use Rattle.fm_law_sound.specs.Leading.{sources_of}
@@ -56,7 +55,7 @@ ActsFit o store f types [] = Unit {0}
 ActsFit o store f types (Make t len content ∷ more) = MakeFits o t len content × ActsFit o store f (types ++ t ∷ []) more
 ActsFit o store f types (MakeFixed t ∷ more) = MakeFits o t 0 [] × ActsFit o store f (types ++ t ∷ []) more
 ActsFit o store f types (MakeLiteral text ∷ more) =
-    MakeFits o (text_type o) (length (literal_text o text)) (literal_text o text) × ActsFit o store f types more
+    MakeFits o (literal_type o text) (length (literal_text o text)) (literal_text o text) × ActsFit o store f types more
 ActsFit o store f types (Put object place k v ∷ more) =
     ObjectFits o store f types object place k × ValueFits o f k v × ActsFit o store f types more
 ActsFit o store f types (SetStatic slot k v ∷ more) = (slice_get (static_slots o) slot ≡ Some (field_slot k)) × ActsFit o store f types more

@@ -47,7 +47,7 @@ pub record IsMakeable (p : Program) : Type 0 where
   pub class_types : (class : ℕ) → class < length p.outline.classes → type_number p.outline.types (type_of_class class) ≡ Some class
   -- arrays of arrays are made with all that they hold
   pub elements : (n : ℕ) (t : TypeRef) → slice_get p.outline.types n ≡ Some t → 1 < t.dims → IsNumbered p.outline (element_type t)
-  -- the texts that instructions name are those of class files (JVMS 4.4.7)
+  -- the units of literals are those of texts, and of names, of class files (JVMS 4.4.7)
   pub texts : (text : ℕ) → (length (literal_text p.outline text) < 2 ^ 31) × AreUnits (literal_text p.outline text)
   -- the array of main's arguments has a number
   pub arguments : IsNumbered p.outline (arguments_type p.outline)

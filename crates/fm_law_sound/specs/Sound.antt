@@ -25,6 +25,7 @@ use Rattle.fm_world.specs.declared.uses.Use.{Use}
 use Rattle.fm_world.specs.declared.uses.Use.TheVariants as resolved
 use Rattle.fm_frames.specs.CallRows.{words_of_arguments}
 use Rattle.fm_frames.specs.Elements.{int_bits, is_text_type, pack_of}
+use Rattle.fm_frames.specs.Literals.{literal_count}
 use Rattle.fm_frames.specs.Sights.{type_numbered}
 use Rattle.fm_frames.specs.States.{Areas, Frame, State}
 use Rattle.fm_frames.specs.Steps.{next_insn, is_start}
@@ -96,7 +97,7 @@ HasObjects o t = of_class (class_of_type t) where
   of_class None = Unit {0}
   of_class (Some class) = (is_abstract (class_at o.classes class).flags ≡ false) × (is_interface (class_at o.classes class).flags ≡ false)
 
--- an object of a class has its size; a text and an array have any number of elements below 2^31
+-- an object of a class has its size; an array, and what is kept as units, have any number of elements below 2^31
 abbrev pub HasLengthBy : Outline → (is_text : Bool) → Option ℕ → ℕ → Type 0
 HasLengthBy o true class n = n < 2 ^ 31
 HasLengthBy o false None n = n < 2 ^ 31
@@ -199,10 +200,10 @@ Stand p typings (f ∷ callers) = StandsWithout p typings 0 f × StandBelow p ty
 
 -- what the frames share has the sizes and the kinds of the program
 pub record AreasAreSound (o : Outline) (x : Areas) : Type 0 where
-  -- a value of its kind for each static field, a mark for each class, a cell for each text
+  -- a value of its kind for each static field, a mark for each class, a cell for each literal
   pub statics : HaveKinds (static_slots o) x.statics
   pub started : length x.started ≡ length o.classes
-  pub literals : length x.literals ≡ length o.texts
+  pub literals : length x.literals ≡ literal_count o
   -- each object that is held
   pub heap : (cell : ℕ) (object : Object) → object_at x.store cell ≡ Some object → IsObjectIn o object
   -- what was made is held or was freed

@@ -1,5 +1,5 @@
 -- At a sound state the next effect does the same on both memories, also where classes are started first.
-use Rattle.std.proofs.Common.{◌≡◌, ℕ, ◌<◌, ◌≤◌, Bool, List, [], ◌∷◌, length, Option, Some, None, option_and_then, refl, sym, ◌∙◌, ap, subst, slice_get, ⊎_elim}
+use Rattle.std.proofs.Common.{◌≡◌, ℕ, ◌<◌, ◌≤◌, Bool, List, [], ◌∷◌, length, Option, Some, None, option_and_then, refl, sym, ◌∙◌, ap, subst, slice_get, ⊎_elim, arith}
 use Rattle.std.specs.List.{AllByRecursion}
 use Rattle.std.specs.Str.{bytes_eq}
 use Rattle.std.proofs.lemmas.Bool.{cases_lt}
@@ -26,6 +26,7 @@ use Rattle.fm_world.specs.Members.{field_at, methods_of}
 use Rattle.fm_world.specs.Numbers.{text_number}
 use Rattle.fm_world.specs.Programs.{Outline, Program}
 use Rattle.fm_code.specs.Operands.{pool_index}
+use Rattle.fm_frames.proofs.Programs.{literal-inside}
 use Rattle.fm_world.specs.declared.declarations.Constant.{Constant}
 use Rattle.fm_world.specs.declared.declarations.Constant.TheVariants as constant
 use Rattle.fm_world.specs.declared.uses.Use.{Use}
@@ -76,7 +77,7 @@ module _ (o : Outline) (constants : ConstantsFit o) (store : Store) (f : Frame) 
       → Acts (with_text o field found)
   text_alike field t is text None at = tt
   text_alike field t is text (Some number) at = (
-    (position-Some (bytes_eq text) o.texts number [] at).0,
+    (let inside = (position-Some (bytes_eq text) o.texts number [] at).0 in omega (arith, inside)),
     ((tt, λ areas made statics. subst (λ k. IsOfKind k (value_of (sources_of f areas made) (OfLiteral number))) (sym is) tt), tt),
   )
 
@@ -176,7 +177,7 @@ module _ (p : Program) (typings : Typings) (typed : AreTyped p typings) (ready :
       fields = λ wanted field t there of used is fits. ready.places f.method i field t there of (named (resolved.OfField field t) used) wanted is fits;
       static_value = λ index is. put_value after index u
           (subst (λ j. row_after o f.method f.item (made_at p f.method stands.code) u j stands.known ≡ Some after) is row);
-      texts = λ text used. subst (IsUseIn o) used (used_inside i);
+      literals = λ literal named. literal-inside o _ literal (used_inside i) named;
       others = λ m t used row native. no_free f.method i m t row (named (resolved.OfMethod m t) used) native;
     }
 

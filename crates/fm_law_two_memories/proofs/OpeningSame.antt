@@ -1,5 +1,5 @@
 -- The openings of a run on two memories lead to paired states, or one of the memories lacks words.
-use Rattle.std.proofs.Common.{◌≡◌, ℕ, ◌+◌, ◌<◌, ◌≤◌, ◌||◌, inl, Bool, true, false, cond, List, [], ◌∷◌, ◌++◌, length, map, nat_lt, Option, Some, None, refl, sym, ◌∙◌, ap, subst, slice_index_or, arith}
+use Rattle.std.proofs.Common.{◌≡◌, ℕ, ◌+◌, ◌<◌, ◌≤◌, ◌||◌, inl, Bool, true, false, cond, List, [], ◌∷◌, ◌++◌, length, nat_lt, Option, Some, None, refl, sym, ◌∙◌, ap, subst, slice_index_or, arith, replicate, zero, suc}
 use Rattle.std.specs.List.{AllByRecursion, AllZip, flat_map}
 use Rattle.std.proofs.lemmas.Bool.{false≢true}
 use Rattle.std.proofs.lemmas.List.Elements.{length_all_zip}
@@ -16,10 +16,10 @@ use Rattle.fm_types.proofs.Zips.{zip-append, zip-set}
 use Rattle.fm_world.specs.Members.{field_kind, fields_of, OwnedField}
 use Rattle.fm_world.specs.Programs.{Outline, Program}
 use Rattle.fm_world.specs.declared.declarations.DeclaredClass.{DeclaredClass}
-use Rattle.fm_frames.specs.Acts.{Choose, Did, FullAt, is_there, literal_made, literal_text, performed, Performed, requested}
+use Rattle.fm_frames.specs.Acts.{Choose, Did, FullAt, is_there, literal_made, literal_text, literal_type, performed, Performed, requested}
 use Rattle.fm_frames.specs.Effects.{Action, Make, MakeFixed, MakeLiteral, Put, SetStatic, Start}
 use Rattle.fm_frames.specs.Elements.{first_of}
-use Rattle.fm_frames.specs.NativeRows.{text_type}
+use Rattle.fm_frames.specs.Literals.{literal_count}
 use Rattle.fm_frames.specs.Runs.{after_action, argument_actions, first_areas, framed, Job, opened_by, opening, opening_actions, opening_frames, unopened, with_streams}
 use Rattle.fm_frames.specs.Starts.{start_actions, start_methods, to_start}
 use Rattle.fm_frames.specs.States.{Areas, Frame, ref, State}
@@ -86,9 +86,9 @@ first_values one two cs (f ∷ fields) = by_flag (is_static f.field.flags) _ (fi
   by_flag true words rest = (read_same none_gone one two (field_kind cs f.field) 0 0 (same_zero none_gone one two (Some (field_kind cs f.field))), rest)
   by_flag false words rest = rest
 
-no_literals : (one two : Store) (texts : List (List ℕ)) → AllZip (SameCell none_gone one two) (map (λ text. 0) texts) (map (λ text. 0) texts)
-no_literals one two [] = tt
-no_literals one two (text ∷ texts) = (inl (inl (refl, refl)), no_literals one two texts)
+no_literals : (one two : Store) (count : ℕ) → AllZip (SameCell none_gone one two) (replicate count 0) (replicate count 0)
+no_literals one two zero = tt
+no_literals one two (suc count) = (inl (inl (refl, refl)), no_literals one two count)
 
 nothing_held : (budget : ℕ) (limit : Option ℕ) (free : List (List ℕ)) (cell : ℕ) → object_at (opened budget limit free) cell ≡ None
 nothing_held budget limit free cell = by_object (object_at (opened budget limit free) cell) refl where
@@ -103,7 +103,7 @@ first_paired o budget other limit none free freed = record {
   store = opened_paired o (opened budget none free) (opened other limit freed) (live_words-opened budget none free) (live_words-opened other limit freed)
       refl refl (IsOrderly-opened budget none free) (IsOrderly-opened other limit freed) refl (nothing_held budget none free);
   statics = first_values (opened budget none free) (opened other limit freed) o.classes (fields_of o.classes);
-  literals = no_literals (opened budget none free) (opened other limit freed) o.texts;
+  literals = no_literals (opened budget none free) (opened other limit freed) (literal_count o);
   started = refl;
 }
 
@@ -248,7 +248,7 @@ module _ (p : Program) (ready : IsReady p) (first second : Choose) (job : Job) (
   unfolding performed
   each_start [] x y types made others follows other_follows goes all fit agrees alikes h = goes x y h
   each_start (MakeLiteral text ∷ more) x y types made others follows other_follows goes all fit agrees alikes h =
-      let t : TypeRef = text_type o in
+      let t : TypeRef = literal_type o text in
       let len : ℕ = length (literal_text o text) in
       let request : Request = requested o t len true in
       let on : State → List ℕ → State = λ s cells. opened_by p (lawful first) more s cells follows in

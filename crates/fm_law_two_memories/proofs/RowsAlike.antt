@@ -1,7 +1,7 @@
 -- All rows of the table but those of FreeMe do the same on both memories: they read numbers where
 -- no reference is, what they throw or fault at is read as it should be, and values go into static
 -- fields by their kinds.
-use Rattle.std.proofs.Common.{◌≡◌, ℕ, ◌+◌, ◌-◌, ◌<◌, ◌⊎◌, inl, inr, true, false, List, [], ◌∷◌, ◌++◌, length, map, Option, Some, refl, sym, ◌∙◌, ap, subst, slice_get, ⊎_elim}
+use Rattle.std.proofs.Common.{◌≡◌, ℕ, ◌+◌, ◌-◌, ◌<◌, ◌⊎◌, inl, inr, true, false, List, [], ◌∷◌, ◌++◌, map, Option, Some, refl, sym, ◌∙◌, ap, subst, slice_get, ⊎_elim}
 use Rattle.std.specs.List.{AllByRecursion}
 use Rattle.std.proofs.lemmas.Bool.{cases_Bool, false≢true}
 use Rattle.fm_base.proofs.ListFacts.{AllByRecursion-append, AllByRecursion-mapped, AllByRecursion-weaker}
@@ -40,6 +40,7 @@ use Rattle.fm_frames.proofs.EachInsn.{each_insn, IsNamed, LeadsOn, loaded_all, m
 use Rattle.fm_frames.proofs.Failures.{Failures, TextOutside}
 use Rattle.fm_frames.proofs.NestedActions.{nested_actions}
 use Rattle.fm_frames.proofs.UsualAsks.{each_native}
+use Rattle.fm_frames.specs.Literals.{literal_count, literal_named}
 use Rattle.fm_same.specs.Evenness.{IsObjectSource}
 use Rattle.fm_law_sound.specs.Making.{HaveTextFirst}
 use Rattle.fm_law_sound.specs.Placing.{ReadAgrees, sources_in, thrown_in}
@@ -182,14 +183,14 @@ module _ (o : Outline) (store : Store) (f : Frame) where
         (g : FieldId) (n : TypeId) (t : TypeRef) → u ≡ resolved.OfField g n → slice_get o.types n.0 ≡ Some t
         → IsOfKind (kind_of_field o g.0) (word_at f.stack (kind_words (kind_of_field o g.0) - 1))
 
-    abbrev pub HasText : Use → Type 0
-    HasText u = (text : ℕ) → u ≡ resolved.OfText text → text < length o.texts
+    abbrev pub HasLiteral : Use → Type 0
+    HasLiteral u = (literal : ℕ) → literal_named o u ≡ Some literal → literal < literal_count o
 
     -- what linking and the checker know of the instruction
     pub record IsKnown (u : Use) (i : Insn) : Type 0 where
       pub fields : static_field_wanted i ≡ Some false → HasField o store f.stack u
       pub static_value : (index : ℕ) → i ≡ insn.PutStatic index → HasStaticValue u
-      pub texts : HasText u
+      pub literals : HasLiteral u
       pub others : NamesOthers u
 
     pub row_alike : FreesAreStatic → (method : ℕ) (u : Use) (i : Insn) (byte : Option ℕ) → IsKnown u i → A (effect_of o method u i byte s)
@@ -205,7 +206,7 @@ module _ (o : Outline) (store : Store) (f : Frame) where
           goes = λ e next leads.
               let quiet = on_quietly i next leads in plain (record e { actions = []; gives = []; writes = []; next = next }) quiet.1 tt quiet.0;
           throws = λ it it_is seen fits. record { numbers = (tt, tt); acts = tt; thrown = (tt, tt); thrown_numbers = (tt, tt); thrown_found = (tt, tt) };
-          literal = λ index text it_is used. plain _ (tt, tt) (known.texts text used, tt) refl;
+          literal = λ index n it_is named. plain _ (tt, tt) (known.literals n named, tt) refl;
           new = λ index n t class it_is used at is. plain _ (tt, tt) (tt, tt) refl;
           number_array = λ e b len it_is is. plain _ (tt, tt) (tt, tt) refl;
           reference_array = λ index n t array len it_is used at is. plain _ (tt, tt) (tt, tt) refl;

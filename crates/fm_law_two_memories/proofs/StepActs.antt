@@ -17,10 +17,10 @@ use Rattle.fm_cells.specs.Stores.{live_words, object_at, Store}
 use Rattle.fm_types.proofs.Zips.{zip-implied, zip-set}
 use Rattle.fm_world.specs.Members.{size_of}
 use Rattle.fm_world.specs.Programs.{Outline}
-use Rattle.fm_frames.specs.Acts.{cell_of, Choose, FullAt, is_there, literal_made, literal_text, made_then, performed, Performed, put_value, requested, set_static, value_of, with_content}
+use Rattle.fm_frames.specs.Acts.{cell_of, Choose, FullAt, is_there, literal_made, literal_text, literal_type, made_then, performed, Performed, put_value, requested, set_static, value_of, with_content}
 use Rattle.fm_frames.specs.Effects.{Action, Free, FreeChain, Make, MakeFixed, MakeLiteral, OfMade, OfOperand, Put, SetChain, SetStatic, Source, Start}
 use Rattle.fm_frames.specs.Elements.{kept}
-use Rattle.fm_frames.specs.NativeRows.{text_type}
+use Rattle.fm_frames.specs.Literals.{literal_count}
 use Rattle.fm_frames.specs.Sights.{type_numbered}
 use Rattle.fm_frames.specs.States.{Areas, Frame, word_at}
 use Rattle.fm_frames.specs.declared.values.Value.{Value}
@@ -245,11 +245,11 @@ module _ (gone : Gone) (few_gone : IsFewGone gone) (o : Outline) (sizes : (class
       cells = h.cells;
     }
 
-  -- the second memory has as many literals as the program has texts
-  pub texts_there : (x y : Areas) (types : List TypeRef) (made others : List ℕ) → Along x y types made others → (text : ℕ) → text < length o.texts
+  -- the second memory has as many literals as the program
+  pub texts_there : (x y : Areas) (types : List TypeRef) (made others : List ℕ) → Along x y types made others → (text : ℕ) → text < literal_count o
       → text < length y.literals
   texts_there x y types made others h text inside =
-      let count : length x.literals ≡ length o.texts = h.keeps.sound.literals in
+      let count : length x.literals ≡ literal_count o = h.keeps.sound.literals in
       let same : length x.literals ≡ length y.literals = length_all_zip (SameCell gone x.store y.store) x.literals y.literals h.paired.literals in
       omega (arith, inside, count, same)
 
@@ -280,7 +280,7 @@ module _ (gone : Gone) (few_gone : IsFewGone gone) (o : Outline) (sizes : (class
       (within_rest o room y (MakeFixed t) more (record y { store = following }) refl refl (omega (arith, both.live)) within)
       fit.1 agrees.1 alikes.1 (made_on x y types made others t (request_words (requested o t 0 true)) next following cell twin h both))
   acts_alike (MakeLiteral text ∷ more) x y types made others within fit agrees alikes h =
-      let t : TypeRef = text_type o in
+      let t : TypeRef = literal_type o text in
       let len : ℕ = length (literal_text o text) in
       let words : ℕ = request_words (requested o t len true) in
       either (ResultsAlike gone o one other) (is_there x text) (is_there y text) _ _ _ _ (there_same gone o x y h.paired text)

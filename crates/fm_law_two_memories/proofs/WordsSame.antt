@@ -9,9 +9,8 @@ use Rattle.fm_types.proofs.ClassTree.{among_one}
 use Rattle.fm_world.specs.Chains.{is_among}
 use Rattle.fm_world.specs.Programs.{Outline}
 use Rattle.fm_frames.proofs.Underways.{none-made}
-use Rattle.fm_frames.specs.Acts.{is_there, literal_made, literal_text, requested}
+use Rattle.fm_frames.specs.Acts.{is_there, literal_made, literal_text, literal_type, requested}
 use Rattle.fm_frames.specs.Effects.{Action, MakeLiteral}
-use Rattle.fm_frames.specs.NativeRows.{text_type}
 use Rattle.fm_frames.specs.States.{Areas}
 use Rattle.fm_frames.specs.Steps.{is_over, literal_of, makes, most_words, words_among, words_made, words_of}
 use Rattle.fm_frames.specs.declared.ends.Ended.TheVariants as end
@@ -42,7 +41,7 @@ there_same gone o x y paired text =
 word_same : (gone : Gone) (o : Outline) (x y : Areas) → AreasPaired gone o x y → (literals : List ℕ) (action : Action)
     → words_of o y literals action ≡ words_of o x literals action
 word_same gone o x y paired literals (MakeLiteral text) =
-    ap (λ b. cond (b || is_among text literals) 0 (request_words (requested o (text_type o) (length (literal_text o text)) true)))
+    ap (λ b. cond (b || is_among text literals) 0 (request_words (requested o (literal_type o text) (length (literal_text o text)) true)))
     (there_same gone o x y paired text)
 word_same gone o x y paired literals action = refl
 
@@ -161,7 +160,7 @@ less_if true false n h = absurd (false≢true (h refl))
 fewer_of : (o : Outline) (x y : Areas) (literals others : List ℕ) → ((text : ℕ) → is_made x literals text ≡ true → is_made y others text ≡ true)
     → (action : Action) → words_of o y others action ≤ words_of o x literals action
 fewer_of o x y literals others h (MakeLiteral text) =
-    less_if (is_made x literals text) (is_made y others text) (request_words (requested o (text_type o) (length (literal_text o text)) true)) (h text)
+    less_if (is_made x literals text) (is_made y others text) (request_words (requested o (literal_type o text) (length (literal_text o text)) true)) (h text)
 fewer_of o x y literals others h action = omega arith
 
 one_more_made : (a b c d e : Bool) → ((a || b) ≡ true → (c || d) ≡ true) → (a || (e || b)) ≡ true → (c || (e || d)) ≡ true
@@ -243,7 +242,7 @@ module _ (o : Outline) (y : Areas) (text : ℕ) (following : Store) (twin : ℕ)
       (λ among. or_left (is_there made_later k) false (itself_there k (among_one k text among))) (or_cases (is_there y k) (is_among k (text ∷ [])) is)
 
   abbrev literal_words : ℕ
-  literal_words = request_words (requested o (text_type o) (length (literal_text o text)) true)
+  literal_words = request_words (requested o (literal_type o text) (length (literal_text o text)) true)
 
   pub within_literal : (room : Room) (more : List Action) → is_there y text ≡ false → live_words following ≡ live_words y.store + literal_words
       → Within o room y (MakeLiteral text ∷ more) → Within o room made_later more

@@ -1,5 +1,5 @@
 -- What is required of the places that an effect reads, so that the same is read on both memories.
-use Rattle.std.specs.Prelude.{◌≡◌, ℕ, ◌<◌, List, [], ◌∷◌, length, Some}
+use Rattle.std.specs.Prelude.{◌≡◌, ℕ, ◌<◌, List, [], ◌∷◌, Some}
 use Rattle.std.specs.List.{AllByRecursion}
 use Rattle.fm_base.specs.declared.kinds.Kind.{Kind}
 use Rattle.fm_base.specs.declared.kinds.Kind.TheVariants as kind
@@ -9,6 +9,7 @@ use Rattle.fm_cells.specs.Stores.{object_at, Store}
 use Rattle.fm_world.specs.Programs.{Outline}
 use Rattle.fm_frames.specs.Acts.{cell_of, value_of}
 use Rattle.fm_frames.specs.Effects.{Action, Effect, Faults, Free, FreeChain, MakeLiteral, Next, OfPlace, Put, SetChain, SetStatic, Source, Throws}
+use Rattle.fm_frames.specs.Literals.{literal_count}
 use Rattle.fm_frames.specs.States.{Areas, Frame, word_at}
 use Rattle.fm_frames.specs.declared.values.Value.{Value}
 use Rattle.fm_frames.specs.declared.values.Value.TheVariants as value
@@ -51,7 +52,7 @@ StaticFits o f k s =
 abbrev pub ActsAlike : Outline → Store → Frame → Action → Type 0
 ActsAlike o store f (Put object place k v) = NumberAgrees o store f.stack v
 ActsAlike o store f (SetStatic slot k v) = NumberAgrees o store f.stack v × StaticFits o f k v
-ActsAlike o store f (MakeLiteral text) = text < length o.texts
+ActsAlike o store f (MakeLiteral literal) = literal < literal_count o
 ActsAlike o store f (Free operand) = ⊥
 ActsAlike o store f (SetChain operand to) = ⊥
 ActsAlike o store f (FreeChain operand) = ⊥

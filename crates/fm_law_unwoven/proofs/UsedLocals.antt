@@ -91,7 +91,7 @@ module _ (max targets : ℕ) (o : Outline) where
         };
         goes = λ e next leads. record { acts = tt; gives = tt; writes = tt; next = leads_within o targets i few next leads };
         throws = λ it it_is seen fits. record { acts = tt; gives = tt; writes = tt; next = tt };
-        literal = λ index text it_is used. record { acts = (tt, tt); gives = (tt, tt); writes = tt; next = tt };
+        literal = λ index n it_is named. record { acts = (tt, tt); gives = (tt, tt); writes = tt; next = tt };
         new = λ index n t class it_is used at is. record { acts = (tt, tt); gives = (tt, tt); writes = tt; next = tt };
         number_array = λ e b len it_is is. record { acts = (tt, tt); gives = (tt, tt); writes = tt; next = tt };
         reference_array = λ index n t array len it_is used at is. record { acts = (tt, tt); gives = (tt, tt); writes = tt; next = tt };

@@ -26,7 +26,7 @@ pub(crate) fn number(frames: &mut Frames, program: &Program, method: MethodId, i
     requires fits { NextFits frames.old }
     requires method { method.0 < length (methods_of program.now.outline.classes) }
     ensures did { result ≡ true → Flows frames.old frames.new
-        (λ p x. constant_effect (use_in program.now method.0 index)) }
+        (λ p x. constant_effect p.outline (use_in program.now method.0 index)) }
     ensures same { result ≡ false → frames.new ≡ frames.old }
 {
     let named = used(program, method, index);

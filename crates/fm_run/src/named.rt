@@ -21,6 +21,7 @@ use std::alloc::Global;
 // The constant that an index refers to is pushed.
 #[inline(always)]
 fn constant_of<M: Memory>(
+    alloc: Global,
     machine: &mut Machine<M>,
     program: &Program,
     method: MethodId,
@@ -39,6 +40,7 @@ fn constant_of<M: Memory>(
         Use::OfInt(n) => rows::int_constant(machine, program, n),
         Use::OfLong(n) => rows::long_constant(machine, program, n),
         Use::OfText(text) => rows::text_constant(machine, program, text),
+        Use::OfType(t) => rows::class_constant(alloc, machine, program, t),
         _ => unreachable!(),
     }
 }
@@ -46,6 +48,7 @@ fn constant_of<M: Memory>(
 // ldc and its like.
 #[inline(always)]
 pub(crate) fn constant<M: Memory>(
+    alloc: Global,
     machine: &mut Machine<M>,
     program: &Program,
     method: MethodId,
@@ -58,7 +61,7 @@ pub(crate) fn constant<M: Memory>(
     ensures { OnOk result (DoesNext program.now M.choose machine.old machine.new) }
 {
     let named = used(program, method, index);
-    constant_of(machine, program, method, index, named)
+    constant_of(alloc, machine, program, method, index, named)
 }
 
 // getfield.

@@ -79,7 +79,7 @@ pub(crate) fn frequent<M: Memory>(
         Insn::ArrayLoad(e) => rows::array_load(machine, program, *e)?,
         Insn::ArrayStore(e) => element_put(machine, program, *e)?,
         Insn::Length => rows::array_length(machine, program)?,
-        Insn::LoadPool(index) => constant(machine, program, method, *index)?,
+        Insn::LoadPool(index) => constant(alloc, machine, program, method, *index)?,
         Insn::New(index) => object_made(alloc, machine, program, method, *index)?,
         Insn::Return(value) => rows::leave(machine, program, *value)?,
         _ => return Ok(false),

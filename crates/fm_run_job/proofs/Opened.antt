@@ -73,10 +73,11 @@ opened_goes p b arguments input may can typed within few given fit =
     let steady = opened_steady p (typings_of p typed) choice job may can (typings_are p typed) given b.words (Some b.store) empty_lists within.words fit in
     let births = opened_births p choice job (opened b.words (Some b.store) empty_lists) may can in
     let texts = can.few_texts in
+    let types = can.steps.calls.runnable.few_types in
     let steps = within.steps in record {
       sound = steady.0;
       cells = steady.1;
-      births = omega (arith, births, texts, steps, few);
+      births = omega (arith, births, texts, types, steps, few);
     }
 
 -- after all its steps the run is at its last state

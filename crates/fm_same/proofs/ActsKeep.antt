@@ -1,6 +1,6 @@
 -- The actions of a step keep the colours of what frames share: objects that are made get the region of their home, and what is put leads on within one
 -- region.
-use Rattle.std.proofs.Common.{◌≡◌, ◌≢◌, ℕ, zero, suc, ◌≤◌, ◌⊎◌, Bool, true, false, cond, nat_eq, List, [], ◌∷◌, ◌++◌, length, Option, Some, None, refl, sym, ◌∙◌, ap, subst, inl, inr, slice_get, slice_set, slice_index_or, ⊎_elim}
+use Rattle.std.proofs.Common.{◌≡◌, ◌≢◌, ℕ, zero, suc, ◌≤◌, ◌⊎◌, Bool, true, false, cond, nat_eq, List, [], ◌∷◌, ◌++◌, length, Option, Some, None, refl, sym, ◌∙◌, ap, subst, inl, inr, slice_get, slice_set, slice_index_or, ⊎_elim, nat_lt}
 use Rattle.std.specs.List.{AllByRecursion}
 use Rattle.std.proofs.lemmas.List.{get_or-set_other}
 use Rattle.std.proofs.lemmas.Option.{none-some, same_Some}
@@ -16,10 +16,10 @@ use Rattle.fm_cells.proofs.Changes.{object_at-made_by, object_at-with_object}
 use Rattle.fm_cells.proofs.Elements.{put_by-none, put_by-some}
 use Rattle.fm_cells.proofs.Soundness.{IsOrderly-made_by, IsOrderly-with_object}
 use Rattle.fm_world.specs.Programs.{kind_at, Outline}
-use Rattle.fm_frames.specs.Acts.{cell_of, Choose, is_there, literal_made, literal_text, made_object, made_then, performed, Performed, Did, FullAt, LostAt, put_value, requested, set_static, Sources, value_of, with_content}
+use Rattle.fm_frames.specs.Acts.{cell_of, Choose, is_there, literal_made, literal_text, literal_type, made_object, made_then, performed, Performed, Did, FullAt, LostAt, put_value, requested, set_static, Sources, value_of, with_content}
 use Rattle.fm_frames.specs.Effects.{Action, Make, MakeFixed, MakeLiteral, Put, SetStatic, Start, Free, SetChain, FreeChain, Source, Plain, OfOperand, OfLocal, LocalPlus, OfPlace, OfStatic, OfMade, OfLiteral, SameOperands}
 use Rattle.fm_frames.specs.Elements.{cut, kept, read}
-use Rattle.fm_frames.specs.NativeRows.{text_type}
+use Rattle.fm_frames.specs.NativeRows.{class_type, text_type}
 use Rattle.fm_frames.specs.Sights.{type_numbered}
 use Rattle.fm_frames.specs.States.{Areas, word_at}
 use Rattle.fm_frames.specs.declared.values.Value.{Value}
@@ -513,6 +513,12 @@ text_blank : (o : Outline) (t : TypeRef) (len : ℕ) (fixed : Bool) (content : L
 text_blank o t len fixed content numbers is =
     inr (λ object class. numbers.texts object len fixed (class ∙ ap (λ u. (requested o u len fixed).class) is))
 
+literal_blank : (o : Outline) (literal len : ℕ) (content : List ℕ) → HoldsNumbers o → IsBlank o (requested o (literal_type o literal) len true) content
+literal_blank o literal len content numbers = by_text (nat_lt literal (length o.texts)) where
+  by_text : (b : Bool) → IsBlank o (requested o (cond b (text_type o) (class_type o)) len true) content
+  by_text true = inr (λ object class. numbers.texts object len true class)
+  by_text false = inr (λ object class. numbers.class_literals object len true class)
+
 make_blank : (o : Outline) (t : TypeRef) (len : ℕ) (content : List ℕ) → HoldsNumbers o → (content ≡ []) ⊎ (t ≡ text_type o)
     → IsBlank o (requested o t len false) content
 make_blank o t len content numbers (inl none) = inl (none, refl)
@@ -579,14 +585,14 @@ module _ (o : Outline) (choose : Choose) (may : (s : Store) (request : Request) 
       (inr (λ object class place u is. h.0 object 0 true class place u is))
       (λ y cell makes. acts_go more y (made ++ cell ∷ []) h.1 (went_made o store colour home new made request y cell makes))
   acts_go (MakeLiteral text ∷ more) x made h went =
-      let request : Request = requested o (text_type o) (length (literal_text o text)) true in
+      let request : Request = requested o (literal_type o text) (length (literal_text o text)) true in
       either_to o store colour home (is_there x text) (performed o choose locals stack more x made)
-      (made_object o choose (text_type o) (length (literal_text o text)) true (literal_text o text) x
+      (made_object o choose (literal_type o text) (length (literal_text o text)) true (literal_text o text) x
       (λ y cell. performed o choose locals stack more (literal_made y text cell) made))
       (acts_go more x made h.1 went)
       (made_then_goes o store colour home new x made request (literal_text o text) (choose x.store request)
       (λ y cell. performed o choose locals stack more (literal_made y text cell) made) went (may x.store request)
-      (text_blank o (text_type o) (length (literal_text o text)) true (literal_text o text) numbers refl)
+      (literal_blank o text (length (literal_text o text)) (literal_text o text) numbers)
       (λ y cell makes. acts_go more (literal_made y text cell) made h.1 (literal_goes o store colour home new made request y text cell refl makes)))
   acts_go (Put object place k v ∷ more) x made h went =
       acts_go more (put_value x (value_of (before x made) object) place k (value_of (before x made) v)) made h.1 (put_kinds x made object v place k went h.0)

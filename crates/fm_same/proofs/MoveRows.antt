@@ -24,7 +24,8 @@ use Rattle.fm_types.specs.declared.slots.Slot.TheVariants as slot
 use Rattle.fm_world.specs.Programs.{Program}
 use Rattle.fm_world.specs.declared.uses.Use.{Use}
 use Rattle.fm_world.specs.declared.uses.Use.TheVariants as resolved
-use Rattle.fm_frames.specs.Effects.{Effect, Source, Plain, OfOperand, OfLocal, OfLiteral, int_word, long_words, words}
+use Rattle.fm_frames.specs.Effects.{Effect, giving_literal, Source, Plain, OfOperand, OfLocal, OfLiteral, int_word, long_words, words}
+use Rattle.fm_frames.specs.Literals.{class_literal}
 use Rattle.fm_frames.specs.NumberRows.{constant_effect, load_effect, move_effect, moved_words, store_effect}
 use Rattle.fm_frames.specs.States.{Frame}
 use Rattle.fm_frames.specs.declared.values.Value.TheVariants as value
@@ -100,18 +101,22 @@ module _ (p : Program) (facts : Facts) (exact : AreFacts p facts) (f : Frame) (i
 -- ---- constants
 
 module _ (p : Program) (facts : Facts) (exact : AreFacts p facts) (f : Frame) where
-  pub constant_obeys : (index : ℕ) (h : AtInsn p facts f (insn.LoadPool index)) (u : Use) → Owes p facts exact f (insn.LoadPool index) h (constant_effect u)
+  literal_obeys : (index : ℕ) (h : AtInsn p facts f (insn.LoadPool index)) (literal : ℕ) → Owes p facts exact f (insn.LoadPool index) h (giving_literal 0 literal)
+  unfolding pairs.words_taken
+  literal_obeys index h literal =
+      goes_obey p facts exact f (insn.LoadPool index) h (giving_literal 0 literal) 0 (tt, tt) refl tt
+      (gives_one p facts exact f (insn.LoadPool index) h (giving_literal 0 literal) 0 (OfLiteral literal) refl (λ next edge there. tt)) tt
+      (λ k unwritten. refl) (omega arith)
+
+  pub constant_obeys : (index : ℕ) (h : AtInsn p facts f (insn.LoadPool index)) (u : Use) → Owes p facts exact f (insn.LoadPool index) h (constant_effect p.outline u)
   unfolding constant_effect pairs.words_taken
-  constant_obeys index h (resolved.OfType t) = stuck_obeys p facts exact f (insn.LoadPool index) h
+  constant_obeys index h (resolved.OfType t) = literal_obeys index h (class_literal p.outline t.0)
   constant_obeys index h (resolved.OfField m t) = stuck_obeys p facts exact f (insn.LoadPool index) h
   constant_obeys index h (resolved.OfMethod m t) = stuck_obeys p facts exact f (insn.LoadPool index) h
   constant_obeys index h (resolved.OfInt n) = words_obey p facts exact f (insn.LoadPool index) h (λ k. refl) refl 0 (int_word n) (tt, tt) (omega arith)
   constant_obeys index h (resolved.OfLong n) =
       words_obey p facts exact f (insn.LoadPool index) h (λ k. refl) refl 0 (long_words n) (tt, (tt, tt)) (omega arith)
-  constant_obeys index h (resolved.OfText text) =
-      goes_obey p facts exact f (insn.LoadPool index) h (constant_effect (resolved.OfText text)) 0 (tt, tt) refl tt
-      (gives_one p facts exact f (insn.LoadPool index) h (constant_effect (resolved.OfText text)) 0 (OfLiteral text) refl (λ next edge there. tt)) tt
-      (λ k unwritten. refl) (omega arith)
+  constant_obeys index h (resolved.OfText text) = literal_obeys index h text
   constant_obeys index h resolved.Unused = stuck_obeys p facts exact f (insn.LoadPool index) h
 
   -- ---- loads

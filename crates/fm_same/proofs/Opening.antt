@@ -1,5 +1,5 @@
 -- The opening has colours: all that it makes has the region of what main is given, and the streams live for ever.
-use Rattle.std.proofs.Common.{◌≡◌, ◌≢◌, ℕ, zero, suc, ◌+◌, ◌<◌, Bool, true, false, cond, nat_lt, List, [], ◌∷◌, ◌++◌, length, map, codes, Option, Some, None, refl, sym, ◌∙◌, ap, subst, inl, inr, slice_get, slice_set, slice_index_or, arith, ⊎_elim, length-append}
+use Rattle.std.proofs.Common.{◌≡◌, ◌≢◌, ℕ, zero, suc, ◌+◌, ◌<◌, Bool, true, false, cond, nat_lt, List, [], ◌∷◌, ◌++◌, length, codes, Option, Some, None, refl, sym, ◌∙◌, ap, subst, inl, inr, slice_get, slice_set, slice_index_or, arith, ⊎_elim, length-append, replicate}
 use Rattle.std.specs.List.{AllByRecursion, flat_map}
 use Rattle.std.proofs.lemmas.Bool.Decides.{nat_tests}
 use Rattle.std.proofs.lemmas.List.{get_or_append_left}
@@ -24,10 +24,10 @@ use Rattle.fm_world.specs.Numbers.{text_number}
 use Rattle.fm_world.specs.Programs.{Outline, Program}
 use Rattle.fm_world.specs.declared.declarations.Constant.{Constant}
 use Rattle.fm_world.specs.declared.declarations.Constant.TheVariants as constant
-use Rattle.fm_frames.specs.Acts.{chain_freed, chain_from, cell_of, Choose, Did, FullAt, is_there, literal_made, literal_text, LostAt, made_then, performed, Performed, requested}
+use Rattle.fm_frames.specs.Acts.{chain_freed, chain_from, cell_of, Choose, Did, FullAt, is_there, literal_made, literal_text, literal_type, LostAt, made_then, performed, Performed, requested}
 use Rattle.fm_frames.specs.Effects.{Action, Free, FreeChain, Make, MakeFixed, MakeLiteral, OfLiteral, Plain, Put, SetChain, SetStatic, Start}
 use Rattle.fm_frames.specs.Elements.{first_of, read}
-use Rattle.fm_frames.specs.NativeRows.{text_type}
+use Rattle.fm_frames.specs.Literals.{literal_count}
 use Rattle.fm_frames.specs.ObjectRows.{kind_of_field}
 use Rattle.fm_frames.specs.Runs.{after_action, argument_actions, arguments_type, first_areas, framed, Job, opened_by, opening, opening_actions, opening_frames, unopened, with_streams}
 use Rattle.fm_frames.specs.Starts.{fields_at, set_constant, start_actions, start_methods, start_of_class, to_start}
@@ -89,7 +89,7 @@ one_keeps o choose (Make t len content) x made = made_keeps made x (requested o 
 one_keeps o choose (MakeFixed t) x made = made_keeps made x (requested o t 0 true) [] (choose x.store (requested o t 0 true)) (λ y cell. Did y (made ++ cell ∷ []))
     (λ y cell. keeps-pushed made cell)
 one_keeps o choose (MakeLiteral text) x made =
-    let request : Request = requested o (text_type o) (length (literal_text o text)) true in
+    let request : Request = requested o (literal_type o text) (length (literal_text o text)) true in
     either_keeps made (is_there x text) (Did x made)
     (made_then x request (literal_text o text) (choose x.store request) (λ y cell. Did (literal_made y text cell) made)) (keeps-refl made)
     (made_keeps made x request (literal_text o text) (choose x.store request) (λ y cell. Did (literal_made y text cell) made) (λ y cell. keeps-refl made))
@@ -250,10 +250,10 @@ statics_first o store colour (f ∷ fields) slot v at =
     static_first o store colour (is_static f.field.flags) (field_kind o.classes f.field) (flat_map (first_field o) fields)
     (λ s w there. statics_first o store colour fields s w there) slot v at
 
-pub zeros_found : (texts : List (List ℕ)) (n : ℕ) → slice_index_or (map (λ (text : List ℕ). zero) texts) n zero ≡ zero
-zeros_found [] n = refl
-zeros_found (text ∷ texts) zero = refl
-zeros_found (text ∷ texts) (suc n) = zeros_found texts n
+pub zeros_found : (count n : ℕ) → slice_index_or (replicate count 0) n zero ≡ zero
+zeros_found zero n = refl
+zeros_found (suc count) zero = refl
+zeros_found (suc count) (suc n) = zeros_found count n
 
 first_coloured : (o : Outline) (colour : Colour) (budget : ℕ) (limit : Option ℕ) (free : List (List ℕ))
     → AreAreasColoured o colour (first_areas o (opened budget limit free))
@@ -261,7 +261,7 @@ first_coloured o colour budget limit free = record {
   orderly = IsOrderly-opened budget limit free;
   statics = λ slot v at. statics_first o (opened budget limit free) colour (fields_of o.classes) slot v at;
   edges = λ cell object held place t is. absurd (none cell object held);
-  literals = λ text. IsNull (zeros_found o.texts text);
+  literals = λ text. IsNull (zeros_found (literal_count o) text);
 } where
   none : (cell : ℕ) (object : Object) → object_at (opened budget limit free) cell ≡ Some object → ⊥
   none cell object held = grind (arith, gets, nat_tests)

@@ -9,7 +9,7 @@ use Rattle.fm_base.specs.declared.kinds.Kind.TheVariants as kind
 use Rattle.fm_base.specs.declared.kinds.TypeRef.{TypeRef}
 use Rattle.fm_types.specs.Named.{built_in_type}
 use Rattle.fm_types.proofs.LeastJoins.{same_type-eq}
-use Rattle.fm_world.specs.BuiltIns.{built_in, string_name}
+use Rattle.fm_world.specs.BuiltIns.{built_in, class_literal_class, class_literal_name, string_name}
 use Rattle.fm_world.specs.Chains.{same_type}
 use Rattle.fm_world.specs.Descriptors.{class_number}
 use Rattle.fm_world.specs.Members.{kinds_of}
@@ -18,10 +18,10 @@ use Rattle.fm_world.specs.Programs.{kind_at, Program}
 use Rattle.fm_world.specs.declared.declarations.DeclaredClass.{DeclaredClass}
 use Rattle.fm_world.specs.inner.Completions.{AreCompleted}
 use Rattle.fm_frames.proofs.BuiltInTypes.{named_class}
-use Rattle.fm_frames.proofs.Programs.{completed-are, built_in-inside, string-is}
+use Rattle.fm_frames.proofs.Programs.{class_literal-is, completed-are, built_in-inside, string-is}
 use Rattle.fm_same.specs.Evenness.{HasNoEdge, HoldsNumbers}
 use Rattle.fm_same.specs.Resolved.{IsResolved}
-use Rattle.fm_law_sound.proofs.MadeObjects.{input_kinds, output_kinds, string_kinds}
+use Rattle.fm_law_sound.proofs.MadeObjects.{class_literal_kinds, input_kinds, output_kinds, string_kinds}
 
 -- ---- objects of a class without fields
 
@@ -52,6 +52,9 @@ holds_numbers p ready = record {
       (built_in-inside p 1 ready.runnable (omega arith)) (kinds 1 string_kinds);
   output = no_edge p ready (built_in_type p.outline (codes "java/io/PrintStream")) 5 (named_class p (codes "java/io/PrintStream") 5 ready.runnable output_there)
       (built_in-inside p 5 ready.runnable (omega arith)) (kinds 5 output_kinds);
+  class_literals = no_edge p ready (built_in_type p.outline class_literal_name) class_literal_class
+      (class_literal-is p.outline ready.runnable.given ready.runnable.classes)
+      (built_in-inside p class_literal_class ready.runnable (omega arith)) (kinds class_literal_class class_literal_kinds);
   input = no_edge p ready (built_in_type p.outline (codes "java/io/InputStream")) 6 (named_class p (codes "java/io/InputStream") 6 ready.runnable input_there)
       (built_in-inside p 6 ready.runnable (omega arith)) (kinds 6 input_kinds);
   constants = ready.constants;

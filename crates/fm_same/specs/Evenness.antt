@@ -22,7 +22,7 @@ use Rattle.fm_world.specs.declared.declarations.Constant.TheVariants as constant
 use Rattle.fm_frames.specs.ObjectRows.{kind_of_field}
 use Rattle.fm_frames.specs.Effects.{Action, Make, MakeFixed, MakeLiteral, Put, SetStatic, Start, Free, SetChain, FreeChain, Effect, Next, Falls, Jumps, JumpsIfSame, Calls, Returns, Throws, Enters, Source, Plain, OfOperand, OfLocal, LocalPlus, OfPlace, OfStatic, OfMade, OfLiteral, SameOperands}
 use Rattle.fm_frames.specs.Acts.{requested}
-use Rattle.fm_frames.specs.NativeRows.{text_type}
+use Rattle.fm_frames.specs.NativeRows.{class_type, text_type}
 use Rattle.fm_frames.specs.Steps.{is_start}
 use Rattle.fm_frames.specs.declared.values.Value.TheVariants as value
 use Rattle.fm_law_sound.specs.Placing.{IsPlain, kind_in}
@@ -193,6 +193,7 @@ HasNoEdge o t =
 -- texts and streams have no place for references, and a number is the constant of a field of numbers
 pub record HoldsNumbers (o : Outline) : Type 0 where
   pub texts : HasNoEdge o (text_type o)
+  pub class_literals : HasNoEdge o (class_type o)
   pub output : HasNoEdge o (built_in_type o (codes "java/io/PrintStream"))
   pub input : HasNoEdge o (built_in_type o (codes "java/io/InputStream"))
   pub constants : (field : ℕ) → IsNumber (field_at o.classes field).field.value → IsPlainKind (kind_of_field o field)

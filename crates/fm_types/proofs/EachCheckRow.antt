@@ -258,6 +258,7 @@ module _ (o : Outline) (method : ℕ) (u : Use) (i : Insn) (A : ℕ → Row → 
   constant (resolved.OfInt value) = l.pushes int_word an_int
   constant (resolved.OfLong value) = l.pushes long_words a_long
   constant (resolved.OfText text) = l.pushes (slot.Ref _ ∷ []) (a_reference _)
+  constant (resolved.OfType t) = l.pushes (slot.Ref _ ∷ []) (a_reference _)
   constant v = l.none
 
   returned : (value : Option Reg) (result : Option Kind) → A (words_taken 2 0 (insn.Return value)) (λ item news s. return_by o s value result)

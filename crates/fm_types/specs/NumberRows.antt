@@ -11,15 +11,16 @@ use Rattle.fm_types.specs.Named.{built_in_type}
 use Rattle.fm_types.specs.States.{int_word, is_long, is_reference, is_whole, local_at, long_words, pushed, stored, TypeState, worked}
 use Rattle.fm_types.specs.declared.slots.Slot.{Slot}
 use Rattle.fm_types.specs.declared.slots.Slot.TheVariants as slot
+use Rattle.fm_world.specs.BuiltIns.{class_literal_name}
 use Rattle.fm_world.specs.Programs.{Outline}
 use Rattle.fm_world.specs.declared.uses.Use.{Use}
 use Rattle.fm_world.specs.declared.uses.Use.TheVariants as resolved
 
 -- ---- constants
 
--- ldc, ldc_w and ldc2_w
+-- ldc, ldc_w and ldc2_w: a type gives its class literal
 unfoldable pub constant_row : Outline → Use → TypeState → Option TypeState
-constant_row o (resolved.OfType t) s = None
+constant_row o (resolved.OfType t) s = Some (pushed (slot.Ref (built_in_type o class_literal_name) ∷ []) s)
 constant_row o (resolved.OfField f t) s = None
 constant_row o (resolved.OfMethod m t) s = None
 constant_row o (resolved.OfInt value) s = Some (pushed int_word s)

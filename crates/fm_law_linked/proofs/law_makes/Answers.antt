@@ -6,7 +6,7 @@ use Rattle.fm_check_program.proofs.Trees.{no_built_in_refused, no_parent_refused
 use Rattle.fm_law_linked.proofs.GivenFiles.{no_field_refused}
 use Rattle.fm_law_linked.proofs.MadeTypes.{arguments_numbered, elements_numbered}
 use Rattle.fm_law_linked.proofs.Making.{made_there}
-use Rattle.fm_law_linked.proofs.TextUnits.{literals_short}
+use Rattle.fm_law_linked.proofs.LiteralTexts.{literals_short}
 use Rattle.fm_law_linked.proofs.TypeNames.{names_fit}
 use Rattle.fm_law_linked.proofs.law_makes.Goals as goal
 use Rattle.fm_law_linked.specs.Makes.{MakesAreLinked}

@@ -53,13 +53,13 @@ fn calls_of_class(pool: &Pool, insn: &Insn) -> bool
     }
 }
 
-/// Whether the entry at an index is a constant that may be loaded: an int, a long or a text.
+/// Whether the entry at an index is a constant that may be loaded: an int, a long, a text or a class.
 fn is_supported_constant(pool: &Pool, index: u16) -> bool
     ensures { result ≡ is_supported_constant (entry_at pool.now.entries index) }
 {
     matches!(
         pool.entry(index),
-        Some(Entry::Integer(_) | Entry::Long(_) | Entry::Text(_))
+        Some(Entry::Integer(_) | Entry::Long(_) | Entry::Text(_) | Entry::Class(_))
     )
 }
 

@@ -1,6 +1,6 @@
 use Rattle.std.proofs.Common.{◌≡◌, ◌++◌, ap, sym, ◌∙◌, arith}
-use Rattle.fm_native.proofs.NameTexts.{class-alone, class-in-array}
-use Rattle.fm_native.proofs.names.push_base.Goals as goal
+use Rattle.fm_frames.proofs.NameTexts.{class-alone, class-in-array}
+use Rattle.fm_frames.proofs.names.push_base.Goals as goal
 use Rattle.fm_world.proofs.Told.{class_info-name}
 use Rattle.fm_world.specs.Chains.{class_at}
 use Rattle.fm_world.specs.declared.records.ClassInfo.{ClassInfo}

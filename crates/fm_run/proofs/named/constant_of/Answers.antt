@@ -1,8 +1,9 @@
 use Rattle.fm_frames.specs.NumberRows.{constant_effect}
-use Rattle.std.proofs.Common.{◌≡◌, sym, ap, ◌∙◌, arith, to_z, of_z, w32, w64}
+use Rattle.std.proofs.Common.{◌≡◌, refl, sym, ap, ◌∙◌, arith, to_z, of_z, w32, w64}
 use Rattle.fm_code.specs.declared.instructions.Insn.TheVariants as insn
+use Rattle.fm_frames.specs.Literals.{class_literal}
 use Rattle.fm_frames.specs.Rows.{effect_of}
-use Rattle.fm_law_can_step.proofs.Named.{literal_inside}
+use Rattle.fm_law_can_step.proofs.Named.{literal_inside, name_units}
 use Rattle.fm_run.proofs.Resolving.{is-inside}
 use Rattle.fm_run.proofs.NextSteps.{named-done, next-of}
 use Rattle.fm_world.specs.declared.uses.Use.TheVariants as used
@@ -35,5 +36,23 @@ text_constant-requires-clause-text g c =
 
 pub text_constant-requires-clause-literals : goal.text_constant-requires-clause-literals
 text_constant-requires-clause-literals g c =
-    literal_inside c.args.program.now c.args.machine.now (insn.LoadPool c.args.index) c.in-OfText.text c.requires.run c.requires.going
-    (next-of c.args.program.now c.args.machine.now c.args.method.0 (insn.LoadPool c.args.index) (used.OfText c.in-OfText.text) c.requires.at (c.requires.is ∙ c.in-OfText.is))
+    literal_inside c.args.program.now c.args.machine.now (insn.LoadPool c.args.index) (used.OfText c.in-OfText.text) c.in-OfText.text c.requires.run c.requires.going
+    (next-of c.args.program.now c.args.machine.now c.args.method.0 (insn.LoadPool c.args.index) (used.OfText c.in-OfText.text) c.requires.at (c.requires.is ∙ c.in-OfText.is)) refl
+
+pub returns-in-OfType : goal.returns-in-OfType
+unfolding effect_of
+returns-in-OfType g c =
+    named-done c.args.program.now g.M.Memory.choose c.args.machine.now c.class_constant.new.machine c.args.method.0 (insn.LoadPool c.args.index) (used.OfType c.in-OfType.t) c.class_constant.result c.requires.at
+    (c.requires.is ∙ c.in-OfType.is) c.class_constant.ensures
+
+pub class_constant-requires-clause-inside : goal.class_constant-requires-clause-inside
+class_constant-requires-clause-inside g c =
+    is-inside c.args.program.now c.args.machine.now c.args.method.0 (insn.LoadPool c.args.index) (used.OfType c.in-OfType.t) c.requires.run c.requires.at (c.requires.is ∙ c.in-OfType.is)
+
+pub class_constant-requires-clause-literals : goal.class_constant-requires-clause-literals
+class_constant-requires-clause-literals g c =
+    literal_inside c.args.program.now c.args.machine.now (insn.LoadPool c.args.index) (used.OfType c.in-OfType.t) (class_literal c.args.program.now.outline c.in-OfType.t.0) c.requires.run c.requires.going
+    (next-of c.args.program.now c.args.machine.now c.args.method.0 (insn.LoadPool c.args.index) (used.OfType c.in-OfType.t) c.requires.at (c.requires.is ∙ c.in-OfType.is)) refl
+
+pub class_constant-requires-clause-name : goal.class_constant-requires-clause-name
+class_constant-requires-clause-name g c = name_units c.args.program.now c.requires.run c.in-OfType.t.0
