@@ -46,6 +46,7 @@ module _ (o : Outline) where
     put = λ e object place k value is. counted e (Put object place k value ∷ []) (omega arith) (tt, tt) is;
     static_put = λ e place k value is. counted e (SetStatic place k value ∷ []) (omega arith) (tt, tt) is;
     chained = λ e operand to is. counted e (SetChain operand to ∷ []) (omega arith) (tt, tt) is;
+    given_literal = λ e literal inside is. counted e (MakeLiteral literal ∷ []) (omega arith) (inside, tt) is;
     freed = λ e starts operand is. counted e (Free operand ∷ []) (omega arith) (tt, tt) is;
     chain_freed = λ e starts operand is. counted e (FreeChain operand ∷ []) (omega arith) (tt, tt) is;
   }

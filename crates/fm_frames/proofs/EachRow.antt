@@ -1,12 +1,12 @@
 -- What holds of each effect by its actions holds of all rows of the machine's table: one lemma with a field for each sort of what an effect does.
-use Rattle.std.proofs.Common.{◌≡◌, ℕ, List, [], ◌∷◌, Option, Some, None, option_and_then, true, refl}
+use Rattle.std.proofs.Common.{◌≡◌, ℕ, ◌<◌, arith, List, [], ◌∷◌, Option, Some, None, option_and_then, true, refl}
 use Rattle.fm_base.specs.declared.kinds.Kind.{Kind}
 use Rattle.fm_base.specs.declared.kinds.TypeRef.{TypeRef}
 use Rattle.fm_code.specs.declared.instructions.Insn.{Insn}
 use Rattle.fm_code.specs.declared.instructions.Insn.TheVariants as insn
 use Rattle.fm_frames.specs.ArrayRows.{array_actions}
 use Rattle.fm_frames.specs.CallRows.{entered_as, native_of}
-use Rattle.fm_frames.specs.Effects.{acting, Effect, Exits, Falls, Free, FreeChain, going, int_word, Make, MakeLiteral, making, printing, Put, SameOperands, SetChain, SetStatic, Source, words}
+use Rattle.fm_frames.specs.Effects.{acting, Effect, Exits, Falls, Free, FreeChain, giving_literal, going, int_word, Make, MakeLiteral, making, printing, Put, SameOperands, SetChain, SetStatic, Source, words}
 use Rattle.fm_frames.specs.NativeRows.{has_text, native_effect, text_made}
 use Rattle.fm_frames.specs.Natives.{native_of_row}
 use Rattle.fm_frames.specs.declared.natives.Native.{Native}
@@ -23,7 +23,7 @@ use Rattle.fm_frames.proofs.EachCall.{call_rows, entered_cases}
 use Rattle.fm_frames.proofs.EachInsn.{each_insn}
 use Rattle.fm_frames.proofs.Failures.{Failures, name_of, TextOutside}
 use Rattle.fm_frames.proofs.UsualAsks.{each_native}
-use Rattle.fm_frames.specs.Literals.{literal_named}
+use Rattle.fm_frames.specs.Literals.{class_literal, literal_count, literal_named}
 
 -- no class has to be started, or that of a method that has a row
 abbrev pub IsOfRow : Outline → Option ℕ → Type 0
@@ -45,6 +45,8 @@ pub record Leaves (o : Outline) (A : Effect → Type 0) : Type 0 where
   pub put : (e : Effect) (object : Source) (place : ℕ) (k : Kind) (value : Source) → e.actions ≡ Put object place k value ∷ [] → A e
   pub static_put : (e : Effect) (place : ℕ) (k : Kind) (value : Source) → e.actions ≡ SetStatic place k value ∷ [] → A e
   pub chained : (e : Effect) (operand to : ℕ) → e.actions ≡ SetChain operand to ∷ [] → A e
+  -- a literal that is there to be made is given
+  pub given_literal : (e : Effect) (literal : ℕ) → literal < literal_count o → e.actions ≡ MakeLiteral literal ∷ [] → A e
   -- a cell or a chain is freed, where at most the class of a built-in method has to be started before
   pub freed : (e : Effect) → IsOfRow o e.starts → (operand : ℕ) → e.actions ≡ Free operand ∷ [] → A e
   pub chain_freed : (e : Effect) → IsOfRow o e.starts → (operand : ℕ) → e.actions ≡ FreeChain operand ∷ [] → A e
@@ -60,6 +62,7 @@ starting_leaves o A class known l = record {
   put = λ e object place k value is. l.put (objects.starting class e) object place k value is;
   static_put = λ e place k value is. l.static_put (objects.starting class e) place k value is;
   chained = λ e operand to is. l.chained (objects.starting class e) operand to is;
+  given_literal = λ e literal inside is. l.given_literal (objects.starting class e) literal inside is;
   freed = λ e none operand is. l.freed (objects.starting class e) known operand is;
   chain_freed = λ e none operand is. l.chain_freed (objects.starting class e) known operand is;
 }
@@ -86,6 +89,8 @@ each_row_of_native o A l s row byte =
       appended = λ shown is it seen builds units fit. l.text_put _ _ units refl;
       message_put = λ is it seen fits. l.put _ _ _ _ _ refl;
       message_given = λ is it seen fits. l.plain _ refl;
+      class_given = λ is it seen type inside. l.given_literal (giving_literal 1 (class_literal o type)) (class_literal o type) (omega (arith, inside)) refl;
+      unnumbered = λ is it seen none. l.plain _ refl;
       freed = λ is it seen. l.freed (acting 1 (Free 0 ∷ [])) tt 0 refl;
       unlinked = λ is. l.plain _ refl;
       linked = λ is it seen loose. l.chained _ _ _ refl;

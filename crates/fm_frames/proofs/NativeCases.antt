@@ -1,21 +1,25 @@
 -- What holds of all that the rows of built-in methods can lead to holds of each of these rows: the only proof that goes through them one by one.
 -- A law over all of them gives what it has for each way in which rows ask for operands, and for each sort of effect that they end with.
-use Rattle.std.proofs.Common.{◌≡◌, ◌⊎◌, inl, inr, ℕ, ℤ, pos, ◌+◌, ◌-◌, ◌||◌, not, int_lt, unsigned_abs, Bool, true, false, List, [], ◌∷◌, ◌++◌, codes, length, drop, take, replicate, Option, Some, None, refl, slice_get, slice_index_or}
+use Rattle.std.proofs.Common.{◌≡◌, ◌⊎◌, inl, inr, ℕ, ℤ, pos, ◌+◌, ◌-◌, ◌<◌, ◌||◌, not, int_lt, unsigned_abs, Bool, true, false, List, [], ◌∷◌, ◌++◌, codes, length, drop, take, replicate, Option, Some, None, refl, slice_get, slice_index_or}
 use Rattle.std.proofs.lemmas.Bool.{cond_both}
 use Rattle.std.specs.Fmt.{digits}
 use Rattle.fm_types.specs.Fits.{fits_type}
 use Rattle.fm_types.specs.Named.{throwable_type}
 use Rattle.fm_world.specs.Programs.{Outline}
-use Rattle.fm_frames.specs.Effects.{acting, Effect, Exits, Free, FreeChain, going, int_word, making, OfOperand, OfPlace, Plain, printing, Put, SameOperands, SetChain, words}
-use Rattle.fm_frames.specs.NativeRows.{arguments_words, at_sign, builder_native, class_native, char_at, free_native, has_text, is_builder, linked, native_effect, native_words, object_native, on_builder, on_built, on_shown, resized, shown_words, stream_native, string_native, text_kind, text_made, throwable_native, throwable_text, thrown_outside, type_name, with_length}
+use Rattle.fm_frames.specs.Effects.{acting, Effect, Exits, Free, FreeChain, giving_literal, going, int_word, making, OfOperand, OfPlace, Plain, printing, Put, SameOperands, SetChain, stuck, words}
+use Rattle.fm_frames.specs.NativeRows.{arguments_words, at_sign, builder_native, class_given_by, class_native, char_at, free_native, has_text, is_builder, linked, native_effect, native_words, object_native, on_builder, on_built, on_shown, resized, shown_words, stream_native, string_native, text_kind, text_made, throwable_native, throwable_text, thrown_outside, type_name, with_length}
 use Rattle.fm_frames.specs.Natives.{a_boolean, a_char, a_text, AGiven, an_int, AnObject, AnyReceiver, AShown, BuilderReceiver, ClassReceiver, Given, native_type, Nothing, Receiver, Returned, SomeChars, TextReceiver, ThrowableReceiver}
 use Rattle.fm_frames.specs.declared.natives.Shown.{Shown}
 use Rattle.fm_frames.specs.declared.natives.Native.{Native}
-use Rattle.fm_frames.specs.declared.natives.Native.TheVariants.{ObjectInit, ObjectHashCode, ObjectEquals, ObjectToString, StringLength, CharAt, StringEquals, StringHashCode, CompareTo, StringToString, Substring, ValueOf, ValueOfChars, BuilderInit, Append, BuilderLength, BuilderToString, BuilderCharAt, BuilderSetLength, BufferInitOf, Exit, Print, Println, PrintlnNothing, Read, ThrowableInit, ThrowableInitOf, GetMessage, ThrowableToString, FreeMeFree, FreeMeLink, FreeMeFreeChain, ClassGetName}
+use Rattle.fm_frames.specs.declared.natives.Native.TheVariants.{ObjectInit, ObjectHashCode, ObjectEquals, ObjectToString, ObjectGetClass, StringLength, CharAt, StringEquals, StringHashCode, CompareTo, StringToString, Substring, ValueOf, ValueOfChars, BuilderInit, Append, BuilderLength, BuilderToString, BuilderCharAt, BuilderSetLength, BufferInitOf, Exit, Print, Println, PrintlnNothing, Read, ThrowableInit, ThrowableInitOf, GetMessage, ThrowableToString, FreeMeFree, FreeMeLink, FreeMeFreeChain, ClassGetName}
+use Rattle.fm_frames.specs.Literals.{class_literal}
 use Rattle.fm_frames.specs.declared.natives.Shown.TheVariants.{Int as ShownInt, Long as ShownLong, Char as ShownChar, Boolean as ShownBoolean, Text as ShownText}
 use Rattle.fm_frames.specs.Operands.{on_any, on_class, on_chars, on_held, on_inner, on_int, on_object, on_text}
 use Rattle.fm_frames.specs.Sights.{Looks, Sight, Thing}
 use Rattle.fm_frames.specs.States.{null}
+use Rattle.fm_world.specs.Chains.{same_type}
+use Rattle.fm_world.specs.Numbers.{type_number}
+use Rattle.std.proofs.lemmas.List.Quantifiers.{position-Some}
 
 -- ---- what is known of operands and results
 
@@ -134,6 +138,10 @@ pub record NativeLeaves (o : Outline) (s : List Sight) (native : Native) (Units 
   pub message_put : native ≡ ThrowableInitOf → (it : Looks) → IsAt s 1 it → IsThrowable o it
       → A (acting 2 (Put (OfOperand 1) 0 (text_kind o) (OfOperand 0) ∷ []))
   pub message_given : native ≡ GetMessage → (it : Looks) → IsAt s 0 it → IsThrowable o it → A (words 1 (OfPlace 0 0 (text_kind o) ∷ []))
+  -- the class literal of the receiver's type, where that has a number
+  pub class_given : native ≡ ObjectGetClass → (it : Looks) → IsAt s 0 it → (type : ℕ) → type < length o.types
+      → A (giving_literal 1 (class_literal o type))
+  pub unnumbered : native ≡ ObjectGetClass → (it : Looks) → IsAt s 0 it → type_number o.types it.type ≡ None → A stuck
   -- and what FreeMe does
   pub freed : native ≡ FreeMeFree → (it : Looks) → IsAt s 0 it → A (acting 1 (Free 0 ∷ []))
   pub unlinked : native ≡ FreeMeLink → A (words 2 (OfOperand 0 ∷ []))
@@ -150,6 +158,13 @@ module _ (o : Outline) (s : List Sight) where
       cond_both (int_lt i (pos 0) || not (int_lt i (pos (length units)))) (thrown_outside o) (words 2 (int_word (pos (slice_index_or units (unsigned_abs i) 0)))) A
       (λ out. l.outside) (λ inside. l.number 2 ShownChar refl takes returns _)
 
+  -- a type has a number, or it has none
+  class_cases : (Units : List ℕ → Type 0) (A : Effect → Type 0) → NativeLeaves o s ObjectGetClass Units A → (it : Looks) → IsAt s 0 it
+      → (number : Option ℕ) → type_number o.types it.type ≡ number → A (class_given_by o number)
+  class_cases Units A l it seen None is = l.unnumbered refl it seen is
+  class_cases Units A l it seen (Some type) is =
+      l.class_given refl it seen type (position-Some (same_type it.type) o.types type it.type is).0
+
   pub native_cases : (native : Native) (Units : List ℕ → Type 0) (A : Effect → Type 0) → KeepsUnits o s Units → NativeAsks o s native Units A
       → NativeLeaves o s native Units A → (byte : Option ℕ) → A (native_effect o native byte s)
   unfolding native_effect object_native string_native builder_native stream_native throwable_native free_native class_native
@@ -158,6 +173,7 @@ module _ (o : Outline) (s : List Sight) where
   native_cases ObjectEquals Units A keeps a l byte = l.same 2 refl refl
   native_cases ObjectToString Units A keeps a l byte =
       a.receiver_any 0 (refl, refl) _ (λ it seen. l.text_given 1 refl refl _ (keeps.append _ _ (keeps.name 0 it seen) (keeps.hash it.birth)))
+  native_cases ObjectGetClass Units A keeps a l byte = a.receiver_any 0 (refl, refl) _ (λ it seen. class_cases Units A l it seen (type_number o.types it.type) refl)
   native_cases StringLength Units A keeps a l byte = a.receiver_text 0 (refl, refl) _ (λ units fit. l.number 1 ShownInt refl refl refl _)
   native_cases CharAt Units A keeps a l byte =
       a.receiver_text 1 (refl, refl) _ (λ units fit. a.int 0 (refl, refl) _ (char_leaves CharAt Units A l refl refl units))

@@ -21,6 +21,7 @@ pub enum Native {
     ObjectHashCode,
     ObjectEquals,
     ObjectToString,
+    ObjectGetClass,
     StringLength,
     CharAt,
     StringEquals,
@@ -55,11 +56,12 @@ pub enum Native {
 }
 
 // The built-in methods in the order of their rows.
-const NATIVES: [Native; 48] = [
+const NATIVES: [Native; 49] = [
     Native::ObjectInit,
     Native::ObjectHashCode,
     Native::ObjectEquals,
     Native::ObjectToString,
+    Native::ObjectGetClass,
     Native::StringLength,
     Native::CharAt,
     Native::StringEquals,

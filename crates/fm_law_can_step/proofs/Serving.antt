@@ -110,5 +110,6 @@ serves p x can going = record {
   texts = record { texts = held_text p x can going };
   hidden = record { first = held_hidden p x can going };
   names = record { units = held_names p x can going };
+  literals = let all = going.sound.1.areas.literals in omega (arith, all);
   counts = record { freed = going.sound.1.areas.freed; freed_words = going.sound.1.areas.freed_words };
 }

@@ -40,6 +40,7 @@ module _ (o : Outline) where
     put = λ e object place k value is. keeps e (Put object place k value ∷ []) (tt, tt) is;
     static_put = λ e place k value is. keeps e (SetStatic place k value ∷ []) (tt, tt) is;
     chained = λ e operand to is. keeps e (SetChain operand to ∷ []) (tt, tt) is;
+    given_literal = λ e literal inside is. keeps e (MakeLiteral literal ∷ []) (tt, tt) is;
     freed = λ e starts operand is. frees e starts (Free operand ∷ []) (tt, tt) is;
     chain_freed = λ e starts operand is. frees e starts (FreeChain operand ∷ []) (tt, tt) is;
   }

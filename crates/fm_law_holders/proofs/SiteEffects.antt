@@ -14,7 +14,7 @@ use Rattle.fm_frames.specs.ArrayRows.{array_made, arrays_of, ints_at, multi_arra
 use Rattle.fm_frames.specs.Effects.{Effect, Falls, faulty, making, Make, OfMade, Source, stuck}
 use Rattle.fm_frames.specs.NativeRows.{native_effect}
 use Rattle.fm_frames.specs.declared.natives.Native.{Native}
-use Rattle.fm_frames.specs.declared.natives.Native.TheVariants.{Append, FreeMeLink, GetMessage, StringToString}
+use Rattle.fm_frames.specs.declared.natives.Native.TheVariants.{Append, FreeMeLink, GetMessage, ObjectGetClass, StringToString}
 use Rattle.fm_frames.specs.Operands.{thrown}
 use Rattle.fm_frames.specs.Rows.{effect_of}
 use Rattle.fm_frames.specs.Sights.{Sight}
@@ -75,12 +75,13 @@ array_site_gives o method u i byte s is = absurd (false≢true is)
 
 -- ---- built-in methods
 
--- rows that give an operand, or what it led to
+-- rows that give an operand, what it led to, or what lives for ever
 abbrev pub gives_operand : Native → Bool
 gives_operand StringToString = true
 gives_operand (Append shown) = true
 gives_operand GetMessage = true
 gives_operand FreeMeLink = true
+gives_operand ObjectGetClass = true
 gives_operand row = false
 
 -- what a row gives where it goes on: nothing, an int, what it made, or what it had
@@ -113,6 +114,8 @@ module _ (o : Outline) (byte : Option ℕ) (s : List Sight) (row : Native) where
         appended = λ shown is it seen builds units fit falls. (AnOld (ap native_result is) (ap gives_operand is), refl);
         message_put = λ is it seen fits falls. (NoWords (ap native_result is) refl, refl);
         message_given = λ is it seen fits falls. (AnOld (ap native_result is) (ap gives_operand is), refl);
+        class_given = λ is it seen type inside falls. (AnOld (ap native_result is) (ap gives_operand is), refl);
+        unnumbered = λ is it seen none falls. absurd (cc);
         freed = λ is it seen falls. (NoWords (ap native_result is) refl, refl);
         unlinked = λ is falls. (AnOld (ap native_result is) (ap gives_operand is), refl);
         linked = λ is it seen loose falls. (AnOld (ap native_result is) (ap gives_operand is), refl);

@@ -33,7 +33,7 @@ use Rattle.fm_frames.proofs.BuiltInTypes.{buffer_there, builder_there, named_cla
 use Rattle.fm_frames.proofs.Programs.{class_literal_number, completed-are, string_number}
 use Rattle.fm_frames.specs.CallRows.{native_of}
 use Rattle.fm_frames.specs.NativeRows.{class_type, text_type}
-use Rattle.fm_frames.specs.Natives.{AGiven, AnObject, AShown, BuilderReceiver, ClassReceiver, from_top, Given, has_receiver, native_of_row, native_type, Nothing, OwnObject, Receiver, Returned, SomeChars, TextReceiver, ThrowableReceiver}
+use Rattle.fm_frames.specs.Natives.{AGiven, AnObject, AShown, BuilderReceiver, ClassLiteral, ClassReceiver, from_top, Given, has_receiver, native_of_row, native_type, Nothing, OwnObject, Receiver, Returned, SomeChars, TextReceiver, ThrowableReceiver}
 use Rattle.fm_frames.specs.declared.natives.Native.{Native}
 use Rattle.fm_frames.specs.declared.natives.Shown.{Shown}
 use Rattle.fm_frames.specs.declared.natives.Shown.TheVariants.{Boolean as ShownBoolean, Char as ShownChar, Int as ShownInt, Long as ShownLong, Text as ShownText}
@@ -75,6 +75,7 @@ abbrev returned_text : Bool → Returned → List ℕ
 returned_text buffer Nothing = codes "V"
 returned_text buffer (AGiven given) = given_text given
 returned_text buffer OwnObject = builder_text buffer
+returned_text buffer ClassLiteral = codes "Ljava/lang/Class;"
 
 abbrev descriptor_of : Bool → Native → List ℕ
 descriptor_of buffer row = codes "(" ++ arguments_text (native_type row).arguments ++ codes ")" ++ returned_text buffer (native_type row).result
@@ -131,6 +132,7 @@ read_returned buffer (AGiven SomeChars) = refl
 read_returned buffer (AGiven AnObject) = refl
 read_returned true OwnObject = refl
 read_returned false OwnObject = refl
+read_returned buffer ClassLiteral = refl
 
 -- its types are those of the arguments and of the result
 types_are : (buffer : Bool) (row : Native)
@@ -207,6 +209,9 @@ module _ (o : Outline) (more : List DeclaredClass) (classes : o.classes ≡ buil
   string_here : class_number o.classes string_name ≡ Some 1
   string_here = number_here string_name 1 (string_number more)
 
+  literal_here : class_number o.classes class_literal_name ≡ Some class_literal_class
+  literal_here = number_here class_literal_name class_literal_class (class_literal_number more)
+
   object_here : class_number o.classes object_name ≡ Some 0
   object_here = number_here object_name 0 (object_there more)
 
@@ -280,6 +285,7 @@ module _ (o : Outline) (more : List DeclaredClass) (classes : o.classes ≡ buil
   returned_is class buffer here (AGiven given) is = result_given_is given
   returned_is class true here OwnObject is = append_is class true here is
   returned_is class false here OwnObject is = append_is class false here is
+  returned_is class buffer here ClassLiteral is = result_class class_literal_name class_literal_class literal_here
 
   result_are : (class : ℕ) (buffer : Bool) → (class == 3) ≡ buffer → (row : Native) → declares_own class (native_type row).result ≡ true → Result class buffer row
   result_are class buffer here row is =

@@ -5,6 +5,7 @@ use Rattle.std.proofs.lemmas.Bool.{false≢true, or_left}
 use Rattle.fm_base.specs.declared.kinds.TypeRef.{TypeRef}
 use Rattle.fm_cells.specs.Objects.{Object}
 use Rattle.fm_cells.specs.Stores.{object_at}
+use Rattle.fm_frames.proofs.LiteralSteps.{class-literal}
 use Rattle.fm_types.specs.Fits.{fits_type}
 use Rattle.fm_types.specs.Named.{built_in_type, object_slot, throwable_type}
 use Rattle.fm_types.specs.States.{taken}
@@ -12,14 +13,14 @@ use Rattle.fm_types.specs.declared.slots.Slot.{Slot}
 use Rattle.fm_types.specs.declared.slots.Slot.TheVariants as slot
 use Rattle.fm_types.proofs.Order.{type-refl}
 use Rattle.fm_world.specs.Programs.{Outline}
-use Rattle.fm_frames.specs.Acts.{cell_of}
-use Rattle.fm_frames.specs.Effects.{acting, Effect, Exits, Falls, faulty, int_word, Next, OfMade, OfOperand, OfPlace, Put, SameOperands, Source, Throws, words}
-use Rattle.fm_frames.specs.Elements.{is_string_type, chars_type, is_text_type}
+use Rattle.fm_frames.specs.Acts.{cell_of, literal_type}
+use Rattle.fm_frames.specs.Effects.{acting, Effect, Exits, Falls, faulty, giving_literal, int_word, Next, OfLiteral, OfMade, OfOperand, OfPlace, Put, SameOperands, Source, Throws, words}
+use Rattle.fm_frames.specs.Elements.{is_string_type, chars_type}
 use Rattle.fm_frames.specs.NativeRows.{arguments_words, class_type, given_words, native_words, has_text, native_effect, on_shown, shown_words, text_kind, text_type, thrown_outside}
 use Rattle.fm_frames.specs.Natives.{a_boolean, a_text, AGiven, an_int, AnObject, AnyReceiver, AShown, BuilderReceiver, ClassReceiver, from_top, Given, has_one, has_receiver, native_type, Nothing, Receiver, Returned, SomeChars, TextReceiver, ThrowableReceiver}
 use Rattle.fm_frames.specs.declared.natives.Native.{Native}
 use Rattle.fm_frames.specs.declared.natives.Shown.{Shown}
-use Rattle.fm_frames.specs.declared.natives.Native.TheVariants.{Append, GetMessage, StringToString, ThrowableInitOf}
+use Rattle.fm_frames.specs.declared.natives.Native.TheVariants.{Append, GetMessage, ObjectGetClass, StringToString, ThrowableInitOf}
 use Rattle.fm_frames.specs.declared.natives.Shown.TheVariants.{Boolean as ShownBoolean, Char as ShownChar, Int as ShownInt, Long as ShownLong, Text as ShownText}
 use Rattle.fm_frames.specs.Operands.{on_any, on_inner, on_inner_of, on_int, on_object, on_passing, on_text_or_null, thrown}
 use Rattle.fm_frames.specs.Sights.{has_hidden_field, inner_of, Inner, led_to, Looks, looks, Lost, Missing, NoField, Sight, sights, Text, text_in, Thing, type_numbered}
@@ -27,8 +28,9 @@ use Rattle.fm_frames.specs.States.{Areas, word_at}
 use Rattle.fm_frames.proofs.NativeCases.{any_units, is_int, IsArgument, IsReceiver, native_cases, NativeAsks, NativeLeaves, Returns, Takes}
 use Rattle.fm_frames.proofs.NativeWords.{argument_found, arguments_count}
 use Rattle.fm_frames.proofs.UsualAsks.{Any}
+use Rattle.fm_frames.specs.Literals.{class_literal}
 use Rattle.fm_same.specs.Covering.{is_free_me}
-use Rattle.fm_law_sound.specs.Sound.{IsReference}
+use Rattle.fm_law_sound.specs.Sound.{IsObjectIn, IsReference}
 use Rattle.fm_law_sound.proofs.SeenObjects.{IsSeen, seen_at}
 use Rattle.fm_law_no_fault.specs.CellsResolved.{arguments_asked, given_asked, result_given, returned_asked, shown_asked, suits, suits_row}
 use Rattle.fm_law_no_fault.specs.Doing.{SourceLeadsTo}
@@ -40,7 +42,11 @@ use Rattle.fm_law_no_fault.proofs.Owing.{ActsSuit, GivesCells, SourceIsA}
 use Rattle.fm_law_no_fault.proofs.RowCases.{Row}
 use Rattle.fm_law_no_fault.proofs.StoresKeep.{leads-later}
 use Rattle.fm_law_no_fault.proofs.Wanted.{slot_held, slot_passing, wanted_held, wanted_int, wanted_leads, wanted_long, wanted_object}
+use Rattle.fm_law_sound.proofs.MadeObjects.{numbered}
+use Rattle.fm_types.proofs.LeastJoins.{same_type-eq}
 use Rattle.fm_world.specs.Chains.{same_type}
+use Rattle.fm_world.specs.Numbers.{type_number, type_of_class}
+use Rattle.std.proofs.lemmas.Option.{none-some, slice_get-get_or}
 
 -- the words of a receiver
 abbrev pub receiver_count : Native → ℕ
@@ -235,6 +241,26 @@ module _ (r : Row) (t : TypeRef) where
   text_put : SourceLeadsTo o r.areas.store r.frame.stack (text_type o ∷ []) (λ u. fits_type o.classes u (text_type o)) (OfMade 0)
   text_put = (text_type o, refl, type-refl o.classes r.steps.tree (text_type o))
 
+  -- a class literal
+  literal_given : (type : ℕ) → Gives [] (slot.Ref (class_type o) ∷ []) (OfLiteral (class_literal o type) ∷ [])
+  literal_given type y made went =
+      let literal : TypeRef = literal_type o (class_literal o type) in (
+        leads_weaker o y.store (same_type literal) (λ u. fits_type o.classes u (class_type o))
+            (λ u same. subst (λ w. fits_type o.classes w (class_type o) ≡ true) (sym (class-literal o type) ∙ same_type-eq literal u same)
+            (type-refl o.classes r.steps.tree (class_type o))) _ (went.areas.literals (class_literal o type)),
+        tt,
+      )
+
+  -- the type of what is seen has a number
+  is_numbered : (n : ℕ) (it : Looks) → slice_get seen n ≡ Some (Thing it) → type_number o.types it.type ≡ None → ⊥
+  is_numbered n it found none =
+      let saw : IsSeen o r.areas.store (cell_of (word_at r.frame.stack n)) it = seen_at o r.areas.store r.frame.stack n it found in
+      let held : IsObjectIn o saw.object = r.sound.heap (cell_of (word_at r.frame.stack n)) saw.object saw.held in
+      let at : slice_get o.types saw.object.class ≡ Some it.type =
+      slice_get-get_or o.types saw.object.class (type_of_class 0) held.numbered ∙ ap Some (sym saw.type_is) in
+      let number = numbered o saw.object.class it.type at in
+      none-some number.0 (sym none ∙ number.1)
+
   -- ---- the receiver, later
 
   receiver_given : (row : Native) (h : HasOperands r row t) (sort : Receiver) → has_one sort ≡ true → (n : ℕ) → IsReceiver row sort n
@@ -364,6 +390,11 @@ module _ (r : Row) (t : TypeRef) where
           ),
         );
       });
+      class_given = λ is it found type inside. as_row ObjectGetClass (giving_literal 1 (class_literal o type)) is (λ operands. record {
+        acts = tt;
+        next = (refl, refl, literal_given type);
+      });
+      unnumbered = λ is it found none. absurd (is_numbered 0 it found none);
       freed = λ is it found. absurd (false≢true (sym other ∙ ap is_free_me is));
       unlinked = λ is. absurd (false≢true (sym other ∙ ap is_free_me is));
       linked = λ is it found loose. absurd (false≢true (sym other ∙ ap is_free_me is));

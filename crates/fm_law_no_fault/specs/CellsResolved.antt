@@ -21,9 +21,9 @@ use Rattle.fm_world.specs.Programs.{class_of_type, IsTypeIn, kind_at, Outline, P
 use Rattle.fm_world.specs.declared.declarations.Constant.TheVariants as constant
 use Rattle.fm_world.specs.declared.uses.Use.TheVariants as resolved
 use Rattle.fm_frames.specs.CallRows.{native_of}
-use Rattle.fm_frames.specs.Elements.{is_string_type, chars_type, is_text_type}
+use Rattle.fm_frames.specs.Elements.{is_string_type, chars_type}
 use Rattle.fm_frames.specs.NativeRows.{class_type, text_kind, text_type}
-use Rattle.fm_frames.specs.Natives.{AGiven, AnObject, AShown, BuilderReceiver, ClassReceiver, from_top, Given, has_receiver, native_type, Nothing, OwnObject, Receiver, Returned, SomeChars, TextReceiver, ThrowableReceiver}
+use Rattle.fm_frames.specs.Natives.{AGiven, AnObject, AShown, BuilderReceiver, ClassLiteral, ClassReceiver, from_top, Given, has_receiver, native_type, Nothing, OwnObject, Receiver, Returned, SomeChars, TextReceiver, ThrowableReceiver}
 use Rattle.fm_frames.specs.declared.natives.Native.{Native}
 use Rattle.fm_frames.specs.declared.natives.Shown.{Shown}
 use Rattle.fm_frames.specs.declared.natives.Shown.TheVariants.{Boolean as ShownBoolean, Char as ShownChar, Int as ShownInt, Long as ShownLong, Text as ShownText}
@@ -109,6 +109,7 @@ abbrev pub returned_asked : Outline → TypeRef → Returned → List Slot
 returned_asked o t Nothing = []
 returned_asked o t (AGiven given) = given_asked o given
 returned_asked o t OwnObject = slot.Ref t ∷ []
+returned_asked o t ClassLiteral = slot.Ref (class_type o) ∷ []
 
 -- the words that a built-in method of a class gives
 abbrev pub result_given : Outline → TypeRef → Native → List Slot

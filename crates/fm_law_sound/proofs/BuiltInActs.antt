@@ -18,6 +18,7 @@ use Rattle.fm_frames.specs.declared.values.Value.{Value}
 use Rattle.fm_frames.proofs.Failures.{TextOutside}
 use Rattle.fm_frames.proofs.NativeCases.{IsAt, KeepsUnits, native_cases}
 use Rattle.fm_frames.proofs.UsualAsks.{SeesUnits, usual_asks}
+use Rattle.fm_frames.specs.Literals.{class_literal}
 use Rattle.fm_law_sound.specs.Acting.{ActsFit, PlaceFits}
 use Rattle.fm_law_sound.specs.BuiltIns.{native_slots}
 use Rattle.fm_law_sound.specs.Making.{AreFew, AreUnits, HaveTextFirst, HoldsObjects, IsMakeable, NamesAreUnits}
@@ -25,7 +26,7 @@ use Rattle.fm_law_sound.specs.Sound.{HaveKinds, IsObjectIn}
 use Rattle.fm_law_sound.proofs.BuiltInRows.{two_references}
 use Rattle.fm_law_sound.proofs.InsnActs.{failures, Fits, quiet}
 use Rattle.fm_law_sound.proofs.KindsAgree.{hidden_place}
-use Rattle.fm_law_sound.proofs.MadeObjects.{length_few, no_text, text_fits}
+use Rattle.fm_law_sound.proofs.MadeObjects.{length_few, literal_fits, no_text, text_fits}
 use Rattle.fm_law_sound.proofs.SeenObjects.{seen_at}
 use Rattle.fm_law_sound.proofs.ShownUnits.{shown_fit}
 use Rattle.fm_law_sound.proofs.TextUnits.{units-append, units-drop, units-each, units-hex, units-signed, units-take, units-zeros}
@@ -170,6 +171,8 @@ module _ (p : Program) (ready : IsMakeable p) (names : NamesAreUnits p.outline) 
             subst (λ row. HaveKinds (native_slots row) (take (length (native_slots row)) f.stack)) is have in
             record { fits = λ few. (placed 1 it at (first.throwables it.type fits), (λ areas cells statics. (two_references f.stack both).0), tt) };
         message_given = λ is it at fits. bare _ refl;
+        class_given = λ is it at type inside. record { fits = λ few. (literal_fits p ready (class_literal o type), tt) };
+        unnumbered = λ is it at none. bare _ refl;
         freed = λ is it at. record { fits = λ few. refl };
         unlinked = λ is. bare _ refl;
         linked = λ is it at loose. record { fits = λ few. refl };

@@ -6,12 +6,12 @@ use Rattle.std.proofs.lemmas.List.{length-append}
 use Rattle.fm_types.specs.declared.slots.Slot.{Slot}
 use Rattle.fm_types.specs.declared.slots.Slot.TheVariants as slot
 use Rattle.fm_world.specs.Programs.{Outline}
-use Rattle.fm_frames.specs.Effects.{acting, Effect, Free, FreeChain, int_word, OfMade, OfOperand, OfPlace, Put, SameOperands, SetChain, Source, words}
+use Rattle.fm_frames.specs.Effects.{acting, Effect, Free, FreeChain, giving_literal, int_word, OfMade, OfOperand, OfPlace, Put, SameOperands, SetChain, Source, words}
 use Rattle.fm_frames.specs.NativeRows.{arguments_words, given_words, has_text, native_effect, native_words, shown_words, text_kind}
 use Rattle.fm_frames.specs.Natives.{a_boolean, a_text, AGiven, AnObject, AShown, from_top, Given, has_receiver, native_type, Nothing, Returned, SomeChars}
 use Rattle.fm_frames.specs.declared.natives.Native.{Native}
 use Rattle.fm_frames.specs.declared.natives.Shown.{Shown}
-use Rattle.fm_frames.specs.declared.natives.Native.TheVariants.{Append, FreeMeFree, FreeMeFreeChain, FreeMeLink, GetMessage, StringToString, ThrowableInitOf}
+use Rattle.fm_frames.specs.declared.natives.Native.TheVariants.{Append, FreeMeFree, FreeMeFreeChain, FreeMeLink, GetMessage, ObjectGetClass, StringToString, ThrowableInitOf}
 use Rattle.fm_frames.specs.declared.natives.Shown.TheVariants.{Boolean as ShownBoolean, Char as ShownChar, Int as ShownInt, Long as ShownLong, Text as ShownText}
 use Rattle.fm_frames.specs.Sights.{Sight}
 use Rattle.fm_frames.specs.States.{Frame, word_at}
@@ -20,6 +20,7 @@ use Rattle.fm_frames.proofs.Failures.{Failures}
 use Rattle.fm_frames.proofs.NativeCases.{is_int, NativeLeaves, Returns, Takes}
 use Rattle.fm_frames.proofs.NativeWords.{arguments_count}
 use Rattle.fm_frames.proofs.UsualAsks.{Any, each_native}
+use Rattle.fm_frames.specs.Literals.{class_literal}
 use Rattle.fm_law_sound.specs.BuiltIns.{above_receiver, given_slots, GivesSlots, native_slots, NativeLeads, reference, returned_slots, shown_slots}
 use Rattle.fm_law_sound.specs.Sound.{HaveKinds, IsReference}
 use Rattle.fm_law_sound.proofs.Leaving.{read_kind}
@@ -138,6 +139,9 @@ module _ (o : Outline) (f : Frame) where
         (λ has. (refl, refl, λ areas made statics. tt));
     message_given = λ is it seen may. as_row native GetMessage (words 1 (OfPlace 0 0 (text_kind o) ∷ [])) is have
         (λ has. (refl, refl, λ areas made statics. (read_kind (text_kind o) _, tt)));
+    class_given = λ is it seen type inside. as_row native ObjectGetClass (giving_literal 1 (class_literal o type)) is have
+        (λ has. (refl, refl, λ areas made statics. (tt, tt)));
+    unnumbered = λ is it seen none. tt;
     freed = λ is it seen. as_row native FreeMeFree (acting 1 (Free 0 ∷ [])) is have (λ has. (refl, refl, λ areas made statics. tt));
     unlinked = λ is. as_row native FreeMeLink (words 2 (OfOperand 0 ∷ [])) is have
         (λ has. (refl, refl, λ areas made statics. ((two_references f.stack has).0, tt)));

@@ -19,7 +19,7 @@ use Rattle.fm_world.specs.Programs.{kind_at, Outline}
 use Rattle.fm_world.specs.declared.uses.Use.{Use}
 use Rattle.fm_world.specs.declared.uses.Use.TheVariants as resolved
 use Rattle.fm_frames.specs.ArrayRows.{element_kind, put_element}
-use Rattle.fm_frames.specs.Effects.{acting, Effect, Exits, Falls, going, int_word, loaded, making, Next, OfOperand, OfPlace, Plain, printing, SameOperands, SetChain, Source, Throws, words}
+use Rattle.fm_frames.specs.Effects.{acting, Effect, Exits, Falls, giving_literal, going, int_word, loaded, making, Next, OfOperand, OfPlace, Plain, printing, SameOperands, SetChain, Source, Throws, words}
 use Rattle.fm_frames.specs.NativeRows.{has_text, native_effect, text_kind, text_made, text_type}
 use Rattle.fm_frames.specs.declared.natives.Native.{Native}
 use Rattle.fm_frames.specs.ObjectRows.{kind_of_field}
@@ -32,6 +32,7 @@ use Rattle.fm_frames.proofs.EachInsn.{each_insn, IsNamed, LeadsOn, magnitudes, W
 use Rattle.fm_frames.proofs.Failures.{Failures, name_of, TextOutside}
 use Rattle.fm_frames.proofs.NestedActions.{nested_actions}
 use Rattle.fm_frames.proofs.UsualAsks.{each_native}
+use Rattle.fm_frames.specs.Literals.{class_literal}
 use Rattle.fm_law_sound.specs.Placing.{PutAgrees, ReadAgrees, sources_in, thrown_in}
 use Rattle.fm_law_sound.proofs.InsnActs.{elements_deep}
 use Rattle.fm_law_sound.proofs.KindsAgree.{Agrees, bare, gone, loaded_agrees, made_agrees, put_agrees, seen_place, set_agrees, stucks, throws}
@@ -90,6 +91,8 @@ module _ (o : Outline) (store : Store) (stack : List Value) where
         message_given = λ is it seen fits.
             let place = seen_place o store stack 0 0 (text_kind o) it seen (message it.type fits) in
             plain (words 1 (OfPlace 0 0 (text_kind o) ∷ [])) tt ((place.0, place.1, text_type o, place.2), tt);
+        class_given = λ is it seen type inside. plain (giving_literal 1 (class_literal o type)) (tt, tt) (tt, tt);
+        unnumbered = λ is it seen none. failures.none;
         freed = λ is it seen. plain _ (tt, tt) tt;
         unlinked = λ is. plain _ tt (tt, tt);
         linked = λ is it seen loose. plain (record (acting 2 (SetChain 1 0 ∷ [])) { gives = OfOperand 1 ∷ [] }) (tt, tt) (tt, tt);

@@ -5,7 +5,7 @@ use Rattle.fm_types.specs.declared.slots.Slot.TheVariants as slot
 use Rattle.fm_world.specs.Programs.{Outline}
 use Rattle.fm_frames.specs.Acts.{value_of}
 use Rattle.fm_frames.specs.Effects.{Effect, Next, Falls, Throws, Exits, Faults, Source}
-use Rattle.fm_frames.specs.Natives.{AGiven, AnObject, AShown, from_top, Given, has_receiver, native_type, Nothing, OwnObject, Returned, SomeChars}
+use Rattle.fm_frames.specs.Natives.{AGiven, AnObject, AShown, from_top, Given, has_receiver, native_type, Nothing, OwnObject, ClassLiteral, Returned, SomeChars}
 use Rattle.fm_frames.specs.declared.natives.Native.{Native}
 use Rattle.fm_frames.specs.declared.natives.Shown.{Shown}
 use Rattle.fm_frames.specs.declared.natives.Shown.TheVariants.{Boolean as ShownBoolean, Char as ShownChar, Int as ShownInt, Long as ShownLong, Text as ShownText}
@@ -46,6 +46,7 @@ abbrev pub returned_slots : Returned → List Slot
 returned_slots Nothing = []
 returned_slots (AGiven given) = given_slots given
 returned_slots OwnObject = reference ∷ []
+returned_slots ClassLiteral = reference ∷ []
 
 -- the words that it gives
 abbrev pub native_result : Native → List Slot

@@ -1,7 +1,7 @@
 -- All rows of the table but those of FreeMe do the same on both memories: they read numbers where
 -- no reference is, what they throw or fault at is read as it should be, and values go into static
 -- fields by their kinds.
-use Rattle.std.proofs.Common.{◌≡◌, ℕ, ◌+◌, ◌-◌, ◌<◌, ◌⊎◌, inl, inr, true, false, List, [], ◌∷◌, ◌++◌, map, Option, Some, refl, sym, ◌∙◌, ap, subst, slice_get, ⊎_elim}
+use Rattle.std.proofs.Common.{◌≡◌, arith, ℕ, ◌+◌, ◌-◌, ◌<◌, ◌⊎◌, inl, inr, true, false, List, [], ◌∷◌, ◌++◌, map, Option, Some, refl, sym, ◌∙◌, ap, subst, slice_get, ⊎_elim}
 use Rattle.std.specs.List.{AllByRecursion}
 use Rattle.std.proofs.lemmas.Bool.{cases_Bool, false≢true}
 use Rattle.fm_base.proofs.ListFacts.{AllByRecursion-append, AllByRecursion-mapped, AllByRecursion-weaker}
@@ -26,7 +26,7 @@ use Rattle.fm_world.specs.declared.uses.Use.{Use}
 use Rattle.fm_world.specs.declared.uses.Use.TheVariants as resolved
 use Rattle.fm_frames.specs.ArrayRows.{element_kind, put_element}
 use Rattle.fm_frames.specs.CallRows.{entered_as, native_of, words_of_arguments}
-use Rattle.fm_frames.specs.Effects.{acting, Calls, Effect, Exits, Falls, Faults, going, int_word, loaded, making, Next, OfOperand, OfPlace, printing, SameOperands, Source, Throws, words}
+use Rattle.fm_frames.specs.Effects.{acting, Calls, Effect, Exits, Falls, Faults, giving_literal, going, int_word, loaded, making, Next, OfOperand, OfPlace, printing, SameOperands, Source, Throws, words}
 use Rattle.fm_frames.specs.NativeRows.{has_text, native_effect, text_kind, text_made, text_type}
 use Rattle.fm_frames.specs.Natives.{is_free_me}
 use Rattle.fm_frames.specs.declared.natives.Native.{Native}
@@ -40,7 +40,7 @@ use Rattle.fm_frames.proofs.EachInsn.{each_insn, IsNamed, LeadsOn, loaded_all, m
 use Rattle.fm_frames.proofs.Failures.{Failures, TextOutside}
 use Rattle.fm_frames.proofs.NestedActions.{nested_actions}
 use Rattle.fm_frames.proofs.UsualAsks.{each_native}
-use Rattle.fm_frames.specs.Literals.{literal_count, literal_named}
+use Rattle.fm_frames.specs.Literals.{class_literal, literal_count, literal_named}
 use Rattle.fm_same.specs.Evenness.{IsObjectSource}
 use Rattle.fm_law_sound.specs.Making.{HaveTextFirst}
 use Rattle.fm_law_sound.specs.Placing.{ReadAgrees, sources_in, thrown_in}
@@ -134,6 +134,8 @@ module _ (o : Outline) (store : Store) (f : Frame) where
           appended = λ shown is it seen builds units fit. plain _ (tt, tt) (tt, (tt, tt)) refl;
           message_put = λ is it seen fits. plain _ tt (tt, tt) refl;
           message_given = λ is it seen fits. plain (words 1 (OfPlace 0 0 (text_kind o) ∷ [])) (tt, tt) tt refl;
+          class_given = λ is it seen type inside. plain (giving_literal 1 (class_literal o type)) (tt, tt) (omega (arith, inside), tt) refl;
+          unnumbered = λ is it seen none. failures.none;
           freed = λ is it seen. none_freed FreeMeFree is refl;
           unlinked = λ is. none_freed FreeMeLink is refl;
           linked = λ is it seen loose. none_freed FreeMeLink is refl;

@@ -69,6 +69,8 @@ module _ (max targets : ℕ) (o : Outline) where
         appended = λ shown is it seen builds units fit. record { acts = (tt, ((tt, tt), tt)); gives = (tt, tt); writes = tt; next = tt };
         message_put = λ is it seen fits. record { acts = ((tt, tt), tt); gives = tt; writes = tt; next = tt };
         message_given = λ is it seen fits. words_of 1 (OfPlace 0 0 (text_kind o) ∷ []) (tt, tt);
+        class_given = λ is it seen type inside. record { acts = (tt, tt); gives = (tt, tt); writes = tt; next = tt };
+        unnumbered = λ is it seen none. failures.none;
         freed = λ is it seen. record { acts = (tt, tt); gives = tt; writes = tt; next = tt };
         unlinked = λ is. words_of 2 (OfOperand 0 ∷ []) (tt, tt);
         linked = λ is it seen loose. record { acts = (tt, tt); gives = (tt, tt); writes = tt; next = tt };

@@ -1,10 +1,11 @@
 -- What built-in methods require of all that frames share, so that the numbers in it fit those of
 -- the code; all states of the run of a typed program have it.
-use Rattle.std.specs.Prelude.{◌≡◌, ℕ, ◌^◌, ◌<◌, ◌||◌, Bool, true, Some, codes}
+use Rattle.std.specs.Prelude.{◌≡◌, ℕ, ◌^◌, ◌<◌, ◌≤◌, ◌||◌, Bool, true, length, Some, codes}
 use Rattle.std.specs.List.{All, slice_index_or}
 use Rattle.fm_base.specs.declared.kinds.TypeRef.{TypeRef}
 use Rattle.fm_cells.specs.Objects.{Object}
 use Rattle.fm_cells.specs.Stores.{object_at, Store}
+use Rattle.fm_frames.specs.Literals.{literal_count}
 use Rattle.fm_types.specs.Fits.{fits_type}
 use Rattle.fm_types.specs.Named.{built_in_type, throwable_type}
 use Rattle.fm_world.specs.Programs.{Outline}
@@ -40,3 +41,5 @@ pub record ServesNatives (o : Outline) (x : Areas) : Type 0 where
   pub hidden : HoldsHidden o x.store
   pub names : HoldsNames o x.store
   pub counts : CountsFrees x
+  -- there is a place for each literal
+  pub literals : literal_count o ≤ length x.literals

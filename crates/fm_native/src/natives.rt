@@ -44,6 +44,7 @@ fn quiet_method<M: Memory>(
         Native::ObjectHashCode => objects::hash_code(machine, program),
         Native::ObjectEquals => objects::equals(machine, program),
         Native::ObjectToString => objects::to_string(alloc, machine, program),
+        Native::ObjectGetClass => objects::get_class(alloc, machine, program),
         Native::StringLength => strings::length(machine, program),
         Native::CharAt => strings::char_at(machine, program),
         Native::StringEquals => strings::equals(alloc, machine, program),

@@ -1,18 +1,19 @@
 // The methods of Object.
 
-ghost use Rattle.std.specs.Prelude.{◌≡◌, OnOk};
+ghost use Rattle.std.specs.Prelude.{◌≡◌, ◌≤◌, length, OnOk};
 ghost use Rattle.fm_native.specs.Doing.{DoesRow};
 ghost use Rattle.fm_native.specs.Serving.{HoldsNames};
 ghost use Rattle.fm_frames.specs.Acts.{cell_of, told_same};
+ghost use Rattle.fm_frames.specs.Literals.{literal_count};
 ghost use Rattle.fm_frames.specs.NativeRows.{hash_of};
-ghost use Rattle.fm_frames.specs.declared.natives.Native.TheVariants.{ObjectEquals, ObjectHashCode, ObjectInit, ObjectToString};
+ghost use Rattle.fm_frames.specs.declared.natives.Native.TheVariants.{ObjectEquals, ObjectGetClass, ObjectHashCode, ObjectInit, ObjectToString};
 ghost use Rattle.fm_frames.specs.inner.Doings.{CanStep};
 
 use crate::asked::{held_at, refuse};
 use crate::names::object_units;
-use fm_base::NoMemory;
+use fm_base::{NoMemory, TypeId};
 use fm_cells::{Cell, Memory};
-use fm_frames::{Machine, Value};
+use fm_frames::{Machine, Value, type_numbered};
 use fm_world::Program;
 use std::alloc::Global;
 
@@ -83,6 +84,32 @@ pub fn to_string<M: Memory>(
         Ok(held) => {
             let units = object_units(alloc, program, held)?;
             machine.give_text(program, 1, &units)
+        }
+        Err(refusal) => refuse(machine, program, refusal),
+    }
+}
+
+/// getClass of an object: the class literal of its type, which is made at its first use.
+pub fn get_class<M: Memory>(
+    alloc: Global,
+    machine: &mut Machine<M>,
+    program: &Program,
+) -> Result<(), NoMemory>
+    requires can { CanStep program.now machine.old }
+    requires names { HoldsNames program.now.outline machine.old.areas.store }
+    requires literals { literal_count program.now.outline ≤ length machine.old.areas.literals }
+    ensures { OnOk result (DoesRow program.now M.choose machine.old machine.new ObjectGetClass) }
+{
+    match held_at(machine, program, 0) {
+        Ok(held) => {
+            let t = type_numbered(program, TypeId(held.head.class));
+            match program.id_of(t) {
+                Some(id) => machine.give_class(alloc, program, 1, id),
+                None => {
+                    machine.stuck(program);
+                    Ok(())
+                }
+            }
         }
         Err(refusal) => refuse(machine, program, refusal),
     }

@@ -17,12 +17,12 @@ use Rattle.fm_world.specs.BuiltIns.{built_in}
 use Rattle.fm_world.specs.Chains.{chain_of}
 use Rattle.fm_world.specs.Members.{method_at, methods_of}
 use Rattle.fm_world.specs.Programs.{Program}
-use Rattle.fm_frames.specs.Effects.{Put, Effect, OfMade, OfOperand, OfPlace, Plain, acting, Exits, Faults, going, int_word, making, printing, words}
+use Rattle.fm_frames.specs.Effects.{giving_literal, OfLiteral, Put, Effect, OfMade, OfOperand, OfPlace, Plain, acting, Exits, Faults, going, int_word, making, printing, words}
 use Rattle.fm_frames.specs.NativeRows as table
 use Rattle.fm_frames.specs.Natives.{native_of_row, natives}
 use Rattle.fm_frames.specs.declared.natives.Native.{Native}
 use Rattle.fm_frames.specs.declared.natives.Shown.{Shown}
-use Rattle.fm_frames.specs.declared.natives.Native.TheVariants.{Append, FreeMeFree, FreeMeFreeChain, FreeMeLink, GetMessage, StringToString, ThrowableInitOf}
+use Rattle.fm_frames.specs.declared.natives.Native.TheVariants.{Append, FreeMeFree, FreeMeFreeChain, FreeMeLink, GetMessage, ObjectGetClass, StringToString, ThrowableInitOf}
 use Rattle.fm_frames.specs.declared.natives.Shown.TheVariants.{Boolean as ShownBoolean, Char as ShownChar, Int as ShownInt, Long as ShownLong, Text as ShownText}
 use Rattle.fm_frames.specs.States.{Frame}
 use Rattle.fm_frames.specs.Effects.{SameOperands, Source}
@@ -33,6 +33,7 @@ use Rattle.fm_frames.specs.Sights.{Sight}
 use Rattle.fm_frames.proofs.Failures.{Failures, name_of, TextOutside}
 use Rattle.fm_frames.proofs.NativeCases.{NativeLeaves, Takes}
 use Rattle.fm_frames.proofs.UsualAsks.{Any, each_native}
+use Rattle.fm_frames.specs.Literals.{class_literal}
 use Rattle.fm_same.specs.Covering.{CallsNative, native_words, NativeEnds}
 use Rattle.fm_same.specs.Evenness.{EndsEvenly, given, LeadsRight, word}
 use Rattle.fm_same.proofs.EdgesKeep.{call_falls, call_keeps, call_no_targets}
@@ -306,6 +307,16 @@ module _ (p : Program) (facts : Facts) (exact : AreFacts p facts) (f : Frame) (i
       )
       falls tt (λ next edge q s at there. absurd (cc)) tt (λ k unwritten. keeps k) (omega (arith, taken, two))
 
+  -- what lives for ever has any region
+  class_of : row ≡ ObjectGetClass → (type : ℕ) → Row (giving_literal 1 (class_literal p.outline type))
+  class_of is type =
+      let taken = c.words in
+      let one : 1 ≡ native_words row = sym (ap native_words is) in
+      let e : Effect = giving_literal 1 (class_literal p.outline type) in
+      goes_obey p facts exact f i h e 0 (tt, tt) falls tt
+      (gives_one p facts exact f i h e 0 (OfLiteral (class_literal p.outline type)) refl (λ next edge there. tt))
+      tt (λ k unwritten. keeps k) (omega (arith, taken, one))
+
   -- ---- all rows: those of FreeMe have no ends
 
   leaves : (s : List Sight) → NativeLeaves p.outline s row Any Row
@@ -324,6 +335,8 @@ module _ (p : Program) (facts : Facts) (exact : AreFacts p facts) (f : Frame) (i
     appended = λ shown is it seen builds units fit. appended shown is units;
     message_put = λ is it seen may. message_put is;
     message_given = λ is it seen may. message_given is;
+    class_given = λ is it seen type inside. class_of is type;
+    unnumbered = λ is it seen none. failures.none;
     freed = λ is it seen. absurd (ends_of FreeMeFree is);
     unlinked = λ is. absurd (ends_of FreeMeLink is);
     linked = λ is it seen loose. absurd (ends_of FreeMeLink is);

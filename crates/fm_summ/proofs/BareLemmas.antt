@@ -30,7 +30,7 @@ use Rattle.fm_conn.specs.declared.ends.End2.TheVariants as end
 use Rattle.fm_conn.proofs.ListedEndLemmas.{links-from, links-is}
 use Rattle.fm_summ.proofs.EntryLemmas.{end_number-listed, number_is, same_end-is}
 use Rattle.fm_conn.proofs.ListLemmas.{Contains-first, Contains-from_flat_map, Contains-one, Contains-range}
-use Rattle.fm_summ.specs.inner.BuiltIns.{bare_ends, bare_entries, entry_number, entry_words, is_linked_by, is_one_of, linking_rows, own_number, parameter_end, parameter_ends, result_end, row_in}
+use Rattle.fm_summ.specs.inner.BuiltIns.{bare_ends, bare_entries, entry_number, entry_words, get_class_row, is_linked_by, is_one_of, linking_rows, own_number, parameter_end, parameter_ends, result_end, row_in}
 use Rattle.fm_summ.specs.inner.State.{IsBare}
 
 -- ---- tests of lists
@@ -96,6 +96,10 @@ rows_of_parameters : list_all (tells_rows (end.Parameter 0) (end.Parameter 1)) (
 unfolding tells_rows finds is_pair native_links methods_of built_in
 rows_of_parameters = refl
 
+rows_of_global : list_all (tells_rows end.Return end.Global) (linking_rows end.Global) ≡ true
+unfolding tells_rows finds is_pair native_links methods_of built_in
+rows_of_global = refl
+
 row_listed : (rows : List ℕ) (row : ℕ) → is_one_of rows row ≡ true → Contains rows row
 row_listed rows row one =
     let found = any-found (λ n. eqb n row) rows one in subst (λ n. Contains rows n) (eqb-true found.0 row found.2) found.1
@@ -121,27 +125,42 @@ no_rows k row is =
     ap (λ b. cond b of_receiver (cond (eqb (suc (suc k)) 1) of_second [])) first ∙ ap (λ b. cond b of_second []) second in
     false≢true (sym (ap (λ list. is_one_of list row) rows) ∙ is)
 
+-- only getClass links what all methods hold, and it links no parameter
+only_get_class : (row : ℕ) → is_one_of (linking_rows end.Global) row ≡ true → row ≡ get_class_row
+only_get_class row is =
+    ⊎_elim (λ same. sym (eqb-true get_class_row row same)) (λ none. absurd (false≢true none)) (or_cases (eqb get_class_row row) false is)
+
+no_get_class : (k : ℕ) → is_one_of (linking_rows (end.Parameter k)) get_class_row ≡ true → ⊥
+no_get_class zero is = false≢true is
+no_get_class (suc zero) is = false≢true is
+no_get_class (suc (suc k)) is = no_rows k get_class_row is
+
+no_parameter : (row : ℕ) → is_one_of (linking_rows end.Global) row ≡ true → (k : ℕ) → is_one_of (linking_rows (end.Parameter k)) row ≡ true → ⊥
+no_parameter row here k there = no_get_class k (subst (λ n. is_one_of (linking_rows (end.Parameter k)) n ≡ true) (only_get_class row here) there)
+
 -- two ends that a row links, by the code
 both_linked : (row : ℕ) (a b : End2) → is_one_of (linking_rows a) row ≡ true → is_one_of (linking_rows b) row ≡ true → (a ≡ b) ⊎ IsNativeLink row a b
 both_linked row end.Return end.Return first second = inl refl
 both_linked row end.Return (end.Parameter zero) first second = inr (native_back row (end.Parameter 0) end.Return (tells (end.Parameter 0) end.Return row rows_of_result second first))
 both_linked row end.Return (end.Parameter (suc zero)) first second = inr (tells end.Return (end.Parameter 1) row rows_of_second first second)
 both_linked row end.Return (end.Parameter (suc (suc k))) first second = absurd (no_rows k row second)
-both_linked row end.Return end.Global first second = absurd (false≢true second)
+both_linked row end.Return end.Global first second = inr (tells end.Return end.Global row rows_of_global first second)
 both_linked row (end.Parameter zero) end.Return first second = inr (tells (end.Parameter 0) end.Return row rows_of_result first second)
 both_linked row (end.Parameter zero) (end.Parameter zero) first second = inl refl
 both_linked row (end.Parameter zero) (end.Parameter (suc zero)) first second = inr (tells (end.Parameter 0) (end.Parameter 1) row rows_of_parameters first second)
 both_linked row (end.Parameter zero) (end.Parameter (suc (suc k))) first second = absurd (no_rows k row second)
-both_linked row (end.Parameter zero) end.Global first second = absurd (false≢true second)
+both_linked row (end.Parameter zero) end.Global first second = absurd (no_parameter row second 0 first)
 both_linked row (end.Parameter (suc zero)) end.Return first second =
     inr (native_back row end.Return (end.Parameter 1) (tells end.Return (end.Parameter 1) row rows_of_second second first))
 both_linked row (end.Parameter (suc zero)) (end.Parameter zero) first second =
     inr (native_back row (end.Parameter 0) (end.Parameter 1) (tells (end.Parameter 0) (end.Parameter 1) row rows_of_parameters second first))
 both_linked row (end.Parameter (suc zero)) (end.Parameter (suc zero)) first second = inl refl
 both_linked row (end.Parameter (suc zero)) (end.Parameter (suc (suc k))) first second = absurd (no_rows k row second)
-both_linked row (end.Parameter (suc zero)) end.Global first second = absurd (false≢true second)
+both_linked row (end.Parameter (suc zero)) end.Global first second = absurd (no_parameter row second 1 first)
 both_linked row (end.Parameter (suc (suc k))) b first second = absurd (no_rows k row first)
-both_linked row end.Global b first second = absurd (false≢true first)
+both_linked row end.Global end.Return first second = inr (native_back row end.Return end.Global (tells end.Return end.Global row rows_of_global second first))
+both_linked row end.Global end.Global first second = inl refl
+both_linked row end.Global (end.Parameter k) first second = absurd (no_parameter row first k second)
 
 -- a native link is one by the code
 linked_both : (row : ℕ) (a b : End2) → IsNativeLink row a b → (is_linked_by (Some row) a ≡ true) × (is_linked_by (Some row) b ≡ true)

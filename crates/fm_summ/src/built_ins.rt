@@ -34,6 +34,9 @@ const GET_MESSAGE: u16 = THROWABLE_ROW + 2;
 
 const FREE_ME_LINK: u16 = FREE_ME_ROW + 1;
 
+// The rows of Object begin at 0.
+const GET_CLASS: u16 = 4;
+
 /// The ends of a method without code. Those that a built-in method links have one number, and each
 /// other end has its own.
 pub fn bare_entries(alloc: Global, method: &MethodInfo) -> Result<Vec<(End2, u32)>, NoMemory>
@@ -79,7 +82,8 @@ fn entry_number(row: Option<u16>, end: End2) -> u32
 }
 
 // Whether the built-in method of this row links the end with others: a result that is the receiver
-// or that it kept, a message that is kept, and what FreeMe chains.
+// or that it kept, a message that is kept, what FreeMe chains, and a class literal, which lives for
+// ever.
 fn is_linked_by(row: Option<u16>, end: End2) -> bool
     ensures { result ≡ is_linked_by row end }
 {
@@ -97,6 +101,7 @@ fn is_linked_by(row: Option<u16>, end: End2) -> bool
                 | APPEND_TEXT
                 | GET_MESSAGE
                 | FREE_ME_LINK
+                | GET_CLASS
         ),
         End2::Parameter(0) => matches!(
             row,
@@ -111,7 +116,8 @@ fn is_linked_by(row: Option<u16>, end: End2) -> bool
                 | FREE_ME_LINK
         ),
         End2::Parameter(1) => matches!(row, THROWABLE_INIT_OF | FREE_ME_LINK),
-        _ => false,
+        End2::Parameter(_) => false,
+        End2::Global => row == GET_CLASS,
     }
 }
 

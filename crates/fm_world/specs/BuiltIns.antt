@@ -77,6 +77,7 @@ object_methods =
     ∷ method (codes "hashCode") (codes "()I")
     ∷ method (codes "equals") (codes "(Ljava/lang/Object;)Z")
     ∷ method (codes "toString") (codes "()Ljava/lang/String;")
+    ∷ method (codes "getClass") (codes "()Ljava/lang/Class;")
     ∷ []
 
 -- the methods of String
@@ -202,7 +203,7 @@ built_in_rows = class_row + length class_methods
 
 -- how many methods all classes have: those of a program come after them
 abbrev pub built_in_methods : ℕ
-built_in_methods = 94
+built_in_methods = 95
 
 -- ---- fields
 

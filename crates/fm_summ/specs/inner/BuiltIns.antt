@@ -65,12 +65,16 @@ get_message_row = throwable_row + 2
 abbrev pub link_row : ℕ
 link_row = free_me_row + 1
 
+-- getClass
+abbrev pub get_class_row : ℕ
+get_class_row = 4
+
 -- the rows that link the end with others
 abbrev pub linking_rows : End2 → List ℕ
-linking_rows end.Return = giving_itself (get_message_row ∷ link_row ∷ [])
+linking_rows end.Return = giving_itself (get_message_row ∷ link_row ∷ get_class_row ∷ [])
 linking_rows (end.Parameter k) =
     if k == 0 then giving_itself (init_of_row ∷ get_message_row ∷ link_row ∷ []) else if k == 1 then init_of_row ∷ link_row ∷ [] else []
-linking_rows end.Global = []
+linking_rows end.Global = get_class_row ∷ []
 
 -- whether a built-in method links an end with others
 abbrev pub is_linked_by : Option ℕ → End2 → Bool
