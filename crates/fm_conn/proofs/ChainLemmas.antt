@@ -2,7 +2,7 @@
 use Rattle.std.proofs.Common.{◌≡◌, ℕ, ◌<◌, ◌≤◌, ◌↔◌, List, [], ◌∷◌, get_or, Contains, refl, ap, sym, ◌∙◌, subst, inl, inr, ⊎_elim, arith}
 use Rattle.std.proofs.lemmas.Bool.{cases_lt}
 use Rattle.std.proofs.lemmas.List.{get_or_default, get_or_past}
-use Rattle.fm_base.proofs.GraphLemmas.{paired_back, paired_below}
+use Rattle.fm_base.proofs.GraphLemmas.{numbers_back, numbers_then, paired_below}
 use Rattle.fm_base.specs.Graph.{AreJoined, AreLeastJoined, AreNodes, ArePaired as NumbersPaired, IsPath as IsNumberPath}
 use Rattle.fm_conn.proofs.NumberLemmas.{number_of-same}
 use Rattle.fm_conn.proofs.PairLemmas.{PairNumbers}
@@ -11,24 +11,6 @@ use Rattle.fm_conn.specs.Pairs.{ArePaired, IsPath, Joined, Linking, PairAt}
 use Rattle.fm_conn.specs.inner.NodeTables.{class_at, class_in, number_of, table_of}
 
 -- ---- chains of numbers
-
-pub numbers_after : (pairs : List (ℕ × ℕ)) (a : ℕ) (path : List ℕ) (b c : ℕ) → IsNumberPath pairs a path b → AreJoined pairs b c → AreJoined pairs a c
-numbers_after pairs a [] b c same joined = subst (λ v. AreJoined pairs v c) (sym same) joined
-numbers_after pairs a (next ∷ rest) b c (paired, path) joined = let more = numbers_after pairs next rest b c path joined in (next ∷ more.0, (paired, more.1))
-
-pub numbers_then : (pairs : List (ℕ × ℕ)) (a b c : ℕ) → AreJoined pairs a b → AreJoined pairs b c → AreJoined pairs a c
-numbers_then pairs a b c (path, is) joined = numbers_after pairs a path b c is joined
-
-pub numbers_one : (pairs : List (ℕ × ℕ)) (a b : ℕ) → NumbersPaired pairs a b → AreJoined pairs a b
-numbers_one pairs a b paired = (b ∷ [], (paired, refl))
-
-numbers_back_along : (pairs : List (ℕ × ℕ)) (a : ℕ) (path : List ℕ) (b : ℕ) → IsNumberPath pairs a path b → AreJoined pairs b a
-numbers_back_along pairs a [] b same = ([], sym same)
-numbers_back_along pairs a (next ∷ rest) b (paired, path) =
-    numbers_then pairs b next a (numbers_back_along pairs next rest b path) (numbers_one pairs next a (paired_back pairs a next paired))
-
-pub numbers_back : (pairs : List (ℕ × ℕ)) (a b : ℕ) → AreJoined pairs a b → AreJoined pairs b a
-numbers_back pairs a b (path, is) = numbers_back_along pairs a path b is
 
 -- more pairs join at least as much
 pub numbers_more : (pairs more : List (ℕ × ℕ)) → ((m n : ℕ) → NumbersPaired pairs m n → NumbersPaired more m n) → (a : ℕ) (path : List ℕ) (b : ℕ) →

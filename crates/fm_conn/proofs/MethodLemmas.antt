@@ -15,7 +15,8 @@ use Rattle.fm_flow.specs.declared.flow.Flow.{Flow}
 use Rattle.fm_types.specs.States.{TypeState}
 use Rattle.fm_types.specs.Typings.{known_state}
 use Rattle.fm_conn.proofs.CallLemmas.{called_listed, calls_sound}
-use Rattle.fm_conn.proofs.ChainLemmas.{numbers_back, numbers_one, numbers_then, Lists}
+use Rattle.fm_base.proofs.GraphLemmas.{numbers_back, numbers_one, numbers_then}
+use Rattle.fm_conn.proofs.ChainLemmas.{Lists}
 use Rattle.fm_conn.proofs.NumberLemmas.{number_below}
 use Rattle.fm_conn.proofs.PairLemmas.{caught_listed, IsTabled, joined_listed, own_sound, PairNumbers, stays_listed}
 use Rattle.fm_conn.proofs.WordLemmas.{Located, state_reached}

@@ -3,12 +3,11 @@ use Rattle.std.proofs.Common.{◌≡◌, ◌≢◌, ℕ, zero, suc, ◌<◌, ◌
 use Rattle.std.proofs.lemmas.Bool.{cases_eq, cases_lt}
 use Rattle.std.proofs.lemmas.List.{get_or-map, length-map}
 use Rattle.std.specs.List.Sorted.{IsStrictlyIncreasing}
-use Rattle.fm_base.proofs.GraphLemmas.{paired_back}
+use Rattle.fm_base.proofs.GraphLemmas.{numbers_back, numbers_then, paired_back}
 use Rattle.fm_base.specs.Graph.{AreJoined, AreLeastJoined, AreNodes, ArePaired, IsPath}
 use Rattle.fm_code.proofs.EdgesLemmas.{Contains-from_map, Contains-map}
 use Rattle.fm_flow.proofs.MergeLemmas.{not_above}
 use Rattle.fm_flow.proofs.RisingLemmas.{rising_pair}
-use Rattle.fm_conn.proofs.ChainLemmas.{numbers_back, numbers_then}
 use Rattle.fm_summ.specs.inner.Numbers.{Merges, named, number_in}
 
 -- ---- places

@@ -1,50 +1,46 @@
--- The state of the walk over a graph: the ends of the pairs as a list for each node, and the nodes reached so far.
-use Rattle.std.specs.Prelude.{◌≡◌, ◌≢◌, ℕ, ◌+◌, ◌*◌, ◌/◌, ◌%◌, ◌≤◌, ◌<◌, ◌⊎◌, ◌==◌, List, length, Contains, slice_index, count_by, if◌then◌else◌}
-use Rattle.std.specs.List.{slice_index_or}
-use Rattle.fm_base.specs.declared.graph.Adjacency.{Adjacency}
-use Rattle.fm_base.specs.Graph.{ArePaired, AreJoined}
+-- The forest of the nodes of a graph: each node leads to one that isn't greater.
+use Rattle.std.specs.Prelude.{◌≡◌, ℕ, ◌≤◌, ◌<◌, List, length, slice_index}
+use Rattle.fm_base.specs.Graph.{AreJoined}
 
--- the node at an end: the pair k has the ends 2 k and 2 k + 1
-abbrev pub node_at : List (ℕ × ℕ) → ℕ → ℕ
-node_at pairs end = let pair = slice_index_or pairs (end / 2) (0, 0) in if end % 2 == 0 then pair.0 else pair.1
+-- each of the nodes below n leads to itself
+pub record LeadToThemselves (n : ℕ) (above : List ℕ) : Type 0 where
+  pub nodes : length above ≡ n
+  pub each : (a : ℕ) → a < n → slice_index above a ≡ a
 
--- the node at the pair's other end
-abbrev pub other_at : List (ℕ × ℕ) → ℕ → ℕ
-other_at pairs end = let pair = slice_index_or pairs (end / 2) (0, 0) in if end % 2 == 0 then pair.1 else pair.0
+-- each node leads to one that isn't greater
+abbrev pub Falls : List ℕ → Type 0
+Falls above = (a : ℕ) → a < length above → slice_index above a ≤ a
 
--- the first ends of the pairs as a list for each node, from its last end on, numbers raised by one and 0 at the list's end
-pub record IsAdjacency (pairs : List (ℕ × ℕ)) (n ends : ℕ) (last before : List ℕ) : Type 0 where
-  pub nodes : length last ≡ n
-  pub count : length before ≡ ends
-  pub last_is : (node end : ℕ) → slice_index last node ≡ end + 1 → (end < ends) × (node_at pairs end ≡ node)
-  pub last_all : (node end : ℕ) → end < ends → node_at pairs end ≡ node → end < slice_index last node
-  pub before_is : (later end : ℕ) → later < ends → slice_index before later ≡ end + 1 → (end < later) × (node_at pairs end ≡ node_at pairs later)
-  pub before_all : (later end : ℕ) → later < ends → end < later → node_at pairs end ≡ node_at pairs later → end < slice_index before later
+-- the number of each node is that of the one to which it leads
+abbrev pub IsSameAlong : List ℕ → (ℕ → ℕ) → Type 0
+IsSameAlong above number = (a : ℕ) → a < length above → number (slice_index above a) ≡ number a
 
--- the lists have both ends of each pair
-abbrev pub HasEachEnd : ℕ → List (ℕ × ℕ) → Adjacency → Type 0
-HasEachEnd n pairs adjacency =
-    IsAdjacency pairs n (2 * length pairs) adjacency.last.items adjacency.before.items
+-- each node is joined with the one to which it leads
+abbrev pub AreStepsIn : List (ℕ × ℕ) → List ℕ → Type 0
+AreStepsIn pairs above = (a : ℕ) → a < length above → AreJoined pairs a (slice_index above a)
 
--- a node is reached once its number isn't n
-abbrev pub IsReached : ℕ → List ℕ → ℕ → Type 0
-IsReached n least node = slice_index least node ≢ n
+-- nodes lead further than before, along the same ways: those that led to themselves still do
+pub record Shortens (old new : List ℕ) : Type 0 where
+  pub nodes : length new ≡ length old
+  pub falls : Falls new
+  pub roots : (a : ℕ) → slice_index old a ≡ a → slice_index new a ≡ a
+  pub steps : (pairs : List (ℕ × ℕ)) → AreStepsIn pairs old → AreStepsIn pairs new
+  pub same : (number : ℕ → ℕ) → IsSameAlong new number → IsSameAlong old number
 
--- the nodes below the bound are reached
-abbrev pub AreReached : ℕ → List ℕ → ℕ → Type 0
-AreReached n least bound = (a : ℕ) → a < bound → IsReached n least a
+-- the node leads to the root at last, which leads to itself
+pub record LeadsTo (old new : List ℕ) (node root : ℕ) : Type 0 where
+  pub below : root ≤ node
+  pub is_root : slice_index new root ≡ root
+  pub joined : (pairs : List (ℕ × ℕ)) → AreStepsIn pairs old → AreJoined pairs node root
+  pub same : (number : ℕ → ℕ) → IsSameAlong new number → number node ≡ number root
 
--- how many of the nodes aren't reached
-abbrev pub unreached : ℕ → List ℕ → ℕ
-unreached n least = count_by (λ number. number == n) least
+-- the two nodes lead to one at last, and others as before
+pub record Joins (a b : ℕ) (old new : List ℕ) : Type 0 where
+  pub nodes : length new ≡ length old
+  pub falls : Falls new
+  pub steps : (pairs : List (ℕ × ℕ)) → AreStepsIn pairs old → AreJoined pairs a b → AreStepsIn pairs new
+  pub same : (number : ℕ → ℕ) → IsSameAlong new number → IsSameAlong old number × (number a ≡ number b)
 
--- the node's number is that of all nodes paired with it
-abbrev pub IsClosed : List (ℕ × ℕ) → List ℕ → ℕ → Type 0
-IsClosed pairs least a = (b : ℕ) → ArePaired pairs a b → slice_index least b ≡ slice_index least a
-
--- a reached node has the number of a node joined with it, not above it; it waits, with the number of the start, or it is closed
-pub record Spreading (pairs : List (ℕ × ℕ)) (n start : ℕ) (least waiting : List ℕ) : Type 0 where
-  pub nodes : length least ≡ n
-  pub joined : (a : ℕ) → a < n → IsReached n least a → AreJoined pairs a (slice_index least a) × (slice_index least a ≤ a)
-  pub at_start : (a : ℕ) → Contains waiting a → (a < n) × (slice_index least a ≡ start)
-  pub closed : (a : ℕ) → a < n → IsReached n least a → Contains waiting a ⊎ IsClosed pairs least a
+-- what a node leads to leads to itself
+abbrev pub IsSettled : List ℕ → Type 0
+IsSettled above = (a : ℕ) → a < length above → slice_index above (slice_index above a) ≡ slice_index above a
