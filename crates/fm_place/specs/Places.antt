@@ -1,4 +1,4 @@
--- Where the objects of a class are still in use in a method, and where a holder may hold one that no longer is.
+-- Where the objects of a class are still in use in a method, and where a holder may hold one that no longer is (after Free-Me, as `Sites`).
 use Rattle.std.specs.Prelude.{◌≡◌, ℕ, zero, suc, ◌+◌, ◌==◌, ◌&&◌, ◌||◌, not, Bool, true, false, List, [], ◌∷◌, length, Option, Some, None, is_some}
 use Rattle.std.specs.List.{list_any, range_with_len}
 use Rattle.fm_code.specs.Edges.{IsEdge, edges_listed}

@@ -1,4 +1,5 @@
--- Which items of a method come by an object that nothing else leads to yet, and of which of these objects no one outside of the method hears.
+-- Which items of a method come by an object that nothing else leads to yet, and of which of these objects no one outside of the method hears
+-- (after Guyer, McKinley and Frampton, "Free-Me: A Static Analysis for Automatic Individual Object Reclamation", PLDI 2006).
 use Rattle.std.specs.Prelude.{ℕ, zero, suc, ◌+◌, ◌-◌, ◌==◌, ◌&&◌, ◌||◌, not, Bool, true, false, List, [], ◌∷◌, length, filter, take, Option, Some, None, is_some, nat_lt, option_and_then, if◌then◌else◌}
 use Rattle.std.specs.List.{flat_map, list_any, range_with_len, slice_index_or}
 use Rattle.fm_base.specs.declared.limits.TheConstants.{MAX_LOCAL_WORDS}
