@@ -7,6 +7,7 @@ ghost use Rattle.fm_frames.specs.States.{word_at};
 ghost use Rattle.fm_frames.specs.inner.Doings.{int_in, long_in, NextFits};
 ghost use Rattle.fm_frames.specs.inner.Frames.{locals_in, on_top, stack_in};
 
+use crate::facts::known;
 use fm_cells::Cell;
 use fm_frames::{Frames, Value};
 
@@ -18,7 +19,10 @@ pub fn int_there(frames: &Frames, place: usize) -> i32
 {
     match frames.operand(place) {
         Some(Value::Int(n)) => n,
-        _ => unreachable!(),
+        _ => {
+            known(false);
+            unreachable!()
+        }
     }
 }
 
@@ -30,7 +34,10 @@ pub fn long_there(frames: &Frames, place: usize) -> i64
 {
     match frames.operand(place) {
         Some(Value::Long(n)) => n,
-        _ => unreachable!(),
+        _ => {
+            known(false);
+            unreachable!()
+        }
     }
 }
 
@@ -42,7 +49,10 @@ pub fn cell_there(frames: &Frames, place: usize) -> Cell
 {
     match frames.operand(place) {
         Some(Value::Ref(cell)) => cell,
-        _ => unreachable!(),
+        _ => {
+            known(false);
+            unreachable!()
+        }
     }
 }
 
@@ -54,7 +64,10 @@ pub fn word_there(frames: &Frames, place: usize) -> Value
 {
     match frames.operand(place) {
         Some(value) => value,
-        None => unreachable!(),
+        None => {
+            known(false);
+            unreachable!()
+        }
     }
 }
 
@@ -66,7 +79,10 @@ pub(crate) fn local_there(frames: &Frames, place: u16) -> Value
 {
     let value = frames.local(place as usize);
     match value {
-        Value::Top => unreachable!(),
+        Value::Top => {
+            known(false);
+            unreachable!()
+        }
         _ => value,
     }
 }
@@ -79,7 +95,10 @@ pub fn local_int(frames: &Frames, place: u16) -> i32
 {
     match frames.local(place as usize) {
         Value::Int(n) => n,
-        _ => unreachable!(),
+        _ => {
+            known(false);
+            unreachable!()
+        }
     }
 }
 
@@ -91,7 +110,10 @@ pub fn local_cell(frames: &Frames, place: u16) -> Cell
 {
     match frames.local(place as usize) {
         Value::Ref(cell) => cell,
-        _ => unreachable!(),
+        _ => {
+            known(false);
+            unreachable!()
+        }
     }
 }
 

@@ -17,6 +17,7 @@ ghost use Rattle.fm_world.specs.declared.uses.Use.TheVariants as used;
 use fm_base::{FieldId, MethodId, TypeId};
 use fm_cells::Memory;
 use fm_code::{Code, Insn, Item};
+use fm_fast::known;
 use fm_frames::{Cursor, Machine, code_of};
 use fm_world::{Program, Use};
 
@@ -82,7 +83,10 @@ pub(crate) fn type_named(program: &Program, method: MethodId, index: u16) -> Typ
 {
     match used(program, method, index) {
         Use::OfType(t) => t,
-        _ => unreachable!(),
+        _ => {
+            known(false);
+            unreachable!()
+        }
     }
 }
 
@@ -95,7 +99,10 @@ pub(crate) fn field_named(program: &Program, method: MethodId, index: u16) -> (F
 {
     match used(program, method, index) {
         Use::OfField(f, named) => (f, named),
-        _ => unreachable!(),
+        _ => {
+            known(false);
+            unreachable!()
+        }
     }
 }
 
@@ -108,6 +115,9 @@ pub(crate) fn method_named(program: &Program, method: MethodId, index: u16) -> (
 {
     match used(program, method, index) {
         Use::OfMethod(m, named) => (m, named),
-        _ => unreachable!(),
+        _ => {
+            known(false);
+            unreachable!()
+        }
     }
 }
