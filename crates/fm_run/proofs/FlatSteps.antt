@@ -1,6 +1,6 @@
 -- Steps over frames that are taken out of the machine are steps of the run.
-use Rattle.std.proofs.Common.{◌≡◌, ℕ, ◌+◌, ◌^◌, ◌<◌, ◌≤◌, Bool, true, false, List, ◌∷◌, [], length, Some, None, option_map, refl, sym, ap, ◌∙◌, subst, slice_get, arith}
-use Rattle.std.proofs.lemmas.Option.{same_Some}
+use Rattle.std.proofs.Common.{◌≡◌, ℕ, ◌+◌, ◌^◌, ◌<◌, ◌≤◌, Bool, true, false, List, ◌∷◌, [], length, Option, Some, None, option_map, refl, sym, ap, ◌∙◌, subst, slice_get, arith}
+use Rattle.std.proofs.lemmas.Option.{none-some, same_Some}
 use Rattle.fm_base.proofs.OptionFacts.{option_map-some}
 use Rattle.fm_cells.specs.Choices.{IsLawful}
 use Rattle.fm_cells.specs.Soundness as cells
@@ -28,7 +28,7 @@ use Rattle.fm_run.proofs.NextSteps.{named-is, own_effect, row-does}
 use Rattle.fm_run.proofs.Ranging.{quietly-then, went-quietly}
 use Rattle.fm_run.proofs.Standing.{insn-here, item-inside}
 use Rattle.fm_run.proofs.Steadying.{did-quietly}
-use Rattle.fm_run.specs.inner.Flats.{DoesCall, FlowsNext, IsFlatNext, WentOn}
+use Rattle.fm_run.specs.inner.Flats.{DoesCall, done_by, FlowsNext, IsFlatNext, IsStraight, item_in, WentOn}
 use Rattle.fm_run.specs.inner.Going.{IsCheapNext, Keeps, LeadsQuietly}
 use Rattle.fm_run.specs.inner.Nexts.{DoesNext, StandsAt, StandsIn}
 use Rattle.fm_law_sound.specs.Sound.{IsSound}
@@ -73,6 +73,16 @@ flat-fits p budget x run keeps on =
     let below = s.below in
     let fits : s.frame.item + 1 < 2 ^ 64 = omega (arith, few, most, below) in
     subst NextFits (sym s.frames_is) fits
+
+-- it is one of fewer than 65,536
+pub flat-below : (p : Program) (budget : ℕ) (x : State) → CanRun p → Keeps p budget x → x.ended ≡ None → item_in x.frames < 65536
+flat-below p budget x run keeps on =
+    let s = flat-standing p budget x keeps on in
+    let few = run.steps.items s.frame.method s.code s.code_is in
+    let most : MAX_CODE_BYTES < 65536 = omega arith in
+    let below = s.below in
+    let here : s.frame.item < 65536 = omega (arith, few, most, below) in
+    subst (λ (frames : List Frame). item_in frames < 65536) (sym s.frames_is) here
 
 pub flat-next : (p : Program) (budget : ℕ) (x : State) (method item : ℕ) (code : Code) (i : Insn) → CanRun p → budget < 2 ^ 64 → Keeps p budget x
     → x.ended ≡ None → x.steps < budget → Some (method, item) ≡ option_map place_of (topmost x.frames) → code_at p method ≡ Some code
@@ -217,6 +227,53 @@ pub went-joined : (p : Program) (choose : Choose) (budget : ℕ) (x m m2 : State
     → WentOn p choose budget x (resumed m f n) → WentOn p choose budget x (resumed m2 f2 n2)
 went-joined p choose budget x m m2 f f2 n n2 m_is f_is n_is went =
     subst (WentOn p choose budget x) (sym (λ j. resumed (m_is j) (f_is j) (n_is j))) went
+
+-- ---- the item that is next
+
+pub item-there : (frames : List Frame) (place : ℕ × ℕ) → Some place ≡ option_map place_of (topmost frames) → place.1 ≡ item_in frames
+item-there [] place is = absurd (none-some place (sym is))
+item-there (f ∷ callers) place is = ap (λ (q : ℕ × ℕ). q.1) (same_Some _ _ is)
+
+pub item-none : (frames : List Frame) → ◌≡◌ {A = Option (ℕ × ℕ)} None (option_map place_of (topmost frames)) → 0 ≡ item_in frames
+item-none [] is = refl
+item-none (f ∷ callers) is = absurd (none-some _ is)
+
+-- ---- steps that are counted by where straight code ends
+
+module _ (p : Program) (choose : Choose) (budget before : ℕ) (first m : State) (frames : List Frame) (reach counted : ℕ) where
+  pub straight : done_by reach frames ≡ counted → LeadsQuietly p choose budget first (resumed m frames counted) → Keeps p budget (resumed m frames counted)
+      → m.ended ≡ None → before ≤ counted → 65536 ≤ reach + item_in frames → reach ≤ budget → IsStraight p choose budget before first m frames reach
+  straight is leads keeps on more there within = record {
+    leads = subst (λ n. LeadsQuietly p choose budget first (resumed m frames n)) (sym is) leads;
+    keeps = subst (λ n. Keeps p budget (resumed m frames n)) (sym is) keeps;
+    on = on;
+    more = subst (λ n. before ≤ n) (sym is) more;
+    there = there;
+    within = within;
+  }
+
+  pub straight-leads : counted ≡ done_by reach frames → IsStraight p choose budget before first m frames reach
+      → LeadsQuietly p choose budget first (resumed m frames counted)
+  straight-leads is went = subst (λ n. LeadsQuietly p choose budget first (resumed m frames n)) (sym is) went.leads
+
+  pub straight-keeps : counted ≡ done_by reach frames → IsStraight p choose budget before first m frames reach → Keeps p budget (resumed m frames counted)
+  straight-keeps is went = subst (λ n. Keeps p budget (resumed m frames n)) (sym is) went.keeps
+
+-- the item that is next, and the count before it, which is within the budget
+pub straight-below : (p : Program) (choose : Choose) (budget before : ℕ) (first m : State) (frames : List Frame) (reach : ℕ) → CanRun p
+    → IsStraight p choose budget before first m frames reach → item_in frames < 65536
+straight-below p choose budget before first m frames reach run went =
+    flat-below p budget (resumed m frames (done_by reach frames)) run went.keeps went.on
+
+pub straight-within : (p : Program) (choose : Choose) (budget before : ℕ) (first m : State) (frames : List Frame) (reach counted : ℕ) → CanRun p
+    → counted ≡ done_by reach frames → IsStraight p choose budget before first m frames reach
+    → (counted < budget) × (reach + item_in frames ≡ counted + 65536) × (before ≤ counted)
+straight-within p choose budget before first m frames reach counted run is went =
+    let below = straight-below p choose budget before first m frames reach run went in
+    let there = went.there in
+    let within = went.within in
+    let more = went.more in
+    (omega (arith, is, below, there, within), omega (arith, is, there), omega (arith, is, more))
 
 -- ---- frames that are taken out and put in again
 

@@ -16,6 +16,7 @@ ghost use Rattle.fm_world.specs.Programs.{code_at, Program};
 use crate::called::do_call;
 use crate::indexed::{field_read, field_written, number, static_read};
 use crate::names::insn_among;
+use crate::straight::{done, next_item, reach_after, straight_reach};
 use fm_base::MethodId;
 use fm_cells::Memory;
 use fm_code::{Code, Insn, Item};
@@ -135,23 +136,29 @@ fn flow<M: Memory>(
 ) -> (Frames, u64)
     requires run { CanRun program.now }
     requires code { code_at program.now method.0 ≡ Some code.now }
-    requires few { steps < 2 ^ 64 }
+    requires few { steps < 2 ^ 32 }
     requires keeps { Keeps program.now steps (resumed machine.old taken before) }
     requires on { machine.old.ended ≡ None }
+    requires within { before < steps }
     ensures went { WentOn program.now M.choose steps (resumed machine.old taken before)
         (resumed machine.new result.0 result.1) }
     ensures more { before ≤ result.1 }
 {
     let items = code.items.as_slice();
     let mut frames = taken;
-    let mut counted = before;
-    while counted < steps {
+    let mut reach = straight_reach(before, &frames);
+    if reach > steps {
+        return (frames, before);
+    }
+    'straight: loop {
+        let counted = done(reach, &frames);
         let next = next_in(
             machine, &frames, counted, program, method, code, items, steps,
         );
         let Some(insn) = next else {
             return (frames, counted);
         };
+        let item = next_item(&frames);
         let did = match insn {
             Insn::Load(kind, place) => rows::load(&mut frames, *kind, *place),
             Insn::Store(kind, place) => rows::store(&mut frames, *kind, *place),
@@ -208,9 +215,14 @@ fn flow<M: Memory>(
         if !did {
             return (frames, counted);
         }
-        counted += 1;
+        let after = next_item(&frames);
+        if after != item + 1 {
+            reach = reach_after(reach, item, counted, &frames);
+            if reach > steps {
+                return (frames, counted + 1);
+            }
+        }
     }
-    (frames, counted)
 }
 
 // Does the next instruction, if it is one of this method that is done out of line; returns whether
@@ -258,7 +270,7 @@ pub(crate) fn do_flat_ones<M: Memory>(
     steps: u64,
 )
     requires run { CanRun program.now }
-    requires few { steps < 2 ^ 64 }
+    requires few { steps < 2 ^ 32 }
     requires keeps { Keeps program.now steps machine.old }
     ensures { LeadsQuietly program.now M.choose steps machine.old machine.new }
 {

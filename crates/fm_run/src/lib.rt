@@ -14,6 +14,7 @@ mod names;
 mod plain;
 mod runs;
 mod steps;
+mod straight;
 
 pub use runs::run;
 pub use steps::step;

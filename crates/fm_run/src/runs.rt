@@ -110,7 +110,7 @@ fn do_flat_ones_and_next<M: Memory>(
     steps: u64,
 ) -> Result<bool, NoMemory>
     requires run { CanRun program.now }
-    requires few { steps < 2 ^ 64 }
+    requires few { steps < 2 ^ 32 }
     requires keeps { Keeps program.now steps machine.old }
     ensures leads { OnOk result (LeadsQuietly program.now M.choose steps machine.old machine.new) }
     ensures less { IfOk result (λ any. any ≡ true
@@ -136,7 +136,7 @@ fn do_frequent_ones<M: Memory>(
     steps: u64,
 ) -> Result<(), NoMemory>
     requires run { CanRun program.now }
-    requires few { steps < 2 ^ 64 }
+    requires few { steps < 2 ^ 32 }
     requires keeps { Keeps program.now steps machine.old }
     ensures { OnOk result (LeadsQuietly program.now M.choose steps machine.old machine.new) }
 {
@@ -189,7 +189,7 @@ fn do_cheap_ones<M: Memory, S: Sink>(
     out: &mut S,
 ) -> Result<(), StepFail>
     requires run { CanRun program.now }
-    requires few { steps < 2 ^ 64 }
+    requires few { steps < 2 ^ 32 }
     requires keeps { Keeps program.now steps machine.old }
     ensures leads { OnOk result (Leads program.now M.choose steps machine.old machine.new
         (S.output out.old) (S.output out.new)) }

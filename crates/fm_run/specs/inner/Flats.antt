@@ -1,7 +1,7 @@
 -- Steps over frames that are taken out of the machine.
-use Rattle.std.specs.Prelude.{◌≡◌, ℕ, None, List}
+use Rattle.std.specs.Prelude.{◌≡◌, ℕ, ◌+◌, ◌-◌, ◌≤◌, None, List, [], ◌∷◌}
 use Rattle.fm_code.specs.declared.instructions.Insn.{Insn}
-use Rattle.fm_fast.specs.Flows.{on, stepped_on}
+use Rattle.fm_fast.specs.Flows.{on, resumed, stepped_on}
 use Rattle.fm_fast.specs.Operands.{AsksOf}
 use Rattle.fm_frames.specs.Acts.{Choose}
 use Rattle.fm_frames.specs.States.{Frame, State}
@@ -31,3 +31,21 @@ pub record WentOn (p : Program) (choose : Choose) (budget : ℕ) (x y : State) :
   pub leads : LeadsQuietly p choose budget x y
   pub keeps : Keeps p budget y
   pub on : y.ended ≡ None
+
+-- the item that is next
+abbrev pub item_in : List Frame → ℕ
+item_in [] = 0
+item_in (f ∷ callers) = f.item
+
+-- how many steps are done, if that will be the reach at the item 65,536 where no jump comes before it
+abbrev pub done_by : (reach : ℕ) → List Frame → ℕ
+done_by reach frames = reach + item_in frames - 65536
+
+-- a run that goes on led quietly to frames of that reach, and straight code ends within the budget
+pub record IsStraight (p : Program) (choose : Choose) (budget before : ℕ) (first m : State) (frames : List Frame) (reach : ℕ) : Type 0 where
+  pub leads : LeadsQuietly p choose budget first (resumed m frames (done_by reach frames))
+  pub keeps : Keeps p budget (resumed m frames (done_by reach frames))
+  pub on : m.ended ≡ None
+  pub more : before ≤ done_by reach frames
+  pub there : 65536 ≤ reach + item_in frames
+  pub within : reach ≤ budget

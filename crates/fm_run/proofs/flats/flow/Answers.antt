@@ -1,4 +1,6 @@
-use Rattle.std.proofs.Common.{◌≡◌, ◌+◌, None, true, false, refl, sym, subst, rules, ℕ, arith}
+use Rattle.std.proofs.Common.{◌≡◌, ◌+◌, ◌<◌, None, true, false, refl, sym, subst, rules, ℕ, arith}
+use Rattle.fm_cells.specs.Choices.{IsLawful}
+use Rattle.fm_cells.specs.Soundness as cells
 use Rattle.fm_code.specs.declared.instructions.Insn.TheVariants as insn
 use Rattle.fm_fast.specs.Flows.{resumed}
 use Rattle.fm_fast.specs.Operands.{AsksOf}
@@ -6,7 +8,7 @@ use Rattle.fm_frames.specs.Rows.{effect_of}
 use Rattle.fm_frames.specs.States.{State}
 use Rattle.fm_law_can_step.proofs.Heap.{holds_elements, holds_length}
 use Rattle.fm_law_can_step.proofs.Puts.{takes_element}
-use Rattle.fm_run.proofs.FlatSteps.{cheap-next, does-flowed, Flowed, flowed-joined, flowed-on, group-flowed, packed-in, row-flowed}
+use Rattle.fm_run.proofs.FlatSteps.{cheap-next, does-flowed, flat-below, Flowed, flowed-joined, flowed-on, group-flowed, packed-in, row-flowed, straight, straight-below, straight-keeps, straight-leads, straight-within}
 use Rattle.fm_run.proofs.NextSteps.{at-row, here, next-at, row-does}
 use Rattle.fm_run.proofs.Ranging.{leads-none}
 use Rattle.fm_run.proofs.Resolving.{is-method}
@@ -14,24 +16,24 @@ use Rattle.fm_run.proofs.flats.flow.Given.{Over}
 use Rattle.fm_run.proofs.flats.flow.Goals as goal
 use Rattle.fm_run.proofs.flats.flow.Goals.{After-births-births}
 use Rattle.fm_run.proofs.flats.flow.Goals.{in-Load, in-Store, in-Const, in-Inc, in-IntOp, in-IfInt, in-IfPair, in-Goto, in-Dup, in-GetField, in-GetStatic, in-PutField, in-ArrayLoad, in-ArrayStore, in-Length, in_default-insn}
-use Rattle.fm_run.specs.inner.Flats.{IsFlatNext, WentOn}
+use Rattle.fm_run.specs.inner.Flats.{IsFlatNext, item_in, WentOn}
 use Rattle.fm_run.specs.inner.Going.{Keeps, LeadsQuietly}
 use Rattle.fm_types.specs.Typed.{use_by}
 use Rattle.fm_world.specs.Programs.{Program}
 
 arms : (g : Over) (c : After-births-births g)
-    → Flowed c.args.program.now g.M.Memory.choose c.args.steps c.args.method.0 (resumed c.loop-counted.machine c.loop-counted.frames c.loop-counted.counted)
-    (resumed c.match-insn.machine c.match-insn.frames (c.loop-counted.counted + 1))
-    (resumed c.match-insn.machine c.match-insn.frames c.loop-counted.counted) c.match-insn.did
+    → Flowed c.args.program.now g.M.Memory.choose c.args.steps c.args.method.0 (resumed c.straight.machine c.straight.frames c.done-counted.result)
+    (resumed c.match-insn.machine c.match-insn.frames (c.done-counted.result + 1))
+    (resumed c.match-insn.machine c.match-insn.frames c.done-counted.result) c.match-insn.did
 unfolding effect_of
 arms g c =
     let p = c.args.program.now in
     let choose = g.M.Memory.choose in
     let budget = c.args.steps in
     let method = c.args.method.0 in
-    let m = c.loop-counted.machine in
-    let old = c.loop-counted.frames in
-    let n = c.loop-counted.counted in
+    let m = c.straight.machine in
+    let old = c.straight.frames in
+    let n = c.done-counted.result in
     let x = resumed m old n in
     let it = c.in-Some.insn.now in
     let next = c.in-Some.ensures.next in
@@ -106,40 +108,85 @@ arms g c =
           (group-flowed p choose budget method m old n w.do_other-did.new.frames it w.do_other-did.result next w.do_other-did.ensures.did w.do_other-did.ensures.same)
     ]
 
-pub loop-counted-init : goal.loop-counted-init
-loop-counted-init g c = (
-  λ out. leads-none c.args.program.now g.M.Memory.choose c.args.steps (resumed c.args.machine.now c.args.taken c.args.before) out,
-  c.requires.keeps,
-  c.requires.on,
-  omega arith,
-)
+-- a run that went on to a place of the loop
+gone : (g : Over) (p : Program) (budget : ℕ) (x y : State) → LeadsQuietly p g.M.Memory.choose budget x y → Keeps p budget y → y.ended ≡ None
+    → WentOn p g.M.Memory.choose budget x y
+gone g p budget x y leads keeps on = record { leads = leads; keeps = keeps; on = on }
+
+-- a step that was done
+went-on : (g : Over) (c : After-births-births g) → IsLawful g.M.Memory.choose → cells.IsSound c.match-insn.machine.areas.store → c.match-insn.did ≡ true
+    → WentOn c.args.program.now g.M.Memory.choose c.args.steps (resumed c.args.machine.now c.args.taken c.args.before)
+    (resumed c.match-insn.machine c.match-insn.frames (c.done-counted.result + 1))
+went-on g c lawful sound did =
+    let p = c.args.program.now in
+    let choose = g.M.Memory.choose in
+    let first = resumed c.args.machine.now c.args.taken c.args.before in
+    let x = resumed c.straight.machine c.straight.frames c.done-counted.result in
+    let y = resumed c.match-insn.machine c.match-insn.frames (c.done-counted.result + 1) in
+    let same = resumed c.match-insn.machine c.match-insn.frames c.done-counted.result in
+    let went = flowed-on p choose c.args.steps c.args.method.0 first x y same c.requires.run lawful sound
+    (subst (Flowed p choose c.args.steps c.args.method.0 x y same) did (arms g c)) c.straight.invariant.on
+    (straight-leads c.args.program.now g.M.Memory.choose c.args.steps c.args.before (resumed c.args.machine.now c.args.taken c.args.before) c.straight.machine c.straight.frames c.straight.reach c.done-counted.result c.done-counted.ensures c.straight.invariant)
+    (straight-keeps c.args.program.now g.M.Memory.choose c.args.steps c.args.before (resumed c.args.machine.now c.args.taken c.args.before) c.straight.machine c.straight.frames c.straight.reach c.done-counted.result c.done-counted.ensures c.straight.invariant) in
+    record { leads = went.0; keeps = went.1; on = went.2 }
+
+pub straight_reach-reach-requires-clause-few : goal.straight_reach-reach-requires-clause-few
+straight_reach-reach-requires-clause-few g c = omega (arith, c.requires.within, c.requires.few)
+
+pub straight_reach-reach-requires-clause-inside : goal.straight_reach-reach-requires-clause-inside
+straight_reach-reach-requires-clause-inside g c =
+    flat-below c.args.program.now c.args.steps (resumed c.args.machine.now c.args.taken c.args.before) c.requires.run c.requires.keeps c.requires.on
+
+pub returns-then-reach-steps-clause-went : goal.returns-then-reach-steps-clause-went
+returns-then-reach-steps-clause-went g c =
+    gone g c.args.program.now c.args.steps (resumed c.args.machine.now c.args.taken c.args.before) (resumed c.args.machine.now c.args.taken c.args.before)
+    (λ out. leads-none c.args.program.now g.M.Memory.choose c.args.steps (resumed c.args.machine.now c.args.taken c.args.before) out) c.requires.keeps c.requires.on
+
+pub straight-init : goal.straight-init
+straight-init g c =
+    straight c.args.program.now g.M.Memory.choose c.args.steps c.args.before (resumed c.args.machine.now c.args.taken c.args.before) c.args.machine.now c.args.taken
+    c.straight_reach-reach.result c.args.before c.straight_reach-reach.ensures.exact
+    (λ out. leads-none c.args.program.now g.M.Memory.choose c.args.steps (resumed c.args.machine.now c.args.taken c.args.before) out)
+    c.requires.keeps c.requires.on (omega arith) c.straight_reach-reach.ensures.there (omega arith)
+
+pub done-counted-requires-clause-inside : goal.done-counted-requires-clause-inside
+done-counted-requires-clause-inside g c =
+    straight-below c.args.program.now g.M.Memory.choose c.args.steps c.args.before (resumed c.args.machine.now c.args.taken c.args.before) c.straight.machine c.straight.frames c.straight.reach c.requires.run c.straight.invariant
+
+pub done-counted-requires-clause-there : goal.done-counted-requires-clause-there
+done-counted-requires-clause-there g c = c.straight.invariant.there
 
 pub next_in-next-requires-clause-keeps : goal.next_in-next-requires-clause-keeps
-next_in-next-requires-clause-keeps g c = c.loop-counted.invariant.1
+next_in-next-requires-clause-keeps g c =
+    straight-keeps c.args.program.now g.M.Memory.choose c.args.steps c.args.before (resumed c.args.machine.now c.args.taken c.args.before) c.straight.machine c.straight.frames c.straight.reach c.done-counted.result c.done-counted.ensures c.straight.invariant
 
 pub next_in-next-requires-clause-on : goal.next_in-next-requires-clause-on
-next_in-next-requires-clause-on g c = c.loop-counted.invariant.2
+next_in-next-requires-clause-on g c = c.straight.invariant.on
+
+pub next_in-next-requires-clause-within : goal.next_in-next-requires-clause-within
+next_in-next-requires-clause-within g c =
+    (straight-within c.args.program.now g.M.Memory.choose c.args.steps c.args.before (resumed c.args.machine.now c.args.taken c.args.before) c.straight.machine c.straight.frames c.straight.reach c.done-counted.result c.requires.run c.done-counted.ensures c.straight.invariant).0
 
 pub load-did-requires-clause-there : goal.load-did-requires-clause-there
-load-did-requires-clause-there g c = subst (λ i. AsksOf i c.loop-counted.frames) c.in-Load.is c.in-Some.ensures.next.asks
+load-did-requires-clause-there g c = subst (λ i. AsksOf i c.straight.frames) c.in-Load.is c.in-Some.ensures.next.asks
 
 pub store-did-requires-clause-there : goal.store-did-requires-clause-there
-store-did-requires-clause-there g c = subst (λ i. AsksOf i c.loop-counted.frames) c.in-Store.is c.in-Some.ensures.next.asks
+store-did-requires-clause-there g c = subst (λ i. AsksOf i c.straight.frames) c.in-Store.is c.in-Some.ensures.next.asks
 
 pub int_op-did-requires-clause-first : goal.int_op-did-requires-clause-first
-int_op-did-requires-clause-first g c = (subst (λ i. AsksOf i c.loop-counted.frames) c.in-IntOp.is c.in-Some.ensures.next.asks).0
+int_op-did-requires-clause-first g c = (subst (λ i. AsksOf i c.straight.frames) c.in-IntOp.is c.in-Some.ensures.next.asks).0
 
 pub int_op-did-requires-clause-second : goal.int_op-did-requires-clause-second
-int_op-did-requires-clause-second g c = (subst (λ i. AsksOf i c.loop-counted.frames) c.in-IntOp.is c.in-Some.ensures.next.asks).1
+int_op-did-requires-clause-second g c = (subst (λ i. AsksOf i c.straight.frames) c.in-IntOp.is c.in-Some.ensures.next.asks).1
 
 pub if_int-did-requires-clause-int : goal.if_int-did-requires-clause-int
-if_int-did-requires-clause-int g c = subst (λ i. AsksOf i c.loop-counted.frames) c.in-IfInt.is c.in-Some.ensures.next.asks
+if_int-did-requires-clause-int g c = subst (λ i. AsksOf i c.straight.frames) c.in-IfInt.is c.in-Some.ensures.next.asks
 
 pub if_pair-did-requires-clause-first : goal.if_pair-did-requires-clause-first
-if_pair-did-requires-clause-first g c = (subst (λ i. AsksOf i c.loop-counted.frames) c.in-IfPair.is c.in-Some.ensures.next.asks).0
+if_pair-did-requires-clause-first g c = (subst (λ i. AsksOf i c.straight.frames) c.in-IfPair.is c.in-Some.ensures.next.asks).0
 
 pub if_pair-did-requires-clause-second : goal.if_pair-did-requires-clause-second
-if_pair-did-requires-clause-second g c = (subst (λ i. AsksOf i c.loop-counted.frames) c.in-IfPair.is c.in-Some.ensures.next.asks).1
+if_pair-did-requires-clause-second g c = (subst (λ i. AsksOf i c.straight.frames) c.in-IfPair.is c.in-Some.ensures.next.asks).1
 
 pub do_increment-did-requires-clause-asks : goal.do_increment-did-requires-clause-asks
 do_increment-did-requires-clause-asks g c = c.in-Some.ensures.next.asks
@@ -149,28 +196,28 @@ do_other-did-requires-clause-asks g c = c.in-Some.ensures.next.asks
 
 pub field_read-did-requires-clause-next : goal.field_read-did-requires-clause-next
 field_read-did-requires-clause-next g c =
-    subst (IsFlatNext c.args.program.now c.args.steps (resumed c.loop-counted.machine c.loop-counted.frames c.loop-counted.counted) c.args.method.0) c.in-GetField.is
+    subst (IsFlatNext c.args.program.now c.args.steps (resumed c.straight.machine c.straight.frames c.done-counted.result) c.args.method.0) c.in-GetField.is
     c.in-Some.ensures.next
 
 pub static_read-did-requires-clause-next : goal.static_read-did-requires-clause-next
 static_read-did-requires-clause-next g c =
-    subst (IsFlatNext c.args.program.now c.args.steps (resumed c.loop-counted.machine c.loop-counted.frames c.loop-counted.counted) c.args.method.0) c.in-GetStatic.is
+    subst (IsFlatNext c.args.program.now c.args.steps (resumed c.straight.machine c.straight.frames c.done-counted.result) c.args.method.0) c.in-GetStatic.is
     c.in-Some.ensures.next
 
 pub field_written-did-requires-clause-next : goal.field_written-did-requires-clause-next
 field_written-did-requires-clause-next g c =
-    subst (IsFlatNext c.args.program.now c.args.steps (resumed c.loop-counted.machine c.loop-counted.frames c.loop-counted.counted) c.args.method.0) c.in-PutField.is
+    subst (IsFlatNext c.args.program.now c.args.steps (resumed c.straight.machine c.straight.frames c.done-counted.result) c.args.method.0) c.in-PutField.is
     c.in-Some.ensures.next
 
 pub array_load-did-requires-clause-holds : goal.array_load-did-requires-clause-holds
 array_load-did-requires-clause-holds g c =
-    let x = resumed c.loop-counted.machine c.loop-counted.frames c.loop-counted.counted in
+    let x = resumed c.straight.machine c.straight.frames c.done-counted.result in
     holds_elements c.args.program.now x c.in-ArrayLoad.e c.requires.run
     (cheap-next c.args.program.now c.args.steps x c.args.method.0 c.in-Some.insn.now (insn.ArrayLoad c.in-ArrayLoad.e) c.in-Some.ensures.next c.in-ArrayLoad.is refl).going
 
 pub array_store-did-requires-clause-takes : goal.array_store-did-requires-clause-takes
 array_store-did-requires-clause-takes g c =
-    let x = resumed c.loop-counted.machine c.loop-counted.frames c.loop-counted.counted in
+    let x = resumed c.straight.machine c.straight.frames c.done-counted.result in
     let p = c.args.program.now in
     let i = insn.ArrayStore c.in-ArrayStore.e in
     let at = here p x c.in-Some.insn.now i c.in-Some.ensures.next.at.at c.in-ArrayStore.is in
@@ -179,75 +226,127 @@ array_store-did-requires-clause-takes g c =
 
 pub array_length-did-requires-clause-holds : goal.array_length-did-requires-clause-holds
 array_length-did-requires-clause-holds g c =
-    let x = resumed c.loop-counted.machine c.loop-counted.frames c.loop-counted.counted in
+    let x = resumed c.straight.machine c.straight.frames c.done-counted.result in
     holds_length c.args.program.now x c.requires.run
     (cheap-next c.args.program.now c.args.steps x c.args.method.0 c.in-Some.insn.now insn.Length c.in-Some.ensures.next c.in-Length.is refl).going
 
 pub do_other-did-requires-clause-method : goal.do_other-did-requires-clause-method
 do_other-did-requires-clause-method g c =
-    is-method c.args.program.now (resumed c.loop-counted.machine c.loop-counted.frames c.loop-counted.counted) c.args.method.0 c.in-Some.insn.now c.requires.run
+    is-method c.args.program.now (resumed c.straight.machine c.straight.frames c.done-counted.result) c.args.method.0 c.in-Some.insn.now c.requires.run
     c.in-Some.ensures.next.at
 
 pub dup-did-requires-clause-there : goal.dup-did-requires-clause-there
-dup-did-requires-clause-there g c = subst (λ i. AsksOf i c.loop-counted.frames) c.in-Dup.is c.in-Some.ensures.next.asks
+dup-did-requires-clause-there g c = subst (λ i. AsksOf i c.straight.frames) c.in-Dup.is c.in-Some.ensures.next.asks
 
 pub array_load-did-requires-clause-packed : goal.array_load-did-requires-clause-packed
 array_load-did-requires-clause-packed g c =
-    packed-in c.args.program.now (resumed c.loop-counted.machine c.loop-counted.frames c.loop-counted.counted) c.loop-counted.invariant.1.sound
+    packed-in c.args.program.now (resumed c.straight.machine c.straight.frames c.done-counted.result) (straight-keeps c.args.program.now g.M.Memory.choose c.args.steps c.args.before (resumed c.args.machine.now c.args.taken c.args.before) c.straight.machine c.straight.frames c.straight.reach c.done-counted.result c.done-counted.ensures c.straight.invariant).sound
 
 pub array_load-did-requires-clause-array : goal.array_load-did-requires-clause-array
-array_load-did-requires-clause-array g c = (subst (λ i. AsksOf i c.loop-counted.frames) c.in-ArrayLoad.is c.in-Some.ensures.next.asks).0
+array_load-did-requires-clause-array g c = (subst (λ i. AsksOf i c.straight.frames) c.in-ArrayLoad.is c.in-Some.ensures.next.asks).0
 
 pub array_load-did-requires-clause-index : goal.array_load-did-requires-clause-index
-array_load-did-requires-clause-index g c = (subst (λ i. AsksOf i c.loop-counted.frames) c.in-ArrayLoad.is c.in-Some.ensures.next.asks).1
+array_load-did-requires-clause-index g c = (subst (λ i. AsksOf i c.straight.frames) c.in-ArrayLoad.is c.in-Some.ensures.next.asks).1
 
 pub array_store-did-requires-clause-packed : goal.array_store-did-requires-clause-packed
 array_store-did-requires-clause-packed g c =
-    packed-in c.args.program.now (resumed c.loop-counted.machine c.loop-counted.frames c.loop-counted.counted) c.loop-counted.invariant.1.sound
+    packed-in c.args.program.now (resumed c.straight.machine c.straight.frames c.done-counted.result) (straight-keeps c.args.program.now g.M.Memory.choose c.args.steps c.args.before (resumed c.args.machine.now c.args.taken c.args.before) c.straight.machine c.straight.frames c.straight.reach c.done-counted.result c.done-counted.ensures c.straight.invariant).sound
 
 pub array_store-did-requires-clause-asks : goal.array_store-did-requires-clause-asks
-array_store-did-requires-clause-asks g c = subst (λ i. AsksOf i c.loop-counted.frames) c.in-ArrayStore.is c.in-Some.ensures.next.asks
+array_store-did-requires-clause-asks g c = subst (λ i. AsksOf i c.straight.frames) c.in-ArrayStore.is c.in-Some.ensures.next.asks
 
 pub array_length-did-requires-clause-array : goal.array_length-did-requires-clause-array
-array_length-did-requires-clause-array g c = subst (λ i. AsksOf i c.loop-counted.frames) c.in-Length.is c.in-Some.ensures.next.asks
-
--- a run that went on to a place of the loop
-gone : (g : Over) (p : Program) (budget : ℕ) (x y : State) → LeadsQuietly p g.M.Memory.choose budget x y → Keeps p budget y → y.ended ≡ None
-    → WentOn p g.M.Memory.choose budget x y
-gone g p budget x y leads keeps on = record { leads = leads; keeps = keeps; on = on }
+array_length-did-requires-clause-array g c = subst (λ i. AsksOf i c.straight.frames) c.in-Length.is c.in-Some.ensures.next.asks
 
 pub returns-in_default-clause-went : goal.returns-in_default-clause-went
 returns-in_default-clause-went g c =
-    let kept = c.loop-counted.invariant in
     gone g c.args.program.now c.args.steps (resumed c.args.machine.now c.args.taken c.args.before)
-    (resumed c.loop-counted.machine c.loop-counted.frames c.loop-counted.counted) kept.0 kept.1 kept.2
+    (resumed c.straight.machine c.straight.frames c.done-counted.result)
+    (straight-leads c.args.program.now g.M.Memory.choose c.args.steps c.args.before (resumed c.args.machine.now c.args.taken c.args.before) c.straight.machine c.straight.frames c.straight.reach c.done-counted.result c.done-counted.ensures c.straight.invariant)
+    (straight-keeps c.args.program.now g.M.Memory.choose c.args.steps c.args.before (resumed c.args.machine.now c.args.taken c.args.before) c.straight.machine c.straight.frames c.straight.reach c.done-counted.result c.done-counted.ensures c.straight.invariant) c.straight.invariant.on
+
+pub returns-in_default-clause-more : goal.returns-in_default-clause-more
+returns-in_default-clause-more g c = (straight-within c.args.program.now g.M.Memory.choose c.args.steps c.args.before (resumed c.args.machine.now c.args.taken c.args.before) c.straight.machine c.straight.frames c.straight.reach c.done-counted.result c.requires.run c.done-counted.ensures c.straight.invariant).2
 
 pub returns-then-not-did-clause-went : goal.returns-then-not-did-clause-went
 returns-then-not-did-clause-went g c =
     let p = c.args.program.now in
     let flowed = arms g (goal.at.returns-then-not-did-clause-went g c).After-births-births in
     let didnt : c.match-insn.did ≡ false = search rules in
-    let kept = c.loop-counted.invariant in
     subst (WentOn p g.M.Memory.choose c.args.steps (resumed c.args.machine.now c.args.taken c.args.before)) (sym (flowed.kept didnt))
-    (gone g p c.args.steps (resumed c.args.machine.now c.args.taken c.args.before)
-    (resumed c.loop-counted.machine c.loop-counted.frames c.loop-counted.counted) kept.0 kept.1 kept.2)
+    (gone g c.args.program.now c.args.steps (resumed c.args.machine.now c.args.taken c.args.before)
+    (resumed c.straight.machine c.straight.frames c.done-counted.result)
+    (straight-leads c.args.program.now g.M.Memory.choose c.args.steps c.args.before (resumed c.args.machine.now c.args.taken c.args.before) c.straight.machine c.straight.frames c.straight.reach c.done-counted.result c.done-counted.ensures c.straight.invariant)
+    (straight-keeps c.args.program.now g.M.Memory.choose c.args.steps c.args.before (resumed c.args.machine.now c.args.taken c.args.before) c.straight.machine c.straight.frames c.straight.reach c.done-counted.result c.done-counted.ensures c.straight.invariant) c.straight.invariant.on)
 
-pub loop-counted-preserved : goal.loop-counted-preserved
-loop-counted-preserved g c =
-    let p = c.args.program.now in
-    let x = resumed c.loop-counted.machine c.loop-counted.frames c.loop-counted.counted in
-    let y = resumed c.match-insn.machine c.match-insn.frames (c.loop-counted.counted + 1) in
-    let same = resumed c.match-insn.machine c.match-insn.frames c.loop-counted.counted in
-    let flowed = arms g (goal.at.loop-counted-preserved g c).After-births-births in
+pub returns-then-not-did-clause-more : goal.returns-then-not-did-clause-more
+returns-then-not-did-clause-more g c = (straight-within c.args.program.now g.M.Memory.choose c.args.steps c.args.before (resumed c.args.machine.now c.args.taken c.args.before) c.straight.machine c.straight.frames c.straight.reach c.done-counted.result c.requires.run c.done-counted.ensures c.straight.invariant).2
+
+pub reach_after-reach-requires-clause-few : goal.reach_after-reach-requires-clause-few
+reach_after-reach-requires-clause-few g c = omega (arith, c.straight.invariant.within, c.requires.few)
+
+pub reach_after-reach-requires-clause-before : goal.reach_after-reach-requires-clause-before
+reach_after-reach-requires-clause-before g c =
+    subst (λ item. item < 65536) (sym c.next_item-item.ensures)
+    (straight-below c.args.program.now g.M.Memory.choose c.args.steps c.args.before (resumed c.args.machine.now c.args.taken c.args.before) c.straight.machine c.straight.frames c.straight.reach c.requires.run c.straight.invariant)
+
+pub reach_after-reach-requires-clause-was : goal.reach_after-reach-requires-clause-was
+reach_after-reach-requires-clause-was g c =
+    subst (λ item. c.straight.reach + item ≡ c.done-counted.result + 65536) (sym c.next_item-item.ensures)
+    (straight-within c.args.program.now g.M.Memory.choose c.args.steps c.args.before (resumed c.args.machine.now c.args.taken c.args.before) c.straight.machine c.straight.frames c.straight.reach c.done-counted.result c.requires.run c.done-counted.ensures c.straight.invariant).1
+
+pub reach_after-reach-requires-clause-inside : goal.reach_after-reach-requires-clause-inside
+reach_after-reach-requires-clause-inside g c =
     let did : c.match-insn.did ≡ true = search rules in
-    let kept = c.loop-counted.invariant in
-    let went = flowed-on p g.M.Memory.choose c.args.steps c.args.method.0 (resumed c.args.machine.now c.args.taken c.args.before) x y same c.requires.run
-    c.births-births.ensures.lawful c.births-births.ensures.sound
-    (subst (Flowed p g.M.Memory.choose c.args.steps c.args.method.0 x y same) did flowed) kept.2 kept.0 kept.1 in
-    (went.0, went.1, went.2, omega (arith, kept.3))
+    let went = went-on g (goal.at.reach_after-reach-requires-clause-inside g c).After-births-births c.births-births.ensures.lawful c.births-births.ensures.sound did in
+    flat-below c.args.program.now c.args.steps (resumed c.match-insn.machine c.match-insn.frames (c.done-counted.result + 1)) c.requires.run went.keeps went.on
 
-pub returns-clause-went : goal.returns-clause-went
-returns-clause-went g c =
-    let kept = c.loop-counted.invariant in
-    gone g c.args.program.now c.args.steps (resumed c.args.machine.now c.args.taken c.args.before)
-    (resumed c.loop-counted.machine c.loop-counted.frames c.loop-counted.counted) kept.0 kept.1 kept.2
+pub returns-then-reach-steps-2-clause-went : goal.returns-then-reach-steps-2-clause-went
+returns-then-reach-steps-2-clause-went g c =
+    let did : c.match-insn.did ≡ true = search rules in
+    went-on g (goal.at.returns-then-reach-steps-2-clause-went g c).After-births-births c.births-births.ensures.lawful c.births-births.ensures.sound did
+
+pub returns-then-reach-steps-2-clause-more : goal.returns-then-reach-steps-2-clause-more
+returns-then-reach-steps-2-clause-more g c =
+    let more = (straight-within c.args.program.now g.M.Memory.choose c.args.steps c.args.before (resumed c.args.machine.now c.args.taken c.args.before) c.straight.machine c.straight.frames c.straight.reach c.done-counted.result c.requires.run c.done-counted.ensures c.straight.invariant).2 in
+    omega (arith, more)
+
+pub straight-preserved-else-reach-steps-2 : goal.straight-preserved-else-reach-steps-2
+straight-preserved-else-reach-steps-2 g c =
+    let did : c.match-insn.did ≡ true = search rules in
+    let went = went-on g (goal.at.straight-preserved-else-reach-steps-2 g c).After-births-births c.births-births.ensures.lawful c.births-births.ensures.sound did in
+    let more = (straight-within c.args.program.now g.M.Memory.choose c.args.steps c.args.before (resumed c.args.machine.now c.args.taken c.args.before) c.straight.machine c.straight.frames c.straight.reach c.done-counted.result c.requires.run c.done-counted.ensures c.straight.invariant).2 in
+    straight c.args.program.now g.M.Memory.choose c.args.steps c.args.before (resumed c.args.machine.now c.args.taken c.args.before) c.match-insn.machine
+    c.match-insn.frames c.reach_after-reach.result (c.done-counted.result + 1) c.reach_after-reach.ensures.exact went.leads went.keeps went.on
+    (omega (arith, more)) c.reach_after-reach.ensures.there (omega (arith, c.if-reach-steps-2.false))
+
+pub straight-smaller-else-reach-steps-2 : goal.straight-smaller-else-reach-steps-2
+straight-smaller-else-reach-steps-2 g c =
+    let less = (straight-within c.args.program.now g.M.Memory.choose c.args.steps c.args.before (resumed c.args.machine.now c.args.taken c.args.before) c.straight.machine c.straight.frames c.straight.reach c.done-counted.result c.requires.run c.done-counted.ensures c.straight.invariant).0 in
+    let was = c.done-counted.ensures in
+    let is = c.reach_after-reach.ensures.exact in
+    omega (arith, less, was, is)
+
+-- the next item comes after the last one, so the reach stays as it is
+pub straight-preserved : goal.straight-preserved
+straight-preserved g c =
+    let did : c.match-insn.did ≡ true = search rules in
+    let went = went-on g (goal.at.straight-preserved g c).After-births-births c.births-births.ensures.lawful c.births-births.ensures.sound did in
+    let was = (straight-within c.args.program.now g.M.Memory.choose c.args.steps c.args.before (resumed c.args.machine.now c.args.taken c.args.before) c.straight.machine c.straight.frames c.straight.reach c.done-counted.result c.requires.run c.done-counted.ensures c.straight.invariant) in
+    let before = c.next_item-item.ensures in
+    let after = c.next_item-after.ensures in
+    let same = c.if-after-item.false in
+    let there : item_in c.match-insn.frames ≡ item_in c.straight.frames + 1 = omega (arith, before, after, same) in
+    straight c.args.program.now g.M.Memory.choose c.args.steps c.args.before (resumed c.args.machine.now c.args.taken c.args.before) c.match-insn.machine
+    c.match-insn.frames c.straight.reach (c.done-counted.result + 1) (omega (arith, was.1, there)) went.leads went.keeps went.on
+    (omega (arith, was.2)) (omega (arith, was.1, there)) c.straight.invariant.within
+
+pub straight-smaller : goal.straight-smaller
+straight-smaller g c =
+    let was = (straight-within c.args.program.now g.M.Memory.choose c.args.steps c.args.before (resumed c.args.machine.now c.args.taken c.args.before) c.straight.machine c.straight.frames c.straight.reach c.done-counted.result c.requires.run c.done-counted.ensures c.straight.invariant) in
+    let is = c.done-counted.ensures in
+    let before = c.next_item-item.ensures in
+    let after = c.next_item-after.ensures in
+    let same = c.if-after-item.false in
+    let there : item_in c.match-insn.frames ≡ item_in c.straight.frames + 1 = omega (arith, before, after, same) in
+    omega (arith, was.0, was.1, is, there)

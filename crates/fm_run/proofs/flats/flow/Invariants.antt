@@ -1,14 +1,11 @@
-use Rattle.std.proofs.Common.{◌-◌, ◌≡◌, ◌≤◌, None}
+use Rattle.std.proofs.Common.{◌-◌}
 use Rattle.fm_fast.specs.Flows.{resumed}
 use Rattle.fm_run.proofs.flats.flow.Given as goal
-use Rattle.fm_run.specs.inner.Going.{Keeps, LeadsQuietly}
+use Rattle.fm_run.specs.inner.Flats.{done_by, IsStraight}
 
-abbrev pub invariant-loop-counted : goal.invariant-loop-counted
-invariant-loop-counted g l =
-    LeadsQuietly l.program g.M.Memory.choose l.steps (resumed l.fn.machine l.fn.taken l.fn.before) (resumed l.machine l.frames l.counted)
-    × Keeps l.program l.steps (resumed l.machine l.frames l.counted)
-    × (l.machine.ended ≡ None)
-    × (l.fn.before ≤ l.counted)
+abbrev pub invariant-straight : goal.invariant-straight
+invariant-straight g l =
+    IsStraight l.program g.M.Memory.choose l.steps l.fn.before (resumed l.fn.machine l.fn.taken l.fn.before) l.machine l.frames l.reach
 
-abbrev pub decreases-loop-counted : goal.decreases-loop-counted
-decreases-loop-counted g l = l.steps - l.counted
+abbrev pub decreases-straight : goal.decreases-straight
+decreases-straight g l = l.steps - done_by l.reach l.frames
