@@ -120,9 +120,9 @@ pub fn go_to<M: Memory>(machine: &mut Machine<M>, program: &Program, target: u32
     machine.jump(0, target as usize);
 }
 
-// The item of a key: of the keys from the least one on in order, and of all others.
+/// The item of a key: of the keys from the least one on in order, and of all others. Takes no memory.
 #[inline(always)]
-fn table_item(low: i32, others: u32, targets: &[u32], key: i32) -> u32
+pub fn table_item(low: i32, others: u32, targets: &[u32], key: i32) -> u32
     ensures { slice_get (others ∷ targets.now) (table_target low (length targets.now) key) ≡ Some result }
 {
     if key < low {
@@ -165,9 +165,9 @@ fn key_place(keys: &[i32], key: i32) -> Option<usize>
     keys.iter().position(|known| key == *known)
 }
 
-// The item of a key, which is looked for among as many of the first keys as there are targets.
+/// The item of a key, which is looked for among as many of the first keys as there are targets. Takes no memory.
 #[inline(always)]
-fn key_item(others: u32, keys: &[i32], targets: &[u32], key: i32) -> u32
+pub fn key_item(others: u32, keys: &[i32], targets: &[u32], key: i32) -> u32
     ensures { slice_get (others ∷ targets.now)
         (key_target (position (int_eq key) (take (length targets.now) keys.now))) ≡ Some result }
 {

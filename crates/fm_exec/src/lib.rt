@@ -27,7 +27,10 @@ pub use elements::{
 };
 pub use fields::{get_field, put_field};
 pub use held::{fits_named, give, refuse, type_in};
-pub use jumps::{go_to, holds, if_int, if_null, if_pair, if_same, lookup_switch, table_switch};
+pub use jumps::{
+    go_to, holds, if_int, if_null, if_pair, if_same, key_item, lookup_switch, table_item,
+    table_switch,
+};
 pub use locals::{increment, int_sum, load, store};
 pub use objects::class_of_type;
 pub use shuffles::{dup, dup_x1, dup_x2, dup2, dup2_x1, dup2_x2, pop, pop2, swap};

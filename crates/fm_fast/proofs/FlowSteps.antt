@@ -12,7 +12,7 @@ use Rattle.fm_fast.specs.Flows.{on, stepped_on, with_branched, with_given, with_
 use Rattle.fm_frames.proofs.Finishes.{finished-top, on_top-then, source-at, with_word, without_words}
 use Rattle.fm_frames.proofs.Jumping.{jumped, same-jumps, same-passes}
 use Rattle.fm_frames.specs.Acts.{Choose, same_cell, value_of}
-use Rattle.fm_frames.specs.Effects.{Effect, JumpsIfSame, OfOperand, Plain, Source, going, words}
+use Rattle.fm_frames.specs.Effects.{Effect, Jumps, JumpsIfSame, OfOperand, Plain, Source, going, words}
 use Rattle.fm_frames.specs.JumpRows.{jumps_if, null_jump_effect}
 use Rattle.fm_frames.specs.States.{Frame, State, word_at}
 use Rattle.fm_frames.specs.Steps.{locals_of, stack_of}
@@ -77,6 +77,13 @@ pub branched : (p : Program) (choose : Choose) (x : State) (old new : List Frame
 branched p choose x old new takes true target fits is there =
     jumped p choose (on x old) (on x old) (on_top (λ f. record f { item = target }) old) new takes target 0 refl refl (is ∙ gone-top takes target old) there
 branched p choose x old new takes false target fits is there = took p choose x old new takes fits (is ∙ passed-top takes target old)
+
+-- it went to one of the targets
+pub switched : (p : Program) (choose : Choose) (x : State) (old new : List Frame) (item target : ℕ)
+    → new ≡ on_top (with_branched 1 true item) old → IsTarget p (on x old) target item
+    → DoesIn p choose (on x old) (stepped_on x new) (going 1 (Jumps target))
+switched p choose x old new item target is there =
+    jumped p choose (on x old) (on x old) (on_top (λ f. record f { item = item }) old) new 1 item target refl refl (is ∙ gone-top 1 item old) there
 
 -- ---- operands
 

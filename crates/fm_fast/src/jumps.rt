@@ -1,18 +1,18 @@
-// The rows of jumps (JVMS 6.5.goto, 6.5.if_icmp<cond> and its like).
+// The rows of jumps and switches (JVMS 6.5.goto, 6.5.if_icmp<cond> and its like, 6.5.tableswitch).
 
-ghost use Rattle.std.specs.Prelude.{◌≡◌, true, false, not, if◌then◌else◌};
+ghost use Rattle.std.specs.Prelude.{◌≡◌, true, false, not, length, if◌then◌else◌};
 ghost use Rattle.fm_code.specs.declared.instructions.Insn.TheVariants as insn;
 ghost use Rattle.fm_exec.specs.Steps.{seen};
 ghost use Rattle.fm_fast.specs.Flows.{FlowsAt, with_branched};
 ghost use Rattle.fm_fast.specs.Operands.{HasInt, HasReference};
 ghost use Rattle.fm_frames.specs.Effects.{Jumps, going};
-ghost use Rattle.fm_frames.specs.JumpRows.{int_jump_effect, null_jump_effect, pair_jump_effect, same_jump_effect};
+ghost use Rattle.fm_frames.specs.JumpRows.{int_jump_effect, lookup_effect, null_jump_effect, pair_jump_effect, same_jump_effect, table_effect};
 ghost use Rattle.fm_frames.specs.inner.Doings.{NextFits};
 ghost use Rattle.fm_frames.specs.inner.Frames.{on_top};
 
-use crate::operands::{cell_there, int_there};
+use crate::operands::{cell_there, int_on_top, int_there};
 use fm_code::Test;
-use fm_exec::holds;
+use fm_exec::{holds, key_item, table_item};
 use fm_frames::Frames;
 
 // A test's result, or with `false` the contrary.
@@ -103,4 +103,37 @@ pub fn go_to(frames: &mut Frames, target: u32)
     ensures { FlowsAt frames.old frames.new (insn.Goto target) (λ p x. going 0 (Jumps 0)) }
 {
     frames.go_to(target as usize);
+}
+
+/// tableswitch; returns whether it was done. Takes no memory.
+#[inline(always)]
+pub fn table_switch(frames: &mut Frames, low: i32, others: u32, targets: &[u32]) -> bool
+    requires fits { NextFits frames.old }
+    ensures did { result ≡ true → FlowsAt frames.old frames.new (insn.Table low others targets.now)
+        (λ p x. table_effect low (length targets.now) (seen p x)) }
+    ensures same { result ≡ false → frames.new ≡ frames.old }
+{
+    let Some(key) = int_on_top(frames) else {
+        return false;
+    };
+    let item = table_item(low, others, targets, key);
+    branch(frames, 1, true, item);
+    true
+}
+
+/// lookupswitch; returns whether it was done. Takes no memory.
+#[inline(always)]
+pub fn lookup_switch(frames: &mut Frames, others: u32, keys: &[i32], targets: &[u32]) -> bool
+    requires fits { NextFits frames.old }
+    ensures did { result ≡ true → FlowsAt frames.old frames.new
+        (insn.Lookup others keys.now targets.now)
+        (λ p x. lookup_effect keys.now (length targets.now) (seen p x)) }
+    ensures same { result ≡ false → frames.new ≡ frames.old }
+{
+    let Some(key) = int_on_top(frames) else {
+        return false;
+    };
+    let item = key_item(others, keys, targets, key);
+    branch(frames, 1, true, item);
+    true
 }

@@ -31,7 +31,7 @@ pub use casts::cast;
 pub use constants::{int_constant, long_constant, null};
 pub use facts::known;
 pub use fields::{get_field, put_field};
-pub use jumps::{go_to, if_int, if_null, if_pair, if_same};
+pub use jumps::{go_to, if_int, if_null, if_pair, if_same, lookup_switch, table_switch};
 pub use locals::{increment, load, store};
 pub use numbers::{
     convert, int_negate, int_op, int_shift, long_compare, long_negate, long_op, long_shift,

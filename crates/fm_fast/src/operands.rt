@@ -56,6 +56,17 @@ pub fn cell_there(frames: &Frames, place: usize) -> Cell
     }
 }
 
+// The int on top of the stack; none where there is no int.
+#[inline(always)]
+pub(crate) fn int_on_top(frames: &Frames) -> Option<i32>
+    ensures { result ≡ int_in (slice_get (stack_in frames.now) 0) }
+{
+    match frames.operand(0) {
+        Some(Value::Int(n)) => Some(n),
+        _ => None,
+    }
+}
+
 /// The word at this place of the stack, counted from the top. Takes no memory.
 #[inline(always)]
 pub fn word_there(frames: &Frames, place: usize) -> Value

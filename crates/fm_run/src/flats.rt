@@ -110,6 +110,13 @@ fn do_other(frames: &mut Frames, program: &Program, method: MethodId, insn: &Ins
         Insn::Convert(to) => rows::convert(frames, *to),
         Insn::IfSame(same, target) => rows::if_same(frames, *same, *target),
         Insn::IfNull(null, target) => rows::if_null(frames, *null, *target),
+        Insn::Table(low, others, targets) => {
+            rows::table_switch(frames, *low, *others, targets.as_slice())
+        }
+        Insn::Lookup(others, keys, targets) => {
+            let keys = keys.as_slice();
+            rows::lookup_switch(frames, *others, keys, targets.as_slice())
+        }
         Insn::Dup2 => rows::dup2(frames),
         Insn::Pop => {
             rows::pop(frames);

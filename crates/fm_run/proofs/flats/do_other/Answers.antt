@@ -1,4 +1,4 @@
-use Rattle.std.proofs.Common.{◌≡◌, arith, ap, refl, subst, sym, ◌∙◌, to_z, of_z, w64}
+use Rattle.std.proofs.Common.{◌≡◌, arith, ap, refl, subst, sym, ◌∙◌, to_z, of_z, w32, w64}
 use Rattle.std.proofs.lemmas.Int.{ints, to_z-of_z}
 use Rattle.fm_code.specs.declared.instructions.Insn.TheVariants as insn
 use Rattle.fm_fast.specs.Flows.{on, stepped_on}
@@ -150,3 +150,24 @@ unfolding effect_of
 returns-in-Pop2-clause-did c told =
     row-flows c.args.program.now c.args.method.0 c.args.frames.now c.pop2.new.frames c.args.insn.now insn.Pop2 c.in-Pop2.is refl
     (λ choose x at. c.pop2.ensures c.args.program.now choose x)
+
+pub returns-in-Table-clause-did : goal.returns-in-Table-clause-did
+unfolding effect_of
+returns-in-Table-clause-did c told =
+    let p = c.args.program.now in
+    let old = c.args.frames.now in
+    let same : to_z w32 (of_z w32 c.in-Table.low) ≡ c.in-Table.low = grind (arith, ints, to_z-of_z) in
+    let i = insn.Table (to_z w32 (of_z w32 c.in-Table.low)) c.in-Table.others c.as_slice.result.now in
+    let is : c.args.insn.now ≡ i = c.in-Table.is ∙ (λ j. insn.Table (sym same j) c.in-Table.others (sym c.as_slice.ensures j)) in
+    row-flows p c.args.method.0 old c.table_switch.new.frames c.args.insn.now i is refl
+    (λ choose x at. c.table_switch.ensures.did told p choose x (at-row p (on x old) c.args.insn.now i at is))
+
+pub returns-in-Lookup-clause-did : goal.returns-in-Lookup-clause-did
+unfolding effect_of
+returns-in-Lookup-clause-did c told =
+    let p = c.args.program.now in
+    let old = c.args.frames.now in
+    let i = insn.Lookup c.in-Lookup.others c.as_slice-keys.result.now c.as_slice-in-Lookup.result.now in
+    let is : c.args.insn.now ≡ i = c.in-Lookup.is ∙ (λ j. insn.Lookup c.in-Lookup.others (sym c.as_slice-keys.ensures j) (sym c.as_slice-in-Lookup.ensures j)) in
+    row-flows p c.args.method.0 old c.lookup_switch.new.frames c.args.insn.now i is refl
+    (λ choose x at. c.lookup_switch.ensures.did told p choose x (at-row p (on x old) c.args.insn.now i at is))
