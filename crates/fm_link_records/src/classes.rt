@@ -15,7 +15,7 @@ use crate::places::sum_of;
 use fm_base::{ClassId, MethodId, NoMemory, Seq};
 use fm_code::{ACC_STATIC, has_flag};
 use fm_link_names::number_of;
-use fm_world::{ClassInfo, DeclaredClass, DeclaredMethod};
+use fm_world::{ClassInfo, DeclaredClass, DeclaredMethod, package_of};
 use std::alloc::Global;
 
 // Whether a method starts its class: a static <clinit>()V.
@@ -74,6 +74,7 @@ fn class_told(
         start: start_of(class, first)?,
         file: class.file,
         size,
+        package_bytes: package_of(class.name.as_slice()).len(),
     })
 }
 

@@ -1,5 +1,5 @@
 -- Which methods override one, and the nearest of them: by the names of packages, and by the nearest method of a name and a descriptor.
-use Rattle.std.proofs.Common.{◌≡◌, refl, sym, ◌∙◌, ap, ℕ, ◌<◌, ◌≤◌, ◌&&◌, ◌||◌, not, cond, Bool, true, false, List, [], ◌∷◌, ◌++◌, length, nat_eq, Option, Some, None, option_map, arith}
+use Rattle.std.proofs.Common.{◌≡◌, refl, sym, ◌∙◌, ap, ℕ, ◌<◌, ◌≤◌, ◌&&◌, ◌||◌, not, cond, Bool, true, false, List, [], ◌∷◌, ◌++◌, length, take, nat_eq, Option, Some, None, option_map, arith}
 use Rattle.std.specs.Prelude.{IfSome}
 use Rattle.std.specs.Option.{option_or}
 use Rattle.std.proofs.Math.Bool.{or-true}
@@ -52,6 +52,25 @@ package_before rest before last is other = ap package_of is ∙ other_last befor
 pub package_none : (rest : List ℕ) → length rest ≡ 0 → package_of rest ≡ rest
 unfolding package_of
 package_none rest none = ap package_of (nil_from_length rest none) ∙ sym (nil_from_length rest none)
+
+-- the name of a package is the first bytes of a class's name
+package_kept : (b : Bool) (x : ℕ) (xs ys : List ℕ) → take (length ys) xs ≡ ys → take (length (cond b (x ∷ ys) [])) (x ∷ xs) ≡ cond b (x ∷ ys) []
+package_kept true x xs ys is = ap (λ zs. x ∷ zs) is
+package_kept false x xs ys is = refl
+
+pub take-package : (name : List ℕ) → take (length (package_of name)) name ≡ package_of name
+unfolding package_of
+take-package [] = refl
+take-package (x ∷ xs) = package_kept (nat_eq SLASH x || is_among SLASH xs) x xs (package_of xs) (take-package xs)
+
+package_fits : (b : Bool) (x : ℕ) (xs ys : List ℕ) → length ys ≤ length xs → length (cond b (x ∷ ys) []) ≤ length (x ∷ xs)
+package_fits true x xs ys few = omega (arith, few)
+package_fits false x xs ys few = omega arith
+
+pub package_within : (name : List ℕ) → length (package_of name) ≤ length name
+unfolding package_of
+package_within [] = omega arith
+package_within (x ∷ xs) = package_fits (nat_eq SLASH x || is_among SLASH xs) x xs (package_of xs) (package_within xs)
 
 -- ---- the tests of a method that overrides
 

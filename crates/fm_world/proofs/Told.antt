@@ -5,7 +5,7 @@ use Rattle.std.proofs.lemmas.Bool.{eq-eqb, ne_eqb, lt-ltb, le-ltb}
 use Rattle.fm_base.specs.declared.kinds.TypeRef.{TypeRef}
 use Rattle.fm_code.specs.AccessFlags.{is_private}
 use Rattle.fm_world.specs.Chains.{is_among, first_found, superclasses_of, chain_of, class_at, is_base_above_arrays, is_sub, is_sub_base}
-use Rattle.fm_world.specs.Lookups.{overriding, own_instance, searches_above, select, special_target}
+use Rattle.fm_world.specs.Lookups.{overriding, own_instance, package_of, searches_above, select, special_target}
 use Rattle.fm_world.specs.Members.{methods_of, method_at, slot_of}
 use Rattle.fm_world.specs.Programs.{Outline, Program, class_info, class_of_type, field_info, method_info, selected, targets}
 use Rattle.fm_world.specs.declared.calls.Call.{Call}
@@ -19,6 +19,10 @@ class_info-flags o class = refl
 pub class_info-name : (o : Outline) (class : ℕ) → (class_info o class).name ≡ (class_at o.classes class).name
 unfolding class_info
 class_info-name o class = refl
+
+pub class_info-package : (o : Outline) (class : ℕ) → (class_info o class).package_bytes ≡ length (package_of (class_at o.classes class).name)
+unfolding class_info
+class_info-package o class = refl
 
 pub field_info-slot : (o : Outline) (field : ℕ) → (field_info o field).slot ≡ slot_of o.classes field
 unfolding field_info

@@ -24,7 +24,7 @@ use Rattle.fm_world.specs.declared.declarations.DeclaredClass.{DeclaredClass}
 use Rattle.fm_world.specs.declared.declarations.DeclaredMethod.{DeclaredMethod}
 use Rattle.fm_world.specs.declared.declarations.Constant.TheVariants as constant
 use Rattle.fm_world.specs.Descriptors.{field_type, kind_with, declared_kind, parameter_kinds, result_kind}
-use Rattle.fm_world.specs.Lookups.{object_number, resolved_field, resolved_method, select, special_target}
+use Rattle.fm_world.specs.Lookups.{object_number, package_of, resolved_field, resolved_method, select, special_target}
 use Rattle.fm_world.specs.Members.{field_at, method_at, methods_of, method_among, kinds_of, start_of, size_of, slot_of}
 use Rattle.fm_world.specs.Numbers.{types_of, type_number, type_of_class, texts_of, text_number, text_units}
 use Rattle.fm_world.specs.Uses.{is_used, pool_indices, named_member, named_type}
@@ -163,6 +163,7 @@ class_info o class =
       start = option_map method_id (start_of o.classes class);
       file = c.file;
       size = size_of o.classes class;
+      package_bytes = length (package_of c.name);
     }
 
 -- what a call of the method does: a built-in method has a row, and an abstract one has no code

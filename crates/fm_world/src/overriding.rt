@@ -176,7 +176,8 @@ impl Program {
         requires { c.0 < length self.now.outline.classes }
         ensures { result.now ≡ package_of (class_at self.now.outline.classes c.0).name }
     {
-        package_of(self.class(c).name.as_slice())
+        let info = self.class(c);
+        &info.name.as_slice()[..info.package_bytes]
     }
 
     // Whether the class or one of its superclasses opens the method for other packages.

@@ -20,6 +20,8 @@ pub struct ClassInfo {
     pub file: Option<u32>,
     /// The instance fields of its objects, inherited and hidden ones included.
     pub size: u32,
+    /// How many bytes of its name are the name of its package.
+    pub package_bytes: usize,
 }
 
 /// A method with its class.

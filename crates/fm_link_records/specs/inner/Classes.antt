@@ -1,9 +1,10 @@
 -- What a program records about a class, by tables.
-use Rattle.std.specs.Prelude.{ℕ, ◌+◌, ◌&&◌, Bool, List, [], map, codes, position, Option}
+use Rattle.std.specs.Prelude.{ℕ, ◌+◌, ◌&&◌, Bool, List, [], length, map, codes, position, Option}
 use Rattle.std.specs.Option.{option_map}
 use Rattle.std.specs.Str.{bytes_eq}
 use Rattle.fm_base.specs.declared.ids.MethodId.{MethodId}
 use Rattle.fm_code.specs.AccessFlags.{is_static}
+use Rattle.fm_world.specs.Lookups.{package_of}
 use Rattle.fm_world.specs.Programs.{Outline, class_id, method_id}
 use Rattle.fm_world.specs.declared.declarations.DeclaredClass.{DeclaredClass}
 use Rattle.fm_world.specs.declared.declarations.DeclaredMethod.{DeclaredMethod}
@@ -31,4 +32,5 @@ class_told class parent listed first size = record {
   start = start_from class first;
   file = class.file;
   size = size;
+  package_bytes = length (package_of class.name);
 }

@@ -1,9 +1,23 @@
-use Rattle.std.proofs.Common.{◌∙◌, ap}
-use Rattle.fm_world.specs.Lookups.{package_of}
-use Rattle.fm_world.proofs.Told.{class_info-name}
+use Rattle.std.proofs.Common.{◌≡◌, ◌≤◌, ◌∙◌, ap, sym, length, take, arith, List, ℕ}
+use Rattle.fm_world.proofs.OverridingLemmas.{package_within, take-package}
+use Rattle.fm_world.proofs.Told.{class_info-name, class_info-package}
 use Rattle.fm_world.proofs.program.Program.package_name.Goals as goal
+use Rattle.fm_world.specs.Chains.{class_at}
+use Rattle.fm_world.specs.Lookups.{package_of}
+
+-- the bytes that are the package's are within the name
+pub slice_bounds : goal.slice_bounds
+slice_bounds c =
+    let o = c.args.self.now.outline in
+    let name = (class_at o.classes c.args.c.0).name in
+    let bytes = ap (λ i. i.package_bytes) c.class-info.ensures ∙ class_info-package o c.args.c.0 in
+    let is = ap length (c.as_slice.ensures ∙ ap (λ i. i.name) c.class-info.ensures ∙ class_info-name o c.args.c.0) in
+    omega (arith, bytes, is, package_within name)
 
 pub returns : goal.returns
 returns c =
-    c.package_of.ensures
-    ∙ ap package_of (c.as_slice.ensures ∙ ap (λ i. i.name) c.class.ensures ∙ class_info-name c.args.self.now.outline c.args.c.0)
+    let o = c.args.self.now.outline in
+    let name = (class_at o.classes c.args.c.0).name in
+    let bytes = ap (λ i. i.package_bytes) c.class-info.ensures ∙ class_info-package o c.args.c.0 in
+    let is = c.as_slice.ensures ∙ ap (λ i. i.name) c.class-info.ensures ∙ class_info-name o c.args.c.0 in
+    (λ j. take (bytes j) (is j)) ∙ take-package name
