@@ -16,7 +16,7 @@ from pathlib import Path
 LIBRARY = Path(__file__).resolve().parent.parent / "lib"
 CLASSES = LIBRARY / "classes"
 COMPLETING = {file.relative_to(LIBRARY / "completes").with_suffix("").as_posix() for file in (LIBRARY / "completes").rglob("*.java")}
-SEALED = {"java/lang/String", "java/lang/StringBuilder", "java/lang/StringBuffer", "java/lang/System", "java/io/PrintStream"}
+SEALED = {"java/lang/String", "java/lang/StringBuilder", "java/lang/StringBuffer", "java/lang/System", "java/io/PrintStream", "java/lang/Class"}
 ACC_NATIVE, CONSTRUCTOR = 0x0100, "<init>"
 UTF8, INTEGER, FLOAT, LONG, DOUBLE, CLASS, STRING, FIELD, METHOD, INTERFACE, NAME_AND_TYPE, HANDLE, METHOD_TYPE, INVOKE_DYNAMIC = (
     1, 3, 4, 5, 6, 7, 8, 9, 10, 11, 12, 15, 16, 18,

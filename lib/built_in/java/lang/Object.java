@@ -10,4 +10,8 @@ public class Object {
     public native boolean equals(Object other);
 
     public native String toString();
+
+    public final native Class<?> getClass();
+
+    protected native Object clone() throws CloneNotSupportedException;
 }
