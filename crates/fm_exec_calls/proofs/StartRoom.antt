@@ -13,7 +13,7 @@ use Rattle.fm_cells.specs.Soundness.{IsSound}
 use Rattle.fm_cells.specs.Stores.{live_words, object_at, Store}
 use Rattle.fm_frames.proofs.Contents.{content_in}
 use Rattle.fm_frames.specs.Acts.{Choose, is_there, literal_made, literal_text, literal_type, requested, with_content}
-use Rattle.fm_frames.specs.Effects.{Action, Make, MakeFixed, MakeLiteral, Put, SetStatic, Start, Free, SetChain, FreeChain}
+use Rattle.fm_frames.specs.Effects.{Action, Make, MakeFixed, MakeLiteral, Put, SetStatic, Start, Free, SetChain, FreeChain, Copy}
 use Rattle.fm_frames.specs.States.{Areas, State}
 use Rattle.fm_frames.specs.Steps.{literal_of, words_among, words_of}
 use Rattle.fm_frames.specs.inner.Doings.{Makes}
@@ -55,6 +55,8 @@ words-alike o x y counted known (Start class ∷ more) same = ap (λ n. 0 + n) (
 words-alike o x y counted known (Free operand ∷ more) same = ap (λ n. 0 + n) (words-alike o x y counted known more same)
 words-alike o x y counted known (SetChain operand to ∷ more) same = ap (λ n. 0 + n) (words-alike o x y counted known more same)
 words-alike o x y counted known (FreeChain operand ∷ more) same = ap (λ n. 0 + n) (words-alike o x y counted known more same)
+words-alike o x y counted known (Copy t len operand ∷ more) same =
+    ap (λ n. request_words (requested o t len false) + n) (words-alike o x y counted known more same)
 
 -- the literal of the text is the only one that is new
 there-now : (x y : Areas) (text cell other : ℕ) → y.literals ≡ set x.literals text cell → text < length x.literals → 0 < cell

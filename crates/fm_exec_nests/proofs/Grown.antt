@@ -14,8 +14,8 @@ use Rattle.fm_cells.specs.Stores.{object_at, Store}
 use Rattle.fm_frames.proofs.Contents.{content_in}
 use Rattle.fm_frames.proofs.OpeningSteps.{put_kept}
 use Rattle.fm_frames.proofs.StepCounts.{step_is, stepped}
-use Rattle.fm_frames.specs.Acts.{all_freed, cell_of, chain_freed, chain_from, chained, Choose, class_started, Did, freed, freed_object, FullAt, is_there, literal_made, literal_text, literal_type, LostAt, made_then, performed, Performed, put_value, requested, set_static, Sources, value_of, with_content}
-use Rattle.fm_frames.specs.Effects.{Action, Effect, Make, MakeFixed, MakeLiteral, Put, SetStatic, Start, Free, SetChain, FreeChain}
+use Rattle.fm_frames.specs.Acts.{all_freed, cell_of, chain_freed, chain_from, chained, Choose, class_started, copied, Did, freed, freed_object, FullAt, is_there, literal_made, literal_text, literal_type, LostAt, made_then, performed, Performed, put_value, requested, set_static, Sources, value_of, with_content}
+use Rattle.fm_frames.specs.Effects.{Action, Effect, Make, MakeFixed, MakeLiteral, Put, SetStatic, Start, Free, SetChain, FreeChain, Copy}
 use Rattle.fm_frames.specs.Elements.{kept}
 use Rattle.fm_frames.specs.States.{Areas, Frame, Moved, State, word_at}
 use Rattle.fm_frames.specs.Steps.{attempted, cost, finished, input_after, is_deep, is_done, is_over, next_effect, objects_made, step}
@@ -202,6 +202,14 @@ module _ (o : Outline) (choose : Choose) (lawful : IsLawful choose) (locals stac
         by_chain count rest (Some cells) =
             let kept_so = all-freed x cells in
             quiet x (all_freed x cells) (FreeChain operand) more made count kept_so.0 kept_so.1 (rest (all_freed x cells)) room
+  acts-grown (Copy t len operand ∷ more) x made all room =
+      let request : Request = requested o t len false in
+      let content : List ℕ = copied x.store (cell_of (word_at stack operand)) len in
+      let count : objects_made (Copy t len operand ∷ more) ≡ 1 + objects_made more = sum_by-cons _ (Copy t len operand) more in
+      made-grown x (objects_made (Copy t len operand ∷ more)) request content (choose x.store request) (λ y cell. result more y (made ++ cell ∷ [])) (lawful x.store request)
+      (λ later cell born some.
+      grown-then x (record x { store = later }) 1 (objects_made more) (objects_made (Copy t len operand ∷ more)) (result more (record x { store = later }) (made ++ cell ∷ []))
+      (record { few = omega (arith, born); many = refl }) count (acts-grown more (record x { store = later }) (made ++ cell ∷ []) all.1 room))
 
 -- ---- a step
 

@@ -21,7 +21,7 @@ use Rattle.fm_cells.specs.Stores.{object_at, pack_at, Store}
 use Rattle.fm_frames.specs.Acts.{put_value, with_content}
 use Rattle.fm_frames.specs.States.{ref, State}
 use Rattle.fm_frames.specs.declared.values.Value.TheVariants as value
-use Rattle.fm_frames.specs.inner.Places.{TakesUnits, written_units}
+use Rattle.fm_frames.specs.inner.Places.{TakesElements, TakesUnits, written_units}
 
 -- ---- maps
 
@@ -31,7 +31,7 @@ insert-same m k v held = fin.same_map nat_cmp_total fin.nat_cmp-IsAntisymmetric 
 insert-twice : (m : fin.FinMap nat_cmp Object) (k : ℕ) (v w : Object) → fin.insert (fin.insert m k v) k w ≡ fin.insert m k w
 insert-twice m k v w = fin.same_map nat_cmp_total fin.nat_cmp-IsAntisymmetric _ _ (λ q. grind (arith, gets, nat_tests))
 
-get-inserted : (m : fin.FinMap nat_cmp Object) (k : ℕ) (v : Object) → fin.get (fin.insert m k v) k ≡ Some v
+pub get-inserted : (m : fin.FinMap nat_cmp Object) (k : ℕ) (v : Object) → fin.get (fin.insert m k v) k ≡ Some v
 get-inserted m k v = grind (arith, gets, nat_tests)
 
 -- ---- units
@@ -39,19 +39,22 @@ get-inserted m k v = grind (arith, gets, nat_tests)
 abbrev pub with_elements : Object → List ℕ → Object
 with_elements object elements = record object { elements = elements }
 
-abbrev elements_of : Object → List ℕ → ℕ → List ℕ
+abbrev pub elements_of : Object → List ℕ → ℕ → List ℕ
 elements_of object units count = take count units ++ drop count object.elements
 
-abbrev written_in : Store → ℕ → List ℕ → ℕ → Option Object → Store
+abbrev pub written_in : Store → ℕ → List ℕ → ℕ → Option Object → Store
 written_in store cell units count None = store
 written_in store cell units count (Some object) = with_object store cell (with_elements object (elements_of object units count))
 
-written-held : (store : Store) (cell : ℕ) (units : List ℕ) (count : ℕ) (object : Object) → object_at store cell ≡ Some object
+pub written-held : (store : Store) (cell : ℕ) (units : List ℕ) (count : ℕ) (object : Object) → object_at store cell ≡ Some object
     → written_units store cell units count ≡ with_object store cell (with_elements object (elements_of object units count))
 written-held store cell units count object held = ap (written_in store cell units count) held
 
-pub written-start : (store : Store) (cell : ℕ) (units : List ℕ) → TakesUnits store cell units → written_units store cell units 0 ≡ store
-written-start store cell units (object, held, len, pack) =
+pub elements-taken : (store : Store) (cell : ℕ) (units : List ℕ) → TakesUnits store cell units → TakesElements store cell units
+elements-taken store cell units (object, held, len, pack) = (object, held, len)
+
+pub written-start : (store : Store) (cell : ℕ) (units : List ℕ) → TakesElements store cell units → written_units store cell units 0 ≡ store
+written-start store cell units (object, held, len) =
     written-held store cell units 0 object held
     ∙ ap (λ m. record store { held = m }) (insert-same store.held cell object held)
 
@@ -70,9 +73,9 @@ elements-next object units k len within =
 abbrev pub put_in : Store → ℕ → ℕ → ℕ → Option Object → Store
 put_in store cell place element object = on_object object (λ object. with_object store cell (with_element object place element)) store
 
-pub written-next : (store : Store) (cell : ℕ) (units : List ℕ) (k u : ℕ) → TakesUnits store cell units → k < length units → u ≡ get_or units k 0
+pub written-next : (store : Store) (cell : ℕ) (units : List ℕ) (k u : ℕ) → TakesElements store cell units → k < length units → u ≡ get_or units k 0
     → put_by (written_units store cell units k) cell k u ≡ written_units store cell units (k + 1)
-written-next store cell units k u (object, held, len, pack) within is =
+written-next store cell units k u (object, held, len) within is =
     let now : Object = with_elements object (elements_of object units k) in
     ap (λ s. put_by s cell k u) (written-held store cell units k object held)
     ∙ ap (put_in (with_object store cell now) cell k u) (get-inserted store.held cell now)
@@ -98,10 +101,10 @@ content_in store cell units (Some object) = with_object store cell (with_element
 whole : (units : List ℕ) (n : ℕ) (rest : List ℕ) → n ≡ length units → rest ≡ [] → take n units ++ rest ≡ units
 whole units n rest all none = ap (λ r. take n units ++ r) none ∙ append-nil (take n units) ∙ take_all n units (omega arith)
 
-pub written-all : (store : Store) (cell : ℕ) (units : List ℕ) → TakesUnits store cell units
+pub written-all : (store : Store) (cell : ℕ) (units : List ℕ) → TakesElements store cell units
     → written_units store cell units (length units) ≡ with_content store cell units
 written-all store cell [] takes = written-start store cell [] takes
-written-all store cell (u ∷ units) (object, held, len, pack) =
+written-all store cell (u ∷ units) (object, held, len) =
     let n = length (u ∷ units) in
     let few : length object.elements ≤ n = omega (arith, len) in
     let rest : drop n object.elements ≡ [] = drop_of_length-le object.elements few in
@@ -128,7 +131,7 @@ abbrev pub with_units : State → ℕ → List ℕ → ℕ → State
 with_units x cell units count = record x { areas = record x.areas { store = written_units x.areas.store cell units count } }
 
 pub units-start : (x : State) (cell : ℕ) (units : List ℕ) → TakesUnits x.areas.store cell units → x ≡ with_units x cell units 0
-units-start x cell units takes = ap (λ s. record x { areas = record x.areas { store = s } }) (sym (written-start x.areas.store cell units takes))
+units-start x cell units takes = ap (λ s. record x { areas = record x.areas { store = s } }) (sym (written-start x.areas.store cell units (elements-taken x.areas.store cell units takes)))
 
 pub units-next : (x y z : State) (cell k : ℕ) (units : List ℕ) (v : ℤ) → TakesUnits x.areas.store cell units → k < length units
     → v ≡ pos (get_or units k 0) → get_or units k 0 < 2 ^ 16 → y ≡ with_units x cell units k
@@ -136,10 +139,10 @@ pub units-next : (x y z : State) (cell k : ℕ) (units : List ℕ) (v : ℤ) →
 units-next x y z cell k units v takes within is small before after =
     let unit : low_bits 16 v ≡ get_or units k 0 = ap (low_bits 16) is ∙ unit-kept (get_or units k 0) small in
     after ∙ ap (λ (y : State). record y { areas = put_value y.areas (ref cell) k kind.Char (value.Int v) }) before
-    ∙ ap (λ s. record x { areas = record x.areas { store = s } }) (written-next x.areas.store cell units k (low_bits 16 v) takes within unit)
+    ∙ ap (λ s. record x { areas = record x.areas { store = s } }) (written-next x.areas.store cell units k (low_bits 16 v) (elements-taken x.areas.store cell units takes) within unit)
 
 pub units-all : (x y : State) (cell k : ℕ) (units : List ℕ) → TakesUnits x.areas.store cell units → k ≡ length units → y ≡ with_units x cell units k
     → y ≡ record x { areas = record x.areas { store = with_content x.areas.store cell units } }
 units-all x y cell k units takes all is =
     is ∙ ap (with_units x cell units) all
-    ∙ ap (λ s. record x { areas = record x.areas { store = s } }) (written-all x.areas.store cell units takes)
+    ∙ ap (λ s. record x { areas = record x.areas { store = s } }) (written-all x.areas.store cell units (elements-taken x.areas.store cell units takes))

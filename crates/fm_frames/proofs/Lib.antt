@@ -11,6 +11,8 @@ pub mod Underways
 pub mod FrameRoom
 pub mod Contents
 pub mod TextSteps
+pub mod Copies
+pub mod Resized
 pub mod Bits
 pub mod LiteralSteps
 pub mod Jumping

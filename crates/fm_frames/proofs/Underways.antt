@@ -9,9 +9,9 @@ use Rattle.fm_cells.specs.Sizes.{cell_words}
 use Rattle.fm_cells.specs.Stores.{live_words}
 use Rattle.fm_cells.specs.declared.answers.Cell.{Cell}
 use Rattle.fm_world.specs.Programs.{Outline, Program}
-use Rattle.fm_frames.specs.Acts.{Choose, Did, is_there, literal_made, literal_text, literal_type, made_then, performed, Performed, put_value, requested, set_static, value_of, with_content}
-use Rattle.fm_frames.specs.Effects.{Action, Make, MakeFixed, MakeLiteral, Put, SetStatic, Start, Free, SetChain, FreeChain, Source, Plain, Effect, acting, words}
-use Rattle.fm_frames.specs.States.{Areas, Moved, ref, State}
+use Rattle.fm_frames.specs.Acts.{cell_of, Choose, copied, Did, is_there, literal_made, literal_text, literal_type, made_then, performed, Performed, put_value, requested, set_static, value_of, with_content}
+use Rattle.fm_frames.specs.Effects.{Action, Make, MakeFixed, MakeLiteral, Put, SetStatic, Start, Free, SetChain, FreeChain, Copy, Source, Plain, Effect, acting, words}
+use Rattle.fm_frames.specs.States.{Areas, Moved, ref, State, word_at}
 use Rattle.fm_frames.specs.Steps.{attempted, done_by, halted, is_deep, is_over, locals_of, makes, most_words, objects_made, stack_of, stopped, words_among, words_made}
 use Rattle.fm_frames.specs.declared.ends.Ended.TheVariants as end
 use Rattle.fm_frames.specs.declared.values.Value.{Value}
@@ -61,6 +61,7 @@ none-made o x literals (Start class ∷ more) none = let rest = none-made o x li
 none-made o x literals (Free operand ∷ more) none = let rest = none-made o x literals more none in omega (arith, rest)
 none-made o x literals (SetChain operand to ∷ more) none = let rest = none-made o x literals more none in omega (arith, rest)
 none-made o x literals (FreeChain operand ∷ more) none = let rest = none-made o x literals more none in omega (arith, rest)
+none-made o x literals (Copy t len operand ∷ more) none = absurd (false≢true (sym none))
 
 pub reserved : (p : Program) (choose : Choose) (x : State) (e : Effect) (words : ℕ) → is_deep x e.next ≡ false
     → words_made p.outline x.areas e.actions ≡ words → (0 < words → live_words x.areas.store + words ≤ x.areas.store.budget)
@@ -125,6 +126,36 @@ made-full p choose x y z e made t len content left so (refused, is) =
     ap silent (is ∙ ap (λ (w : State). stopped w (end.StoreFull y.areas.store.made_words (cell_words (request_words (requested p.outline t len false))))) so.same)
     ∙ sym (so.so_far
     ∙ ap (λ choice. done_by p (max 1 (objects_made e.actions)) e x (made_then y.areas (requested p.outline t len false) content choice
+    (λ a c. performed p.outline choose (locals_of x) (stack_of x) left a (made ++ c ∷ [])))) refused)
+
+-- ---- a copy
+
+pub copied-next : (p : Program) (choose : Choose) (x y z : State) (e : Effect) (made : List ℕ) (t : TypeRef) (len operand : ℕ) (left : List Action) (cell : Cell)
+    → Underway p choose x y e made (Copy t len operand ∷ left)
+    → Makes choose y z (requested p.outline t len false) (copied y.areas.store (cell_of (word_at (stack_of x) operand)) len) (Some cell)
+    → Underway p choose x z e (made ++ cell.0 ∷ []) left
+unfolding performed
+copied-next p choose x y z e made t len operand left cell so (grows, taken, free, is) = record {
+  so_far =
+      so.so_far
+      ∙ ap (λ choice. done_by p (max 1 (objects_made e.actions)) e x (made_then y.areas (requested p.outline t len false)
+      (copied y.areas.store (cell_of (word_at (stack_of x) operand)) len) choice
+      (λ a c. performed p.outline choose (locals_of x) (stack_of x) left a (made ++ c ∷ [])))) taken
+      ∙ ap (λ (z : State). done_by p (max 1 (objects_made e.actions)) e x (performed p.outline choose (locals_of x) (stack_of x) left z.areas (made ++ cell.0 ∷ [])))
+      (sym is);
+  same = is ∙ (λ i. record (so.same i) { areas = (sym is i).areas });
+}
+
+pub copied-full : (p : Program) (choose : Choose) (x y z : State) (e : Effect) (made : List ℕ) (t : TypeRef) (len operand : ℕ) (left : List Action)
+    → Underway p choose x y e made (Copy t len operand ∷ left)
+    → Makes choose y z (requested p.outline t len false) (copied y.areas.store (cell_of (word_at (stack_of x) operand)) len) None
+    → DoesIn p choose x z e
+unfolding performed
+copied-full p choose x y z e made t len operand left so (refused, is) =
+    ap silent (is ∙ ap (λ (w : State). stopped w (end.StoreFull y.areas.store.made_words (cell_words (request_words (requested p.outline t len false))))) so.same)
+    ∙ sym (so.so_far
+    ∙ ap (λ choice. done_by p (max 1 (objects_made e.actions)) e x (made_then y.areas (requested p.outline t len false)
+    (copied y.areas.store (cell_of (word_at (stack_of x) operand)) len) choice
     (λ a c. performed p.outline choose (locals_of x) (stack_of x) left a (made ++ c ∷ [])))) refused)
 
 -- ---- a literal

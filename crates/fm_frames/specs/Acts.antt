@@ -10,9 +10,9 @@ use Rattle.fm_cells.specs.Objects.{Object, Request, request_of, request_words, o
 use Rattle.fm_cells.specs.Stores.{Store, object_at, elements_at}
 use Rattle.fm_world.specs.Numbers.{type_number}
 use Rattle.fm_world.specs.Programs.{Outline}
-use Rattle.fm_frames.specs.Effects.{Source, Plain, OfOperand, OfLocal, LocalPlus, OfPlace, OfStatic, OfMade, OfLiteral, SameOperands, Action, Make, MakeFixed, MakeLiteral, Put, SetStatic, Start, Free, SetChain, FreeChain}
+use Rattle.fm_frames.specs.Effects.{Source, Plain, OfOperand, OfLocal, LocalPlus, OfPlace, OfStatic, OfMade, OfLiteral, SameOperands, Action, Make, MakeFixed, MakeLiteral, Put, SetStatic, Start, Free, SetChain, FreeChain, Copy}
 use Rattle.fm_frames.specs.Elements.{cut, kept, pack_of, read}
-use Rattle.fm_frames.specs.NativeRows.{class_type, text_type, type_name}
+use Rattle.fm_frames.specs.NativeRows.{resized, class_type, text_type, type_name}
 use Rattle.fm_frames.specs.States.{Areas, ref, word_at}
 use Rattle.fm_frames.specs.declared.values.Value.{Value}
 use Rattle.fm_frames.specs.declared.values.Value.TheVariants as value
@@ -167,6 +167,10 @@ chained x cell to = record x { store = chained_by x.store cell to }
 abbrev pub class_started : Areas → ℕ → Areas
 class_started x class = record x { started = slice_set x.started class true }
 
+-- the elements of the object in a cell, cut at a length or filled with 0 up to it
+abbrev pub copied : Store → (cell len : ℕ) → List ℕ
+copied store cell len = resized (elements_at store cell) len
+
 -- the object of a literal is in this cell from now on (JVMS 5.1)
 abbrev pub literal_made : Areas → ℕ → ℕ → Areas
 literal_made x text cell = record x { literals = slice_set x.literals text cell }
@@ -203,3 +207,6 @@ performed o choose locals stack (SetChain operand to ∷ more) x made =
 performed o choose locals stack (FreeChain operand ∷ more) x made =
     let first = word_at stack operand in
     chain_freed x first (chain_from x.store (cell_of first)) (λ y. performed o choose locals stack more y made)
+performed o choose locals stack (Copy t len operand ∷ more) x made =
+    made_object o choose t len false (copied x.store (cell_of (word_at stack operand)) len) x
+    (λ y cell. performed o choose locals stack more y (made ++ cell ∷ []))

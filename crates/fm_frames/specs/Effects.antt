@@ -41,6 +41,8 @@ pub data Action : Type 0 where
   Free : ℕ → Action
   SetChain : (operand to : ℕ) → Action
   FreeChain : ℕ → Action
+  -- an object of `len` elements, which are those of an operand's object
+  Copy : (type : TypeRef) (len operand : ℕ) → Action
 
 -- what comes next
 pub data Next : Type 0 where

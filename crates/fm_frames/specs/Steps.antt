@@ -17,7 +17,7 @@ use Rattle.fm_world.specs.Chains.{is_among, is_sub}
 use Rattle.fm_world.specs.Members.{start_of}
 use Rattle.fm_world.specs.Programs.{class_of_type, code_at, Outline, Program}
 use Rattle.fm_frames.specs.Acts.{cell_of, Choose, is_there, literal_text, literal_type, performed, Performed, Did, FullAt, LostAt, requested, same_cell, Sources, value_of}
-use Rattle.fm_frames.specs.Effects.{Action, Make, MakeFixed, MakeLiteral, Effect, Next, Falls, Jumps, JumpsIfSame, Calls, Returns, Throws, Enters, Exits, Faults, Source, stuck}
+use Rattle.fm_frames.specs.Effects.{Action, Make, MakeFixed, MakeLiteral, Copy, Effect, Next, Falls, Jumps, JumpsIfSame, Calls, Returns, Throws, Enters, Exits, Faults, Source, stuck}
 use Rattle.fm_frames.specs.Rows.{effect_of}
 use Rattle.fm_frames.specs.Sights.{sights, type_numbered}
 use Rattle.fm_frames.specs.Starts.{with_start}
@@ -58,6 +58,7 @@ words_of o x literals (Make t len content) = request_words (requested o t len fa
 words_of o x literals (MakeFixed t) = request_words (requested o t 0 true)
 words_of o x literals (MakeLiteral text) =
     if is_there x text || is_among text literals then 0 else request_words (requested o (literal_type o text) (length (literal_text o text)) true)
+words_of o x literals (Copy t len operand) = request_words (requested o t len false)
 words_of o x literals action = 0
 
 -- the literals that an action makes
@@ -83,6 +84,7 @@ abbrev pub is_making : Action → Bool
 is_making (Make t len content) = true
 is_making (MakeFixed t) = true
 is_making (MakeLiteral text) = true
+is_making (Copy t len operand) = true
 is_making action = false
 
 -- whether one of the actions makes an object
@@ -112,6 +114,7 @@ abbrev pub objects_made : List Action → ℕ
 objects_made actions = count_by is_make actions where
   is_make : Action → Bool
   is_make (Make t len content) = true
+  is_make (Copy t len operand) = true
   is_make action = false
 
 -- what the next step costs: 1, or as many as it makes objects

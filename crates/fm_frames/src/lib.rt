@@ -9,6 +9,7 @@ mod actions;
 mod built_ins;
 mod calls;
 mod coded;
+mod copies;
 mod depths;
 mod elements;
 mod ends;

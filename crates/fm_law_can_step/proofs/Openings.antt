@@ -11,7 +11,7 @@ use Rattle.fm_cells.specs.Objects.{Request}
 use Rattle.fm_cells.specs.Stores.{live_words, Store}
 use Rattle.fm_frames.proofs.OpeningSteps.{grows-made, put_kept}
 use Rattle.fm_frames.specs.Acts.{cell_of, Choose, Did, FullAt, is_there, literal_made, literal_text, literal_type, LostAt, made_then, performed, Performed, requested, Sources, value_of, with_content}
-use Rattle.fm_frames.specs.Effects.{Action, Free, FreeChain, Make, MakeFixed, MakeLiteral, Put, SetChain, SetStatic, Start}
+use Rattle.fm_frames.specs.Effects.{Action, Copy, Free, FreeChain, Make, MakeFixed, MakeLiteral, Put, SetChain, SetStatic, Start}
 use Rattle.fm_frames.specs.Elements.{kept}
 use Rattle.fm_frames.specs.Literals.{literal_count}
 use Rattle.fm_frames.specs.Runs.{after_action, argument_actions, first_areas, framed, Job, opened_by, opening, opening_actions, opening_frames, unopened, with_streams}
@@ -37,12 +37,13 @@ abbrev weights : List Action → ℕ
 weights [] = 0
 weights (action ∷ more) = weight action + weights more
 
--- a literal is there, and nothing is freed
+-- a literal is there, and nothing is freed or copied
 abbrev IsFirst : Outline → Action → Type 0
 IsFirst o (MakeLiteral text) = text < literal_count o
 IsFirst o (Free operand) = ⊥
 IsFirst o (SetChain operand to) = ⊥
 IsFirst o (FreeChain operand) = ⊥
+IsFirst o (Copy t len operand) = ⊥
 IsFirst o action = Unit {0}
 
 -- at most this many objects were made, with the literals that aren't made yet
@@ -122,6 +123,7 @@ module _ (p : Program) (choose : Choose) (may : IsLawful choose) (x : State) (n 
   action_counts (Free operand) first made = absurd first
   action_counts (SetChain operand to) first made = absurd first
   action_counts (FreeChain operand) first made = absurd first
+  action_counts (Copy t len operand) first made = absurd first
 
 -- ---- all of them
 

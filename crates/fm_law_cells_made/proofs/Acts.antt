@@ -7,13 +7,14 @@ use Rattle.fm_cells.specs.Changes.{Choice, freed_by, made_by, put_by, RefuseStor
 use Rattle.fm_cells.specs.Choices.{last_choice, lawful}
 use Rattle.fm_cells.specs.Objects.{new_object, Object, object_words, Request}
 use Rattle.fm_cells.specs.Soundness.{IsLastReused}
-use Rattle.fm_cells.specs.Stores.{object_at, Store}
+use Rattle.fm_cells.specs.Stores.{elements_at, object_at, Store}
 use Rattle.fm_cells.proofs.Changes.{object_at-made_by}
 use Rattle.fm_cells.proofs.Choices.{lawful_choice-left, MayReuse-last_choice}
 use Rattle.fm_world.specs.Programs.{Outline}
-use Rattle.fm_frames.specs.Acts.{all_freed, cell_of, chain_freed, chain_from, chained, Choose, Did, freed, freed_object, FullAt, is_there, literal_made, literal_text, literal_type, LostAt, made_then, performed, Performed, requested, set_static, value_of, with_content}
+use Rattle.fm_frames.specs.Acts.{all_freed, cell_of, chain_freed, chain_from, chained, Choose, copied, Did, freed, freed_object, FullAt, is_there, literal_made, literal_text, literal_type, LostAt, made_then, performed, Performed, requested, set_static, value_of, with_content}
+use Rattle.fm_frames.proofs.Resized.{length-resized}
 use Rattle.fm_frames.specs.Acts as acts
-use Rattle.fm_frames.specs.Effects.{Action, Free, FreeChain, Make, MakeFixed, MakeLiteral, Put, SetChain, SetStatic, Start}
+use Rattle.fm_frames.specs.Effects.{Action, Copy, Free, FreeChain, Make, MakeFixed, MakeLiteral, Put, SetChain, SetStatic, Start}
 use Rattle.fm_frames.specs.Elements.{kept}
 use Rattle.fm_frames.specs.States.{Areas, word_at}
 use Rattle.fm_frames.specs.declared.values.Value.{Value}
@@ -42,6 +43,11 @@ IsFreeing action = ⊥
 pub own_content : (content : List ℕ) → HasContent (length content) content
 own_content [] = tt
 own_content (element ∷ elements) = refl
+
+-- as many as are asked for
+long_content : (len : ℕ) (content : List ℕ) → length content ≡ len → HasContent len content
+long_content len [] all = tt
+long_content len (element ∷ elements) all = all
 
 -- ---- their results
 
@@ -128,6 +134,12 @@ module _ (o : Outline) (locals stack : List Value) where
       (then_grows store x.store (chained x target end).store h (chain_grows x.store target end h.last))
   acts_grow store (Free operand ∷ more) x made all h = absurd all.0
   acts_grow store (FreeChain operand ∷ more) x made all h = absurd all.0
+  acts_grow store (Copy t len operand ∷ more) x made all h =
+      let content : List ℕ = copied x.store (cell_of (word_at stack operand)) len in
+      goes_on store x (requested o t len false) content (choice x.store (requested o t len false))
+      (λ y cell. performed o choice locals stack more y (made ++ cell ∷ [])) h.last
+      (long_content len content (length-resized (elements_at x.store (cell_of (word_at stack operand))) len)) h refl
+      (λ later cell goes. acts_grow store more (record x { store = later }) (made ++ cell ∷ []) all.1 goes)
 
 -- ---- freeing
 

@@ -8,12 +8,12 @@ use Rattle.fm_cells.specs.Stores.{object_at, Store}
 use Rattle.fm_cells.proofs.Changes.{object_at-with_object}
 use Rattle.fm_cells.proofs.Elements.{put_by-none, put_by-some}
 use Rattle.fm_world.specs.Programs.{Outline}
-use Rattle.fm_frames.specs.Acts.{cell_of, Choose, Did, FullAt, is_there, literal_made, literal_text, literal_type, LostAt, made_object, made_then, performed, Performed, put_value, requested, set_static, Sources, value_of}
-use Rattle.fm_frames.specs.Effects.{Action, Free, FreeChain, Make, MakeFixed, MakeLiteral, Put, SetChain, SetStatic, Start}
+use Rattle.fm_frames.specs.Acts.{cell_of, Choose, copied, Did, FullAt, is_there, literal_made, literal_text, literal_type, LostAt, made_object, made_then, performed, Performed, put_value, requested, set_static, Sources, value_of}
+use Rattle.fm_frames.specs.Effects.{Action, Copy, Free, FreeChain, Make, MakeFixed, MakeLiteral, Put, SetChain, SetStatic, Start}
 use Rattle.fm_frames.specs.Elements.{kept}
-use Rattle.fm_frames.specs.States.{Areas}
+use Rattle.fm_frames.specs.States.{Areas, word_at}
 use Rattle.fm_frames.specs.declared.values.Value.{Value}
-use Rattle.fm_law_sound.proofs.Opening.{IsMade as IsFreeless}
+use Rattle.fm_law_sound.proofs.Opening.{IsFreeless}
 use Rattle.fm_same.proofs.ActsKeep.{made_as, make_is, stored_as}
 use Rattle.fm_same.proofs.StoreChanges.{changed-extends, Extends, extends-refl, extends-then, held_later, IsChanged, IsKept, IsMade, made-extends, put_here}
 use Rattle.fm_same.specs.Evenness.{ActsEvenly, Point}
@@ -30,6 +30,7 @@ even_is_freeless o x home (Start class) h = tt
 even_is_freeless o x home (Free operand) h = h
 even_is_freeless o x home (SetChain operand to) h = h
 even_is_freeless o x home (FreeChain operand) h = h
+even_is_freeless o x home (Copy t len operand) h = tt
 
 pub even_are_freeless : (o : Outline) (x : Point) (home : ℕ) (actions : List Action) → AllByRecursion (ActsEvenly o x home) actions
     → AllByRecursion IsFreeless actions
@@ -204,6 +205,10 @@ module _ (o : Outline) (choose : Choose) (may : (s : Store) (request : Request) 
   acts_go (Free operand ∷ more) x made h went = absurd h.0
   acts_go (SetChain operand to ∷ more) x made h went = absurd h.0
   acts_go (FreeChain operand ∷ more) x made h went = absurd h.0
+  acts_go (Copy t len operand ∷ more) x made h went =
+      made_goes store x made (requested o t len false) (copied x.store (cell_of (word_at stack operand)) len) (choose x.store (requested o t len false))
+      (λ y cell. performed o choose locals stack more y (made ++ cell ∷ [])) went (may x.store (requested o t len false))
+      (λ y cell later new. acts_go more y (made ++ cell ∷ []) h.1 (went_pushed store y made cell later new))
 
   -- from the start of a step on
   pub acts_made : (actions : List Action) (x : Areas) → x.store ≡ store → AllByRecursion IsFreeless actions

@@ -6,15 +6,15 @@ use Rattle.fm_cells.specs.Changes.{Choice, made_by, RefuseStore, Take}
 use Rattle.fm_cells.specs.Choices.{lawful}
 use Rattle.fm_cells.specs.Objects.{Request}
 use Rattle.fm_cells.specs.Stores.{Store}
-use Rattle.fm_frames.specs.Acts.{Choose, Did, FullAt, is_there, literal_made, literal_text, literal_type, LostAt, made_object, made_then, performed, Performed, put_value, requested, set_static, Sources, value_of, with_content}
-use Rattle.fm_frames.specs.Effects.{Action, Effect, Free, FreeChain, Make, MakeFixed, MakeLiteral, Put, SetChain, SetStatic, Start}
-use Rattle.fm_frames.specs.States.{Areas, Frame, State}
+use Rattle.fm_frames.specs.Acts.{cell_of, Choose, copied, Did, FullAt, is_there, literal_made, literal_text, literal_type, LostAt, made_object, made_then, performed, Performed, put_value, requested, set_static, Sources, value_of, with_content}
+use Rattle.fm_frames.specs.Effects.{Action, Copy, Effect, Free, FreeChain, Make, MakeFixed, MakeLiteral, Put, SetChain, SetStatic, Start}
+use Rattle.fm_frames.specs.States.{Areas, Frame, State, word_at}
 use Rattle.fm_frames.specs.Steps.{next_effect, step}
 use Rattle.fm_frames.specs.declared.values.Value.{Value}
 use Rattle.fm_law_holders.proofs.BornObjects.{acts_made, OldWereThere, Went, WentTo}
 use Rattle.fm_law_holders.proofs.StepsBehind.{done_areas, IsDoneTo, step_done}
 use Rattle.fm_law_holders.specs.NewResults.{KeepsObjects}
-use Rattle.fm_law_sound.proofs.Opening.{IsMade as IsFreeless}
+use Rattle.fm_law_sound.proofs.Opening.{IsFreeless}
 use Rattle.fm_law_sound.specs.Sound.{IsSoundBy, Typings}
 use Rattle.fm_law_two_memories.specs.Reading.{ActsAlike}
 use Rattle.fm_law_two_memories.specs.Runs.{IsWithoutFrees}
@@ -34,6 +34,7 @@ one_freeless o store f (Start class) alike = tt
 one_freeless o store f (Free operand) alike = alike
 one_freeless o store f (SetChain operand to) alike = alike
 one_freeless o store f (FreeChain operand) alike = alike
+one_freeless o store f (Copy t len operand) alike = tt
 
 all_freeless : (o : Outline) (store : Store) (f : Frame) (actions : List Action) → AllByRecursion (ActsAlike o store f) actions
     → AllByRecursion IsFreeless actions
@@ -86,6 +87,9 @@ module _ (o : Outline) (choose : Choose) (words : ℕ) (locals stack : List Valu
   acts_freed (Free operand ∷ more) x made h same = absurd h.0
   acts_freed (SetChain operand to ∷ more) x made h same = absurd h.0
   acts_freed (FreeChain operand ∷ more) x made h same = absurd h.0
+  acts_freed (Copy t len operand ∷ more) x made h same =
+      made_freed words x (requested o t len false) (copied x.store (cell_of (word_at stack operand)) len) (choose x.store (requested o t len false))
+      (λ y cell. performed o choose locals stack more y (made ++ cell ∷ [])) same (λ y cell is. acts_freed more y (made ++ cell ∷ []) h.1 is)
 
 -- ---- steps
 

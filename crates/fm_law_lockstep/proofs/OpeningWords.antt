@@ -11,7 +11,7 @@ use Rattle.fm_cells.specs.Choices.{lawful, MayReuse}
 use Rattle.fm_cells.specs.Objects.{Request, request_words}
 use Rattle.fm_cells.specs.Stores.{live_words, opened, Store}
 use Rattle.fm_frames.specs.Acts.{cell_of, Choose, class_started, Did, is_there, literal_made, literal_text, made_then, performed, Performed, put_value, requested, set_static, Sources, value_of, with_content}
-use Rattle.fm_frames.specs.Effects.{Action, Free, FreeChain, Make, MakeFixed, MakeLiteral, Put, SetChain, SetStatic, Start}
+use Rattle.fm_frames.specs.Effects.{Action, Copy, Free, FreeChain, Make, MakeFixed, MakeLiteral, Put, SetChain, SetStatic, Start}
 use Rattle.fm_frames.specs.Elements.{kept}
 use Rattle.fm_frames.specs.NativeRows.{text_type}
 use Rattle.fm_frames.specs.Runs.{after_action, first_areas, Job, opened_by, opening, opening_actions, opening_frames, unopened, with_streams}
@@ -154,6 +154,7 @@ module _ (p : Program) (choose : Choose) (budget : ℕ) (few : budget ≤ most_o
   each_fresh (Free operand ∷ more) types x made follows all fit fresh rest = absurd all.0
   each_fresh (SetChain operand to ∷ more) types x made follows all fit fresh rest = absurd all.0
   each_fresh (FreeChain operand ∷ more) types x made follows all fit fresh rest = absurd all.0
+  each_fresh (Copy t len operand ∷ more) types x made follows all fit fresh rest = absurd all.0
 
 -- the opening on an opened store
 pub opening_fresh : (p : Program) → MakesAreResolved p → (choose : Choose) (job : Job) → ArgumentsFit job.arguments → (budget : ℕ) (limit : Option ℕ)

@@ -7,8 +7,8 @@ use Rattle.fm_cells.specs.Changes.{chained_by, Choice, freed_by, made_by, on_obj
 use Rattle.fm_cells.specs.Choices.{lawful, MayReuse}
 use Rattle.fm_cells.specs.Objects.{Object, object_words, Request}
 use Rattle.fm_cells.specs.Stores.{object_at, Store}
-use Rattle.fm_frames.specs.Acts.{all_freed, cell_of, chain_freed, chain_from, chained, Choose, class_started, Did, freed, freed_object, FullAt, is_there, literal_made, literal_text, literal_type, LostAt, made_then, performed, Performed, put_value, requested, set_static, Sources, value_of, with_content}
-use Rattle.fm_frames.specs.Effects.{Action, Free, FreeChain, Make, MakeFixed, MakeLiteral, Put, SetChain, SetStatic, Start}
+use Rattle.fm_frames.specs.Acts.{all_freed, cell_of, chain_freed, chain_from, chained, Choose, class_started, copied, Did, freed, freed_object, FullAt, is_there, literal_made, literal_text, literal_type, LostAt, made_then, performed, Performed, put_value, requested, set_static, Sources, value_of, with_content}
+use Rattle.fm_frames.specs.Effects.{Action, Copy, Free, FreeChain, Make, MakeFixed, MakeLiteral, Put, SetChain, SetStatic, Start}
 use Rattle.fm_frames.specs.Elements.{kept}
 use Rattle.fm_frames.specs.States.{Areas, word_at}
 use Rattle.fm_frames.specs.declared.values.Value.{Value}
@@ -124,6 +124,11 @@ module _ (lossy : Bool) (o : Outline) (choose : Choose) (locals stack : List Val
   acts_room (FreeChain operand ∷ more) fine x made is =
       chain_room lossy fine.0 x (word_at stack operand) (chain_from x.store (cell_of (word_at stack operand)))
       (λ y. performed o (lawful choose) locals stack more y made) is (λ y none. acts_room more fine.1 y made none)
+  acts_room (Copy t len operand ∷ more) fine x made is =
+      let request : Request = requested o t len false in
+      made_room lossy x request (copied x.store (cell_of (word_at stack operand)) len) (lawful choose x.store request) (may x.store request)
+      (λ y cell. performed o (lawful choose) locals stack more y (made ++ cell ∷ [])) is
+      (λ later cell none. acts_room more fine.1 (record x { store = later }) (made ++ cell ∷ []) none)
 
 pub unlimited_is_never_full : UnlimitedIsNeverFull
 unlimited_is_never_full o choose locals stack actions x made is y words full =

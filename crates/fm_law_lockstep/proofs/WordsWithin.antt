@@ -9,14 +9,15 @@ use Rattle.fm_cells.proofs.StoreLaws.{live_words-put_by}
 use Rattle.fm_cells.specs.Changes.{Choice, made_by, put_by, RefuseStore, Take}
 use Rattle.fm_cells.specs.Choices.{lawful, MayReuse}
 use Rattle.fm_cells.specs.Objects.{Request, request_words}
-use Rattle.fm_cells.specs.Stores.{live_words, Store}
+use Rattle.fm_cells.specs.Stores.{elements_at, live_words, Store}
 use Rattle.fm_frames.proofs.StepCounts.{step_going}
 use Rattle.fm_frames.proofs.Underways.{none-made}
-use Rattle.fm_frames.specs.Acts.{cell_of, Choose, class_started, Did, FullAt, is_there, literal_made, literal_text, literal_type, LostAt, made_then, performed, Performed, requested, set_static, Sources, value_of, with_content}
-use Rattle.fm_frames.specs.Effects.{Action, Effect, Free, FreeChain, Make, MakeFixed, MakeLiteral, Put, SetChain, SetStatic, Start}
+use Rattle.fm_frames.specs.Acts.{cell_of, Choose, class_started, copied, Did, FullAt, is_there, literal_made, literal_text, literal_type, LostAt, made_then, performed, Performed, requested, set_static, Sources, value_of, with_content}
+use Rattle.fm_frames.specs.Effects.{Action, Copy, Effect, Free, FreeChain, Make, MakeFixed, MakeLiteral, Put, SetChain, SetStatic, Start}
+use Rattle.fm_frames.proofs.Resized.{length-resized}
 use Rattle.fm_frames.specs.Elements.{kept}
 use Rattle.fm_frames.specs.Literals.{literal_count}
-use Rattle.fm_frames.specs.States.{Areas, Frame, Moved, State}
+use Rattle.fm_frames.specs.States.{Areas, Frame, Moved, State, word_at}
 use Rattle.fm_frames.specs.Steps.{finished, input_after, is_deep, is_done, is_over, makes, most_words, next_effect, objects_made, step, words_among}
 use Rattle.fm_law_lockstep.specs.Limits.{StepsStayWithin}
 use Rattle.fm_law_same_runs.specs.Beside.{most_original_words}
@@ -27,7 +28,7 @@ use Rattle.fm_law_sound.specs.Acting.{ActsFit, ContentFits}
 use Rattle.fm_law_sound.specs.Leading.{sources_of}
 use Rattle.fm_law_sound.specs.Making.{MakesFew}
 use Rattle.fm_law_sound.specs.Sound.{IsSoundBy, Typings}
-use Rattle.fm_law_two_memories.proofs.Limits.{words_filled}
+use Rattle.fm_law_two_memories.proofs.Limits.{words_filled, words_full}
 use Rattle.fm_law_two_memories.proofs.TwoMemories.{next_effects_alike}
 use Rattle.fm_law_two_memories.proofs.WordsSame.{next_within, Room, Within, within_literal, within_rest, within_there}
 use Rattle.fm_law_two_memories.specs.Reading.{ActsAlike}
@@ -102,6 +103,16 @@ module _ (budget : ℕ) (o : Outline) (choose : Choose) (store : Store) (f : Fra
       rest (with_content (made_by x.store (requested o t len fixed) (Take cell grows)) cell content) cell may_be.0
       (words_filled o t x.store (requested o t len fixed) cell grows content fits may_be.1)
 
+  copy_within : (x : Areas) (t : TypeRef) (len : ℕ) (content : List ℕ) (choice : Choice) → MayReuse x.store (requested o t len false) choice
+      → length content ≡ len → (follows : Areas → ℕ → Performed) → live_words x.store ≤ budget
+      → ((later : Store) (cell : ℕ) → live_words later ≡ live_words x.store + request_words (requested o t len false)
+      → LivesWithin budget (follows (record x { store = later }) cell))
+      → LivesWithin budget (made_then x (requested o t len false) content choice follows)
+  copy_within x t len content RefuseStore may_be all follows live rest = live
+  copy_within x t len content (Take cell grows) may_be all follows live rest =
+      rest (with_content (made_by x.store (requested o t len false) (Take cell grows)) cell content) cell
+      (words_full x.store (requested o t len false) cell grows content all may_be.1)
+
   acts_within : (actions : List Action) (x : Areas) (types : List TypeRef) (made : List ℕ) → Within o (room_of budget) x actions → ActsFit o store f types actions
       → AllByRecursion (ActsAlike o store f) actions → length x.literals ≡ literal_count o → live_words x.store ≤ budget
       → LivesWithin budget (performed o (lawful choose) f.locals f.stack actions x made)
@@ -159,6 +170,16 @@ module _ (budget : ℕ) (o : Outline) (choose : Choose) (store : Store) (f : Fra
   acts_within (Free operand ∷ more) x types made within fit alikes literals live = absurd alikes.0
   acts_within (SetChain operand to ∷ more) x types made within fit alikes literals live = absurd alikes.0
   acts_within (FreeChain operand ∷ more) x types made within fit alikes literals live = absurd alikes.0
+  acts_within (Copy t len operand ∷ more) x types made within fit alikes literals live =
+      let words : ℕ = request_words (requested o t len false) in
+      let room_left = next_within o room x (Copy t len operand) more words refl (omega arith) within in
+      let fits : live_words x.store + words ≤ budget = room_left.0 in
+      let from : ℕ = cell_of (word_at f.stack operand) in
+      copy_within x t len (copied x.store from len) (lawful choose x.store (requested o t len false)) (may x.store (requested o t len false))
+      (length-resized (elements_at x.store from) len) (λ areas cell. rest_of more areas (made ++ cell ∷ [])) live
+      (λ later cell is. acts_within more (record x { store = later }) (types ++ t ∷ []) (made ++ cell ∷ [])
+      (within_rest o room x (Copy t len operand) more (record x { store = later }) refl refl (omega (arith, is)) within) fit.1 alikes.1 literals
+      (omega (arith, fits, is)))
 
 -- ---- a step
 

@@ -1,5 +1,6 @@
 -- Actions keep whole what the frames share: an object that is made leads nowhere at first, and what is put fits its place.
 use Rattle.std.proofs.Common.{◌≡◌, ℕ, zero, suc, ◌⊎◌, Bool, true, false, cond, List, [], ◌∷◌, ◌++◌, length, Some, None, refl, sym, ◌∙◌, ap, subst, inl, inr, slice_get, slice_set, slice_index_or, ⊎_elim}
+use Rattle.std.proofs.lemmas.Bool.{false≢true}
 use Rattle.std.proofs.lemmas.Option.{none-some, same_Some}
 use Rattle.fm_base.specs.declared.kinds.Kind.{Kind}
 use Rattle.fm_base.specs.declared.kinds.Kind.TheVariants as kind
@@ -10,18 +11,19 @@ use Rattle.fm_cells.specs.Changes.{Choice, RefuseStore, Take, with_element, with
 use Rattle.fm_cells.specs.Choices.{lawful, MayReuse}
 use Rattle.fm_cells.proofs.Changes.{object_at-with_object}
 use Rattle.fm_cells.proofs.Choices.{lawful_choice-may}
-use Rattle.fm_cells.proofs.Elements.{put_by-some}
+use Rattle.fm_cells.proofs.Elements.{elements_at-some, put_by-some}
 use Rattle.fm_types.specs.Fits.{fits_type}
 use Rattle.fm_types.proofs.LeastJoins.{same_type-eq, same_type-refl}
 use Rattle.fm_world.specs.Programs.{kind_at, Outline}
-use Rattle.fm_frames.specs.Acts.{cell_of, Choose, Did, FullAt, is_there, literal_made, literal_text, literal_type, LostAt, made_object, made_then, performed, Performed, put_value, requested, set_static, Sources, value_of}
-use Rattle.fm_frames.specs.Effects.{Action, Make, MakeFixed, MakeLiteral, Put, SetStatic, Start, Free, SetChain, FreeChain, Source, Plain, OfOperand, OfMade, OfLiteral}
+use Rattle.fm_frames.specs.Acts.{cell_of, Choose, copied, Did, FullAt, is_there, literal_made, literal_text, literal_type, LostAt, made_object, made_then, performed, Performed, put_value, requested, set_static, Sources, value_of}
+use Rattle.fm_frames.specs.Effects.{Action, Make, MakeFixed, MakeLiteral, Put, SetStatic, Start, Free, SetChain, FreeChain, Copy, Source, Plain, OfOperand, OfMade, OfLiteral}
 use Rattle.fm_frames.specs.Elements.{cut, is_string_type, kept, read}
+use Rattle.fm_frames.proofs.Resized.{resized_where}
 use Rattle.fm_frames.specs.Sights.{has_hidden_field, type_numbered}
 use Rattle.fm_frames.specs.States.{Areas, word_at}
 use Rattle.fm_frames.specs.declared.values.Value.{Value}
 use Rattle.fm_frames.specs.declared.values.Value.TheVariants as value
-use Rattle.fm_same.proofs.ActsKeep.{made_as, made_class, make_is, stored_as}
+use Rattle.fm_same.proofs.ActsKeep.{made_as, made_class, made_fixed, made_where, make_is, stored_as}
 use Rattle.fm_same.proofs.StoreChanges.{changed-extends, Extends, extends-refl, extends-then, held_later, IsChanged, IsKept, IsMade, made-extends, put_here, Puts}
 use Rattle.fm_law_sound.specs.Placing.{kind_in}
 use Rattle.fm_law_sound.specs.Sound.{IsReference, static_slots}
@@ -105,6 +107,7 @@ abbrev pub types_after : List TypeRef → List Action → List TypeRef
 types_after types [] = types
 types_after types (Make t len content ∷ more) = types_after (types ++ t ∷ []) more
 types_after types (MakeFixed t ∷ more) = types_after (types ++ t ∷ []) more
+types_after types (Copy t len operand ∷ more) = types_after (types ++ t ∷ []) more
 types_after types (action ∷ more) = types_after types more
 
 abbrev pub WentTo : Outline → Store → List TypeRef → Performed → Type 0
@@ -161,28 +164,66 @@ module _ (o : Outline) (t : TypeRef) (len : ℕ) (fixed : Bool) (number : HasNum
         fixed = λ lives place u kind_is. none.no_reference place u (ap (λ w. kind_at o.classes w place) (sym is) ∙ kind_is);
       }
 
-  make_goes : (store : Store) (types : List TypeRef) (x : Areas) (made : List ℕ) (content : List ℕ) (cell : ℕ) (grows : Bool) → Went o store types x made
-      → object_at x.store cell ≡ None → IsBlank o t fixed content
+  -- the object that is made with this content is whole, wherever it lies
+  abbrev pub IsWholeSoon : Areas → List ℕ → Type 0
+  IsWholeSoon x content = (later : Store) → Extends x.store later → ObjectIsWhole o later (made_as x.store (requested o t len fixed) content)
+
+  -- an object with the elements of a whole one of its type
+  pub copy_whole : (x : Areas) (cell : ℕ) (old : Object) → fixed ≡ false → object_at x.store cell ≡ Some old → type_numbered o old.class ≡ t
+      → ObjectIsWhole o x.store old → IsWholeSoon x (copied x.store cell len)
+  copy_whole x cell old loose held type_is whole later more = record {
+    elements = λ place u is. ⊎_elim
+        (λ same. subst (λ c. LeadsToA o later (λ w. fits_type o.classes w u) c) (sym same)
+        (leads-later o x.store later more _ _ (whole.elements place u (ap (λ w. kind_at o.classes w place) alike ∙ is))))
+        (λ none. inl none) (place_of place);
+    hidden = λ has. ⊎_elim
+        (λ same. subst (λ c. LeadsToA o later (is_text_type o) c) (sym same)
+        (leads-later o x.store later more _ _ (whole.hidden (ap (λ w. has_hidden_field o w) alike ∙ has))))
+        (λ none. inl none) (place_of 0);
+    fixed = λ lives place u kind_is. absurd (false≢true (sym loose ∙ sym (made_fixed x.store (requested o t len fixed) (copied x.store cell len)) ∙ lives));
+  } where
+    alike : type_numbered o old.class ≡ type_numbered o (made_as x.store (requested o t len fixed) (copied x.store cell len)).class
+    alike = type_is ∙ sym (made_type x.store (copied x.store cell len))
+
+    content_at : (place : ℕ) → slice_index_or (copied x.store cell len) place 0 ≡ slice_index_or (resized old.elements len) place 0
+    content_at place = ap (λ elements. slice_index_or (resized elements len) place 0) (elements_at-some x.store cell old held)
+
+    place_of : (place : ℕ)
+        → (slice_index_or (made_as x.store (requested o t len fixed) (copied x.store cell len)).elements place 0 ≡ slice_index_or old.elements place 0)
+        ⊎ (slice_index_or (made_as x.store (requested o t len fixed) (copied x.store cell len)).elements place 0 ≡ 0)
+    place_of place = ⊎_elim
+        (λ here. ⊎_elim (λ was. inl (here ∙ content_at place ∙ was)) (λ none. inr (here ∙ content_at place ∙ none)) (resized_where old.elements len place))
+        (λ none. inr none) (made_where x.store (requested o t len fixed) (copied x.store cell len) place)
+
+  full_goes : (store : Store) (types : List TypeRef) (x : Areas) (made : List ℕ) (content : List ℕ) (cell : ℕ) (grows : Bool) → Went o store types x made
+      → object_at x.store cell ≡ None → IsWholeSoon x content
       → Went o store types (record x { store = stored_as x.store (requested o t len fixed) cell grows content }) made
       × IsAn o (stored_as x.store (requested o t len fixed) cell grows content) t cell
-  make_goes store types x made content cell grows went free blank =
+  full_goes store types x made content cell grows went free whole =
       let object : Object = made_as x.store (requested o t len fixed) content in
       let later : Store = stored_as x.store (requested o t len fixed) cell grows content in
       let is : IsMade x.store later cell object = make_is x.store (requested o t len fixed) cell grows content free in
       let more : Extends x.store later = made-extends x.store later cell object is in (
         went_stored o store types x made later went
-            (areas_with o x later cell object went.areas more is.puts (blank_whole x.store later content blank)) more,
+            (areas_with o x later cell object went.areas more is.puts (whole later more)) more,
         record { object = object; held = put_here x.store later cell object is.puts; type_is = made_type x.store content },
       )
+
+  full_then_goes : (store : Store) (types final : List TypeRef) (x : Areas) (made : List ℕ) (content : List ℕ) (choice : Choice)
+      (follows : Areas → ℕ → Performed) → Went o store types x made → MayReuse x.store (requested o t len fixed) choice → IsWholeSoon x content
+      → ((y : Areas) (cell : ℕ) → Went o store types y made → IsAn o y.store t cell → WentTo o store final (follows y cell))
+      → WentTo o store final (made_then x (requested o t len fixed) content choice follows)
+  full_then_goes store types final x made content RefuseStore follows went may whole then = (went.areas, went.extends)
+  full_then_goes store types final x made content (Take cell grows) follows went may whole then =
+      let goes = full_goes store types x made content cell grows went may.1 whole in
+      then (record x { store = stored_as x.store (requested o t len fixed) cell grows content }) cell goes.0 goes.1
 
   made_goes : (store : Store) (types final : List TypeRef) (x : Areas) (made : List ℕ) (content : List ℕ) (choice : Choice)
       (follows : Areas → ℕ → Performed) → Went o store types x made → MayReuse x.store (requested o t len fixed) choice → IsBlank o t fixed content
       → ((y : Areas) (cell : ℕ) → Went o store types y made → IsAn o y.store t cell → WentTo o store final (follows y cell))
       → WentTo o store final (made_then x (requested o t len fixed) content choice follows)
-  made_goes store types final x made content RefuseStore follows went may blank then = (went.areas, went.extends)
-  made_goes store types final x made content (Take cell grows) follows went may blank then =
-      let goes = make_goes store types x made content cell grows went may.1 blank in
-      then (record x { store = stored_as x.store (requested o t len fixed) cell grows content }) cell goes.0 goes.1
+  made_goes store types final x made content choice follows went may blank then =
+      full_then_goes store types final x made content choice follows went may (λ later more. blank_whole x.store later content blank) then
 
 literal_goes : (o : Outline) (store : Store) (types : List TypeRef) (y : Areas) (made : List ℕ) (text cell : ℕ) → Went o store types y made
     → IsAn o y.store (literal_type o text) cell → Went o store types (literal_made y text cell) made
@@ -384,6 +425,13 @@ module _ (o : Outline) (choose : Choose) (may : (s : Store) (request : Request) 
   acts_go (Free operand ∷ more) types x made h went = absurd h
   acts_go (SetChain operand to ∷ more) types x made h went = absurd h
   acts_go (FreeChain operand ∷ more) types x made h went = absurd h
+  acts_go (Copy t len n ∷ more) types x made h went =
+      let cell : ℕ = cell_of (word_at stack n) in
+      let is : IsAn o x.store t cell = source_is_of o store locals stack types x made went t (OfOperand n) h.1 in
+      full_then_goes o t len false h.0 store types (types_after (types ++ t ∷ []) more) x made (copied x.store cell len) (choose x.store (requested o t len false))
+      (λ y cell. performed o choose locals stack more y (made ++ cell ∷ [])) went (may x.store (requested o t len false))
+      (copy_whole o t len false h.0 x cell is.object refl is.held is.type_is (went.areas.heap cell is.object is.held))
+      (λ y cell goes is. acts_go more (types ++ t ∷ []) y (made ++ cell ∷ []) h.2 (went_pushed o store types y made t cell goes is))
 
 -- at the beginning of a step nothing is made
 pub went_first : (o : Outline) (x : Areas) → AreasAreWhole o x → Went o x.store [] x []

@@ -12,7 +12,7 @@ use Rattle.fm_types.specs.declared.slots.Slot.TheVariants as slot
 use Rattle.fm_world.specs.Numbers.{type_of_class}
 use Rattle.fm_world.specs.Programs.{kind_at, Outline, Program}
 use Rattle.fm_frames.specs.Acts.{literal_text, literal_type}
-use Rattle.fm_frames.specs.Effects.{Action, Free, FreeChain, Make, MakeFixed, MakeLiteral, OfLiteral, OfMade, OfOperand, Plain, Put, SetChain, SetStatic, Source, Start}
+use Rattle.fm_frames.specs.Effects.{Action, Copy, Free, FreeChain, Make, MakeFixed, MakeLiteral, OfLiteral, OfMade, OfOperand, Plain, Put, SetChain, SetStatic, Source, Start}
 use Rattle.fm_frames.specs.Elements.{is_string_type}
 use Rattle.fm_frames.specs.NativeRows.{class_type, text_kind, text_type}
 use Rattle.fm_frames.specs.Sights.{type_numbered}
@@ -62,6 +62,7 @@ made_stays (Start class ∷ more) types n t at = made_stays more types n t at
 made_stays (Free operand ∷ more) types n t at = made_stays more types n t at
 made_stays (SetChain operand to ∷ more) types n t at = made_stays more types n t at
 made_stays (FreeChain operand ∷ more) types n t at = made_stays more types n t at
+made_stays (Copy u len operand ∷ more) types n t at = made_stays more (types ++ u ∷ []) n t (slice_get-append_left types (u ∷ []) n t at)
 
 module _ (p : Program) (ready : CellsAreResolved p) (store : Store) (f : Frame) where
   abbrev o : Outline
@@ -140,3 +141,5 @@ module _ (p : Program) (ready : CellsAreResolved p) (store : Store) (f : Frame) 
   acts_lead (Free operand ∷ more) types fit suit = absurd suit
   acts_lead (SetChain operand to ∷ more) types fit suit = absurd suit
   acts_lead (FreeChain operand ∷ more) types fit suit = absurd suit
+  acts_lead (Copy t len operand ∷ more) types fit suit =
+      (numbered t len [] fit.0.makes, (fit.0.object, fit.0.held, fit.0.type), acts_lead more (types ++ t ∷ []) fit.1 suit)

@@ -22,7 +22,7 @@ use Rattle.fm_types.proofs.Order.{type-refl}
 use Rattle.fm_world.specs.Members.{field_kind, fields_of, OwnedField}
 use Rattle.fm_world.specs.Programs.{Outline, Program}
 use Rattle.fm_frames.specs.Acts.{cell_of, Choose, Did, FullAt, LostAt, performed, Performed}
-use Rattle.fm_frames.specs.Effects.{Action, Free, FreeChain, Make, MakeFixed, MakeLiteral, Put, SetChain, SetStatic, Start}
+use Rattle.fm_frames.specs.Effects.{Action, Copy, Free, FreeChain, Make, MakeFixed, MakeLiteral, Put, SetChain, SetStatic, Start}
 use Rattle.fm_frames.specs.Elements.{first_of, read}
 use Rattle.fm_frames.specs.Literals.{literal_count}
 use Rattle.fm_frames.specs.NativeRows.{text_type}
@@ -66,6 +66,7 @@ after_one types (Start class) more = refl
 after_one types (Free operand) more = refl
 after_one types (SetChain operand to) more = refl
 after_one types (FreeChain operand) more = refl
+after_one types (Copy t len operand) more = refl
 
 lead_parts : (o : Outline) (store : Store) (stack : List Value) (types : List TypeRef) (action : Action) (more : List Action)
     → ActsLead o store stack types (action ∷ more)
@@ -79,6 +80,7 @@ lead_parts o store stack types (Start class) more h = (tt, h)
 lead_parts o store stack types (Free operand) more h = absurd h
 lead_parts o store stack types (SetChain operand to) more h = absurd h
 lead_parts o store stack types (FreeChain operand) more h = absurd h
+lead_parts o store stack types (Copy t len operand) more h = ((h.0, h.1, tt), h.2)
 
 -- ---- each action by itself
 

@@ -15,7 +15,7 @@ use Rattle.fm_types.specs.Typed.{entry_slots, made_at}
 use Rattle.fm_types.specs.declared.slots.Slot.{Slot}
 use Rattle.fm_world.specs.Programs.{code_at, Outline, Program}
 use Rattle.fm_frames.specs.Acts.{cell_of, value_of}
-use Rattle.fm_frames.specs.Effects.{Action, Calls, Effect, Enters, Exits, Falls, Faults, Free, FreeChain, Jumps, JumpsIfSame, Make, MakeFixed, MakeLiteral, Next, OfMade, OfOperand, Put, Returns, SetChain, SetStatic, Source, Start, Throws}
+use Rattle.fm_frames.specs.Effects.{Action, Copy, Calls, Effect, Enters, Exits, Falls, Faults, Free, FreeChain, Jumps, JumpsIfSame, Make, MakeFixed, MakeLiteral, Next, OfMade, OfOperand, Put, Returns, SetChain, SetStatic, Source, Start, Throws}
 use Rattle.fm_frames.specs.NativeRows.{text_type}
 use Rattle.fm_frames.specs.States.{Areas, Frame, word_at}
 use Rattle.fm_frames.specs.Steps.{stack_after, written}
@@ -70,6 +70,7 @@ ActsSuit o store stack types (Start class ∷ more) = ActsSuit o store stack typ
 ActsSuit o store stack types (Free operand ∷ more) = ⊥
 ActsSuit o store stack types (SetChain operand to ∷ more) = ⊥
 ActsSuit o store stack types (FreeChain operand ∷ more) = ⊥
+ActsSuit o store stack types (Copy t len operand ∷ more) = ActsSuit o store stack (types ++ t ∷ []) more
 
 -- ---- what comes next
 

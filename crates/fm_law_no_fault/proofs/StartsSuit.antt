@@ -16,7 +16,7 @@ use Rattle.fm_world.specs.Numbers.{text_number}
 use Rattle.fm_world.specs.Programs.{Outline, Program}
 use Rattle.fm_world.specs.declared.declarations.Constant.{Constant}
 use Rattle.fm_world.specs.declared.declarations.Constant.TheVariants as constant
-use Rattle.fm_frames.specs.Effects.{Action, Effect, Calls, Enters, Exits, Falls, Faults, Free, FreeChain, Jumps, JumpsIfSame, Make, MakeFixed, MakeLiteral, Next, nothing, OfLiteral, Put, Returns, SetChain, SetStatic, Source, Start, Throws}
+use Rattle.fm_frames.specs.Effects.{Action, Copy, Effect, Calls, Enters, Exits, Falls, Faults, Free, FreeChain, Jumps, JumpsIfSame, Make, MakeFixed, MakeLiteral, Next, nothing, OfLiteral, Put, Returns, SetChain, SetStatic, Source, Start, Throws}
 use Rattle.fm_frames.specs.NativeRows.{text_kind, text_type}
 use Rattle.fm_frames.specs.ObjectRows.{kind_of_field}
 use Rattle.fm_frames.specs.Starts.{fields_at, set_constant, start_actions, start_methods, start_of_class, started_by, to_start, with_start}
@@ -51,6 +51,7 @@ module _ (p : Program) (cells : CellsAreResolved p) (tree : AreTree p.outline.cl
   StartSuits (Free operand) = ⊥
   StartSuits (SetChain operand to) = ⊥
   StartSuits (FreeChain operand) = ⊥
+  StartSuits (Copy t len operand) = ⊥
 
   plain_suits : (k : Kind) (v : Source) → IsPlainKind k → (types : List TypeRef) → Suits o store stack types k v
   plain_suits kind.Boolean v is types = tt
@@ -114,6 +115,7 @@ module _ (p : Program) (cells : CellsAreResolved p) (tree : AreTree p.outline.cl
   before_suits (Free operand ∷ xs) ys types each suit = absurd each.0
   before_suits (SetChain operand to ∷ xs) ys types each suit = absurd each.0
   before_suits (FreeChain operand ∷ xs) ys types each suit = absurd each.0
+  before_suits (Copy t len operand ∷ xs) ys types each suit = absurd each.0
 
   before_types : (xs ys : List Action) (types : List TypeRef) → AllByRecursion StartSuits xs → types_after types (xs ++ ys) ≡ types_after types ys
   before_types [] ys types each = refl
@@ -126,6 +128,7 @@ module _ (p : Program) (cells : CellsAreResolved p) (tree : AreTree p.outline.cl
   before_types (Free operand ∷ xs) ys types each = absurd each.0
   before_types (SetChain operand to ∷ xs) ys types each = absurd each.0
   before_types (FreeChain operand ∷ xs) ys types each = absurd each.0
+  before_types (Copy t len operand ∷ xs) ys types each = absurd each.0
 
   pub starts_alone : (classes : List ℕ) (types : List TypeRef) → ActsSuit o store stack types (start_actions o classes)
   starts_alone classes types =
@@ -141,6 +144,7 @@ module _ (p : Program) (cells : CellsAreResolved p) (tree : AreTree p.outline.cl
         alone (Free operand ∷ xs) each = absurd each.0
         alone (SetChain operand to ∷ xs) each = absurd each.0
         alone (FreeChain operand ∷ xs) each = absurd each.0
+        alone (Copy t len operand ∷ xs) each = absurd each.0
 
   -- ---- an effect with what its class's start makes of it
 

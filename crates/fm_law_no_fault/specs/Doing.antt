@@ -11,7 +11,7 @@ use Rattle.fm_types.specs.declared.slots.Slot.TheVariants as slot
 use Rattle.fm_world.specs.Numbers.{type_number}
 use Rattle.fm_world.specs.Programs.{kind_at, Outline}
 use Rattle.fm_frames.specs.Acts.{cell_of, Did, FullAt, literal_type, LostAt, Performed}
-use Rattle.fm_frames.specs.Effects.{Action, Make, MakeFixed, MakeLiteral, Put, SetStatic, Start, Free, SetChain, FreeChain, Source, Plain, OfOperand, OfMade, OfLiteral}
+use Rattle.fm_frames.specs.Effects.{Action, Make, MakeFixed, MakeLiteral, Put, SetStatic, Start, Free, SetChain, FreeChain, Copy, Source, Plain, OfOperand, OfMade, OfLiteral}
 use Rattle.fm_frames.specs.Elements.{is_string_type}
 use Rattle.fm_frames.specs.Sights.{has_hidden_field, type_numbered}
 use Rattle.fm_frames.specs.States.{null, word_at}
@@ -79,6 +79,8 @@ ActsLead o store stack types (Start class ∷ more) = ActsLead o store stack typ
 ActsLead o store stack types (Free operand ∷ more) = ⊥
 ActsLead o store stack types (SetChain operand to ∷ more) = ⊥
 ActsLead o store stack types (FreeChain operand ∷ more) = ⊥
+ActsLead o store stack types (Copy t len operand ∷ more) =
+    HasNumber o t × SourceIsOf o store stack types t (OfOperand operand) × ActsLead o store stack (types ++ t ∷ []) more
 
 -- what the frames share is whole, where all actions were done and where the store was full
 abbrev pub LeavesWhole : Outline → Performed → Type 0

@@ -10,7 +10,7 @@ use Rattle.fm_base.specs.declared.kinds.Kind.{Kind}
 use Rattle.fm_base.specs.declared.kinds.Kind.TheVariants as kind
 use Rattle.fm_base.specs.declared.kinds.TypeRef.{TypeRef}
 use Rattle.fm_cells.proofs.Changes.{object_at-made_by, object_at-with_object, object_at-without_object}
-use Rattle.fm_cells.proofs.Elements.{chained_by-none, chained_by-some, freed_by-some, put_by-some}
+use Rattle.fm_cells.proofs.Elements.{chained_by-none, chained_by-some, elements_at-some, freed_by-some, put_by-some}
 use Rattle.fm_cells.specs.Changes.{Choice, chained_by, freed_by, made_by, put_by, RefuseStore, Take, with_chain, with_element, with_object, without_object}
 use Rattle.fm_cells.specs.Choices.{MayReuse}
 use Rattle.fm_cells.specs.Objects.{new_object, Object, object_words, Request}
@@ -18,18 +18,19 @@ use Rattle.fm_cells.specs.Stores.{object_at, Store}
 use Rattle.fm_types.specs.declared.slots.Slot.{Slot}
 use Rattle.fm_world.specs.Members.{size_of}
 use Rattle.fm_world.specs.Programs.{kind_at, Outline}
-use Rattle.fm_frames.specs.Acts.{all_freed, cell_of, chain_from, chain_freed, chained, Choose, freed, freed_object, is_there, literal_made, literal_text, literal_type, made_then, performed, Performed, put_value, requested, set_static, value_of, with_content}
-use Rattle.fm_frames.specs.Effects.{Action, Make, MakeFixed, MakeLiteral, Put, SetStatic, Start, Free, SetChain, FreeChain, Source, OfOperand, OfMade}
+use Rattle.fm_frames.specs.Acts.{all_freed, cell_of, chain_from, chain_freed, chained, Choose, copied, freed, freed_object, is_there, literal_made, literal_text, literal_type, made_then, performed, Performed, put_value, requested, set_static, value_of, with_content}
+use Rattle.fm_frames.specs.Effects.{Action, Make, MakeFixed, MakeLiteral, Put, SetStatic, Start, Free, SetChain, FreeChain, Copy, Source, OfOperand, OfMade}
 use Rattle.fm_frames.specs.Elements.{cut, kept}
 use Rattle.fm_frames.specs.Sights.{type_numbered}
 use Rattle.fm_frames.specs.States.{Areas, Frame, word_at}
 use Rattle.fm_frames.specs.declared.values.Value.{Value}
-use Rattle.fm_law_sound.specs.Acting.{ActsFit, MakeFits, ObjectFits, PlaceFits, ValueFits}
+use Rattle.fm_law_sound.specs.Acting.{ActsFit, CopyFits, MakeFits, ObjectFits, PlaceFits, ValueFits}
 use Rattle.fm_law_sound.specs.Laws.{LeavesSound}
 use Rattle.fm_law_sound.specs.Leading.{sources_of}
-use Rattle.fm_law_sound.specs.Sound.{AreasAreSound, ElementFits, field_slot, HasKind, HasLength, HaveKinds, IsObjectIn, IsObjectOf, static_slots}
+use Rattle.fm_law_sound.specs.Sound.{AreasAreSound, ElementFits, ElementsFit, field_slot, HasKind, HasLength, HaveKinds, IsObjectIn, IsObjectOf, static_slots, UnitsFit}
 use Rattle.fm_law_sound.proofs.Counts.{words_few}
 use Rattle.fm_law_sound.proofs.Leaving.{read_kind}
+use Rattle.fm_frames.proofs.Resized.{length-resized, resized_where}
 use Rattle.fm_frames.proofs.HeldCounts.{held_insert_held, held_insert_new, held_remove}
 
 -- ---- lists
@@ -155,7 +156,7 @@ module _ (o : Outline) where
   class_made : (t : TypeRef) (len : ℕ) (content : List ℕ) (fixed : Bool) → (h : MakeFits o t len content) → (requested o t len fixed).class ≡ h.number
   class_made t len content fixed h = ap (λ n. unwrap_or n 0) h.number_is
 
-  type_made : (t : TypeRef) (len : ℕ) (content : List ℕ) (fixed : Bool) → MakeFits o t len content
+  pub type_made : (t : TypeRef) (len : ℕ) (content : List ℕ) (fixed : Bool) → MakeFits o t len content
       → type_numbered o (requested o t len fixed).class ≡ t
   type_made t len content fixed h =
       ap (type_numbered o) (class_made t len content fixed h) ∙ get_or_from_slice_get o.types h.number t _ h.there
@@ -177,22 +178,50 @@ module _ (o : Outline) where
     });
   }
 
-  object_filled : (t : TypeRef) (len unit : ℕ) (units : List ℕ) (fixed : Bool) (birth : ℕ) → MakeFits o t len (unit ∷ units)
-      → IsObjectIn o (record (new_object birth (requested o t len fixed)) { elements = unit ∷ units })
-  object_filled t len unit units fixed birth h =
+  -- the elements are as many as the object has, and fit it
+  pub record Fill (t : TypeRef) (len : ℕ) (content : List ℕ) : Type 0 where
+    pub all : length content ≡ len
+    pub elements : ElementsFit o t content
+    pub units : UnitsFit o t content
+
+  object_filled : (t : TypeRef) (len : ℕ) (content : List ℕ) (fixed : Bool) (birth : ℕ) → MakeFits o t len [] → Fill t len content
+      → IsObjectIn o (record (new_object birth (requested o t len fixed)) { elements = content })
+  object_filled t len content fixed birth h fills = record {
+    numbered = number_made t len [] fixed h;
+    of_type = subst (λ u. IsObjectOf o (record (new_object birth (requested o t len fixed)) { elements = content }) u)
+        (sym (type_made t len [] fixed h)) (record {
+          made = h.made;
+          len = subst (λ n. HasLength o t n) (sym fills.all) h.length_fits;
+          pack = refl;
+          elements = fills.elements;
+          units = fills.units;
+        });
+  }
+
+  -- units fill a text
+  units_fill : (t : TypeRef) (len unit : ℕ) (units : List ℕ) → MakeFits o t len (unit ∷ units) → Fill t len (unit ∷ units)
+  units_fill t len unit units h =
       let content : (length (unit ∷ units) ≡ len) × AllByRecursion (λ u. u < 2 ^ 16) (unit ∷ units) × ((place : ℕ) → kind_at o.classes t place ≡ None) =
       h.content_fits in
       record {
-        numbered = number_made t len (unit ∷ units) fixed h;
-        of_type = subst (λ u. IsObjectOf o (record (new_object birth (requested o t len fixed)) { elements = unit ∷ units }) u)
-            (sym (type_made t len (unit ∷ units) fixed h)) (record {
-              made = h.made;
-              len = subst (λ n. HasLength o t n) (sym content.0) h.length_fits;
-              pack = refl;
-              elements = λ q k is. absurd (none-some k (sym (content.2 q) ∙ is));
-              units = λ is q. all_or (λ u. u < 2 ^ 16) (unit ∷ units) q content.1 (omega arith);
-            });
+        all = content.0;
+        elements = λ q k is. absurd (none-some k (sym (content.2 q) ∙ is));
+        units = λ is q. all_or (λ u. u < 2 ^ 16) (unit ∷ units) q content.1 (omega arith);
       }
+
+  -- the elements of an object fill one of its type
+  copy_fills : (t : TypeRef) (len : ℕ) (object : Object) → IsObjectOf o object t → Fill t len (resized object.elements len)
+  copy_fills t len object h = record {
+    all = length-resized object.elements len;
+    elements = λ q k is. ⊎_elim
+        (λ here. subst (λ n. ElementFits k n) (sym here) (h.elements q k is))
+        (λ none. subst (λ n. ElementFits k n) (sym none) (zero_fits k))
+        (resized_where object.elements len q);
+    units = λ is q. ⊎_elim
+        (λ here. subst (λ n. n < 2 ^ 16) (sym here) (h.units is q))
+        (λ none. subst (λ n. n < 2 ^ 16) (sym none) (omega arith))
+        (resized_where object.elements len q);
+  }
 
   -- ---- one cell
 
@@ -346,6 +375,48 @@ module _ (o : Outline) where
     pub there : object_at later cell ≡ Some now
     pub type : type_numbered o now.class ≡ t
 
+  pub makes_full : (x : Areas) (t : TypeRef) (len : ℕ) (content : List ℕ) (fixed : Bool) (cell : ℕ) (grows : Bool) → AreasAreSound o x → MakeFits o t len []
+      → Fill t len content → object_at x.store cell ≡ None
+      → Makes x (with_content (made_by x.store (requested o t len fixed) (Take cell grows)) cell content) cell t
+  makes_full x t len [] fixed cell grows h fits fills free = record {
+    sound = sound_made x (requested o t len fixed) cell grows h free (object_new t len [] fixed x.store.births fits);
+    follows = made_follows x.store (requested o t len fixed) cell grows free;
+    now = new_object x.store.births (requested o t len fixed);
+    there = new_held x.store (requested o t len fixed) cell grows;
+    type = type_made t len [] fixed fits;
+  }
+  makes_full x t len (unit ∷ units) fixed cell grows h fits fills free =
+      let request : Request = requested o t len fixed in
+      let middle : Store = made_by x.store request (Take cell grows) in
+      let first : Object = new_object x.store.births request in
+      let object : Object = record first { elements = unit ∷ units } in
+      let held : object_at middle cell ≡ Some first = new_held x.store request cell grows in
+      let after : with_content middle cell (unit ∷ units) ≡ with_object middle cell object = ap (content_in middle cell unit units) held in
+      let one : AreasAreSound o (record x { store = middle }) =
+      sound_made x request cell grows h free (object_new t len [] fixed x.store.births fits) in
+      let two : AreasAreSound o (record x { store = with_object middle cell object }) =
+      sound_changed (record x { store = middle }) cell first object one held (object_filled t len (unit ∷ units) fixed x.store.births fits fills) in
+      let at = object_at-with_object middle cell object cell in
+      subst (λ later. Makes x later cell t) (sym after) (record {
+        sound = two;
+        follows = follows_then x.store middle (with_object middle cell object) (made_follows x.store request cell grows free)
+            (changed_follows middle cell first object held refl);
+        now = object;
+        there = grind (arith, nat_tests, at);
+        type = type_made t len [] fixed fits;
+      })
+
+  -- the same of an object whose elements are 0
+  bare_fits : (t : TypeRef) (len : ℕ) (content : List ℕ) → MakeFits o t len content → MakeFits o t len []
+  bare_fits t len content h = record {
+    number = h.number;
+    number_is = h.number_is;
+    there = h.there;
+    made = h.made;
+    length_fits = h.length_fits;
+    content_fits = tt;
+  }
+
   pub makes : (x : Areas) (t : TypeRef) (len : ℕ) (content : List ℕ) (fixed : Bool) (cell : ℕ) (grows : Bool) → AreasAreSound o x → MakeFits o t len content
       → object_at x.store cell ≡ None
       → Makes x (with_content (made_by x.store (requested o t len fixed) (Take cell grows)) cell content) cell t
@@ -357,25 +428,41 @@ module _ (o : Outline) where
     type = type_made t len [] fixed fits;
   }
   makes x t len (unit ∷ units) fixed cell grows h fits free =
-      let request : Request = requested o t len fixed in
-      let middle : Store = made_by x.store request (Take cell grows) in
-      let first : Object = new_object x.store.births request in
-      let object : Object = record first { elements = unit ∷ units } in
-      let held : object_at middle cell ≡ Some first = new_held x.store request cell grows in
-      let after : with_content middle cell (unit ∷ units) ≡ with_object middle cell object = ap (content_in middle cell unit units) held in
-      let one : AreasAreSound o (record x { store = middle }) =
-      sound_made x request cell grows h free (object_new t len (unit ∷ units) fixed x.store.births fits) in
-      let two : AreasAreSound o (record x { store = with_object middle cell object }) =
-      sound_changed (record x { store = middle }) cell first object one held (object_filled t len unit units fixed x.store.births fits) in
-      let at = object_at-with_object middle cell object cell in
-      subst (λ later. Makes x later cell t) (sym after) (record {
-        sound = two;
-        follows = follows_then x.store middle (with_object middle cell object) (made_follows x.store request cell grows free)
-            (changed_follows middle cell first object held refl);
-        now = object;
-        there = grind (arith, nat_tests, at);
-        type = type_made t len (unit ∷ units) fixed fits;
-      })
+      makes_full x t len (unit ∷ units) fixed cell grows h (bare_fits t len (unit ∷ units) fits) (units_fill t len unit units fits) free
+
+  -- what is copied
+  pub record Copying (x : Areas) (f : Frame) (t : TypeRef) (len operand : ℕ) : Type 0 where
+    pub object : Object
+    pub held : object_at x.store (cell_of (word_at f.stack operand)) ≡ Some object
+    pub type : type_numbered o object.class ≡ t
+    pub content : copied x.store (cell_of (word_at f.stack operand)) len ≡ resized object.elements len
+    pub fills : Fill t len (copied x.store (cell_of (word_at f.stack operand)) len)
+
+  pub copying : (store : Store) (x : Areas) (types : List TypeRef) (made : List ℕ) (f : Frame) (t : TypeRef) (len operand : ℕ) → Keeps store x types made
+      → CopyFits o store f t len operand → Copying x f t len operand
+  copying store x types made f t len operand h fits =
+      let now = h.kept (cell_of (word_at f.stack operand)) fits.object fits.held in
+      let type : type_numbered o now.0.class ≡ t = ap (type_numbered o) now.2 ∙ fits.type in
+      let content : copied x.store (cell_of (word_at f.stack operand)) len ≡ resized now.0.elements len =
+      ap (λ elements. resized elements len) (elements_at-some x.store (cell_of (word_at f.stack operand)) now.0 now.1) in
+      record {
+        object = now.0;
+        held = now.1;
+        type = type;
+        content = content;
+        fills = subst (λ elements. Fill t len elements) (sym content)
+            (copy_fills t len now.0 (subst (λ u. IsObjectOf o now.0 u) type (h.sound.heap (cell_of (word_at f.stack operand)) now.0 now.1).of_type));
+      }
+
+  -- what follows a copy, where the memory chose
+  copy_goes : (x : Areas) (t : TypeRef) (len : ℕ) (content : List ℕ) (choice : Choice) (follows : Areas → ℕ → Performed)
+      → AreasAreSound o x → MakeFits o t len [] → Fill t len content → MayReuse x.store (requested o t len false) choice
+      → ((later : Store) (cell : ℕ) → Makes x later cell t → LeavesSound o (follows (record x { store = later }) cell))
+      → LeavesSound o (made_then x (requested o t len false) content choice follows)
+  copy_goes x t len content RefuseStore follows h fits fills may rest = h
+  copy_goes x t len content (Take cell grows) follows h fits fills may rest =
+      rest (with_content (made_by x.store (requested o t len false) (Take cell grows)) cell content) cell
+      (makes_full x t len content false cell grows h fits fills may.1)
 
   -- what follows a make, where the memory chose
   made_goes : (x : Areas) (t : TypeRef) (len : ℕ) (content : List ℕ) (fixed : Bool) (choice : Choice) (follows : Areas → ℕ → Performed)
@@ -527,6 +614,12 @@ module _ (o : Outline) (sizes : (class : ℕ) → size_of o.classes class < 2 ^ 
       (sound_chained o x (cell_of (word_at f.stack operand)) (cell_of (word_at f.stack to)) h.sound)
   acts_keep (FreeChain operand ∷ more) x types made fit h =
       chain_ends more x made (word_at f.stack operand) (chain_from x.store (cell_of (word_at f.stack operand))) fit h.sound
+  acts_keep (Copy t len operand ∷ more) x types made fit h =
+      copy_goes o x t len (copied x.store (cell_of (word_at f.stack operand)) len) (choose x.store (requested o t len false))
+      (λ y cell. performed o choose f.locals f.stack more y (made ++ cell ∷ [])) h.sound fit.0.makes
+      (copying o store x types made f t len operand h fit.0).fills (may x.store (requested o t len false))
+      (λ later cell one. acts_keep more (record x { store = later }) (types ++ t ∷ []) (made ++ cell ∷ []) fit.1
+      (one_made o store x later types made cell t h one))
 
 pub actions_keep : (o : Outline) → ((class : ℕ) → size_of o.classes class < 2 ^ 31) → (choose : Choose)
     → ((s : Store) (request : Request) → MayReuse s request (choose s request)) → (f : Frame) (x : Areas) (actions : List Action)

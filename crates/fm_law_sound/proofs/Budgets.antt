@@ -6,8 +6,8 @@ use Rattle.fm_cells.specs.Stores.{object_at, Store}
 use Rattle.fm_world.specs.Programs.{Outline, Program}
 use Rattle.fm_frames.proofs.OpeningSteps.{put_kept}
 use Rattle.fm_frames.proofs.StepCounts.{step_is, stepped}
-use Rattle.fm_frames.specs.Acts.{all_freed, cell_of, chain_freed, chain_from, chained, Choose, class_started, Did, freed, freed_object, FullAt, is_there, literal_made, literal_text, literal_type, LostAt, made_then, performed, Performed, put_value, requested, set_static, Sources, value_of, with_content}
-use Rattle.fm_frames.specs.Effects.{Action, Effect, Free, FreeChain, Make, MakeFixed, MakeLiteral, Put, SetChain, SetStatic, Start}
+use Rattle.fm_frames.specs.Acts.{all_freed, cell_of, chain_freed, chain_from, chained, Choose, class_started, copied, Did, freed, freed_object, FullAt, is_there, literal_made, literal_text, literal_type, LostAt, made_then, performed, Performed, put_value, requested, set_static, Sources, value_of, with_content}
+use Rattle.fm_frames.specs.Effects.{Action, Copy, Effect, Free, FreeChain, Make, MakeFixed, MakeLiteral, Put, SetChain, SetStatic, Start}
 use Rattle.fm_frames.specs.Elements.{kept}
 use Rattle.fm_frames.specs.Runs.{after, after_action, first_areas, Job, opened_by, opening, opening_actions, opening_frames, unopened, with_streams}
 use Rattle.fm_frames.specs.Starts.{start_actions, start_methods, to_start}
@@ -125,6 +125,10 @@ module _ (budget : ℕ) where
       chain_budget x (word_at stack operand) (chain_from x.store (cell_of (word_at stack operand)))
       (λ y. performed o choose locals stack more y made) is
       (λ y same. acts_budget o choose locals stack more y made same)
+  acts_budget o choose locals stack (Copy t len operand ∷ more) x made is =
+      made_budget x (requested o t len false) (copied x.store (cell_of (word_at stack operand)) len) (choose x.store (requested o t len false))
+      (λ y cell. performed o choose locals stack more y (made ++ cell ∷ [])) is
+      (λ later cell same. acts_budget o choose locals stack more (record x { store = later }) (made ++ cell ∷ []) same)
 
   -- ---- states
 

@@ -19,9 +19,10 @@ use Rattle.fm_cells.specs.Soundness.{CellsFit}
 use Rattle.fm_cells.specs.Stores.{elements_at, IsHeld, object_at, Store}
 use Rattle.fm_world.specs.Members.{size_of}
 use Rattle.fm_world.specs.Programs.{kind_at, Outline}
-use Rattle.fm_frames.specs.Acts.{all_freed, cell_of, chain_from, chain_freed, chained, Choose, Did, freed, freed_object, FullAt, is_there, literal_made, literal_text, literal_type, LostAt, made_then, performed, Performed, put_value, requested, set_static, sum_of, value_of, with_content}
-use Rattle.fm_frames.specs.Effects.{Action, Make, MakeFixed, MakeLiteral, Put, SetStatic, Start, Free, SetChain, FreeChain, Source, Plain, OfOperand, OfLocal, LocalPlus, OfPlace, OfStatic, OfMade, OfLiteral, SameOperands}
+use Rattle.fm_frames.specs.Acts.{all_freed, cell_of, chain_from, chain_freed, chained, Choose, copied, Did, freed, freed_object, FullAt, is_there, literal_made, literal_text, literal_type, LostAt, made_then, performed, Performed, put_value, requested, set_static, sum_of, value_of, with_content}
+use Rattle.fm_frames.specs.Effects.{Action, Make, MakeFixed, MakeLiteral, Put, SetStatic, Start, Free, SetChain, FreeChain, Copy, Source, Plain, OfOperand, OfLocal, LocalPlus, OfPlace, OfStatic, OfMade, OfLiteral, SameOperands}
 use Rattle.fm_frames.specs.Elements.{cut, kept, read}
+use Rattle.fm_frames.proofs.Resized.{resized_where}
 use Rattle.fm_frames.specs.Sights.{type_numbered}
 use Rattle.fm_frames.specs.States.{Areas, Frame, word_at}
 use Rattle.fm_frames.specs.declared.values.Value.{Value}
@@ -31,7 +32,7 @@ use Rattle.fm_law_sound.specs.HeldCells.{AreasLeadWithin, FrameLeadsWithin, Lead
 use Rattle.fm_law_sound.specs.Leading.{sources_of}
 use Rattle.fm_law_sound.specs.Placing.{IsPlain, kind_in, PutAgrees, ReadAgrees}
 use Rattle.fm_law_sound.specs.Sound.{AreasAreSound}
-use Rattle.fm_law_sound.proofs.ActsKeep.{all_or, class_set, content_in, heap_put, Keeps, keeps_later, literal_set, Makes, makes, new_held, object_keeps, one_made, set_where, static_set, with_areas, zeros_at}
+use Rattle.fm_law_sound.proofs.ActsKeep.{all_or, class_set, content_in, heap_put, copying, Copying, Fill, Keeps, keeps_later, literal_set, Makes, makes, makes_full, new_held, object_keeps, one_made, set_where, static_set, type_made, with_areas, zeros_at}
 use Rattle.fm_law_sound.proofs.HeldStays.{acts_stay, ChainsFit, IsIn, word_within}
 
 -- ---- numbers and references
@@ -141,12 +142,27 @@ module _ (o : Outline) where
     elements = λ q t is. subst (λ n. n < 2 ^ 32) (sym (zeros_at request.len q)) (omega arith);
   }
 
-  filled_within : (object : Object) (units : List ℕ) → ObjectLeadsWithin o object → AllByRecursion (λ u. u < 2 ^ 16) units
-      → ObjectLeadsWithin o (record object { elements = units })
-  filled_within object units h few = record {
-    chain = h.chain;
-    elements = λ q t is. let unit : slice_index_or units q 0 < 2 ^ 16 = all_or (λ u. u < 2 ^ 16) units q few (omega arith) in omega (arith, unit);
-  }
+  -- the references among elements of a type lead within the range
+  abbrev pub LeadIn : TypeRef → List ℕ → Type 0
+  LeadIn t elements = (place : ℕ) (u : TypeRef) → kind_at o.classes t place ≡ Some (kind.Ref u) → slice_index_or elements place 0 < 2 ^ 32
+
+  filled_within : (object : Object) (elements : List ℕ) → ObjectLeadsWithin o object → LeadIn (type_numbered o object.class) elements
+      → ObjectLeadsWithin o (record object { elements = elements })
+  filled_within object elements h few = record { chain = h.chain; elements = few }
+
+  -- units are no cells above the range
+  units_lead : (t : TypeRef) (units : List ℕ) → AllByRecursion (λ u. u < 2 ^ 16) units → LeadIn t units
+  units_lead t units few q u is =
+      let unit : slice_index_or units q 0 < 2 ^ 16 = all_or (λ u. u < 2 ^ 16) units q few (omega arith) in omega (arith, unit)
+
+  -- the elements of a copy lead where those of the object do
+  pub copy_leads : (t : TypeRef) (len : ℕ) (object : Object) → type_numbered o object.class ≡ t → ObjectLeadsWithin o object
+      → LeadIn t (resized object.elements len)
+  copy_leads t len object type h q u is =
+      ⊎_elim
+      (λ here. subst (λ n. n < 2 ^ 32) (sym here) (h.elements q u (ap (λ v. kind_at o.classes v q) type ∙ is)))
+      (λ none. subst (λ n. n < 2 ^ 32) (sym none) (omega arith))
+      (resized_where object.elements len q)
 
   -- ---- areas
 
@@ -170,11 +186,11 @@ module _ (o : Outline) where
       (heap_put (ObjectLeadsWithin o) x.store (made_by x.store request (Take cell grows)) cell (new_object x.store.births request)
       (new_within x.store.births request) (object_at-made_by x.store request cell grows) leads.heap)
 
-  pub filled_leads : (x : Areas) (request : Request) (cell : ℕ) (grows : Bool) (content : List ℕ) → AreasLeadWithin o x
-      → AllByRecursion (λ u. u < 2 ^ 16) content
+  pub full_leads : (x : Areas) (request : Request) (cell : ℕ) (grows : Bool) (content : List ℕ) → AreasLeadWithin o x
+      → LeadIn (type_numbered o request.class) content
       → AreasLeadWithin o (record x { store = with_content (made_by x.store request (Take cell grows)) cell content })
-  filled_leads x request cell grows [] leads few = made_leads x request cell grows leads
-  filled_leads x request cell grows (unit ∷ units) leads few =
+  full_leads x request cell grows [] leads few = made_leads x request cell grows leads
+  full_leads x request cell grows (unit ∷ units) leads few =
       let middle : Store = made_by x.store request (Take cell grows) in
       let first : Object = new_object x.store.births request in
       let after : with_content middle cell (unit ∷ units) ≡ with_object middle cell (record first { elements = unit ∷ units }) =
@@ -182,6 +198,12 @@ module _ (o : Outline) where
       subst (λ later. AreasLeadWithin o (record x { store = later })) (sym after)
       (changed_leads (record x { store = middle }) cell (record first { elements = unit ∷ units }) (made_leads x request cell grows leads)
       (filled_within first (unit ∷ units) (new_within x.store.births request) few))
+
+  pub filled_leads : (x : Areas) (request : Request) (cell : ℕ) (grows : Bool) (content : List ℕ) → AreasLeadWithin o x
+      → AllByRecursion (λ u. u < 2 ^ 16) content
+      → AreasLeadWithin o (record x { store = with_content (made_by x.store request (Take cell grows)) cell content })
+  filled_leads x request cell grows content leads few =
+      full_leads x request cell grows content leads (units_lead (type_numbered o request.class) content few)
 
   pub units_of : (t : TypeRef) (len : ℕ) (content : List ℕ) → ContentFits o t len content → AllByRecursion (λ u. u < 2 ^ 16) content
   units_of t len [] fits = tt
@@ -301,6 +323,24 @@ module _ (o : Outline) (sizes : (class : ℕ) → size_of o.classes class < 2 ^ 
       let one : Makes o x later cell t = makes o x t len content fixed cell grows sound fits can.1 in
       let now : AreasLeadWithin o (record x { store = later }) =
       filled_leads o x request cell grows content leads (units_of o t len content fits.content_fits) in
+      by_held o store (follows (record x { store = later }) cell) cell
+      (stay (record x { store = later }) cell (chains_of o (record x { store = later }) now) (ap is_some one.there)) held
+      (λ small. rest later cell one small now held)
+
+  -- what follows a copy
+  copy_holds : (x : Areas) (t : TypeRef) (len : ℕ) (content : List ℕ) (choice : Choice) (follows : Areas → ℕ → Performed)
+      → AreasAreSound o x → (fits : MakeFits o t len []) → Fill o t len content → LeadIn o t content → MayReuse x.store (requested o t len false) choice
+      → AreasLeadWithin o x → ((y : Areas) (cell : ℕ) → ChainsFit y.store → IsHeld y.store cell → IsIn cell (follows y cell))
+      → ((later : Store) (cell : ℕ) → Makes o x later cell t → cell < 2 ^ 32 → AreasLeadWithin o (record x { store = later })
+      → L (follows (record x { store = later }) cell))
+      → L (made_then x (requested o t len false) content choice follows)
+  copy_holds x t len content RefuseStore follows sound fits fills within_range can leads stay rest held = leads
+  copy_holds x t len content (Take cell grows) follows sound fits fills within_range can leads stay rest held =
+      let request : Request = requested o t len false in
+      let later : Store = with_content (made_by x.store request (Take cell grows)) cell content in
+      let one : Makes o x later cell t = makes_full o x t len content false cell grows sound fits fills can.1 in
+      let now : AreasLeadWithin o (record x { store = later }) =
+      full_leads o x request cell grows content leads (subst (λ u. LeadIn o u content) (sym (type_made o t len [] false fits)) within_range) in
       by_held o store (follows (record x { store = later }) cell) cell
       (stay (record x { store = later }) cell (chains_of o (record x { store = later }) now) (ap is_some one.there)) held
       (λ small. rest later cell one small now held)
@@ -435,6 +475,17 @@ module _ (o : Outline) (sizes : (class : ℕ) → size_of o.classes class < 2 ^ 
   acts_hold (FreeChain operand ∷ more) x types made fit agrees h leads small =
       chain_holds more x made (word_at f.stack operand) (chain_from x.store (cell_of (word_at f.stack operand))) fit leads small
       (kept_classes x types made h)
+  acts_hold (Copy t len operand ∷ more) x types made fit agrees h leads small =
+      let from : ℕ = cell_of (word_at f.stack operand) in
+      let copies : Copying o x f t len operand = copying o store x types made f t len operand h fit.0 in
+      copy_holds x t len (copied x.store from len) (choose x.store (requested o t len false))
+      (λ y cell. performed o choose f.locals f.stack more y (made ++ cell ∷ [])) h.sound fit.0.makes copies.fills
+      (subst (λ elements. LeadIn o t elements) (sym copies.content)
+      (copy_leads o t len copies.object copies.type (leads.heap from copies.object copies.held)))
+      (may x.store (requested o t len false)) leads
+      (λ y cell chains held. acts_stay o choose f within more y (made ++ cell ∷ []) chains cell held)
+      (λ later cell one within_range now. acts_hold more (record x { store = later }) (types ++ t ∷ []) (made ++ cell ∷ []) fit.1 agrees.1
+      (one_made o store x later types made cell t h one) now (All-push (λ c. c < 2 ^ 32) made cell small within_range))
 
 pub actions_hold : (o : Outline) → ((class : ℕ) → size_of o.classes class < 2 ^ 31) → (choose : Choose)
     → ((s : Store) (request : Request) → MayReuse s request (choose s request)) → (f : Frame) → FrameLeadsWithin f → (x : Areas) (actions : List Action)

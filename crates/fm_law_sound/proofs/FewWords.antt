@@ -4,7 +4,7 @@ use Rattle.std.proofs.lemmas.Bool.{cases_lt, false≢true, lt-ltb}
 use Rattle.fm_base.specs.declared.limits.TheConstants.{MAX_LIVE_WORDS}
 use Rattle.fm_cells.specs.Stores.{live_words}
 use Rattle.fm_world.specs.Programs.{Outline}
-use Rattle.fm_frames.specs.Effects.{Action, Make, MakeFixed, MakeLiteral, Put, SetStatic, Start, Free, SetChain, FreeChain}
+use Rattle.fm_frames.specs.Effects.{Action, Make, MakeFixed, MakeLiteral, Put, SetStatic, Start, Free, SetChain, FreeChain, Copy}
 use Rattle.fm_frames.specs.States.{Areas}
 use Rattle.fm_frames.specs.Steps.{is_over, makes, words_among, words_made}
 use Rattle.fm_law_sound.specs.Making.{AreFew}
@@ -21,6 +21,7 @@ few_of o x (Start class ∷ more) literals few = (tt, few_of o x more literals (
 few_of o x (Free operand ∷ more) literals few = (tt, few_of o x more literals (omega (arith, few)))
 few_of o x (SetChain operand to ∷ more) literals few = (tt, few_of o x more literals (omega (arith, few)))
 few_of o x (FreeChain operand ∷ more) literals few = (tt, few_of o x more literals (omega (arith, few)))
+few_of o x (Copy t len operand ∷ more) literals few = (tt, few_of o x more literals (omega (arith, few)))
 
 -- what makes nothing has nothing of many words
 none_made : (o : Outline) (actions : List Action) → makes actions ≡ false → AreFew o actions
@@ -34,6 +35,7 @@ none_made o (Start class ∷ more) none = (tt, none_made o more none)
 none_made o (Free operand ∷ more) none = (tt, none_made o more none)
 none_made o (SetChain operand to ∷ more) none = (tt, none_made o more none)
 none_made o (FreeChain operand ∷ more) none = (tt, none_made o more none)
+none_made o (Copy t len operand ∷ more) none = absurd (false≢true (sym none))
 
 few_needed : (needed budget live : ℕ) → (nat_lt 0 needed && nat_lt budget (live + needed)) ≡ false → budget ≤ MAX_LIVE_WORDS → needed ≤ MAX_LIVE_WORDS
 few_needed needed budget live not_over few = by_some (cases_lt 0 needed) (cases_lt budget (live + needed)) where

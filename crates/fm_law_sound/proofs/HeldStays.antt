@@ -14,8 +14,8 @@ use Rattle.fm_cells.specs.Changes.{Choice, chained_by, freed_by, made_by, put_by
 use Rattle.fm_cells.specs.Objects.{new_object, Object, object_words, Request}
 use Rattle.fm_cells.specs.Stores.{IsHeld, object_at, Store}
 use Rattle.fm_world.specs.Programs.{Outline}
-use Rattle.fm_frames.specs.Acts.{all_freed, cell_of, cells_with, chain_cells, chain_freed, chain_from, chained, Choose, Did, freed, freed_object, FullAt, is_there, literal_made, literal_text, literal_type, LostAt, made_then, performed, Performed, requested, set_static, value_of, with_content}
-use Rattle.fm_frames.specs.Effects.{Action, Make, MakeFixed, MakeLiteral, Put, SetStatic, Start, Free, SetChain, FreeChain}
+use Rattle.fm_frames.specs.Acts.{all_freed, cell_of, cells_with, chain_cells, chain_freed, chain_from, chained, Choose, copied, Did, freed, freed_object, FullAt, is_there, literal_made, literal_text, literal_type, LostAt, made_then, performed, Performed, requested, set_static, value_of, with_content}
+use Rattle.fm_frames.specs.Effects.{Action, Make, MakeFixed, MakeLiteral, Put, SetStatic, Start, Free, SetChain, FreeChain, Copy}
 use Rattle.fm_frames.specs.Elements.{kept}
 use Rattle.fm_frames.specs.States.{Areas, Frame, word_at}
 use Rattle.fm_frames.specs.declared.values.Value.{Value}
@@ -238,3 +238,7 @@ module _ (o : Outline) (choose : Choose) (f : Frame) (within : FrameLeadsWithin 
             onto x.store (all_freed x cells).store (performed o choose f.locals f.stack more (all_freed x cells) made) cell
             (all_freed_stay x cells (chain_within _ x.store (cell_of (word_at f.stack operand)) cells chains (word_within f.stack within.stack operand) is))
             chains held (λ fits still. rest (all_freed x cells) fits still)
+  acts_stay (Copy t len operand ∷ more) x made chains cell held =
+      made_stay x (requested o t len false) (copied x.store (cell_of (word_at f.stack operand)) len) (choose x.store (requested o t len false))
+      (λ y c. performed o choose f.locals f.stack more y (made ++ c ∷ [])) cell chains held
+      (λ later c fits still. acts_stay more (record x { store = later }) (made ++ c ∷ []) fits cell still)

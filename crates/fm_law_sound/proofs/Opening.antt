@@ -28,7 +28,7 @@ use Rattle.fm_world.specs.declared.declarations.Constant.TheVariants as constant
 use Rattle.fm_world.specs.declared.declarations.DeclaredClass.{DeclaredClass}
 use Rattle.fm_world.specs.declared.declarations.DeclaredField.{DeclaredField}
 use Rattle.fm_frames.specs.Acts.{Choose, Did, is_there, literal_made, literal_text, literal_type, made_then, performed, Performed, put_value, requested, set_static, value_of, with_content}
-use Rattle.fm_frames.specs.Effects.{Action, Free, FreeChain, Make, MakeFixed, MakeLiteral, OfLiteral, Put, SetChain, SetStatic, Start}
+use Rattle.fm_frames.specs.Effects.{Action, Copy, Free, FreeChain, Make, MakeFixed, MakeLiteral, OfLiteral, Put, SetChain, SetStatic, Start}
 use Rattle.fm_frames.specs.Elements.{first_of}
 use Rattle.fm_frames.specs.ObjectRows.{kind_of_field}
 use Rattle.fm_frames.specs.Runs.{after_action, argument_actions, first_areas, framed, Job, opened_by, opening, opening_actions, opening_frames, with_streams}
@@ -59,10 +59,19 @@ pub record OpeningActsFit (p : Program) (job : Job) (store : Store) : Type 0 whe
 
 -- ---- actions that only make and put
 
+-- nothing is freed or chained
+abbrev pub IsFreeless : Action → Type 0
+IsFreeless (Free operand) = ⊥
+IsFreeless (SetChain operand to) = ⊥
+IsFreeless (FreeChain operand) = ⊥
+IsFreeless action = Unit {0}
+
+-- and nothing is copied
 abbrev pub IsMade : Action → Type 0
 IsMade (Free operand) = ⊥
 IsMade (SetChain operand to) = ⊥
 IsMade (FreeChain operand) = ⊥
+IsMade (Copy t len operand) = ⊥
 IsMade action = Unit {0}
 
 -- those of a start name no object

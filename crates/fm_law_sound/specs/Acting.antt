@@ -9,7 +9,7 @@ use Rattle.fm_cells.specs.Stores.{object_at, Store}
 use Rattle.fm_world.specs.Numbers.{type_number}
 use Rattle.fm_world.specs.Programs.{kind_at, Outline}
 use Rattle.fm_frames.specs.Acts.{cell_of, literal_text, literal_type, value_of}
-use Rattle.fm_frames.specs.Effects.{Action, Make, MakeFixed, MakeLiteral, Put, SetStatic, Start, Free, SetChain, FreeChain, Source, OfOperand, OfMade}
+use Rattle.fm_frames.specs.Effects.{Action, Make, MakeFixed, MakeLiteral, Put, SetStatic, Start, Free, SetChain, FreeChain, Copy, Source, OfOperand, OfMade}
 use Rattle.fm_frames.specs.Elements.{is_text_type}
 use Rattle.fm_frames.specs.Sights.{type_numbered}
 use Rattle.fm_frames.specs.States.{Areas, Frame, word_at}
@@ -35,6 +35,13 @@ pub record MakeFits (o : Outline) (t : TypeRef) (len : ℕ) (content : List ℕ)
 pub record PlaceFits (o : Outline) (t : TypeRef) (place : ℕ) (k : Kind) : Type 0 where
   pub kind : kind_at o.classes t place ≡ Some k
   pub no_text : is_text_type o t ≡ false
+
+-- an object is made that takes the elements of an operand's object, which is of its type and is held when the step begins
+pub record CopyFits (o : Outline) (store : Store) (f : Frame) (t : TypeRef) (len operand : ℕ) : Type 0 where
+  pub makes : MakeFits o t len []
+  pub object : Object
+  pub held : object_at store (cell_of (word_at f.stack operand)) ≡ Some object
+  pub type : type_numbered o object.class ≡ t
 
 -- the object of an operand is held when the step begins, that of a make is of the type that was made
 abbrev pub ObjectFits : Outline → Store → Frame → List TypeRef → Source → ℕ → Kind → Type 0
@@ -63,3 +70,4 @@ ActsFit o store f types (Start class ∷ more) = ActsFit o store f types more
 ActsFit o store f types (Free operand ∷ more) = more ≡ []
 ActsFit o store f types (SetChain operand to ∷ more) = more ≡ []
 ActsFit o store f types (FreeChain operand ∷ more) = more ≡ []
+ActsFit o store f types (Copy t len operand ∷ more) = CopyFits o store f t len operand × ActsFit o store f (types ++ t ∷ []) more

@@ -9,7 +9,7 @@ use Rattle.fm_cells.specs.Objects.{Object}
 use Rattle.fm_cells.specs.Stores.{Store, object_at}
 use Rattle.fm_world.specs.Programs.{kind_at, Outline}
 use Rattle.fm_frames.specs.Acts.{cell_of}
-use Rattle.fm_frames.specs.Effects.{Action, Put, SetStatic, Effect, Next, Throws, Source, Plain, OfOperand, OfPlace}
+use Rattle.fm_frames.specs.Effects.{Action, Copy, Put, SetStatic, Effect, Next, Throws, Source, Plain, OfOperand, OfPlace}
 use Rattle.fm_frames.specs.Sights.{type_numbered}
 use Rattle.fm_frames.specs.States.{word_at}
 use Rattle.fm_frames.specs.declared.values.Value.{Value}
@@ -35,12 +35,14 @@ ReadAgrees o store stack (OfPlace n place (kind.Ref t)) =
 ReadAgrees o store stack s = Unit {0}
 
 -- a number is put where no reference is, and a reference that is put into an object or a static
--- field is read as it should
+-- field is read as it should; what is copied is held, and is of the type
 abbrev pub PutAgrees : Outline → Store → List Value → Action → Type 0
 PutAgrees o store stack (Put object place (kind.Ref t) v) = ReadAgrees o store stack v
 PutAgrees o store stack (Put (OfOperand n) place other v) =
     (object : Object) → object_at store (cell_of (word_at stack n)) ≡ Some object → (t : TypeRef) → kind_in o object place ≡ Some (kind.Ref t) → ⊥
 PutAgrees o store stack (SetStatic slot (kind.Ref t) v) = ReadAgrees o store stack v
+PutAgrees o store stack (Copy t len n) =
+    (object : Object) × (object_at store (cell_of (word_at stack n)) ≡ Some object) × (t ≡ type_numbered o object.class)
 PutAgrees o store stack action = Unit {0}
 
 -- what is thrown

@@ -1,5 +1,5 @@
 -- Actions leave the budget and the limit of a store as they are; and a store that is full has less than twice the words that may live.
-use Rattle.std.proofs.Common.{◌≡◌, ℕ, ◌+◌, ◌*◌, ◌^◌, ◌<◌, ◌≤◌, Bool, true, false, List, [], ◌∷◌, nat_lt, Option, Some, None, refl, sym, ◌∙◌, ap, subst, arith}
+use Rattle.std.proofs.Common.{◌≡◌, ℕ, ◌+◌, ◌*◌, ◌^◌, ◌<◌, ◌≤◌, Bool, true, false, List, [], ◌∷◌, length, nat_lt, Option, Some, None, refl, sym, ◌∙◌, ap, subst, arith}
 use Rattle.std.specs.Option.{option_map, unwrap_or}
 use Rattle.std.proofs.lemmas.Bool.{false≢true, ltb-true}
 use Rattle.std.proofs.lemmas.List.{length-replicate}
@@ -49,19 +49,25 @@ small_before gone budget other store later keeps small = (small.0, sym keeps.lim
 
 -- ---- words that live
 
-pub words_filled : (o : Outline) (t : TypeRef) (store : Store) (request : Request) (cell : ℕ) (grows : Bool) (content : List ℕ)
-    → ContentFits o t request.len content → object_at store cell ≡ None
+pub words_full : (store : Store) (request : Request) (cell : ℕ) (grows : Bool) (content : List ℕ) → length content ≡ request.len
+    → object_at store cell ≡ None
     → live_words (with_content (made_by store request (Take cell grows)) cell content) ≡ live_words store + request_words request
-words_filled o t store request cell grows [] fits free = live_words-made_by store request cell grows free
-words_filled o t store request cell grows (unit ∷ units) fits free =
+words_full store request cell grows [] all free = live_words-made_by store request cell grows free
+words_full store request cell grows (unit ∷ units) all free =
     let first : Object = new_object store.births request in
     let now : Object = record first { elements = unit ∷ units } in
     let there : object_at (made_by store request (Take cell grows)) cell ≡ Some first = new_held store request cell grows in
     let words : object_words now ≡ object_words first =
-    ap (λ n. packed_words n request.pack) (fits.0 ∙ sym (length-replicate request.len 0)) in
+    ap (λ n. packed_words n request.pack) (all ∙ sym (length-replicate request.len 0)) in
     ap (λ found. live_words (content_in (made_by store request (Take cell grows)) cell unit units found)) there
     ∙ live_words-with_object (made_by store request (Take cell grows)) cell first now there words
     ∙ live_words-made_by store request cell grows free
+
+pub words_filled : (o : Outline) (t : TypeRef) (store : Store) (request : Request) (cell : ℕ) (grows : Bool) (content : List ℕ)
+    → ContentFits o t request.len content → object_at store cell ≡ None
+    → live_words (with_content (made_by store request (Take cell grows)) cell content) ≡ live_words store + request_words request
+words_filled o t store request cell grows [] fits free = live_words-made_by store request cell grows free
+words_filled o t store request cell grows (unit ∷ units) fits free = words_full store request cell grows (unit ∷ units) fits.0 free
 
 -- ---- full stores
 

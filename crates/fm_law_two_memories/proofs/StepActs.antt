@@ -1,5 +1,5 @@
 -- All actions of a step, one after the other, lead paired areas to paired areas, or the second store is full.
-use Rattle.std.proofs.Common.{◌≡◌, ℕ, ◌+◌, ◌^◌, ◌<◌, ◌≤◌, inl, ◌||◌, Bool, true, false, cond, List, [], ◌∷◌, ◌++◌, length, Option, Some, None, refl, sym, ◌∙◌, ap, subst, slice_get, slice_index_or, slice_set, arith}
+use Rattle.std.proofs.Common.{◌≡◌, ℕ, ◌+◌, ◌^◌, ◌<◌, ◌≤◌, inl, inr, ◌||◌, Bool, true, false, cond, List, [], ◌∷◌, ◌++◌, length, Option, Some, None, refl, sym, ◌∙◌, ap, subst, slice_get, slice_index_or, slice_set, arith}
 use Rattle.std.specs.List.{AllByRecursion, AllZip}
 use Rattle.std.specs.Option.{unwrap_or}
 use Rattle.std.proofs.lemmas.List.Elements.{AllZip-push, length_all_zip}
@@ -7,40 +7,42 @@ use Rattle.std.proofs.lemmas.Option.{get_or_from_slice_get, same_Some}
 use Rattle.fm_base.specs.declared.kinds.Kind.{Kind}
 use Rattle.fm_base.specs.declared.kinds.TypeRef.{TypeRef}
 use Rattle.fm_base.specs.declared.limits.TheConstants.{MAX_LIVE_WORDS}
-use Rattle.fm_cells.proofs.Elements.{put_by-none, put_by-some}
+use Rattle.fm_cells.proofs.Elements.{elements_at-some, put_by-none, put_by-some}
 use Rattle.fm_cells.specs.Changes.{Choice, made_by, put_by, RefuseStore, Take, with_element}
 use Rattle.fm_cells.proofs.Choices.{lawful_choice-may}
 use Rattle.fm_cells.specs.Choices.{lawful, MayReuse}
 use Rattle.fm_cells.proofs.StoreLaws.{live_words-put_by}
 use Rattle.fm_cells.specs.Objects.{Object, Request, request_words}
-use Rattle.fm_cells.specs.Stores.{live_words, object_at, Store}
+use Rattle.fm_cells.specs.Stores.{elements_at, live_words, object_at, Store}
 use Rattle.fm_types.proofs.Zips.{zip-implied, zip-set}
 use Rattle.fm_world.specs.Members.{size_of}
-use Rattle.fm_world.specs.Programs.{Outline}
-use Rattle.fm_frames.specs.Acts.{cell_of, Choose, FullAt, is_there, literal_made, literal_text, literal_type, made_then, performed, Performed, put_value, requested, set_static, value_of, with_content}
-use Rattle.fm_frames.specs.Effects.{Action, Free, FreeChain, Make, MakeFixed, MakeLiteral, OfMade, OfOperand, Put, SetChain, SetStatic, Source, Start}
-use Rattle.fm_frames.specs.Elements.{kept}
+use Rattle.fm_world.specs.Programs.{kind_at, Outline}
+use Rattle.fm_frames.specs.Acts.{cell_of, Choose, copied, FullAt, is_there, literal_made, literal_text, literal_type, made_then, performed, Performed, put_value, requested, set_static, value_of, with_content}
+use Rattle.fm_frames.specs.Effects.{Action, Copy, Free, FreeChain, Make, MakeFixed, MakeLiteral, OfMade, OfOperand, Put, SetChain, SetStatic, Source, Start}
+use Rattle.fm_frames.specs.Elements.{is_text_type, kept}
 use Rattle.fm_frames.specs.Literals.{literal_count}
+use Rattle.fm_frames.proofs.Resized.{length-resized, resized_both}
 use Rattle.fm_frames.specs.Sights.{type_numbered}
 use Rattle.fm_frames.specs.States.{Areas, Frame, word_at}
 use Rattle.fm_frames.specs.declared.values.Value.{Value}
-use Rattle.fm_law_sound.proofs.ActsKeep.{class_set, Keeps, keeps_later, literal_set, Makes, makes, object_keeps, one_made, static_set, with_areas}
+use Rattle.fm_law_sound.proofs.ActsKeep.{class_set, copying, Keeps, keeps_later, literal_set, Makes, makes, makes_full, object_keeps, one_made, static_set, with_areas}
 use Rattle.fm_law_sound.proofs.CellsKeep.{SameClasses}
-use Rattle.fm_law_sound.specs.Acting.{ActsFit, MakeFits, ObjectFits, PlaceFits, ValueFits}
+use Rattle.fm_law_sound.specs.Acting.{ActsFit, CopyFits, MakeFits, ObjectFits, PlaceFits, ValueFits}
 use Rattle.fm_law_sound.specs.Leading.{sources_of}
 use Rattle.fm_law_sound.specs.Placing.{PutAgrees, ReadAgrees}
 use Rattle.fm_law_sound.specs.Sound.{AreasAreSound, field_slot, static_slots}
 use Rattle.fm_law_two_memories.specs.Laws.{KeepsBirths, MadeAlike}
-use Rattle.fm_law_two_memories.specs.Pairing.{AreasPaired, FramesPaired, Gone, SameCell, SameFound}
+use Rattle.fm_law_two_memories.specs.Pairing.{AreAlike, AreasPaired, FramesPaired, Gone, SameCell, SameElement, SameFound}
 use Rattle.fm_law_two_memories.specs.Reading.{ActsAlike, NumberAgrees, StaticFits}
 use Rattle.fm_law_two_memories.specs.Results.{ActionsKeepPaired, IsFewGone, IsTooSmall, KeepsLimits, ResultsAlike}
 use Rattle.fm_law_two_memories.specs.Seeing.{IsSeen, IsThere}
 use Rattle.fm_law_two_memories.proofs.ActsSame.{areas_later, cut_same, kept_same, of_kind, put_same, start_same, static_same}
-use Rattle.fm_law_two_memories.proofs.Limits.{full_small, limits_filled, limits_put, limits_same, limits_then, small_before, unlimited, words_filled}
-use Rattle.fm_law_two_memories.proofs.MakesSame.{made_alike, stays_then}
+use Rattle.fm_law_two_memories.proofs.Limits.{full_small, limits_filled, limits_put, limits_same, limits_then, small_before, unlimited, words_filled, words_full}
+use Rattle.fm_law_two_memories.proofs.MakesSame.{filled_alike, made_alike, SameContent, stays_then}
+use Rattle.fm_law_two_memories.proofs.SightsSame.{twins_alike}
 use Rattle.fm_law_two_memories.proofs.SourcesSame.{number_same, source_same, word_there}
-use Rattle.fm_law_two_memories.proofs.Stores.{found_later, with_stays}
-use Rattle.fm_law_two_memories.proofs.Twins.{cell_same, found_there}
+use Rattle.fm_law_two_memories.proofs.Stores.{found_later, same_zero, with_stays}
+use Rattle.fm_law_two_memories.proofs.Twins.{cell_same, found_same, found_there, not_null}
 use Rattle.fm_law_two_memories.proofs.WordsSame.{Fits, next_within, Room, there_same, Within, within_budgets, within_literal, within_rest, within_there}
 
 -- ---- stores
@@ -85,7 +87,41 @@ module _ (gone : Gone) (few_gone : IsFewGone gone) (o : Outline) (sizes : (class
     pub some : 0 < twin
     pub alike : MadeAlike gone o x.store y.store next following cell twin
 
-  -- one object is made in both, or the second store is full
+  -- one object is made in both, with what it holds in each, or the second store is full
+  pub filled_case : (R : Performed → Performed → Type 0) → ((later : Areas) (words : ℕ) (u : Performed) → IsTooSmall gone other.limit one.budget other.budget → R (FullAt later words) u)
+      → (x y : Areas) (types : List TypeRef) (made others : List ℕ) (t : TypeRef) (len : ℕ) (content their_content : List ℕ) (fixed : Bool) (mine theirs : Choice)
+      (follows their_follows : Areas → ℕ → Performed) → Along x y types made others
+      → MayReuse x.store (requested o t len fixed) mine → MayReuse y.store (requested o t len fixed) theirs
+      → Fits room (live_words y.store + request_words (requested o t len fixed))
+      → ((cell : ℕ) (grows : Bool) → object_at x.store cell ≡ None
+      → Makes o x (with_content (made_by x.store (requested o t len fixed) (Take cell grows)) cell content) cell t)
+      → ((twin : ℕ) (other_grows : Bool) → object_at y.store twin ≡ None
+      → live_words (with_content (made_by y.store (requested o t len fixed) (Take twin other_grows)) twin their_content)
+      ≡ live_words y.store + request_words (requested o t len fixed))
+      → ((cell twin : ℕ) (grows other_grows : Bool) → MayReuse x.store (requested o t len fixed) (Take cell grows)
+      → MayReuse y.store (requested o t len fixed) (Take twin other_grows)
+      → MadeAlike gone o x.store y.store (with_content (made_by x.store (requested o t len fixed) (Take cell grows)) cell content)
+      (with_content (made_by y.store (requested o t len fixed) (Take twin other_grows)) twin their_content) cell twin)
+      → ((next following : Store) (cell twin : ℕ) → BothMade x y t (request_words (requested o t len fixed)) next following cell twin
+      → R (their_follows (record y { store = following }) twin) (follows (record x { store = next }) cell))
+      → R (made_then y (requested o t len fixed) their_content theirs their_follows) (made_then x (requested o t len fixed) content mine follows)
+  filled_case R full x y types made others t len content their_content fixed mine RefuseStore follows their_follows h can they within makes_one live alike rest =
+      full y (request_words (requested o t len fixed)) _ (small_before gone one.budget other.budget other y.store h.other_limits
+      (full_small gone few_gone o x.store y.store h.paired.store (requested o t len fixed) they (omega arith) one.budget other.budget within few))
+  filled_case R full x y types made others t len content their_content fixed RefuseStore (Take twin other_grows) follows their_follows h can they within makes_one live alike rest =
+      absurd (unlimited x.store (requested o t len fixed) (h.limits.limit ∙ none) can)
+  filled_case R full x y types made others t len content their_content fixed (Take cell grows) (Take twin other_grows) follows their_follows h can they within makes_one live alike rest =
+      let request : Request = requested o t len fixed in
+      rest (with_content (made_by x.store request (Take cell grows)) cell content) (with_content (made_by y.store request (Take twin other_grows)) twin their_content)
+      cell twin (record {
+        makes_one = makes_one cell grows can.1;
+        limits_now = limits_filled x.store request cell grows content;
+        other_limits_now = limits_filled y.store request twin other_grows their_content;
+        live = live twin other_grows they.1;
+        some = they.0;
+        alike = alike cell twin grows other_grows can they;
+      })
+
   pub make_case : (R : Performed → Performed → Type 0) → ((later : Areas) (words : ℕ) (u : Performed) → IsTooSmall gone other.limit one.budget other.budget → R (FullAt later words) u)
       → (x y : Areas) (types : List TypeRef) (made others : List ℕ) (t : TypeRef) (len : ℕ) (content : List ℕ) (fixed : Bool) (mine theirs : Choice)
       (follows their_follows : Areas → ℕ → Performed) → Along x y types made others → MakeFits o t len content
@@ -94,23 +130,14 @@ module _ (gone : Gone) (few_gone : IsFewGone gone) (o : Outline) (sizes : (class
       → ((next following : Store) (cell twin : ℕ) → BothMade x y t (request_words (requested o t len fixed)) next following cell twin
       → R (their_follows (record y { store = following }) twin) (follows (record x { store = next }) cell))
       → R (made_then y (requested o t len fixed) content theirs their_follows) (made_then x (requested o t len fixed) content mine follows)
-  make_case R full x y types made others t len content fixed mine RefuseStore follows their_follows h fits can they within rest =
-      full y (request_words (requested o t len fixed)) _ (small_before gone one.budget other.budget other y.store h.other_limits
-      (full_small gone few_gone o x.store y.store h.paired.store (requested o t len fixed) they (omega arith) one.budget other.budget within few))
-  make_case R full x y types made others t len content fixed RefuseStore (Take twin other_grows) follows their_follows h fits can they within rest =
-      absurd (unlimited x.store (requested o t len fixed) (h.limits.limit ∙ none) can)
-  make_case R full x y types made others t len content fixed (Take cell grows) (Take twin other_grows) follows their_follows h fits can they within rest =
+  make_case R full x y types made others t len content fixed mine theirs follows their_follows h fits can they within rest =
       let request : Request = requested o t len fixed in
-      rest (with_content (made_by x.store request (Take cell grows)) cell content) (with_content (made_by y.store request (Take twin other_grows)) twin content)
-      cell twin (record {
-        makes_one = makes o x t len content fixed cell grows h.keeps.sound fits can.1;
-        limits_now = limits_filled x.store request cell grows content;
-        other_limits_now = limits_filled y.store request twin other_grows content;
-        live = words_filled o t y.store request twin other_grows content fits.content_fits they.1;
-        some = they.0;
-        alike = made_alike gone o x.store y.store h.paired.store request cell twin grows other_grows can they t (type_is o t len content fixed fits) content
-            fits.content_fits;
-      })
+      filled_case R full x y types made others t len content content fixed mine theirs follows their_follows h can they within
+      (λ cell grows free. makes o x t len content fixed cell grows h.keeps.sound fits free)
+      (λ twin other_grows free. words_filled o t y.store request twin other_grows content fits.content_fits free)
+      (λ cell twin grows other_grows may_be they_may. made_alike gone o x.store y.store h.paired.store request cell twin grows other_grows may_be they_may t
+      (type_is o t len content fixed fits) content fits.content_fits)
+      rest
 
   pub either : (R : Performed → Performed → Type 0) (b d : Bool) (p q u v : Performed) → d ≡ b → (d ≡ true → R u p) → (d ≡ false → R v q) → R (cond d u v) (cond b p q)
   either R true d p q u v is first later = subst (λ c. R (cond c u v) p) (sym is) (first is)
@@ -158,6 +185,53 @@ module _ (gone : Gone) (few_gone : IsFewGone gone) (o : Outline) (sizes : (class
       (number_same (SameFound x.store y.store) (inl (refl, refl)) made others n h.cells) now.0 now.1 in
       (now.0, now.1, subst (λ t. PlaceFits o t place k) (sym now.2) fits.2, there, tt, tt)
   object_at_put x y types made others source place k h fits = absurd fits
+
+  -- what is copied, in both
+  copied_same : (x y : Areas) (types : List TypeRef) (made others : List ℕ) (t : TypeRef) (len n : ℕ) → Along x y types made others → CopyFits o one f t len n
+      → SameContent gone o x.store y.store t len (copied x.store (cell_of (word_at f.stack n)) len) (copied y.store (cell_of (word_at g.stack n)) len)
+  copied_same x y types made others t len n h fits =
+      let cell : ℕ = cell_of (word_at f.stack n) in
+      let twin : ℕ = cell_of (word_at g.stack n) in
+      let now = h.keeps.kept cell fits.object fits.held in
+      let still = h.stays cell fits.object fits.held in
+      let there : gone.births now.0.birth ≡ false =
+      ap (λ (it : Object). gone.births it.birth) (same_Some now.0 still.0 (sym now.1 ∙ still.1)) ∙ ap gone.births still.2
+      ∙ word_there gone o one (null_there x y types made others h) f.stack n seen fits.object fits.held in
+      let same = source_same gone o one other f g frame seen x y made others h.paired h.stays h.other_stays (classes_of x types made h.keeps) h.cells
+      (OfOperand n) tt tt in
+      let cells : SameFound x.store y.store cell twin =
+      found_same gone x.store y.store cell twin
+      (λ found at. ap (λ (it : Object). gone.births it.birth) (same_Some found now.0 (sym at ∙ now.1)) ∙ there)
+      (cell_same gone x.store y.store (word_at f.stack n) (word_at g.stack n) same) in
+      let type : type_numbered o now.0.class ≡ t = ap (type_numbered o) now.2 ∙ fits.type in
+      by_found cells now.0 now.1 type where
+        by_found : SameFound x.store y.store (cell_of (word_at f.stack n)) (cell_of (word_at g.stack n)) → (object : Object)
+            → object_at x.store (cell_of (word_at f.stack n)) ≡ Some object → type_numbered o object.class ≡ t
+            → SameContent gone o x.store y.store t len (copied x.store (cell_of (word_at f.stack n)) len) (copied y.store (cell_of (word_at g.stack n)) len)
+        by_found (inl null) object held type =
+            absurd (not_null x.store (cell_of (word_at f.stack n)) object h.paired.store.orderly held null.0)
+        by_found (inr twins) object held type =
+            let cell : ℕ = cell_of (word_at f.stack n) in
+            let twin : ℕ = cell_of (word_at g.stack n) in
+            let is : twins.object ≡ object = same_Some twins.object object (sym twins.held ∙ held) in
+            let alike : AreAlike gone o x.store y.store object twins.second =
+            subst (λ it. AreAlike gone o x.store y.store it twins.second) is (twins_alike gone o x.store y.store h.paired.store cell twin twins) in
+            let content : copied x.store cell len ≡ resized object.elements len =
+            ap (λ elements. resized elements len) (elements_at-some x.store cell object held) in
+            let their_content : copied y.store twin len ≡ resized twins.second.elements len =
+            ap (λ elements. resized elements len) (elements_at-some y.store twin twins.second twins.twin_held) in
+            subst (λ elements. SameContent gone o x.store y.store t len elements (copied y.store twin len)) (sym content)
+            (subst (λ elements. SameContent gone o x.store y.store t len (resized object.elements len) elements) (sym their_content)
+            (record {
+              all = length-resized object.elements len;
+              other_all = length-resized twins.second.elements len;
+              units = λ text. ap (λ elements. resized elements len) (alike.units (ap (is_text_type o) type ∙ text));
+              elements = λ place.
+                  let k = kind_at o.classes t place in
+                  resized_both (SameElement gone x.store y.store k) (same_zero gone x.store y.store k) object.elements twins.second.elements len place alike.len
+                  (subst (λ found. SameElement gone x.store y.store found (slice_index_or object.elements place 0) (slice_index_or twins.second.elements place 0))
+                  (ap (λ u. kind_at o.classes u place) type) (alike.elements place));
+            }))
 
   pub literal_on : (x y : Areas) (types : List TypeRef) (made others : List ℕ) (t : TypeRef) (words text : ℕ) (next following : Store) (cell twin : ℕ)
       → Along x y types made others → BothMade x y t words next following cell twin
@@ -314,6 +388,23 @@ module _ (gone : Gone) (few_gone : IsFewGone gone) (o : Outline) (sizes : (class
   acts_alike (Free operand ∷ more) x y types made others within fit agrees alikes h = absurd alikes.0
   acts_alike (SetChain operand to ∷ more) x y types made others within fit agrees alikes h = absurd alikes.0
   acts_alike (FreeChain operand ∷ more) x y types made others within fit agrees alikes h = absurd alikes.0
+  acts_alike (Copy t len n ∷ more) x y types made others within fit agrees alikes h =
+      let request : Request = requested o t len false in
+      let content : List ℕ = copied x.store (cell_of (word_at f.stack n)) len in
+      let theirs : List ℕ = copied y.store (cell_of (word_at g.stack n)) len in
+      filled_case (ResultsAlike gone o one other) (λ later words u small. small) x y types made others t len content theirs false (choose x.store request) (second y.store request)
+      (λ areas cell. performed o choose f.locals f.stack more areas (made ++ cell ∷ []))
+      (λ areas cell. performed o second g.locals g.stack more areas (others ++ cell ∷ [])) h
+      (may x.store request) (other_may y.store request)
+      (next_within o room y (Copy t len n) more (request_words request) refl (omega arith) within)
+      (λ cell grows free. makes_full o x t len content false cell grows h.keeps.sound fit.0.makes (copying o one x types made f t len n h.keeps fit.0).fills free)
+      (λ twin other_grows free. words_full y.store request twin other_grows theirs (length-resized (elements_at y.store (cell_of (word_at g.stack n))) len) free)
+      (λ cell twin grows other_grows may_be they_may. filled_alike gone o x.store y.store h.paired.store request cell twin grows other_grows may_be they_may t
+      (type_is o t len [] false fit.0.makes) content theirs (copied_same x y types made others t len n h fit.0))
+      (λ next following cell twin both. acts_alike more (record x { store = next }) (record y { store = following })
+      (types ++ t ∷ []) (made ++ cell ∷ []) (others ++ twin ∷ [])
+      (within_rest o room y (Copy t len n) more (record y { store = following }) refl refl (omega (arith, both.live)) within)
+      fit.1 agrees.1 alikes.1 (made_on x y types made others t (request_words request) next following cell twin h both))
 
   -- nothing is done yet
   pub begins : (x y : Areas) → x.store ≡ one → y.store ≡ other → AreasPaired gone o x y → AreasAreSound o x → Along x y [] [] []

@@ -46,7 +46,7 @@ module _ (gone : Gone) (one other next following : Store) (stays : KeepsBirths o
   value_later (value.Long n) w h = h
   value_later (value.Ref cell) w h = (h.0, h.1, cell_later cell.0 h.0 h.2)
 
-  element_later : (k : Option Kind) (a b : ℕ) → SameElement gone one other k a b → SameElement gone next following k a b
+  pub element_later : (k : Option Kind) (a b : ℕ) → SameElement gone one other k a b → SameElement gone next following k a b
   element_later (Some (kind.Ref t)) a b h = cell_later a b h
   element_later k a b h = h
 

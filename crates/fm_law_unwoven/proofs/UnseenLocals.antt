@@ -11,8 +11,8 @@ use Rattle.fm_world.specs.Numbers.{text_number}
 use Rattle.fm_world.specs.Programs.{Outline}
 use Rattle.fm_world.specs.declared.declarations.Constant.{Constant}
 use Rattle.fm_world.specs.declared.declarations.Constant.TheVariants as constant
-use Rattle.fm_frames.specs.Acts.{cell_of, chain_freed, chain_from, chained, class_started, freed, is_there, literal_made, literal_text, made_then, performed, Performed, put_value, requested, set_static, value_of}
-use Rattle.fm_frames.specs.Effects.{Effect, Free, FreeChain, LocalPlus, Make, MakeFixed, MakeLiteral, OfLiteral, OfLocal, OfMade, OfOperand, OfPlace, OfStatic, Plain, Put, SameOperands, SetChain, SetStatic, Source, Start}
+use Rattle.fm_frames.specs.Acts.{cell_of, chain_freed, chain_from, chained, class_started, copied, freed, is_there, literal_made, literal_text, made_then, performed, Performed, put_value, requested, set_static, value_of}
+use Rattle.fm_frames.specs.Effects.{Copy, Effect, Free, FreeChain, LocalPlus, Make, MakeFixed, MakeLiteral, OfLiteral, OfLocal, OfMade, OfOperand, OfPlace, OfStatic, Plain, Put, SameOperands, SetChain, SetStatic, Source, Start}
 use Rattle.fm_frames.specs.NativeRows.{text_type}
 use Rattle.fm_frames.specs.Rows.{effect_of}
 use Rattle.fm_frames.specs.Starts.{fields_at, set_constant, start_actions, start_methods, start_of_class, to_start, with_start}
@@ -87,6 +87,9 @@ locals_unseen o choose locals others stack (SetChain operand to ∷ more) x made
 locals_unseen o choose locals others stack (FreeChain operand ∷ more) x made all =
     let first = word_at stack operand in
     freed_same x first (chain_from x.store (cell_of first)) _ _ (λ y. locals_unseen o choose locals others stack more y made all.1)
+locals_unseen o choose locals others stack (Copy t len operand ∷ more) x made all =
+    then_same x (requested o t len false) (copied x.store (cell_of (word_at stack operand)) len) (choose x.store (requested o t len false)) _ _
+    (λ y cell. locals_unseen o choose locals others stack more y (made ++ cell ∷ []) all.1)
 
 -- ---- starts of classes
 

@@ -1,11 +1,10 @@
 -- Texts that are gone over unit by unit.
-use Rattle.std.proofs.Common.{◌≡◌, ℕ, suc, ◌<◌, ◌≤◌, ◌-◌, min, ◌==◌, ℤ, pos, ◌+ℤ◌, ◌-ℤ◌, ◌*ℤ◌, true, false, if◌then◌else◌, List, [], ◌∷◌, ◌++◌, length, take, drop, replicate, get_or, refl, ap, sym, ◌∙◌, arith, length-drop, ◌⊎◌, inl, inr}
+use Rattle.std.proofs.Common.{◌≡◌, ℕ, suc, ◌<◌, ◌≤◌, ◌-◌, min, ◌==◌, ℤ, pos, ◌+ℤ◌, ◌-ℤ◌, ◌*ℤ◌, true, false, if◌then◌else◌, List, [], ◌∷◌, ◌++◌, length, take, drop, get_or, refl, ap, sym, ◌∙◌, arith, length-drop, ◌⊎◌, inl, inr}
 use Rattle.std.proofs.Math.Seq.{drop-cons, take-suc}
 use Rattle.std.proofs.lemmas.Bool.{cases_lt}
 use Rattle.std.proofs.lemmas.Int.{ints}
-use Rattle.std.proofs.lemmas.List.{length-append, length-replicate, length-take}
 use Rattle.fm_alu.specs.TwosComplement.{signed}
-use Rattle.fm_frames.specs.NativeRows.{compared, hash_from, resized}
+use Rattle.fm_frames.specs.NativeRows.{compared, hash_from}
 
 -- the hash of what is left, after one unit more
 pub hash-next : (sum next : ℤ) (units : List ℕ) (i unit : ℕ) → i < length units → unit ≡ get_or units i 0
@@ -54,8 +53,3 @@ pub read-next : (units : List ℕ) (so_far : List ℕ) (i unit : ℕ) → i < le
     → so_far ++ unit ∷ [] ≡ take (suc i) units
 read-next units so_far i unit within is done =
     ap (λ xs. xs ++ unit ∷ []) done ∙ ap (λ u. take i units ++ u ∷ []) is ∙ sym (take-suc units i 0 within)
-
--- units that are cut or filled have the length
-pub length-resized : (units : List ℕ) (len : ℕ) → length (resized units len) ≡ len
-length-resized units len =
-    omega (arith, length-append (take len units) (replicate (len - length units) 0), length-take len units, length-replicate {A = ℕ} (len - length units) 0)

@@ -2,28 +2,31 @@
 -- region.
 use Rattle.std.proofs.Common.{◌≡◌, ◌≢◌, ℕ, zero, suc, ◌≤◌, ◌⊎◌, Bool, true, false, cond, nat_eq, List, [], ◌∷◌, ◌++◌, length, Option, Some, None, refl, sym, ◌∙◌, ap, subst, inl, inr, slice_get, slice_set, slice_index_or, ⊎_elim, nat_lt}
 use Rattle.std.specs.List.{AllByRecursion}
+use Rattle.std.proofs.lemmas.Bool.{false≢true}
 use Rattle.std.proofs.lemmas.List.{get_or-set_other}
 use Rattle.std.proofs.lemmas.Option.{none-some, same_Some}
 use Rattle.fm_base.specs.declared.kinds.Kind.{Kind}
 use Rattle.fm_base.specs.declared.kinds.Kind.TheVariants as kind
 use Rattle.fm_base.specs.declared.kinds.TypeRef.{TypeRef}
 use Rattle.fm_cells.specs.Objects.{Object, Request, new_object}
-use Rattle.fm_cells.specs.Stores.{Store, object_at}
+use Rattle.fm_cells.specs.Stores.{elements_at, Store, object_at}
 use Rattle.fm_cells.specs.Changes.{Choice, Take, RefuseStore, made_by, put_by, with_element, with_object}
 use Rattle.fm_cells.specs.Choices.{MayReuse}
 use Rattle.fm_cells.specs.Soundness.{IsOrderly}
 use Rattle.fm_cells.proofs.Changes.{object_at-made_by, object_at-with_object}
-use Rattle.fm_cells.proofs.Elements.{put_by-none, put_by-some}
+use Rattle.fm_cells.proofs.Elements.{elements_at-none, elements_at-some, put_by-none, put_by-some}
 use Rattle.fm_cells.proofs.Soundness.{IsOrderly-made_by, IsOrderly-with_object}
 use Rattle.fm_world.specs.Programs.{kind_at, Outline}
-use Rattle.fm_frames.specs.Acts.{cell_of, Choose, is_there, literal_made, literal_text, literal_type, made_object, made_then, performed, Performed, Did, FullAt, LostAt, put_value, requested, set_static, Sources, value_of, with_content}
-use Rattle.fm_frames.specs.Effects.{Action, Make, MakeFixed, MakeLiteral, Put, SetStatic, Start, Free, SetChain, FreeChain, Source, Plain, OfOperand, OfLocal, LocalPlus, OfPlace, OfStatic, OfMade, OfLiteral, SameOperands}
+use Rattle.fm_frames.specs.Acts.{cell_of, Choose, copied, is_there, literal_made, literal_text, literal_type, made_object, made_then, performed, Performed, Did, FullAt, LostAt, put_value, requested, set_static, Sources, value_of, with_content}
+use Rattle.fm_frames.specs.Effects.{Action, Make, MakeFixed, MakeLiteral, Put, SetStatic, Start, Free, SetChain, FreeChain, Copy, Source, Plain, OfOperand, OfLocal, LocalPlus, OfPlace, OfStatic, OfMade, OfLiteral, SameOperands}
+use Rattle.fm_frames.proofs.Resized.{resized_where}
 use Rattle.fm_frames.specs.Elements.{cut, kept, read}
 use Rattle.fm_frames.specs.NativeRows.{class_type, text_type}
 use Rattle.fm_frames.specs.Sights.{type_numbered}
 use Rattle.fm_frames.specs.States.{Areas, word_at}
 use Rattle.fm_frames.specs.declared.values.Value.{Value}
 use Rattle.fm_frames.specs.declared.values.Value.TheVariants as value
+use Rattle.fm_same.proofs.CopyTypes.{copy_type}
 use Rattle.fm_same.specs.Advances.{IsStill}
 use Rattle.fm_same.specs.Colours.{AreAreasColoured, Colour, HasColour, IsEdgeEven, IsFixed, IsOf, LivesForEver, OfNull, OfObject}
 use Rattle.fm_same.specs.Evenness.{HasNoEdge, HoldsNumbers, IsPlainKind}
@@ -87,6 +90,9 @@ ActHas o store colour stack home (Start class) = Unit {0}
 ActHas o store colour stack home (Free operand) = ⊥
 ActHas o store colour stack home (SetChain operand to) = ⊥
 ActHas o store colour stack home (FreeChain operand) = ⊥
+ActHas o store colour stack home (Copy t len n) =
+    HasColour store colour home (word_at stack n)
+    × ((object : Object) → object_at store (cell_of (word_at stack n)) ≡ Some object → t ≡ type_numbered o object.class)
 
 -- ---- what holds along the actions
 
@@ -159,6 +165,26 @@ object_has store colour r cell object orderly (OfObject found there (inl fixed))
     let is : object.fixed ≡ true = ap (λ x. x.fixed) (sym same) ∙ fixed in absurd (cc)
 object_has store colour r cell object orderly (OfObject found there (inr has)) held not_fixed =
     let same : found ≡ object = same_Some found object (sym there ∙ held) in ap (λ x. colour x.birth) (sym same) ∙ has
+
+-- an element of an object of the region, where it has references
+pub element_even : (o : Outline) (store : Store) (colour : Colour) (home : Region) (y : Areas) (made : List ℕ) (r : Region) (cell place : ℕ)
+    → Went o store colour home y made → IsOf store colour r cell
+    → ((object : Object) → object_at store cell ≡ Some object → (u : TypeRef) × (kind_in o object place ≡ Some (kind.Ref u)))
+    → IsOf y.store colour r (slice_index_or (elements_at y.store cell) place 0)
+element_even o store colour home y made r cell place went (OfNull e) agrees =
+    let none : object_at y.store cell ≡ None = ap (λ c. object_at y.store c) e ∙ went.areas.orderly.null_not_held in
+    OfNull (ap (λ (xs : List ℕ). slice_index_or xs place 0) (elements_at-none y.store cell none))
+element_even o store colour home y made r cell place went (OfObject object held other) agrees =
+    let kept : IsKept y.store cell object = went.extends.kept cell object held in
+    let kind_is : (u : TypeRef) × (kind_in o object place ≡ Some (kind.Ref u)) = agrees object held in
+    let edge : IsEdgeEven y.store colour kept.now place =
+    went.areas.edges cell kept.now kept.is place kind_is.0
+    (ap (λ c. kind_at o.classes (type_numbered o c) place) kept.class ∙ kind_is.1) in
+    let region_is : colour kept.now.birth ≡ r = ⊎_elim
+    (λ fixed. let impossible : true ≡ false = sym fixed ∙ sym kept.fixed ∙ edge.not_fixed in absurd (false≢true (sym impossible)))
+    (λ has. ap colour kept.birth ∙ has) other in
+    subst (λ (xs : List ℕ). IsOf y.store colour r (slice_index_or xs place 0)) (sym (elements_at-some y.store cell kept.now kept.is))
+    (subst (λ region. IsOf y.store colour region (slice_index_or kept.now.elements place 0)) region_is edge.even)
 
 -- ---- one object changes
 
@@ -278,6 +304,13 @@ blank_edges o store later colour request (element ∷ elements) (inl blank) plac
 blank_edges o store later colour request content (inr none) place t is =
     absurd (none (made_as store request content) (made_class store request content) place t is)
 
+-- a place of what was made has its content, or 0
+pub made_where : (store : Store) (request : Request) (content : List ℕ) (place : ℕ)
+    → (slice_index_or (made_as store request content).elements place 0 ≡ slice_index_or content place 0)
+    ⊎ (slice_index_or (made_as store request content).elements place 0 ≡ 0)
+made_where store request [] place = inr (zeros_at request.len place)
+made_where store request (element ∷ elements) place = inl refl
+
 -- ---- what was made is listed
 
 push_cases : (cells : List ℕ) (cell n : ℕ)
@@ -319,18 +352,23 @@ pub record Makes (o : Outline) (store : Store) (colour : Colour) (home : Region)
   pub has : colour object.birth ≡ home
 
 module _ (o : Outline) (store : Store) (colour : Colour) (home : Region) (new : (birth : ℕ) → store.births ≤ birth → colour birth ≡ home) where
-  pub make_goes : (x : Areas) (made : List ℕ) (request : Request) (cell : ℕ) (grows : Bool) (content : List ℕ) → Went o store colour home x made
-      → MayReuse x.store request (Take cell grows) → IsBlank o request content
+  -- the references of what is made lead on within its region, wherever it is made
+  abbrev pub HasEvenEdges : Areas → Request → List ℕ → Type 0
+  HasEvenEdges x request content =
+      (later : Store) → Extends x.store later → (place : ℕ) (t : TypeRef) → kind_in o (made_as x.store request content) place ≡ Some (kind.Ref t)
+      → IsEdgeEven later colour (made_as x.store request content) place
+
+  full_goes : (x : Areas) (made : List ℕ) (request : Request) (cell : ℕ) (grows : Bool) (content : List ℕ) → Went o store colour home x made
+      → MayReuse x.store request (Take cell grows) → HasEvenEdges x request content
       → Makes o store colour home made request (record x { store = stored_as x.store request cell grows content }) cell
-  make_goes x made request cell grows content went may blank =
+  full_goes x made request cell grows content went may edges =
       let later : Store = stored_as x.store request cell grows content in
       let object : Object = made_as x.store request content in
       let is : IsMade x.store later cell object = make_is x.store request cell grows content may.1 in
       let more : Extends x.store later = made-extends x.store later cell object is in
       let areas : AreAreasColoured o colour (record x { store = later }) =
       areas_with o colour x later cell object went.areas more
-      (make_orderly x.store request cell grows content went.areas.orderly may) is.puts
-      (blank_edges o x.store later colour request content blank) in
+      (make_orderly x.store request cell grows content went.areas.orderly may) is.puts (edges later more) in
       record {
         went = went_stored o store colour home x made later went areas more
             (λ q old held not_fixed retired.
@@ -342,13 +380,26 @@ module _ (o : Outline) (store : Store) (colour : Colour) (home : Region) (new : 
         has = ap colour (made_birth x.store request content) ∙ new x.store.births went.extends.births;
       }
 
+  pub make_goes : (x : Areas) (made : List ℕ) (request : Request) (cell : ℕ) (grows : Bool) (content : List ℕ) → Went o store colour home x made
+      → MayReuse x.store request (Take cell grows) → IsBlank o request content
+      → Makes o store colour home made request (record x { store = stored_as x.store request cell grows content }) cell
+  make_goes x made request cell grows content went may blank =
+      full_goes x made request cell grows content went may (λ later more. blank_edges o x.store later colour request content blank)
+
+  full_then_goes : (x : Areas) (made : List ℕ) (request : Request) (content : List ℕ) (choice : Choice) (follows : Areas → ℕ → Performed)
+      → Went o store colour home x made → MayReuse x.store request choice → HasEvenEdges x request content
+      → ((y : Areas) (cell : ℕ) → Makes o store colour home made request y cell → WentTo o store colour home (follows y cell))
+      → WentTo o store colour home (made_then x request content choice follows)
+  full_then_goes x made request content RefuseStore follows went may edges then = (went.areas, went.extends, went.still)
+  full_then_goes x made request content (Take cell grows) follows went may edges then =
+      then (record x { store = stored_as x.store request cell grows content }) cell (full_goes x made request cell grows content went may edges)
+
   made_then_goes : (x : Areas) (made : List ℕ) (request : Request) (content : List ℕ) (choice : Choice) (follows : Areas → ℕ → Performed)
       → Went o store colour home x made → MayReuse x.store request choice → IsBlank o request content
       → ((y : Areas) (cell : ℕ) → Makes o store colour home made request y cell → WentTo o store colour home (follows y cell))
       → WentTo o store colour home (made_then x request content choice follows)
-  made_then_goes x made request content RefuseStore follows went may blank then = (went.areas, went.extends, went.still)
-  made_then_goes x made request content (Take cell grows) follows went may blank then =
-      then (record x { store = stored_as x.store request cell grows content }) cell (make_goes x made request cell grows content went may blank)
+  made_then_goes x made request content choice follows went may blank then =
+      full_then_goes x made request content choice follows went may (λ later more. blank_edges o x.store later colour request content blank) then
 
   went_made : (made : List ℕ) (request : Request) (y : Areas) (cell : ℕ) → Makes o store colour home made request y cell
       → Went o store colour home y (made ++ cell ∷ [])
@@ -568,6 +619,33 @@ module _ (o : Outline) (choose : Choose) (may : (s : Store) (request : Request) 
       static_goes o store colour home new x made slot (cut k (value_of (before x made) v)) went
       (cut_number x.store colour Everywhere k (value_of (before x made) v) tt)
 
+  -- the elements of a copy lead where those of the object do, within one region
+  copy_even : (x : Areas) (made : List ℕ) (t : TypeRef) (len n : ℕ) → Went o store colour home x made → ActHas o store colour stack home (Copy t len n)
+      → HasEvenEdges o store colour home new x (requested o t len false) (copied x.store (cell_of (word_at stack n)) len)
+  copy_even x made t len n went h later more place u is =
+      let cell : ℕ = cell_of (word_at stack n) in
+      let request : Request = requested o t len false in
+      let content : List ℕ = copied x.store cell len in
+      let object : Object = made_as x.store request content in
+      let region : colour object.birth ≡ home = ap colour (made_birth x.store request content) ∙ new x.store.births went.extends.births in
+      let old : IsOf x.store colour home (slice_index_or (elements_at x.store cell) place 0) =
+      element_even o store colour home x made home cell place went (cell_has store colour home (word_at stack n) h.0)
+      (λ found held. (
+        u,
+        ap (λ v. kind_at o.classes v place) (sym (copy_type o numbers.first t found.class (h.1 found held) ∙ h.1 found held))
+            ∙ ap (λ c. kind_at o.classes (type_numbered o c) place) (sym (made_class x.store request content)) ∙ is,
+      )) in
+      let here : IsOf x.store colour home (slice_index_or object.elements place 0) = ⊎_elim
+      (λ filled. ⊎_elim
+      (λ was. subst (λ c. IsOf x.store colour home c) (sym (filled ∙ was)) old)
+      (λ none. OfNull (filled ∙ none)) (resized_where (elements_at x.store cell) len place))
+      (λ none. OfNull none) (made_where x.store request content place) in
+      record {
+        not_fixed = made_fixed x.store request content;
+        even = subst (λ r. IsOf later colour r (slice_index_or object.elements place 0)) (sym region)
+            (is_of-later x.store later colour home (slice_index_or object.elements place 0) more here);
+      }
+
   -- from areas at which the actions are done so far, they keep the colours up to the last
   pub acts_go : (actions : List Action) (x : Areas) (made : List ℕ) → AllByRecursion (ActHas o store colour stack home) actions
       → Went o store colour home x made → WentTo o store colour home (performed o choose locals stack actions x made)
@@ -604,3 +682,8 @@ module _ (o : Outline) (choose : Choose) (may : (s : Store) (request : Request) 
   acts_go (Free operand ∷ more) x made h went = absurd h.0
   acts_go (SetChain operand to ∷ more) x made h went = absurd h.0
   acts_go (FreeChain operand ∷ more) x made h went = absurd h.0
+  acts_go (Copy t len n ∷ more) x made h went =
+      full_then_goes o store colour home new x made (requested o t len false) (copied x.store (cell_of (word_at stack n)) len)
+      (choose x.store (requested o t len false)) (λ y cell. performed o choose locals stack more y (made ++ cell ∷ [])) went
+      (may x.store (requested o t len false)) (copy_even x made t len n went h.0)
+      (λ y cell makes. acts_go more y (made ++ cell ∷ []) h.1 (went_made o store colour home new made (requested o t len false) y cell makes))

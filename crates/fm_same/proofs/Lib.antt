@@ -3,6 +3,7 @@ pub mod RegionLemmas
 pub mod CapturedClasses
 pub mod CallRegions
 pub mod StoreChanges
+pub mod CopyTypes
 pub mod ActsKeep
 pub mod SourcesKeep
 pub mod GoesOnKeep

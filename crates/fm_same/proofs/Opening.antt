@@ -24,8 +24,8 @@ use Rattle.fm_world.specs.Numbers.{text_number}
 use Rattle.fm_world.specs.Programs.{Outline, Program}
 use Rattle.fm_world.specs.declared.declarations.Constant.{Constant}
 use Rattle.fm_world.specs.declared.declarations.Constant.TheVariants as constant
-use Rattle.fm_frames.specs.Acts.{chain_freed, chain_from, cell_of, Choose, Did, FullAt, is_there, literal_made, literal_text, literal_type, LostAt, made_then, performed, Performed, requested}
-use Rattle.fm_frames.specs.Effects.{Action, Free, FreeChain, Make, MakeFixed, MakeLiteral, OfLiteral, Plain, Put, SetChain, SetStatic, Start}
+use Rattle.fm_frames.specs.Acts.{chain_freed, chain_from, cell_of, Choose, copied, Did, FullAt, is_there, literal_made, literal_text, literal_type, LostAt, made_then, performed, Performed, requested}
+use Rattle.fm_frames.specs.Effects.{Action, Copy, Free, FreeChain, Make, MakeFixed, MakeLiteral, OfLiteral, Plain, Put, SetChain, SetStatic, Start}
 use Rattle.fm_frames.specs.Elements.{first_of, read}
 use Rattle.fm_frames.specs.Literals.{literal_count}
 use Rattle.fm_frames.specs.ObjectRows.{kind_of_field}
@@ -100,6 +100,9 @@ one_keeps o choose (Free operand) x made = keeps-refl made
 one_keeps o choose (SetChain operand to) x made = keeps-refl made
 one_keeps o choose (FreeChain operand) x made =
     chain_keeps made x (word_at [] operand) (chain_from x.store (cell_of (word_at [] operand)))
+one_keeps o choose (Copy t len operand) x made =
+    made_keeps made x (requested o t len false) (copied x.store (cell_of (word_at [] operand)) len) (choose x.store (requested o t len false))
+    (λ y cell. Did y (made ++ cell ∷ [])) (λ y cell. keeps-pushed made cell)
 
 last_length : (made : List ℕ) (cell : ℕ) → length (made ++ cell ∷ []) ≡ suc (length made)
 last_length [] cell = refl

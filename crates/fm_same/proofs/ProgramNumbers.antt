@@ -4,7 +4,7 @@ use Rattle.std.specs.Prelude.{unwrap_or}
 use Rattle.std.specs.Str.{bytes_eq}
 use Rattle.std.proofs.lemmas.Iterator.Adapters.{position_from-zero}
 use Rattle.std.proofs.lemmas.List.Quantifiers.{position-Some}
-use Rattle.std.proofs.lemmas.Option.{none-some}
+use Rattle.std.proofs.lemmas.Option.{get_or_from_slice_get, none-some}
 use Rattle.fm_base.specs.declared.kinds.Kind.TheVariants as kind
 use Rattle.fm_base.specs.declared.kinds.TypeRef.{TypeRef}
 use Rattle.fm_types.specs.Named.{built_in_type}
@@ -21,7 +21,7 @@ use Rattle.fm_frames.proofs.BuiltInTypes.{named_class}
 use Rattle.fm_frames.proofs.Programs.{class_literal-is, completed-are, built_in-inside, string-is}
 use Rattle.fm_same.specs.Evenness.{HasNoEdge, HoldsNumbers}
 use Rattle.fm_same.specs.Resolved.{IsResolved}
-use Rattle.fm_law_sound.proofs.MadeObjects.{class_literal_kinds, input_kinds, output_kinds, string_kinds}
+use Rattle.fm_law_sound.proofs.MadeObjects.{class_literal_kinds, input_kinds, number_there, output_kinds, string_kinds}
 
 -- ---- objects of a class without fields
 
@@ -58,6 +58,8 @@ holds_numbers p ready = record {
   input = no_edge p ready (built_in_type p.outline (codes "java/io/InputStream")) 6 (named_class p (codes "java/io/InputStream") 6 ready.runnable input_there)
       (built_in-inside p 6 ready.runnable (omega arith)) (kinds 6 input_kinds);
   constants = ready.constants;
+  first = get_or_from_slice_get p.outline.types 0 (type_of_class 0) (type_of_class 0)
+      (number_there p.outline (type_of_class 0) 0 (ready.class_types 0 (built_in-inside p 0 ready.runnable (omega arith))));
 } where
   kinds : (class : ℕ) → ((given : List DeclaredClass) → AreCompleted (built_in ++ given) → kinds_of (built_in ++ given) class ≡ []) → kinds_of p.outline.classes class ≡ []
   kinds class each = ap (λ cs. kinds_of cs class) ready.runnable.classes ∙ each ready.runnable.given (completed-are ready.runnable.given ready.runnable.completed)

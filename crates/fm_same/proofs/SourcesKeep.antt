@@ -1,34 +1,32 @@
 -- Where the values of an effect come from: what they lead to has the region of the class that they come from.
-use Rattle.std.proofs.Common.{◌≡◌, ◌≢◌, ℕ, ℤ, zero, suc, ◌<◌, ◌⊎◌, true, false, List, [], ◌∷◌, length, Some, None, refl, sym, ◌∙◌, ap, subst, inl, inr, slice_get, slice_index_or, ⊎_elim}
+use Rattle.std.proofs.Common.{◌≡◌, ◌≢◌, ℕ, ℤ, zero, suc, ◌<◌, ◌⊎◌, true, List, [], ◌∷◌, length, Some, refl, sym, ◌∙◌, ap, subst, inl, inr, slice_get, slice_index_or, ⊎_elim}
 use Rattle.std.specs.List.{AllByRecursion}
-use Rattle.std.proofs.lemmas.Bool.{false≢true}
 use Rattle.std.proofs.lemmas.Option.{same_Some, slice_get-get_or}
 use Rattle.fm_base.specs.declared.kinds.Kind.{Kind}
 use Rattle.fm_base.specs.declared.kinds.Kind.TheVariants as kind
 use Rattle.fm_base.specs.declared.kinds.TypeRef.{TypeRef}
-use Rattle.fm_cells.proofs.Elements.{elements_at-none, elements_at-some}
 use Rattle.fm_cells.specs.Objects.{Object}
 use Rattle.fm_cells.specs.Stores.{elements_at, Store, object_at}
 use Rattle.fm_conn.specs.Facts.{Facts}
 use Rattle.fm_conn.specs.Nodes.{Global, IsNode, Local}
-use Rattle.fm_world.specs.Programs.{kind_at, Program}
+use Rattle.fm_world.specs.Programs.{Program}
 use Rattle.fm_frames.specs.Acts.{cell_of, Sources, sum_of, value_of}
-use Rattle.fm_frames.specs.Effects.{Action, Make, MakeFixed, MakeLiteral, Put, SetStatic, Start, Free, SetChain, FreeChain, Source, Plain, OfOperand, OfLocal, LocalPlus, OfPlace, OfStatic, OfMade, OfLiteral, SameOperands}
+use Rattle.fm_frames.specs.Effects.{Action, Make, MakeFixed, MakeLiteral, Put, SetStatic, Start, Free, SetChain, FreeChain, Copy, Source, Plain, OfOperand, OfLocal, LocalPlus, OfPlace, OfStatic, OfMade, OfLiteral, SameOperands}
 use Rattle.fm_frames.specs.Elements.{read}
 use Rattle.fm_frames.specs.Sights.{type_numbered}
 use Rattle.fm_frames.specs.States.{Areas, Frame, word_at}
 use Rattle.fm_frames.specs.declared.values.Value.{Value}
 use Rattle.fm_frames.specs.declared.values.Value.TheVariants as value
 use Rattle.fm_same.specs.Advances.{point_of}
-use Rattle.fm_same.specs.Colours.{Colour, HasColour, IsEdgeEven, IsFrameColoured, IsOf, OfNull, OfObject}
+use Rattle.fm_same.specs.Colours.{Colour, HasColour, IsFrameColoured, IsOf}
 use Rattle.fm_same.specs.Evenness.{ActsEvenly, ComesFrom, IsObjectSource, IsPlainKind, LeadsOn, Point, PutsEvenly, SetsEvenly, word}
 use Rattle.fm_same.specs.Regions.{Everywhere, Region, region, Retired}
 use Rattle.fm_same.specs.Standing.{StandsAt}
 use Rattle.fm_law_sound.specs.Placing.{kind_in, PutAgrees, ReadAgrees}
 use Rattle.fm_law_sound.specs.Sound.{IsReference}
-use Rattle.fm_same.proofs.ActsKeep.{ActHas, cell_has, plain_has, PutHas, SourceHas, SourceLeads, StaticHas, Went}
+use Rattle.fm_same.proofs.ActsKeep.{ActHas, cell_has, element_even, plain_has, PutHas, SourceHas, SourceLeads, StaticHas, Went}
 use Rattle.fm_same.proofs.RegionLemmas.{region_global, region_within}
-use Rattle.fm_same.proofs.StoreChanges.{for_ever-is_of, has-later, IsKept}
+use Rattle.fm_same.proofs.StoreChanges.{for_ever-is_of, has-later}
 
 -- ---- words of lists
 
@@ -153,6 +151,8 @@ module _ (p : Program) (facts : Facts) (f : Frame) (callers : List Frame) (at : 
   act_has home (Free operand) h agrees = h
   act_has home (SetChain operand to) h agrees = h
   act_has home (FreeChain operand) h agrees = h
+  act_has home (Copy t len n) h agrees =
+      (operand_has n home h, λ object held. agrees.2 ∙ ap (λ (y : Object). type_numbered p.outline y.class) (same_Some agrees.0 object (sym agrees.1 ∙ held)))
 
   pub acts_have : (home : ℕ) (actions : List Action) → AllByRecursion (ActsEvenly p.outline point home) actions
       → AllByRecursion (PutAgrees p.outline store f.stack) actions → AllByRecursion (ActHas p.outline store colour f.stack (region_in home)) actions
@@ -172,20 +172,8 @@ module _ (p : Program) (facts : Facts) (f : Frame) (callers : List Frame) (at : 
     element_has : (class cell place : ℕ) → IsOf store colour (region_in class) cell
         → ((object : Object) → object_at store cell ≡ Some object → (u : TypeRef) × (kind_in p.outline object place ≡ Some (kind.Ref u)))
         → IsOf y.store colour (region_in class) (slice_index_or (elements_at y.store cell) place 0)
-    element_has class cell place (OfNull e) agrees =
-        let none : object_at y.store cell ≡ None = ap (λ c. object_at y.store c) e ∙ went.areas.orderly.null_not_held in
-        OfNull (ap (λ (xs : List ℕ). slice_index_or xs place 0) (elements_at-none y.store cell none))
-    element_has class cell place (OfObject object held other) agrees =
-        let kept : IsKept y.store cell object = went.extends.kept cell object held in
-        let kind_is : (u : TypeRef) × (kind_in p.outline object place ≡ Some (kind.Ref u)) = agrees object held in
-        let edge : IsEdgeEven y.store colour kept.now place =
-        went.areas.edges cell kept.now kept.is place kind_is.0
-        (ap (λ c. kind_at p.outline.classes (type_numbered p.outline c) place) kept.class ∙ kind_is.1) in
-        let region_is : colour kept.now.birth ≡ region_in class = ⊎_elim
-        (λ fixed. let impossible : true ≡ false = sym fixed ∙ sym kept.fixed ∙ edge.not_fixed in absurd (false≢true (sym impossible)))
-        (λ has. ap colour kept.birth ∙ has) other in
-        subst (λ (xs : List ℕ). IsOf y.store colour (region_in class) (slice_index_or xs place 0)) (sym (elements_at-some y.store cell kept.now kept.is))
-        (subst (λ r. IsOf y.store colour r (slice_index_or kept.now.elements place 0)) region_is edge.even)
+    element_has class cell place has agrees =
+        element_even p.outline store colour (region_in home) y made (region_in class) cell place went has agrees
 
     -- what a source gives where its value is of the class
     pub source_gives : (class : ℕ) (s : Source) → ComesFrom point home class s → ReadAgrees p.outline store f.stack s

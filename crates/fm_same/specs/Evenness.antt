@@ -15,14 +15,16 @@ use Rattle.fm_conn.specs.Pairs.{call_of, IsEnd}
 use Rattle.fm_conn.specs.declared.ends.End2.TheVariants as end
 use Rattle.fm_types.specs.Named.{built_in_type}
 use Rattle.fm_world.specs.Members.{field_at}
+use Rattle.fm_world.specs.Numbers.{type_of_class}
 use Rattle.fm_world.specs.Programs.{Outline, targets}
 use Rattle.fm_world.specs.declared.calls.Call.{Call}
 use Rattle.fm_world.specs.declared.declarations.Constant.{Constant}
 use Rattle.fm_world.specs.declared.declarations.Constant.TheVariants as constant
 use Rattle.fm_frames.specs.ObjectRows.{kind_of_field}
-use Rattle.fm_frames.specs.Effects.{Action, Make, MakeFixed, MakeLiteral, Put, SetStatic, Start, Free, SetChain, FreeChain, Effect, Next, Falls, Jumps, JumpsIfSame, Calls, Returns, Throws, Enters, Source, Plain, OfOperand, OfLocal, LocalPlus, OfPlace, OfStatic, OfMade, OfLiteral, SameOperands}
+use Rattle.fm_frames.specs.Effects.{Action, Make, MakeFixed, MakeLiteral, Put, SetStatic, Start, Free, SetChain, FreeChain, Copy, Effect, Next, Falls, Jumps, JumpsIfSame, Calls, Returns, Throws, Enters, Source, Plain, OfOperand, OfLocal, LocalPlus, OfPlace, OfStatic, OfMade, OfLiteral, SameOperands}
 use Rattle.fm_frames.specs.Acts.{requested}
 use Rattle.fm_frames.specs.NativeRows.{class_type, text_type}
+use Rattle.fm_frames.specs.Sights.{type_numbered}
 use Rattle.fm_frames.specs.Steps.{is_start}
 use Rattle.fm_frames.specs.declared.values.Value.TheVariants as value
 use Rattle.fm_law_sound.specs.Placing.{IsPlain, kind_in}
@@ -103,7 +105,7 @@ abbrev pub SetsEvenly : Point → ℕ → Source → Kind → Type 0
 SetsEvenly x home v (kind.Ref t) = ComesFrom x home (x.class Global) v × LeadsOn x v
 SetsEvenly x home v other = Unit {0}
 
--- what has content is a text; nothing is freed or chained
+-- what has content is a text, or is copied of an object of its class; nothing is freed or chained
 abbrev pub ActsEvenly : Outline → Point → ℕ → Action → Type 0
 ActsEvenly o x home (Make t len content) = (content ≡ []) ⊎ (t ≡ text_type o)
 ActsEvenly o x home (MakeFixed t) = ⊥
@@ -114,6 +116,7 @@ ActsEvenly o x home (Start class) = Unit {0}
 ActsEvenly o x home (Free operand) = ⊥
 ActsEvenly o x home (SetChain operand to) = ⊥
 ActsEvenly o x home (FreeChain operand) = ⊥
+ActsEvenly o x home (Copy t len operand) = ComesFrom x home home (OfOperand operand)
 
 -- ---- the frame that goes on
 
@@ -190,10 +193,11 @@ HasNoEdge o t =
     (object : Object) (len : ℕ) (fixed : Bool) → object.class ≡ (requested o t len fixed).class
     → (place : ℕ) (u : TypeRef) → kind_in o object place ≡ Some (kind.Ref u) → ⊥
 
--- texts and streams have no place for references, and a number is the constant of a field of numbers
+-- texts and streams have no place for references, a number is the constant of a field of numbers, and the first type is that of Object
 pub record HoldsNumbers (o : Outline) : Type 0 where
   pub texts : HasNoEdge o (text_type o)
   pub class_literals : HasNoEdge o (class_type o)
   pub output : HasNoEdge o (built_in_type o (codes "java/io/PrintStream"))
   pub input : HasNoEdge o (built_in_type o (codes "java/io/InputStream"))
   pub constants : (field : ℕ) → IsNumber (field_at o.classes field).field.value → IsPlainKind (kind_of_field o field)
+  pub first : type_numbered o 0 ≡ type_of_class 0

@@ -27,6 +27,16 @@ FitsIn store cell kind v = kept kind v < 2 ^ element_bits (pack_at store cell)
 abbrev pub TakesUnits : Store → (cell : ℕ) → List ℕ → Type 0
 TakesUnits store cell units = (object : Object) × (object_at store cell ≡ Some object) × (length object.elements ≡ length units) × (object.pack ≡ 4)
 
+-- the object of the cell has as many elements as these are
+abbrev pub TakesElements : Store → (cell : ℕ) → List ℕ → Type 0
+TakesElements store cell elements = (object : Object) × (object_at store cell ≡ Some object) × (length object.elements ≡ length elements)
+
+-- the object of the second cell has as many elements as that of the first one, and as many in a word
+abbrev pub TakesCopy : Store → (from to : ℕ) → Type 0
+TakesCopy store from to =
+    (object : Object) × (object_at store from ≡ Some object) × (copy : Object) × (object_at store to ≡ Some copy)
+    × (length copy.elements ≡ length object.elements) × (copy.pack ≡ object.pack)
+
 -- in the cell lies an object whose elements are whole words
 abbrev pub IsWide : Store → (cell : ℕ) → Type 0
 IsWide store cell = (object : Object) × (object_at store cell ≡ Some object) × (object.pack ≡ 1)

@@ -1,5 +1,6 @@
 use Rattle.std.proofs.Common.{◌≡◌, ◌≤◌, length, ap, sym, ◌∙◌, refl, subst, rules}
 use Rattle.fm_cells.specs.Sizes.{packed_words}
+use Rattle.fm_frames.proofs.Resized.{length-resized}
 use Rattle.fm_frames.proofs.TextSteps.{kept-words}
 use Rattle.fm_frames.proofs.Throwing.{told-ok}
 use Rattle.fm_frames.specs.Effects.{acting}
@@ -9,7 +10,6 @@ use Rattle.fm_frames.specs.Steps.{most_words, stack_of}
 use Rattle.fm_frames.specs.declared.values.Value.TheVariants as value
 use Rattle.fm_frames.specs.inner.Doings.{CanStep, DoesIn}
 use Rattle.fm_frames.specs.inner.Places.{IsWide}
-use Rattle.fm_native.proofs.Lists.{length-resized}
 use Rattle.fm_native.proofs.builders.keep_resized.Goals as goal
 use Rattle.fm_native.specs.inner.Hidden.{units_so_far}
 
