@@ -27,7 +27,7 @@ appended letter =
     of_row (codes "java/lang/StringBuilder") (codes "append") (codes "(" ++ letter ++ codes ")Ljava/lang/StringBuilder;") result_and_receiver
 
 -- what built-in methods link, by their rows: a result that is the receiver or that it kept, a
--- message that is kept, what FreeMe chains, and a class literal, which lives for ever
+-- message that is kept, what FreeMe chains, a class literal, which lives for ever, and a copy that leads where the receiver does
 unfoldable pub native_links : List (ℕ × List (End2 × End2))
 native_links =
     of_row (codes "java/lang/String") (codes "toString") (codes "()Ljava/lang/String;") result_and_receiver
@@ -37,6 +37,7 @@ native_links =
     ++ of_row (codes "FreeMe") (codes "link") (codes "(Ljava/lang/Object;Ljava/lang/Object;)Ljava/lang/Object;")
     ((end.Return, end.Parameter 0) ∷ (end.Return, end.Parameter 1) ∷ (end.Parameter 0, end.Parameter 1) ∷ [])
     ++ of_row (codes "java/lang/Object") (codes "getClass") (codes "()Ljava/lang/Class;") ((end.Return, end.Global) ∷ [])
+    ++ of_row (codes "java/lang/Object") (codes "clone") (codes "()Ljava/lang/Object;") result_and_receiver
 
 -- a row links two ends, in one order or the other
 pub record IsNativeLink (row : ℕ) (a b : End2) : Type 0 where

@@ -37,6 +37,8 @@ native-plain o row byte s =
       unlinked = λ is. refl;
       linked = λ is it seen loose. refl;
       chain_freed = λ is. refl;
+      copied = λ is it seen may. refl;
+      uncopied = λ is. refl;
     })
     byte
 

@@ -3,7 +3,7 @@ use Rattle.std.proofs.Common.{◌≡◌, ℕ, ◌<◌, ◌≤◌, List, [], ◌�
 use Rattle.std.specs.List.{AllByRecursion}
 use Rattle.std.proofs.lemmas.Option.{none-some}
 use Rattle.fm_code.specs.declared.instructions.Insn.{Insn}
-use Rattle.fm_frames.specs.Effects.{Action, Effect, Free, FreeChain, Make, MakeFixed, MakeLiteral, Put, SetChain, SetStatic}
+use Rattle.fm_frames.specs.Effects.{Action, Copy, Effect, Free, FreeChain, Make, MakeFixed, MakeLiteral, Put, SetChain, SetStatic}
 use Rattle.fm_frames.specs.NativeRows.{has_text, text_made}
 use Rattle.fm_frames.specs.Operands.{thrown}
 use Rattle.fm_frames.specs.Rows.{effect_of}
@@ -49,6 +49,7 @@ module _ (o : Outline) where
     given_literal = λ e literal inside is. counted e (MakeLiteral literal ∷ []) (omega arith) (inside, tt) is;
     freed = λ e starts operand is. counted e (Free operand ∷ []) (omega arith) (tt, tt) is;
     chain_freed = λ e starts operand is. counted e (FreeChain operand ∷ []) (omega arith) (tt, tt) is;
+    copied = λ e t len operand is. counted e (Copy t len operand ∷ []) (omega arith) (tt, tt) is;
   }
 
   pub insn-cheap : (s : List Sight) (method : ℕ) (i : Insn) (u : Use) (byte : Option ℕ) → IsUseIn o u → nest_of i ≡ None → IsCheap o (effect_of o method u i byte s)

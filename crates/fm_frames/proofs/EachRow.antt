@@ -6,7 +6,7 @@ use Rattle.fm_code.specs.declared.instructions.Insn.{Insn}
 use Rattle.fm_code.specs.declared.instructions.Insn.TheVariants as insn
 use Rattle.fm_frames.specs.ArrayRows.{array_actions}
 use Rattle.fm_frames.specs.CallRows.{entered_as, native_of}
-use Rattle.fm_frames.specs.Effects.{acting, Effect, Exits, Falls, Free, FreeChain, giving_literal, going, int_word, Make, MakeLiteral, making, printing, Put, SameOperands, SetChain, SetStatic, Source, words}
+use Rattle.fm_frames.specs.Effects.{acting, Copy, Effect, Exits, Falls, Free, FreeChain, giving_literal, going, int_word, Make, MakeLiteral, making, printing, Put, SameOperands, SetChain, SetStatic, Source, words}
 use Rattle.fm_frames.specs.NativeRows.{has_text, native_effect, text_made}
 use Rattle.fm_frames.specs.Natives.{native_of_row}
 use Rattle.fm_frames.specs.declared.natives.Native.{Native}
@@ -21,7 +21,7 @@ use Rattle.fm_world.specs.declared.uses.Use.{Use}
 use Rattle.fm_world.specs.declared.uses.Use.TheVariants as resolved
 use Rattle.fm_frames.proofs.EachCall.{call_rows, entered_cases}
 use Rattle.fm_frames.proofs.EachInsn.{each_insn}
-use Rattle.fm_frames.proofs.Failures.{Failures, name_of, TextOutside}
+use Rattle.fm_frames.proofs.Failures.{Failures, name_of, NotCloneable, TextOutside}
 use Rattle.fm_frames.proofs.UsualAsks.{each_native}
 use Rattle.fm_frames.specs.Literals.{class_literal, literal_count, literal_named}
 
@@ -50,6 +50,8 @@ pub record Leaves (o : Outline) (A : Effect → Type 0) : Type 0 where
   -- a cell or a chain is freed, where at most the class of a built-in method has to be started before
   pub freed : (e : Effect) → IsOfRow o e.starts → (operand : ℕ) → e.actions ≡ Free operand ∷ [] → A e
   pub chain_freed : (e : Effect) → IsOfRow o e.starts → (operand : ℕ) → e.actions ≡ FreeChain operand ∷ [] → A e
+  -- an object is copied
+  pub copied : (e : Effect) (t : TypeRef) (len operand : ℕ) → e.actions ≡ Copy t len operand ∷ [] → A e
 
 -- the same where a class has to be started before, that of a method that has a row
 starting_leaves : (o : Outline) (A : Effect → Type 0) (class : ℕ) → IsOfRow o (Some class) → Leaves o A → Leaves o (λ e. A (objects.starting class e))
@@ -65,6 +67,7 @@ starting_leaves o A class known l = record {
   given_literal = λ e literal inside is. l.given_literal (objects.starting class e) literal inside is;
   freed = λ e none operand is. l.freed (objects.starting class e) known operand is;
   chain_freed = λ e none operand is. l.chain_freed (objects.starting class e) known operand is;
+  copied = λ e t len operand is. l.copied (objects.starting class e) t len operand is;
 }
 
 failures : (o : Outline) (A : Effect → Type 0) → Leaves o A → Failures o A
@@ -95,6 +98,8 @@ each_row_of_native o A l s row byte =
       unlinked = λ is. l.plain _ refl;
       linked = λ is it seen loose. l.chained _ _ _ refl;
       chain_freed = λ is. l.chain_freed (acting 1 (FreeChain 0 ∷ [])) tt 0 refl;
+      copied = λ is it seen may. l.copied (making 1 (Copy it.type it.len 0)) it.type it.len 0 refl;
+      uncopied = λ is. l.thrown (name_of NotCloneable);
     })
     byte
 

@@ -14,6 +14,7 @@ pub data Raised : Type 0 where
   IndexOutside : Raised
   TextOutside : Raised
   ClassChange : Raised
+  NotCloneable : Raised
 
 -- the names of their classes
 abbrev pub name_of : Raised → List ℕ
@@ -25,6 +26,7 @@ name_of NegativeSize = codes "java/lang/NegativeArraySizeException"
 name_of IndexOutside = codes "java/lang/ArrayIndexOutOfBoundsException"
 name_of TextOutside = codes "java/lang/StringIndexOutOfBoundsException"
 name_of ClassChange = codes "java/lang/IncompatibleClassChangeError"
+name_of NotCloneable = codes "java/lang/CloneNotSupportedException"
 
 -- what holds where a row throws, where an operand is of another sort than each typed program has, and where its cell isn't held
 pub record Failures (o : Outline) (A : Effect → Type 0) : Type 0 where

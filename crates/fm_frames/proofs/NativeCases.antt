@@ -6,15 +6,15 @@ use Rattle.std.specs.Fmt.{digits}
 use Rattle.fm_types.specs.Fits.{fits_type}
 use Rattle.fm_types.specs.Named.{throwable_type}
 use Rattle.fm_world.specs.Programs.{Outline}
-use Rattle.fm_frames.specs.Effects.{acting, Effect, Exits, Free, FreeChain, giving_literal, going, int_word, making, OfOperand, OfPlace, Plain, printing, Put, SameOperands, SetChain, stuck, words}
-use Rattle.fm_frames.specs.NativeRows.{arguments_words, at_sign, builder_native, class_given_by, class_native, char_at, free_native, has_text, is_builder, linked, native_effect, native_words, object_native, on_builder, on_built, on_shown, resized, shown_words, stream_native, string_native, text_kind, text_made, throwable_native, throwable_text, thrown_outside, type_name, with_length}
+use Rattle.fm_frames.specs.Effects.{acting, Copy, Effect, Exits, Free, FreeChain, giving_literal, going, int_word, making, OfOperand, OfPlace, Plain, printing, Put, SameOperands, SetChain, stuck, words}
+use Rattle.fm_frames.specs.NativeRows.{arguments_words, at_sign, builder_native, class_given_by, class_native, char_at, copy_of, free_native, has_text, is_builder, is_copied, linked, native_effect, native_words, object_native, on_builder, on_built, on_shown, resized, shown_words, stream_native, string_native, text_kind, text_made, throwable_native, throwable_text, thrown_outside, type_name, with_length}
 use Rattle.fm_frames.specs.Natives.{a_boolean, a_char, a_text, AGiven, an_int, AnObject, AnyReceiver, AShown, BuilderReceiver, ClassReceiver, Given, native_type, Nothing, Receiver, Returned, SomeChars, TextReceiver, ThrowableReceiver}
 use Rattle.fm_frames.specs.declared.natives.Shown.{Shown}
 use Rattle.fm_frames.specs.declared.natives.Native.{Native}
-use Rattle.fm_frames.specs.declared.natives.Native.TheVariants.{ObjectInit, ObjectHashCode, ObjectEquals, ObjectToString, ObjectGetClass, StringLength, CharAt, StringEquals, StringHashCode, CompareTo, StringToString, Substring, ValueOf, ValueOfChars, BuilderInit, Append, BuilderLength, BuilderToString, BuilderCharAt, BuilderSetLength, BufferInitOf, Exit, Print, Println, PrintlnNothing, Read, ThrowableInit, ThrowableInitOf, GetMessage, ThrowableToString, FreeMeFree, FreeMeLink, FreeMeFreeChain, ClassGetName}
+use Rattle.fm_frames.specs.declared.natives.Native.TheVariants.{ObjectInit, ObjectHashCode, ObjectEquals, ObjectToString, ObjectClone, ObjectGetClass, StringLength, CharAt, StringEquals, StringHashCode, CompareTo, StringToString, Substring, ValueOf, ValueOfChars, BuilderInit, Append, BuilderLength, BuilderToString, BuilderCharAt, BuilderSetLength, BufferInitOf, Exit, Print, Println, PrintlnNothing, Read, ThrowableInit, ThrowableInitOf, GetMessage, ThrowableToString, FreeMeFree, FreeMeLink, FreeMeFreeChain, ClassGetName}
 use Rattle.fm_frames.specs.Literals.{class_literal}
 use Rattle.fm_frames.specs.declared.natives.Shown.TheVariants.{Int as ShownInt, Long as ShownLong, Char as ShownChar, Boolean as ShownBoolean, Text as ShownText}
-use Rattle.fm_frames.specs.Operands.{on_any, on_class, on_chars, on_held, on_inner, on_int, on_object, on_text}
+use Rattle.fm_frames.specs.Operands.{on_any, on_class, on_chars, on_held, on_inner, on_int, on_object, on_text, thrown}
 use Rattle.fm_frames.specs.Sights.{Looks, Sight, Thing}
 use Rattle.fm_frames.specs.States.{null}
 use Rattle.fm_world.specs.Chains.{same_type}
@@ -147,6 +147,9 @@ pub record NativeLeaves (o : Outline) (s : List Sight) (native : Native) (Units 
   pub unlinked : native ≡ FreeMeLink → A (words 2 (OfOperand 0 ∷ []))
   pub linked : native ≡ FreeMeLink → (it : Looks) → IsAt s 1 it → it.fixed ≡ false → A (record (acting 2 (SetChain 1 0 ∷ [])) { gives = OfOperand 1 ∷ [] })
   pub chain_freed : native ≡ FreeMeFreeChain → A (acting 1 (FreeChain 0 ∷ []))
+  -- a copy of the receiver, or that it may not be copied
+  pub copied : native ≡ ObjectClone → (it : Looks) → IsAt s 0 it → is_copied o it.type ≡ true → A (making 1 (Copy it.type it.len 0))
+  pub uncopied : native ≡ ObjectClone → A (thrown o (codes "java/lang/CloneNotSupportedException"))
 
 -- ---- all rows
 
@@ -174,6 +177,10 @@ module _ (o : Outline) (s : List Sight) where
   native_cases ObjectToString Units A keeps a l byte =
       a.receiver_any 0 (refl, refl) _ (λ it seen. l.text_given 1 refl refl _ (keeps.append _ _ (keeps.name 0 it seen) (keeps.hash it.birth)))
   native_cases ObjectGetClass Units A keeps a l byte = a.receiver_any 0 (refl, refl) _ (λ it seen. class_cases Units A l it seen (type_number o.types it.type) refl)
+  native_cases ObjectClone Units A keeps a l byte =
+      a.receiver_any 0 (refl, refl) (copy_of o) (λ it seen.
+      cond_both (is_copied o it.type) (making 1 (Copy it.type it.len 0)) (thrown o (codes "java/lang/CloneNotSupportedException")) A
+      (λ may. l.copied refl it seen may) (λ lacks. l.uncopied refl))
   native_cases StringLength Units A keeps a l byte = a.receiver_text 0 (refl, refl) _ (λ units fit. l.number 1 ShownInt refl refl refl _)
   native_cases CharAt Units A keeps a l byte =
       a.receiver_text 1 (refl, refl) _ (λ units fit. a.int 0 (refl, refl) _ (char_leaves CharAt Units A l refl refl units))

@@ -13,14 +13,15 @@ use Rattle.fm_base.specs.declared.kinds.Kind.TheVariants as kind
 use Rattle.fm_base.specs.declared.kinds.TypeRef.{TypeRef}
 use Rattle.fm_types.specs.Fits.{fits_type}
 use Rattle.fm_types.specs.Named.{built_in_type, throwable_type}
-use Rattle.fm_world.specs.BuiltIns.{class_literal_name, string_name}
-use Rattle.fm_world.specs.Chains.{class_at}
+use Rattle.fm_world.specs.BuiltIns.{cloneable_name, class_literal_name, string_name}
+use Rattle.fm_world.specs.Chains.{class_at, is_sub}
 use Rattle.fm_world.specs.Programs.{Outline}
-use Rattle.fm_frames.specs.Effects.{Effect, giving_literal, Plain, OfOperand, OfPlace, OfMade, SameOperands, Action, Make, Put, Free, SetChain, FreeChain, Exits, words, acting, making, printing, going, stuck, int_word}
+use Rattle.fm_frames.specs.Effects.{Effect, giving_literal, Plain, OfOperand, OfPlace, OfMade, SameOperands, Action, Make, Put, Free, SetChain, FreeChain, Copy, Exits, words, acting, making, printing, going, stuck, int_word}
+use Rattle.fm_frames.specs.Elements.{is_text_type}
 use Rattle.fm_frames.specs.Natives.{AnObject, AShown, Given, has_receiver, native_type, SomeChars}
 use Rattle.fm_frames.specs.declared.natives.Shown.{Shown}
 use Rattle.fm_frames.specs.declared.natives.Native.{Native}
-use Rattle.fm_frames.specs.declared.natives.Native.TheVariants.{ObjectInit, ObjectHashCode, ObjectEquals, ObjectToString, ObjectGetClass, StringLength, CharAt, StringEquals, StringHashCode, CompareTo, StringToString, Substring, ValueOf, ValueOfChars, BuilderInit, Append, BuilderLength, BuilderToString, BuilderCharAt, BuilderSetLength, BufferInitOf, Exit, Print, Println, PrintlnNothing, Read, ThrowableInit, ThrowableInitOf, GetMessage, ThrowableToString, FreeMeFree, FreeMeLink, FreeMeFreeChain, ClassGetName}
+use Rattle.fm_frames.specs.declared.natives.Native.TheVariants.{ObjectInit, ObjectHashCode, ObjectEquals, ObjectToString, ObjectClone, ObjectGetClass, StringLength, CharAt, StringEquals, StringHashCode, CompareTo, StringToString, Substring, ValueOf, ValueOfChars, BuilderInit, Append, BuilderLength, BuilderToString, BuilderCharAt, BuilderSetLength, BufferInitOf, Exit, Print, Println, PrintlnNothing, Read, ThrowableInit, ThrowableInitOf, GetMessage, ThrowableToString, FreeMeFree, FreeMeLink, FreeMeFreeChain, ClassGetName}
 use Rattle.fm_frames.specs.Literals.{class_literal}
 use Rattle.fm_frames.specs.declared.natives.Shown.TheVariants.{Int as ShownInt, Long as ShownLong, Char as ShownChar, Boolean as ShownBoolean, Text as ShownText}
 use Rattle.fm_frames.specs.Operands.{on_any, on_class, on_chars, on_held, on_inner, on_int, on_long, on_object, on_passing, on_text, on_text_or_null, thrown}
@@ -129,6 +130,14 @@ class_given_by o (Some type) = giving_literal 1 (class_literal o type)
 abbrev pub class_given : Outline → TypeRef → Effect
 class_given o t = class_given_by o (type_number o.types t)
 
+-- whether an object of the type may be copied: an array, or one of a class that is below Cloneable; no text is
+abbrev pub is_copied : Outline → TypeRef → Bool
+is_copied o t = not (is_text_type o t) && is_sub o.classes t (built_in_type o cloneable_name)
+
+-- a copy of the object on top, with its elements, or that there is none
+abbrev pub copy_of : Outline → Looks → Effect
+copy_of o it = if is_copied o it.type then making 1 (Copy it.type it.len 0) else thrown o (codes "java/lang/CloneNotSupportedException")
+
 -- the rows of Object
 unfoldable pub object_native : Outline → Native → List Sight → Effect
 object_native o ObjectInit s = words 1 []
@@ -136,6 +145,7 @@ object_native o ObjectHashCode s = on_any o s 0 (λ it. words 1 (int_word (hash_
 object_native o ObjectEquals s = words 2 (SameOperands ∷ [])
 object_native o ObjectToString s = on_any o s 0 (λ it. making 1 (text_made o (object_text o it)))
 object_native o ObjectGetClass s = on_any o s 0 (λ it. class_given o it.type)
+object_native o ObjectClone s = on_any o s 0 (copy_of o)
 object_native o row s = stuck
 
 -- ---- texts that don't change
@@ -297,6 +307,7 @@ native_effect o ObjectHashCode byte s = object_native o ObjectHashCode s
 native_effect o ObjectEquals byte s = object_native o ObjectEquals s
 native_effect o ObjectToString byte s = object_native o ObjectToString s
 native_effect o ObjectGetClass byte s = object_native o ObjectGetClass s
+native_effect o ObjectClone byte s = object_native o ObjectClone s
 native_effect o StringLength byte s = string_native o StringLength s
 native_effect o CharAt byte s = string_native o CharAt s
 native_effect o StringEquals byte s = string_native o StringEquals s

@@ -1,14 +1,14 @@
 -- The built-in methods, which are the variants of an enum of the code (src/natives.rt), by the numbers of their rows, with what each of them takes and gives.
 use Rattle.std.specs.Prelude.{ℕ, Bool, true, false, List, [], ◌∷◌, ◌++◌, Option, slice_get}
 use Rattle.fm_frames.specs.declared.natives.Native.{Native}
-use Rattle.fm_frames.specs.declared.natives.Native.TheVariants.{ObjectInit, ObjectHashCode, ObjectEquals, ObjectToString, ObjectGetClass, StringLength, CharAt, StringEquals, StringHashCode, CompareTo, StringToString, Substring, ValueOf, ValueOfChars, BuilderInit, Append, BuilderLength, BuilderToString, BuilderCharAt, BuilderSetLength, BufferInitOf, Exit, Print, Println, PrintlnNothing, Read, ThrowableInit, ThrowableInitOf, GetMessage, ThrowableToString, FreeMeFree, FreeMeLink, FreeMeFreeChain, ClassGetName}
+use Rattle.fm_frames.specs.declared.natives.Native.TheVariants.{ObjectInit, ObjectHashCode, ObjectEquals, ObjectToString, ObjectClone, ObjectGetClass, StringLength, CharAt, StringEquals, StringHashCode, CompareTo, StringToString, Substring, ValueOf, ValueOfChars, BuilderInit, Append, BuilderLength, BuilderToString, BuilderCharAt, BuilderSetLength, BufferInitOf, Exit, Print, Println, PrintlnNothing, Read, ThrowableInit, ThrowableInitOf, GetMessage, ThrowableToString, FreeMeFree, FreeMeLink, FreeMeFreeChain, ClassGetName}
 use Rattle.fm_frames.specs.declared.natives.Shown.{Shown}
 use Rattle.fm_frames.specs.declared.natives.Shown.TheVariants.{Int as ShownInt, Long as ShownLong, Char as ShownChar, Boolean as ShownBoolean, Text as ShownText}
 
 -- the built-in methods in the order of the table of built-in methods
 abbrev pub natives : List Native
 natives =
-    ObjectInit ∷ ObjectHashCode ∷ ObjectEquals ∷ ObjectToString ∷ ObjectGetClass
+    ObjectInit ∷ ObjectHashCode ∷ ObjectEquals ∷ ObjectToString ∷ ObjectGetClass ∷ ObjectClone
     ∷ StringLength ∷ CharAt ∷ StringEquals ∷ StringHashCode ∷ CompareTo ∷ StringToString ∷ Substring
     ∷ ValueOf ShownInt ∷ ValueOf ShownLong ∷ ValueOf ShownChar ∷ ValueOf ShownBoolean ∷ ValueOfChars
     ∷ BuilderInit
@@ -92,6 +92,7 @@ native_type ObjectHashCode = giving AnyReceiver [] an_int
 native_type ObjectEquals = giving AnyReceiver (AnObject ∷ []) a_boolean
 native_type ObjectToString = giving AnyReceiver [] a_text
 native_type ObjectGetClass = record { receiver = AnyReceiver; arguments = []; result = ClassLiteral }
+native_type ObjectClone = giving AnyReceiver [] AnObject
 native_type StringLength = giving TextReceiver [] an_int
 native_type CharAt = giving TextReceiver (an_int ∷ []) a_char
 native_type StringEquals = giving TextReceiver (AnObject ∷ []) a_boolean

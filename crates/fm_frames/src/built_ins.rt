@@ -46,3 +46,9 @@ pub const CLASS_CHANGE_ERROR: ClassId = ClassId(25);
 
 /// `java/lang/Class`.
 pub const CLASS: ClassId = ClassId(29);
+
+/// `java/lang/Cloneable`.
+pub const CLONEABLE: ClassId = ClassId(26);
+
+/// `java/lang/CloneNotSupportedException`.
+pub const CLONE_NOT_SUPPORTED_EXCEPTION: ClassId = ClassId(28);

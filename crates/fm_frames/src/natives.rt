@@ -22,6 +22,7 @@ pub enum Native {
     ObjectEquals,
     ObjectToString,
     ObjectGetClass,
+    ObjectClone,
     StringLength,
     CharAt,
     StringEquals,
@@ -56,12 +57,13 @@ pub enum Native {
 }
 
 // The built-in methods in the order of their rows.
-const NATIVES: [Native; 49] = [
+const NATIVES: [Native; 50] = [
     Native::ObjectInit,
     Native::ObjectHashCode,
     Native::ObjectEquals,
     Native::ObjectToString,
     Native::ObjectGetClass,
+    Native::ObjectClone,
     Native::StringLength,
     Native::CharAt,
     Native::StringEquals,

@@ -112,4 +112,5 @@ serves p x can going = record {
   names = record { units = held_names p x can going };
   literals = let all = going.sound.1.areas.literals in omega (arith, all);
   counts = record { freed = going.sound.1.areas.freed; freed_words = going.sound.1.areas.freed_words };
+  packs = record { packs = λ cell object held. (going.sound.1.areas.heap cell object held).of_type.pack };
 }

@@ -4,7 +4,7 @@ use Rattle.std.specs.List.{AllByRecursion}
 use Rattle.fm_base.specs.declared.kinds.TypeRef.{TypeRef}
 use Rattle.fm_code.specs.declared.instructions.Insn.{Insn}
 use Rattle.fm_frames.specs.ArrayRows.{array_actions}
-use Rattle.fm_frames.specs.Effects.{Action, Effect, Free, FreeChain, Make, MakeLiteral, Put, SetChain, SetStatic}
+use Rattle.fm_frames.specs.Effects.{Action, Copy, Effect, Free, FreeChain, Make, MakeLiteral, Put, SetChain, SetStatic}
 use Rattle.fm_frames.specs.NativeRows.{has_text, text_made}
 use Rattle.fm_frames.specs.Operands.{thrown}
 use Rattle.fm_frames.specs.Rows.{effect_of}
@@ -43,6 +43,7 @@ module _ (o : Outline) where
     given_literal = λ e literal inside is. keeps e (MakeLiteral literal ∷ []) (tt, tt) is;
     freed = λ e starts operand is. frees e starts (Free operand ∷ []) (tt, tt) is;
     chain_freed = λ e starts operand is. frees e starts (FreeChain operand ∷ []) (tt, tt) is;
+    copied = λ e t len operand is. keeps e (Copy t len operand ∷ []) (tt, tt) is;
   }
 
   pub rows_apart : (s : List Sight) (method : ℕ) (i : Insn) (u : Use) (byte : Option ℕ) → IsApart o (effect_of o method u i byte s)

@@ -120,6 +120,8 @@ module _ (o : Outline) (byte : Option ℕ) (s : List Sight) (row : Native) where
         unlinked = λ is falls. (AnOld (ap native_result is) (ap gives_operand is), refl);
         linked = λ is it seen loose falls. (AnOld (ap native_result is) (ap gives_operand is), refl);
         chain_freed = λ is falls. (NoWords (ap native_result is) refl, refl);
+        copied = λ is it seen may falls. (AMade (ap native_result is) refl, refl);
+        uncopied = λ is falls. absurd (cc);
       })
       byte
 

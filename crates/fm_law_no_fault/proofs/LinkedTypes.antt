@@ -79,6 +79,10 @@ module _ (given : List DeclaredClass) where
   unfolding built_in
   change_there = position_from-zero (λ (c : DeclaredClass). bytes_eq c.name (codes "java/lang/IncompatibleClassChangeError")) (built_in ++ given)
 
+  clone_there : class_number all (codes "java/lang/CloneNotSupportedException") ≡ Some 28
+  unfolding built_in
+  clone_there = position_from-zero (λ (c : DeclaredClass). bytes_eq c.name (codes "java/lang/CloneNotSupportedException")) (built_in ++ given)
+
   output_there : class_number all (codes "java/io/PrintStream") ≡ Some 5
   unfolding built_in
   output_there = position_from-zero (λ (c : DeclaredClass). bytes_eq c.name (codes "java/io/PrintStream")) (built_in ++ given)
@@ -170,7 +174,10 @@ module _ (p : Program) (runnable : IsRunnable p) where
               throws (codes "java/lang/NegativeArraySizeException") 17 negative_there (omega arith) refl,
               (
                 throws (codes "java/lang/IncompatibleClassChangeError") 25 change_there (omega arith) refl,
-                (throws (codes "java/lang/StringIndexOutOfBoundsException") 23 string_there (omega arith) refl, tt),
+                (
+                  throws (codes "java/lang/StringIndexOutOfBoundsException") 23 string_there (omega arith) refl,
+                  (throws (codes "java/lang/CloneNotSupportedException") 28 clone_there (omega arith) refl, tt),
+                ),
               ),
             ),
           ),

@@ -6,21 +6,23 @@ use Rattle.fm_base.specs.declared.kinds.TypeRef.{TypeRef}
 use Rattle.fm_cells.specs.Objects.{Object}
 use Rattle.fm_cells.specs.Stores.{object_at}
 use Rattle.fm_frames.proofs.LiteralSteps.{class-literal}
-use Rattle.fm_types.specs.Fits.{fits_type}
+use Rattle.fm_types.specs.Fits.{fits_type, object_of}
 use Rattle.fm_types.specs.Named.{built_in_type, object_slot, throwable_type}
 use Rattle.fm_types.specs.States.{taken}
 use Rattle.fm_types.specs.declared.slots.Slot.{Slot}
 use Rattle.fm_types.specs.declared.slots.Slot.TheVariants as slot
-use Rattle.fm_types.proofs.Order.{type-refl}
+use Rattle.fm_types.proofs.ClassTree.{seen-object}
+use Rattle.fm_types.proofs.Order.{below_objects-fits, type-refl}
+use Rattle.fm_world.specs.Numbers.{type_of_class}
 use Rattle.fm_world.specs.Programs.{Outline}
 use Rattle.fm_frames.specs.Acts.{cell_of, literal_type}
-use Rattle.fm_frames.specs.Effects.{acting, Effect, Exits, Falls, faulty, giving_literal, int_word, Next, OfLiteral, OfMade, OfOperand, OfPlace, Put, SameOperands, Source, Throws, words}
+use Rattle.fm_frames.specs.Effects.{acting, Copy, Effect, Exits, Falls, faulty, giving_literal, int_word, making, Next, OfLiteral, OfMade, OfOperand, OfPlace, Put, SameOperands, Source, Throws, words}
 use Rattle.fm_frames.specs.Elements.{is_string_type, chars_type}
 use Rattle.fm_frames.specs.NativeRows.{arguments_words, class_type, given_words, native_words, has_text, native_effect, on_shown, shown_words, text_kind, text_type, thrown_outside}
 use Rattle.fm_frames.specs.Natives.{a_boolean, a_text, AGiven, an_int, AnObject, AnyReceiver, AShown, BuilderReceiver, ClassReceiver, from_top, Given, has_one, has_receiver, native_type, Nothing, Receiver, Returned, SomeChars, TextReceiver, ThrowableReceiver}
 use Rattle.fm_frames.specs.declared.natives.Native.{Native}
 use Rattle.fm_frames.specs.declared.natives.Shown.{Shown}
-use Rattle.fm_frames.specs.declared.natives.Native.TheVariants.{Append, GetMessage, ObjectGetClass, StringToString, ThrowableInitOf}
+use Rattle.fm_frames.specs.declared.natives.Native.TheVariants.{Append, GetMessage, ObjectClone, ObjectGetClass, StringToString, ThrowableInitOf}
 use Rattle.fm_frames.specs.declared.natives.Shown.TheVariants.{Boolean as ShownBoolean, Char as ShownChar, Int as ShownInt, Long as ShownLong, Text as ShownText}
 use Rattle.fm_frames.specs.Operands.{on_any, on_inner, on_inner_of, on_int, on_object, on_passing, on_text_or_null, thrown}
 use Rattle.fm_frames.specs.Sights.{has_hidden_field, inner_of, Inner, led_to, Looks, looks, Lost, Missing, NoField, Sight, sights, Text, text_in, Thing, type_numbered}
@@ -129,6 +131,9 @@ module _ (r : Row) (t : TypeRef) where
 
   outside_native : (row : Native) → N row (thrown_outside o)
   outside_native row = thrown_native row (codes "java/lang/StringIndexOutOfBoundsException") r.cells.built_in.thrown.1.1.1.1.1.1.1.0
+
+  uncopied_native : (row : Native) → N row (thrown o (codes "java/lang/CloneNotSupportedException"))
+  uncopied_native row = thrown_native row (codes "java/lang/CloneNotSupportedException") r.cells.built_in.thrown.1.1.1.1.1.1.1.1.0
 
   -- ---- operands
 
@@ -260,6 +265,16 @@ module _ (r : Row) (t : TypeRef) where
       slice_get-get_or o.types saw.object.class (type_of_class 0) held.numbered ∙ ap Some (sym saw.type_is) in
       let number = numbered o saw.object.class it.type at in
       none-some number.0 (sym none ∙ number.1)
+
+  -- a copy, of whatever type, fits Object
+  copy_given : (u : TypeRef) → Gives (u ∷ []) (object_slot o ∷ []) (OfMade 0 ∷ [])
+  copy_given u y made went =
+      let object : TypeRef = type_of_class (object_of o.classes) in (
+        inr
+            (made_is r (u ∷ []) y made went 0 u (λ v. fits_type o.classes v object) refl
+            (below_objects-fits o.classes u object (omega arith) (seen-object o.classes))),
+        tt,
+      )
 
   -- ---- the receiver, later
 
@@ -399,6 +414,9 @@ module _ (r : Row) (t : TypeRef) where
       unlinked = λ is. absurd (false≢true (sym other ∙ ap is_free_me is));
       linked = λ is it found loose. absurd (false≢true (sym other ∙ ap is_free_me is));
       chain_freed = λ is. absurd (false≢true (sym other ∙ ap is_free_me is));
+      copied = λ is it found may. as_row ObjectClone (making 1 (Copy it.type it.len 0)) is
+          (λ operands. record { acts = tt; next = (refl, refl, copy_given it.type) });
+      uncopied = λ is. uncopied_native row;
     }
 
   pub native_whole : (row : Native) → HasOperands r row t → is_free_me row ≡ false → (byte : Option ℕ) → N row (native_effect o row byte seen)

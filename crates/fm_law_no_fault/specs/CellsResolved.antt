@@ -46,7 +46,8 @@ abbrev pub thrown_names : List (List ℕ)
 thrown_names =
     codes "java/lang/NullPointerException" ∷ codes "java/lang/ArithmeticException" ∷ codes "java/lang/ClassCastException"
     ∷ codes "java/lang/ArrayIndexOutOfBoundsException" ∷ codes "java/lang/ArrayStoreException" ∷ codes "java/lang/NegativeArraySizeException"
-    ∷ codes "java/lang/IncompatibleClassChangeError" ∷ codes "java/lang/StringIndexOutOfBoundsException" ∷ []
+    ∷ codes "java/lang/IncompatibleClassChangeError" ∷ codes "java/lang/StringIndexOutOfBoundsException"
+    ∷ codes "java/lang/CloneNotSupportedException" ∷ []
 
 -- the classes of the objects of System.out and System.in
 abbrev pub output_type : Outline → TypeRef

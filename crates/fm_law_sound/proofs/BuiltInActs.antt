@@ -2,12 +2,13 @@
 use Rattle.std.proofs.Common.{◌≡◌, ℕ, zero, suc, ◌^◌, ◌<◌, cond, Bool, true, false, List, [], ◌∷◌, length, take, Option, Some, None, codes, refl, sym, ◌∙◌, ap, subst, slice_get, slice_index_or, arith}
 use Rattle.std.proofs.lemmas.Option.{slice_get-get_or}
 use Rattle.fm_alu.proofs.TwosComplementLemmas.{low_bits-lt}
+use Rattle.fm_base.specs.declared.kinds.TypeRef.{TypeRef}
 use Rattle.fm_cells.specs.Objects.{Object}
 use Rattle.fm_cells.specs.Stores.{object_at, Store}
 use Rattle.fm_world.specs.Numbers.{type_of_class}
 use Rattle.fm_world.specs.Programs.{kind_at, Outline, Program}
 use Rattle.fm_frames.specs.Acts.{cell_of}
-use Rattle.fm_frames.specs.Effects.{acting, Effect, Exits, going, int_word, printing, SameOperands, words}
+use Rattle.fm_frames.specs.Effects.{acting, Copy, Effect, Exits, going, int_word, making, printing, SameOperands, words}
 use Rattle.fm_frames.specs.Elements.{is_text_type, shows_units}
 use Rattle.fm_frames.specs.NativeRows.{has_text, native_effect, shown_words, text_kind, text_type, type_name}
 use Rattle.fm_frames.specs.declared.natives.Native.{Native}
@@ -15,18 +16,18 @@ use Rattle.fm_frames.specs.declared.natives.Native.TheVariants.{ThrowableInitOf}
 use Rattle.fm_frames.specs.Sights.{led_to, Looks, looks, Lost, NoField, Sight, sights, Text, text_in, Thing, type_numbered, units_of}
 use Rattle.fm_frames.specs.States.{Frame, word_at}
 use Rattle.fm_frames.specs.declared.values.Value.{Value}
-use Rattle.fm_frames.proofs.Failures.{TextOutside}
+use Rattle.fm_frames.proofs.Failures.{NotCloneable, TextOutside}
 use Rattle.fm_frames.proofs.NativeCases.{IsAt, KeepsUnits, native_cases}
 use Rattle.fm_frames.proofs.UsualAsks.{SeesUnits, usual_asks}
 use Rattle.fm_frames.specs.Literals.{class_literal}
-use Rattle.fm_law_sound.specs.Acting.{ActsFit, PlaceFits}
+use Rattle.fm_law_sound.specs.Acting.{ActsFit, MakeFits, PlaceFits}
 use Rattle.fm_law_sound.specs.BuiltIns.{native_slots}
 use Rattle.fm_law_sound.specs.Making.{AreFew, AreUnits, HaveTextFirst, HoldsObjects, IsMakeable, NamesAreUnits}
 use Rattle.fm_law_sound.specs.Sound.{HaveKinds, IsObjectIn}
 use Rattle.fm_law_sound.proofs.BuiltInRows.{two_references}
 use Rattle.fm_law_sound.proofs.InsnActs.{failures, Fits, quiet}
 use Rattle.fm_law_sound.proofs.KindsAgree.{hidden_place}
-use Rattle.fm_law_sound.proofs.MadeObjects.{length_few, literal_fits, no_text, text_fits}
+use Rattle.fm_law_sound.proofs.MadeObjects.{length_few, literal_fits, no_text, number_there, numbered, text_fits}
 use Rattle.fm_law_sound.proofs.SeenObjects.{seen_at}
 use Rattle.fm_law_sound.proofs.ShownUnits.{shown_fit}
 use Rattle.fm_law_sound.proofs.TextUnits.{units-append, units-drop, units-each, units-hex, units-signed, units-take, units-zeros}
@@ -81,6 +82,29 @@ seen_units : (o : Outline) (store : Store) → HoldsObjects o store → NamesAre
 seen_units o store holds names stack n it seen =
     let found = seen_at o store stack n it seen in
     subst (HasUnits o) found.looks_so (looks_units o store holds names found.object (holds (cell_of (word_at stack n)) found.object found.held))
+
+-- ---- one more of the type and the length of an object
+
+looks_made : (o : Outline) (store : Store) (object : Object) → IsObjectIn o object → MakeFits o (looks o store object).type (looks o store object).len []
+unfolding looks
+looks_made o store object h =
+    let t : TypeRef = type_numbered o object.class in
+    let number = numbered o object.class t (slice_get-get_or o.types object.class (type_of_class 0) h.numbered) in
+    record {
+      number = number.0;
+      number_is = number.1;
+      there = number_there o t number.0 number.1;
+      made = h.of_type.made;
+      length_fits = h.of_type.len;
+      content_fits = tt;
+    }
+
+like_seen : (o : Outline) (store : Store) → HoldsObjects o store → (stack : List Value) (it : Looks) → slice_get (sights o store stack) 0 ≡ Some (Thing it)
+    → MakeFits o it.type it.len []
+like_seen o store holds stack it seen =
+    let found = seen_at o store stack 0 it seen in
+    subst (λ l. MakeFits o l.type l.len []) found.looks_so
+    (looks_made o store found.object (holds (cell_of (word_at stack 0)) found.object found.held))
 
 -- ---- the rows
 
@@ -148,6 +172,23 @@ module _ (p : Program) (ready : IsMakeable p) (names : NamesAreUnits p.outline) 
         (text_fits p ready units (length_few o (text_type o) (length units) units made.0) fit, (placed n it seen at, (λ areas cells statics. tt), tt));
   }
 
+  -- ---- copies
+
+  copy_fits : (it : Looks) → slice_get s 0 ≡ Some (Thing it) → A (making 1 (Copy it.type it.len 0))
+  copy_fits it seen =
+      let found = seen_at o store f.stack 0 it seen in
+      record {
+        fits = λ few. (
+          record {
+            makes = like_seen o store holds f.stack it seen;
+            object = found.object;
+            held = found.held;
+            type = sym found.type_is;
+          },
+          tt,
+        );
+      }
+
   native_rows : (row : Native) (byte : Option ℕ) → HaveKinds (native_slots row) (take (length (native_slots row)) f.stack) → A (native_effect o row byte s)
   native_rows row byte have =
       native_cases o s row AreUnits A keeps (usual_asks o s AreUnits A sees (failures p ready store f) (λ n it at hides. bare _ refl) row)
@@ -177,6 +218,8 @@ module _ (p : Program) (ready : IsMakeable p) (names : NamesAreUnits p.outline) 
         unlinked = λ is. bare _ refl;
         linked = λ is it at loose. record { fits = λ few. refl };
         chain_freed = λ is. record { fits = λ few. refl };
+        copied = λ is it at may. copy_fits it at;
+        uncopied = λ is. (failures p ready store f).raised NotCloneable;
       })
       byte
 

@@ -6,12 +6,12 @@ use Rattle.std.proofs.lemmas.List.{length-append}
 use Rattle.fm_types.specs.declared.slots.Slot.{Slot}
 use Rattle.fm_types.specs.declared.slots.Slot.TheVariants as slot
 use Rattle.fm_world.specs.Programs.{Outline}
-use Rattle.fm_frames.specs.Effects.{acting, Effect, Free, FreeChain, giving_literal, int_word, OfMade, OfOperand, OfPlace, Put, SameOperands, SetChain, Source, words}
+use Rattle.fm_frames.specs.Effects.{acting, Copy, Effect, Free, FreeChain, giving_literal, int_word, making, OfMade, OfOperand, OfPlace, Put, SameOperands, SetChain, Source, words}
 use Rattle.fm_frames.specs.NativeRows.{arguments_words, given_words, has_text, native_effect, native_words, shown_words, text_kind}
 use Rattle.fm_frames.specs.Natives.{a_boolean, a_text, AGiven, AnObject, AShown, from_top, Given, has_receiver, native_type, Nothing, Returned, SomeChars}
 use Rattle.fm_frames.specs.declared.natives.Native.{Native}
 use Rattle.fm_frames.specs.declared.natives.Shown.{Shown}
-use Rattle.fm_frames.specs.declared.natives.Native.TheVariants.{Append, FreeMeFree, FreeMeFreeChain, FreeMeLink, GetMessage, ObjectGetClass, StringToString, ThrowableInitOf}
+use Rattle.fm_frames.specs.declared.natives.Native.TheVariants.{Append, FreeMeFree, FreeMeFreeChain, FreeMeLink, GetMessage, ObjectClone, ObjectGetClass, StringToString, ThrowableInitOf}
 use Rattle.fm_frames.specs.declared.natives.Shown.TheVariants.{Boolean as ShownBoolean, Char as ShownChar, Int as ShownInt, Long as ShownLong, Text as ShownText}
 use Rattle.fm_frames.specs.Sights.{Sight}
 use Rattle.fm_frames.specs.States.{Frame, word_at}
@@ -148,6 +148,8 @@ module _ (o : Outline) (f : Frame) where
     linked = λ is it seen loose. as_row native FreeMeLink (record (acting 2 (SetChain 1 0 ∷ [])) { gives = OfOperand 1 ∷ [] }) is have
         (λ has. (refl, refl, λ areas made statics. ((two_references f.stack has).1, tt)));
     chain_freed = λ is. as_row native FreeMeFreeChain (acting 1 (FreeChain 0 ∷ [])) is have (λ has. (refl, refl, λ areas made statics. tt));
+    copied = λ is it seen may. as_row native ObjectClone (making 1 (Copy it.type it.len 0)) is have (λ has. (refl, refl, λ areas made statics. (tt, tt)));
+    uncopied = λ is areas made. tt;
   }
 
   pub native_leads : (native : Native) (byte : Option ℕ) (s : List Sight) → HaveKinds (native_slots native) (take (length (native_slots native)) f.stack)

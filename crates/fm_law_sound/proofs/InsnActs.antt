@@ -45,7 +45,7 @@ use Rattle.fm_frames.specs.declared.values.Value.{Value}
 use Rattle.fm_code.specs.StackWords.{element_words}
 pub use Rattle.fm_frames.proofs.EachInsn.{magnitudes}
 use Rattle.fm_frames.proofs.EachInsn.{each_insn, IsCall}
-use Rattle.fm_frames.proofs.Failures.{Arithmetic, ArrayStore, ClassCast, ClassChange, Failures, IndexOutside, name_of, NegativeSize, NullPointer, Raised, TextOutside}
+use Rattle.fm_frames.proofs.Failures.{Arithmetic, ArrayStore, ClassCast, ClassChange, Failures, IndexOutside, name_of, NegativeSize, NotCloneable, NullPointer, Raised, TextOutside}
 use Rattle.fm_law_sound.specs.Acting.{ActsFit, PlaceFits}
 use Rattle.fm_law_sound.specs.Leading.{is_call, NamesField}
 use Rattle.fm_law_sound.specs.Making.{AreFew, IsMakeable, NamesMade}
@@ -53,7 +53,7 @@ use Rattle.fm_law_sound.specs.Sound.{field_slot, FrameHasKinds, HasKind, HaveKin
 use Rattle.fm_law_sound.proofs.ArrayRows.{number_slots, reference_kind}
 use Rattle.fm_law_sound.proofs.HiddenFields.{field_seen}
 use Rattle.fm_law_sound.proofs.KindLemmas.{taken_words}
-use Rattle.fm_law_sound.proofs.MadeObjects.{arithmetic_thrown, array_fits, cast_thrown, change_thrown, index_thrown, IsThrown, literal_fits, negative_thrown, no_text, null_thrown, numbered, object_fits, outside_thrown, store_thrown}
+use Rattle.fm_law_sound.proofs.MadeObjects.{arithmetic_thrown, array_fits, cast_thrown, change_thrown, index_thrown, IsThrown, literal_fits, negative_thrown, no_text, null_thrown, numbered, object_fits, outside_thrown, store_thrown, uncloneable_thrown}
 use Rattle.fm_law_sound.proofs.NestedArrays.{array_kind, arrays_fit}
 use Rattle.fm_law_sound.proofs.SeenObjects.{seen_at}
 use Rattle.fm_law_sound.proofs.ObjectRows.{row_of_field, row_of_type, static_slot_at}
@@ -175,6 +175,7 @@ each_thrown p ready NegativeSize = negative_thrown p ready
 each_thrown p ready IndexOutside = index_thrown p ready
 each_thrown p ready TextOutside = outside_thrown p ready
 each_thrown p ready ClassChange = change_thrown p ready
+each_thrown p ready NotCloneable = uncloneable_thrown p ready
 
 no_call : (i : Insn) → is_call i ≡ false → IsCall i → ⊥
 no_call (insn.Virtual index) call is = false≢true (sym call)

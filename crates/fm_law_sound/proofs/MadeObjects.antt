@@ -249,6 +249,12 @@ module _ (p : Program) (ready : IsMakeable p) where
       thrown_by (codes "java/lang/IncompatibleClassChangeError") 25 (omega arith)
       (λ given. position_from-zero (λ (c : DeclaredClass). bytes_eq c.name (codes "java/lang/IncompatibleClassChangeError")) (built_in ++ given)) (λ given. (refl, refl))
 
+  pub uncloneable_thrown : IsThrown (codes "java/lang/CloneNotSupportedException")
+  unfolding built_in
+  uncloneable_thrown =
+      thrown_by (codes "java/lang/CloneNotSupportedException") 28 (omega arith)
+      (λ given. position_from-zero (λ (c : DeclaredClass). bytes_eq c.name (codes "java/lang/CloneNotSupportedException")) (built_in ++ given)) (λ given. (refl, refl))
+
   -- ---- texts
 
   text_is : text_type o ≡ type_of_class 1

@@ -19,7 +19,7 @@ use Rattle.fm_world.specs.Programs.{kind_at, Outline}
 use Rattle.fm_world.specs.declared.uses.Use.{Use}
 use Rattle.fm_world.specs.declared.uses.Use.TheVariants as resolved
 use Rattle.fm_frames.specs.ArrayRows.{element_kind, put_element}
-use Rattle.fm_frames.specs.Effects.{acting, Effect, Exits, Falls, giving_literal, going, int_word, loaded, making, Next, OfOperand, OfPlace, Plain, printing, SameOperands, SetChain, Source, Throws, words}
+use Rattle.fm_frames.specs.Effects.{acting, Copy, Effect, Exits, Falls, giving_literal, going, int_word, loaded, making, Next, OfOperand, OfPlace, Plain, printing, SameOperands, SetChain, Source, Throws, words}
 use Rattle.fm_frames.specs.NativeRows.{has_text, native_effect, text_kind, text_made, text_type}
 use Rattle.fm_frames.specs.declared.natives.Native.{Native}
 use Rattle.fm_frames.specs.ObjectRows.{kind_of_field}
@@ -29,7 +29,7 @@ use Rattle.fm_frames.specs.declared.values.Value.{Value}
 use Rattle.fm_frames.specs.declared.values.Value.TheVariants as value
 use Rattle.fm_frames.proofs.EachCall.{any_calls}
 use Rattle.fm_frames.proofs.EachInsn.{each_insn, IsNamed, LeadsOn, magnitudes, WritesNamed}
-use Rattle.fm_frames.proofs.Failures.{Failures, name_of, TextOutside}
+use Rattle.fm_frames.proofs.Failures.{Failures, name_of, NotCloneable, TextOutside}
 use Rattle.fm_frames.proofs.NestedActions.{nested_actions}
 use Rattle.fm_frames.proofs.UsualAsks.{each_native}
 use Rattle.fm_frames.specs.Literals.{class_literal}
@@ -37,6 +37,7 @@ use Rattle.fm_law_sound.specs.Placing.{PutAgrees, ReadAgrees, sources_in, thrown
 use Rattle.fm_law_sound.proofs.InsnActs.{elements_deep}
 use Rattle.fm_law_sound.proofs.KindsAgree.{Agrees, bare, gone, loaded_agrees, made_agrees, put_agrees, seen_place, set_agrees, stucks, throws}
 use Rattle.fm_law_sound.proofs.NestedArrays.{array_kind}
+use Rattle.fm_law_sound.proofs.SeenObjects.{seen_at}
 
 module _ (o : Outline) (store : Store) (stack : List Value) where
   abbrev A : Effect → Type 0
@@ -97,6 +98,10 @@ module _ (o : Outline) (store : Store) (stack : List Value) where
         unlinked = λ is. plain _ tt (tt, tt);
         linked = λ is it seen loose. plain (record (acting 2 (SetChain 1 0 ∷ [])) { gives = OfOperand 1 ∷ [] }) (tt, tt) (tt, tt);
         chain_freed = λ is. plain _ (tt, tt) tt;
+        copied = λ is it seen may.
+            let found = seen_at o store stack 0 it seen in
+            plain (making 1 (Copy it.type it.len 0)) ((found.object, found.held, found.type_is), tt) (tt, tt);
+        uncopied = λ is. failures.raised NotCloneable;
       })
       byte
 

@@ -37,7 +37,7 @@ use Rattle.fm_frames.specs.Sights.{Sight, sights}
 use Rattle.fm_frames.specs.States.{Frame, word_at}
 use Rattle.fm_frames.proofs.EachCall.{call_rows, entered_cases, Reaches, Selected, Special}
 use Rattle.fm_frames.proofs.EachInsn.{each_insn, IsNamed, LeadsOn, loaded_all, magnitudes, WritesNamed}
-use Rattle.fm_frames.proofs.Failures.{Failures, TextOutside}
+use Rattle.fm_frames.proofs.Failures.{Failures, NotCloneable, TextOutside}
 use Rattle.fm_frames.proofs.NestedActions.{nested_actions}
 use Rattle.fm_frames.proofs.UsualAsks.{each_native}
 use Rattle.fm_frames.specs.Literals.{class_literal, literal_count, literal_named}
@@ -140,6 +140,8 @@ module _ (o : Outline) (store : Store) (f : Frame) where
           unlinked = λ is. none_freed FreeMeLink is refl;
           linked = λ is it seen loose. none_freed FreeMeLink is refl;
           chain_freed = λ is. none_freed FreeMeFreeChain is refl;
+          copied = λ is it seen may. plain _ (tt, tt) (tt, tt) refl;
+          uncopied = λ is. failures.raised NotCloneable;
         })
         byte where
           none_freed : {X : Type 0} (freeing : Native) → row ≡ freeing → is_free_me freeing ≡ true → X

@@ -16,7 +16,7 @@ use Rattle.fm_world.specs.Programs.{Outline}
 use Rattle.fm_world.specs.declared.uses.Use.{Use}
 use Rattle.fm_frames.proofs.EachCall.{any_calls}
 use Rattle.fm_frames.proofs.EachInsn.{each_insn, IsNamed, LeadsOn, loaded_all, magnitudes, WritesNamed}
-use Rattle.fm_frames.proofs.Failures.{Failures, TextOutside}
+use Rattle.fm_frames.proofs.Failures.{Failures, NotCloneable, TextOutside}
 use Rattle.fm_frames.proofs.NestedActions.{nested_actions}
 use Rattle.fm_frames.proofs.UsualAsks.{each_native}
 use Rattle.fm_law_unwoven.specs.UnseenCode.{ActsWithout, GoesWithin, IsWithin, UsesNamed}
@@ -75,6 +75,8 @@ module _ (max targets : ℕ) (o : Outline) where
         unlinked = λ is. words_of 2 (OfOperand 0 ∷ []) (tt, tt);
         linked = λ is it seen loose. record { acts = (tt, tt); gives = (tt, tt); writes = tt; next = tt };
         chain_freed = λ is. record { acts = (tt, tt); gives = tt; writes = tt; next = tt };
+        copied = λ is it seen may. record { acts = (tt, tt); gives = (tt, tt); writes = tt; next = tt };
+        uncopied = λ is. failures.raised NotCloneable;
       })
       byte
 

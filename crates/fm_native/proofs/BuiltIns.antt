@@ -7,7 +7,7 @@ use Rattle.fm_frames.proofs.Programs.{class_literal-is, string-is}
 use Rattle.fm_frames.specs.NativeRows.{class_type, text_type}
 use Rattle.fm_frames.specs.Runnable.{IsRunnable}
 use Rattle.fm_types.specs.Named.{built_in_type}
-use Rattle.fm_world.specs.BuiltIns.{built_in, class_literal_class}
+use Rattle.fm_world.specs.BuiltIns.{built_in, cloneable_name, class_literal_class}
 use Rattle.fm_world.specs.Descriptors.{class_number}
 use Rattle.fm_world.specs.Numbers.{type_of_class}
 use Rattle.fm_world.specs.Programs.{Program}
@@ -25,3 +25,17 @@ index-found given = position_from-zero (λ (c : DeclaredClass). bytes_eq c.name 
 
 pub index-is : (p : Program) → IsRunnable p → built_in_type p.outline (codes "java/lang/StringIndexOutOfBoundsException") ≡ type_of_class 23
 index-is p runnable = named_class p (codes "java/lang/StringIndexOutOfBoundsException") 23 runnable index-found
+
+cloneable-found : (given : List DeclaredClass) → class_number (built_in ++ given) cloneable_name ≡ Some 26
+unfolding built_in
+cloneable-found given = position_from-zero (λ (c : DeclaredClass). bytes_eq c.name cloneable_name) (built_in ++ given)
+
+pub cloneable-is : (p : Program) → IsRunnable p → built_in_type p.outline cloneable_name ≡ type_of_class 26
+cloneable-is p runnable = named_class p cloneable_name 26 runnable cloneable-found
+
+uncloneable-found : (given : List DeclaredClass) → class_number (built_in ++ given) (codes "java/lang/CloneNotSupportedException") ≡ Some 28
+unfolding built_in
+uncloneable-found given = position_from-zero (λ (c : DeclaredClass). bytes_eq c.name (codes "java/lang/CloneNotSupportedException")) (built_in ++ given)
+
+pub uncloneable-is : (p : Program) → IsRunnable p → built_in_type p.outline (codes "java/lang/CloneNotSupportedException") ≡ type_of_class 28
+uncloneable-is p runnable = named_class p (codes "java/lang/CloneNotSupportedException") 28 runnable uncloneable-found

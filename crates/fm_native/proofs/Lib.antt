@@ -2,6 +2,7 @@ pub mod Asks
 pub mod BuiltIns
 pub mod ChainCells
 pub mod ClassRows
+pub mod CopyRows
 pub mod FreeRows
 pub mod HiddenRows
 pub mod HiddenSteps

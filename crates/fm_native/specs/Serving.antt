@@ -9,6 +9,7 @@ use Rattle.fm_frames.specs.Literals.{literal_count}
 use Rattle.fm_types.specs.Fits.{fits_type}
 use Rattle.fm_types.specs.Named.{built_in_type, throwable_type}
 use Rattle.fm_world.specs.Programs.{Outline}
+use Rattle.fm_frames.specs.Elements.{pack_of}
 use Rattle.fm_frames.specs.NativeRows.{type_name}
 use Rattle.fm_frames.specs.Sights.{type_numbered}
 use Rattle.fm_frames.specs.States.{Areas}
@@ -35,6 +36,10 @@ pub record HoldsHidden (o : Outline) (store : Store) : Type 0 where
 pub record HoldsNames (o : Outline) (store : Store) : Type 0 where
   pub units : (cell : ℕ) (object : Object) → object_at store cell ≡ Some object → All (λ unit. unit < 2 ^ 16) (type_name o (type_numbered o object.class))
 
+-- as many elements of each object that is held are in a word as its type has there
+pub record HoldsPacks (o : Outline) (store : Store) : Type 0 where
+  pub packs : (cell : ℕ) (object : Object) → object_at store cell ≡ Some object → object.pack ≡ pack_of o (type_numbered o object.class)
+
 -- all of this
 pub record ServesNatives (o : Outline) (x : Areas) : Type 0 where
   pub texts : HoldsTexts o x.store
@@ -43,3 +48,4 @@ pub record ServesNatives (o : Outline) (x : Areas) : Type 0 where
   pub counts : CountsFrees x
   -- there is a place for each literal
   pub literals : literal_count o ≤ length x.literals
+  pub packs : HoldsPacks o x.store

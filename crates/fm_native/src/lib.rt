@@ -8,6 +8,7 @@ pub mod asked;
 pub mod builders;
 pub mod classes;
 pub mod contents;
+mod copies;
 pub mod free_me;
 pub mod hidden;
 mod names;

@@ -9,7 +9,7 @@ ghost use Rattle.fm_native.specs.Doing.{quiet, turn_of, DoesRow, FailsRow, Print
 ghost use Rattle.fm_native.specs.Serving.{ServesNatives};
 ghost use Rattle.fm_native.specs.inner.Quiet.{is_quiet};
 
-use crate::{builders, classes, free_me, objects, streams, strings, throwables};
+use crate::{builders, classes, copies, free_me, objects, streams, strings, throwables};
 use fm_base::NoMemory;
 use fm_cells::Memory;
 use fm_files::Sink;
@@ -45,6 +45,7 @@ fn quiet_method<M: Memory>(
         Native::ObjectEquals => objects::equals(machine, program),
         Native::ObjectToString => objects::to_string(alloc, machine, program),
         Native::ObjectGetClass => objects::get_class(alloc, machine, program),
+        Native::ObjectClone => copies::clone(machine, program),
         Native::StringLength => strings::length(machine, program),
         Native::CharAt => strings::char_at(machine, program),
         Native::StringEquals => strings::equals(alloc, machine, program),

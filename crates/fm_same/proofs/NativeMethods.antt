@@ -21,7 +21,7 @@ use Rattle.fm_types.specs.States.{is_reference, local_slots}
 use Rattle.fm_types.specs.Typed.{receiver_slots}
 use Rattle.fm_types.specs.declared.slots.Slot as slots
 use Rattle.fm_types.specs.declared.slots.Slot.TheVariants as slot
-use Rattle.fm_world.specs.BuiltIns.{built_in, class_literal_class, class_literal_name, string_name}
+use Rattle.fm_world.specs.BuiltIns.{built_in, object_name, class_literal_class, class_literal_name, string_name}
 use Rattle.fm_world.specs.Declarations.{no_method}
 use Rattle.fm_base.specs.Kinds.{kind_words}
 use Rattle.fm_world.specs.Descriptors.{argument_word_count, base_in, class_number, declared_kind, kind_with, of_class, parameter_types, result_type}
@@ -30,12 +30,12 @@ use Rattle.fm_world.specs.Numbers.{type_of_class}
 use Rattle.fm_world.specs.Programs.{Outline}
 use Rattle.fm_world.specs.declared.declarations.DeclaredClass.{DeclaredClass}
 use Rattle.fm_world.specs.declared.declarations.DeclaredMethod.{DeclaredMethod}
-use Rattle.fm_frames.proofs.BuiltInTypes.{builder_there, buffer_there}
+use Rattle.fm_frames.proofs.BuiltInTypes.{builder_there, buffer_there, object_there}
 use Rattle.fm_frames.proofs.Programs.{class_literal_number, string_number}
 use Rattle.fm_frames.specs.CallRows.{native_of, words_of_arguments}
 use Rattle.fm_frames.specs.Natives.{native_of_row}
 use Rattle.fm_frames.specs.declared.natives.Native.{Native}
-use Rattle.fm_frames.specs.declared.natives.Native.TheVariants.{Append, FreeMeFree, FreeMeFreeChain, FreeMeLink, GetMessage, ObjectGetClass, StringToString, ThrowableInitOf}
+use Rattle.fm_frames.specs.declared.natives.Native.TheVariants.{Append, FreeMeFree, FreeMeFreeChain, FreeMeLink, GetMessage, ObjectClone, ObjectGetClass, StringToString, ThrowableInitOf}
 use Rattle.fm_same.specs.Covering.{is_free_me, native_words, NativeEnds}
 use Rattle.fm_law_sound.proofs.BuiltInMethods.{method_same}
 
@@ -68,12 +68,13 @@ argument_words-alike cs ds descriptor = sums_alike cs ds (parameter_types descri
 
 -- ---- the table
 
--- the classes that built-in methods with links return: texts, those that build them, and class literals
+-- the classes that built-in methods with links return: texts, those that build them, class literals, and Object
 abbrev names_text : BaseType → Bool
 names_text (primitive letter) = false
 names_text (object name) =
     bytes_eq name string_name
-    || (bytes_eq name (codes "java/lang/StringBuilder") || (bytes_eq name (codes "java/lang/StringBuffer") || bytes_eq name class_literal_name))
+    || (bytes_eq name (codes "java/lang/StringBuilder")
+    || (bytes_eq name (codes "java/lang/StringBuffer") || (bytes_eq name class_literal_name || bytes_eq name object_name)))
 
 abbrev answers_text : DeclaredMethod → Bool
 answers_text m = not (is_static m.flags) && names_text (result_type m.descriptor).base
@@ -83,6 +84,7 @@ has_ends StringToString m = answers_text m
 has_ends (Append shown) m = answers_text m
 has_ends GetMessage m = answers_text m
 has_ends ObjectGetClass m = answers_text m
+has_ends ObjectClone m = answers_text m
 has_ends ThrowableInitOf m = not (is_static m.flags) && bytes_eq m.descriptor (codes "(Ljava/lang/String;)V")
 has_ends FreeMeFree m = is_static m.flags
 has_ends FreeMeLink m = is_static m.flags
@@ -130,14 +132,19 @@ text_there given name h =
     (λ builder. (2, ap (class_number (built_in ++ given)) ((bytes_eq-Decides name (codes "java/lang/StringBuilder")).0 builder) ∙ builder_there given))
     (λ more. ⊎_elim
     (λ buffer. (3, ap (class_number (built_in ++ given)) ((bytes_eq-Decides name (codes "java/lang/StringBuffer")).0 buffer) ∙ buffer_there given))
+    (λ rest. ⊎_elim
     (λ literal. (
       class_literal_class,
       ap (class_number (built_in ++ given)) ((bytes_eq-Decides name class_literal_name).0 literal) ∙ class_literal_number given,
     ))
-    (or_cases (bytes_eq name (codes "java/lang/StringBuffer")) (bytes_eq name class_literal_name) more))
-    (or_cases (bytes_eq name (codes "java/lang/StringBuilder")) (bytes_eq name (codes "java/lang/StringBuffer") || bytes_eq name class_literal_name) others))
+    (λ any. (0, ap (class_number (built_in ++ given)) ((bytes_eq-Decides name object_name).0 any) ∙ object_there given))
+    (or_cases (bytes_eq name class_literal_name) (bytes_eq name object_name) rest))
+    (or_cases (bytes_eq name (codes "java/lang/StringBuffer")) (bytes_eq name class_literal_name || bytes_eq name object_name) more))
+    (or_cases (bytes_eq name (codes "java/lang/StringBuilder"))
+    (bytes_eq name (codes "java/lang/StringBuffer") || (bytes_eq name class_literal_name || bytes_eq name object_name)) others))
     (or_cases (bytes_eq name string_name)
-    (bytes_eq name (codes "java/lang/StringBuilder") || (bytes_eq name (codes "java/lang/StringBuffer") || bytes_eq name class_literal_name)) h)
+    (bytes_eq name (codes "java/lang/StringBuilder")
+    || (bytes_eq name (codes "java/lang/StringBuffer") || (bytes_eq name class_literal_name || bytes_eq name object_name))) h)
 
 text_kind : (given : List DeclaredClass) (dims : ℕ) (b : BaseType) → names_text b ≡ true
     → IsSomeAnd (option_map (kind_with dims) (base_in (built_in ++ given) b)) (λ k. pairs.is_reference_kind k ≡ true)
@@ -195,6 +202,7 @@ module _ (o : Outline) (given : List DeclaredClass) (classes : o.classes ≡ bui
   ends_are (Append shown) h other = both_ends h
   ends_are GetMessage h other = both_ends h
   ends_are ObjectGetClass h other = both_ends h
+  ends_are ObjectClone h other = both_ends h
   ends_are ThrowableInitOf h other =
       let parts = and_parts (not (is_static declared.flags)) (bytes_eq declared.descriptor (codes "(Ljava/lang/String;)V")) h in
       let instance : is_static declared.flags ≡ false = not-true (is_static declared.flags) parts.0 in

@@ -4,6 +4,7 @@ use Rattle.std.proofs.Common.{◌≡◌, ℕ, not, ◌||◌, zero, suc, ◌+◌,
 use Rattle.std.proofs.lemmas.Bool.{and_parts}
 use Rattle.std.proofs.lemmas.Option.{same_Some}
 use Rattle.fm_base.proofs.OptionFacts.{IsSomeAnd-from_some}
+use Rattle.fm_base.specs.declared.kinds.TypeRef.{TypeRef}
 use Rattle.fm_code.specs.Edges.{falls_through, IsNormalEdge}
 use Rattle.fm_code.specs.Live.{stores_over}
 use Rattle.fm_code.specs.declared.instructions.Insn.{Insn}
@@ -17,12 +18,12 @@ use Rattle.fm_world.specs.BuiltIns.{built_in}
 use Rattle.fm_world.specs.Chains.{chain_of}
 use Rattle.fm_world.specs.Members.{method_at, methods_of}
 use Rattle.fm_world.specs.Programs.{Program}
-use Rattle.fm_frames.specs.Effects.{giving_literal, OfLiteral, Put, Effect, OfMade, OfOperand, OfPlace, Plain, acting, Exits, Faults, going, int_word, making, printing, words}
+use Rattle.fm_frames.specs.Effects.{Copy, giving_literal, OfLiteral, Put, Effect, OfMade, OfOperand, OfPlace, Plain, acting, Exits, Faults, going, int_word, making, printing, words}
 use Rattle.fm_frames.specs.NativeRows as table
 use Rattle.fm_frames.specs.Natives.{native_of_row, natives}
 use Rattle.fm_frames.specs.declared.natives.Native.{Native}
 use Rattle.fm_frames.specs.declared.natives.Shown.{Shown}
-use Rattle.fm_frames.specs.declared.natives.Native.TheVariants.{Append, FreeMeFree, FreeMeFreeChain, FreeMeLink, GetMessage, ObjectGetClass, StringToString, ThrowableInitOf}
+use Rattle.fm_frames.specs.declared.natives.Native.TheVariants.{Append, FreeMeFree, FreeMeFreeChain, FreeMeLink, GetMessage, ObjectClone, ObjectGetClass, StringToString, ThrowableInitOf}
 use Rattle.fm_frames.specs.declared.natives.Shown.TheVariants.{Boolean as ShownBoolean, Char as ShownChar, Int as ShownInt, Long as ShownLong, Text as ShownText}
 use Rattle.fm_frames.specs.States.{Frame}
 use Rattle.fm_frames.specs.Effects.{SameOperands, Source}
@@ -30,7 +31,7 @@ use Rattle.fm_conn.specs.Pairs.{depth_below}
 use Rattle.std.specs.List.{AllByRecursion}
 use Rattle.fm_frames.specs.States.{null}
 use Rattle.fm_frames.specs.Sights.{Sight}
-use Rattle.fm_frames.proofs.Failures.{Failures, name_of, TextOutside}
+use Rattle.fm_frames.proofs.Failures.{Failures, name_of, NotCloneable, TextOutside}
 use Rattle.fm_frames.proofs.NativeCases.{NativeLeaves, Takes}
 use Rattle.fm_frames.proofs.UsualAsks.{Any, each_native}
 use Rattle.fm_frames.specs.Literals.{class_literal}
@@ -65,6 +66,7 @@ same_linking StringToString StringToString = true
 same_linking (Append shown) (Append other) = same_shown shown other
 same_linking ThrowableInitOf ThrowableInitOf = true
 same_linking GetMessage GetMessage = true
+same_linking ObjectClone ObjectClone = true
 same_linking row other = false
 
 abbrev place_from : ℕ → List Native → Native → ℕ
@@ -119,6 +121,11 @@ message_link = record { links = (end.Parameter 0, end.Parameter 1) ∷ []; row_h
 get_message_link : IsNativeLink (place_of GetMessage) end.Return (end.Parameter 0)
 unfolding native_links built_in methods_of chain_of
 get_message_link = record { links = result_and_receiver; row_has = (7, omega arith, refl); among = inl (0, omega arith, refl) }
+
+-- after those of FreeMe.link
+clone_link : IsNativeLink (place_of ObjectClone) end.Return (end.Parameter 0)
+unfolding native_links built_in methods_of chain_of
+clone_link = record { links = result_and_receiver; row_has = (10, omega arith, refl); among = inl (0, omega arith, refl) }
 
 -- a built-in method's links are there at once
 linked_by_row : (p : Program) (facts : Facts) (target number : ℕ) (a b : End2) → (method_at p.outline.classes target).method.row ≡ Some number
@@ -317,6 +324,24 @@ module _ (p : Program) (facts : Facts) (exact : AreFacts p facts) (f : Frame) (i
       (gives_one p facts exact f i h e 0 (OfLiteral (class_literal p.outline type)) refl (λ next edge there. tt))
       tt (λ k unwritten. keeps k) (omega (arith, taken, one))
 
+  -- a copy is made in the class of the receiver, and is given
+  copy_given : row ≡ ObjectClone → (t : TypeRef) (len : ℕ) → Row (making 1 (Copy t len 0))
+  copy_given is t len =
+      let taken = c.words in
+      let one : 1 ≡ native_words row = sym (ap native_words is) in
+      let ends = ends_of ObjectClone is in
+      let e : Effect = making 1 (Copy t len 0) in
+      let home : ℕ = facts.class f.method (word (point p facts exact f i h) 0) in
+      let level : length f.stack - native_words row + 0 ≡ length f.stack - 1 - 0 = omega (arith, one) in
+      let node : IsNode (x p facts exact f i h) (word (point p facts exact f i h) 0) =
+      subst (λ d. IsNode (x p facts exact f i h) (Slot f.item d)) level (c.arguments 0 ends.1) in
+      goes_obey p facts exact f i h e home ((λ there. refl), tt) falls tt
+      (gives_one p facts exact f i h e home (OfMade 0) refl
+      (λ next edge there.
+      receiver_given e home next 0 edge refl one (omega (arith, one)) ends.0 ends.1
+      (link_of ObjectClone is refl end.Return (end.Parameter 0) clone_link) there node))
+      tt (λ k unwritten. keeps k) (omega (arith, taken, one))
+
   -- ---- all rows: those of FreeMe have no ends
 
   leaves : (s : List Sight) → NativeLeaves p.outline s row Any Row
@@ -341,6 +366,8 @@ module _ (p : Program) (facts : Facts) (exact : AreFacts p facts) (f : Frame) (i
     unlinked = λ is. absurd (ends_of FreeMeLink is);
     linked = λ is it seen loose. absurd (ends_of FreeMeLink is);
     chain_freed = λ is. absurd (ends_of FreeMeFreeChain is);
+    copied = λ is it seen may. copy_given is it.type it.len;
+    uncopied = λ is. failures.raised NotCloneable;
   }
 
 module _ (p : Program) (facts : Facts) (exact : AreFacts p facts) (f : Frame) (i : Insn) (h : AtInsn p facts f i) (target : ℕ) where

@@ -27,7 +27,7 @@ pub use Rattle.fm_frames.specs.NativeRows.{arguments_words, given_words, native_
 pub use Rattle.fm_frames.specs.Natives.{is_free_me}
 use Rattle.fm_frames.specs.Natives.{native_of_row}
 use Rattle.fm_frames.specs.declared.natives.Native.{Native}
-use Rattle.fm_frames.specs.declared.natives.Native.TheVariants.{Append, FreeMeFree, FreeMeFreeChain, FreeMeLink, GetMessage, ObjectGetClass, StringToString, ThrowableInitOf}
+use Rattle.fm_frames.specs.declared.natives.Native.TheVariants.{Append, FreeMeFree, FreeMeFreeChain, FreeMeLink, GetMessage, ObjectClone, ObjectGetClass, StringToString, ThrowableInitOf}
 use Rattle.fm_frames.specs.Sights.{Looks, Sight, sights, Thing}
 use Rattle.fm_frames.specs.States.{Frame, State}
 use Rattle.fm_frames.specs.Steps.{effect_at}
@@ -80,6 +80,7 @@ NativeEnds o method StringToString = IsEnd o method end.Return × IsEnd o method
 NativeEnds o method (Append shown) = IsEnd o method end.Return × IsEnd o method (end.Parameter 0)
 NativeEnds o method GetMessage = IsEnd o method end.Return × IsEnd o method (end.Parameter 0)
 NativeEnds o method ObjectGetClass = IsEnd o method end.Return × IsEnd o method (end.Parameter 0)
+NativeEnds o method ObjectClone = IsEnd o method end.Return × IsEnd o method (end.Parameter 0)
 NativeEnds o method ThrowableInitOf = IsEnd o method (end.Parameter 0) × IsEnd o method (end.Parameter 1)
 NativeEnds o method FreeMeFree = ⊥
 NativeEnds o method FreeMeLink = ⊥

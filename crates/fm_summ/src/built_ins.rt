@@ -37,6 +37,9 @@ const FREE_ME_LINK: u16 = FREE_ME_ROW + 1;
 // The rows of Object begin at 0.
 const GET_CLASS: u16 = 4;
 
+// The last method of Object.
+const CLONE: u16 = STRING_ROW - 1;
+
 /// The ends of a method without code. Those that a built-in method links have one number, and each
 /// other end has its own.
 pub fn bare_entries(alloc: Global, method: &MethodInfo) -> Result<Vec<(End2, u32)>, NoMemory>
@@ -82,8 +85,8 @@ fn entry_number(row: Option<u16>, end: End2) -> u32
 }
 
 // Whether the built-in method of this row links the end with others: a result that is the receiver
-// or that it kept, a message that is kept, what FreeMe chains, and a class literal, which lives for
-// ever.
+// or that it kept, a message that is kept, what FreeMe chains, a class literal, which lives for
+// ever, and a copy that leads where the receiver does.
 fn is_linked_by(row: Option<u16>, end: End2) -> bool
     ensures { result ≡ is_linked_by row end }
 {
@@ -102,6 +105,7 @@ fn is_linked_by(row: Option<u16>, end: End2) -> bool
                 | GET_MESSAGE
                 | FREE_ME_LINK
                 | GET_CLASS
+                | CLONE
         ),
         End2::Parameter(0) => matches!(
             row,
@@ -114,6 +118,7 @@ fn is_linked_by(row: Option<u16>, end: End2) -> bool
                 | THROWABLE_INIT_OF
                 | GET_MESSAGE
                 | FREE_ME_LINK
+                | CLONE
         ),
         End2::Parameter(1) => matches!(row, THROWABLE_INIT_OF | FREE_ME_LINK),
         End2::Parameter(_) => false,

@@ -78,6 +78,7 @@ object_methods =
     ∷ method (codes "equals") (codes "(Ljava/lang/Object;)Z")
     ∷ method (codes "toString") (codes "()Ljava/lang/String;")
     ∷ method (codes "getClass") (codes "()Ljava/lang/Class;")
+    ∷ method (codes "clone") (codes "()Ljava/lang/Object;")
     ∷ []
 
 -- the methods of String
@@ -203,7 +204,7 @@ built_in_rows = class_row + length class_methods
 
 -- how many methods all classes have: those of a program come after them
 abbrev pub built_in_methods : ℕ
-built_in_methods = 95
+built_in_methods = 96
 
 -- ---- fields
 

@@ -8,7 +8,7 @@ const PUBLIC: u16 = 0x0001;
 const PUBLIC_STATIC: u16 = 0x0009;
 
 /// How many methods the built-in classes have: those of a program come after them.
-pub const BUILT_IN_METHODS: u32 = 95;
+pub const BUILT_IN_METHODS: u32 = 96;
 
 // Methods by their flags, names and descriptors, in rows that follow one another from the first one on.
 macro_rules! methods {
@@ -51,12 +51,13 @@ pub const FREE_ME_ROW: u16 = THROWABLE_ROW + THROWABLE_METHODS.len() as u16;
 
 const CLASS_ROW: u16 = FREE_ME_ROW + FREE_ME_METHODS.len() as u16;
 
-pub const OBJECT_METHODS: [BuiltInMethod; 5] = methods![0;
+pub const OBJECT_METHODS: [BuiltInMethod; 6] = methods![0;
     PUBLIC "<init>" "()V",
     PUBLIC "hashCode" "()I",
     PUBLIC "equals" "(Ljava/lang/Object;)Z",
     PUBLIC "toString" "()Ljava/lang/String;",
     PUBLIC "getClass" "()Ljava/lang/Class;",
+    PUBLIC "clone" "()Ljava/lang/Object;",
 ];
 
 pub const STRING_METHODS: [BuiltInMethod; 12] = methods![STRING_ROW;

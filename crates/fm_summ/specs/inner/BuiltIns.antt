@@ -1,5 +1,5 @@
 -- The ends of methods that have no code.
-use Rattle.std.specs.Prelude.{ℕ, ◌+◌, ◌==◌, Bool, false, List, [], ◌∷◌, ◌++◌, length, map, Option, Some, None, if◌then◌else◌}
+use Rattle.std.specs.Prelude.{ℕ, ◌+◌, ◌-◌, ◌==◌, Bool, false, List, [], ◌∷◌, ◌++◌, length, map, Option, Some, None, if◌then◌else◌}
 use Rattle.std.specs.List.{flat_map, list_any, range_with_len, slice_index_or}
 use Rattle.fm_base.specs.declared.kinds.Kind.{Kind}
 use Rattle.fm_code.specs.AccessFlags.{is_static}
@@ -69,11 +69,15 @@ link_row = free_me_row + 1
 abbrev pub get_class_row : ℕ
 get_class_row = 4
 
+-- clone, the last method of Object
+abbrev pub clone_row : ℕ
+clone_row = string_row - 1
+
 -- the rows that link the end with others
 abbrev pub linking_rows : End2 → List ℕ
-linking_rows end.Return = giving_itself (get_message_row ∷ link_row ∷ get_class_row ∷ [])
+linking_rows end.Return = giving_itself (get_message_row ∷ link_row ∷ get_class_row ∷ clone_row ∷ [])
 linking_rows (end.Parameter k) =
-    if k == 0 then giving_itself (init_of_row ∷ get_message_row ∷ link_row ∷ []) else if k == 1 then init_of_row ∷ link_row ∷ [] else []
+    if k == 0 then giving_itself (init_of_row ∷ get_message_row ∷ link_row ∷ clone_row ∷ []) else if k == 1 then init_of_row ∷ link_row ∷ [] else []
 linking_rows end.Global = get_class_row ∷ []
 
 -- whether a built-in method links an end with others
