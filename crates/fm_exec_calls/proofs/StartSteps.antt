@@ -22,9 +22,9 @@ use Rattle.fm_world.specs.Programs.{Outline, Program}
 use Rattle.fm_frames.proofs.Underways.{begun}
 use Rattle.fm_frames.specs.Acts.{Choose, class_started, Did, FullAt, LostAt, made_then, performed, Performed, requested, set_static, value_of, with_content}
 use Rattle.fm_frames.specs.Effects.{Action, Effect, Enters, Falls, Calls, Exits, Faults, Jumps, JumpsIfSame, Make, MakeLiteral, Next, OfLiteral, Plain, Returns, SetStatic, Start, Throws}
-use Rattle.fm_frames.specs.States.{Areas, Frame, State}
+use Rattle.fm_frames.specs.States.{Areas, Frame, silent, State}
 use Rattle.fm_frames.specs.Steps.{attempted, continued, done_by, frames_needed, is_deep, is_over, locals_of, makes, most_words, objects_made, stack_of, start_frames, words_among, words_made}
-use Rattle.fm_frames.specs.inner.Doings.{CanStep, DoesIn, IsReserved, NextFits, silent, Underway}
+use Rattle.fm_frames.specs.inner.Doings.{CanStep, DoesIn, IsReserved, NextFits, Underway}
 
 -- ---- a class is marked
 

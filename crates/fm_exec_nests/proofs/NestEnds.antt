@@ -9,9 +9,9 @@ use Rattle.fm_frames.proofs.Acting.{done-one}
 use Rattle.fm_frames.specs.Acts.{Choose, Did, performed}
 use Rattle.fm_frames.specs.ArrayRows.{array_actions, arrays_made}
 use Rattle.fm_frames.specs.Effects.{acting, Action, Effect, OfMade, Plain, Source, words}
-use Rattle.fm_frames.specs.States.{Areas, Frame, ref, State}
+use Rattle.fm_frames.specs.States.{Areas, Frame, ref, silent, State}
 use Rattle.fm_frames.specs.Steps.{attempted, continued, done_by, objects_made, words_made}
-use Rattle.fm_frames.specs.inner.Doings.{DoesIn, IsReady, NextFits, silent, Underway}
+use Rattle.fm_frames.specs.inner.Doings.{DoesIn, IsReady, NextFits, Underway}
 use Rattle.fm_exec_nests.proofs.NestActions.{nest-objects, nest-words-then}
 use Rattle.fm_exec_nests.specs.inner.Nests.{CanGive, CanNest, IsNest, nest_effect, nest_words, Nests}
 use Rattle.fm_world.specs.Programs.{Outline, Program}

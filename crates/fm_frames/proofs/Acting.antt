@@ -15,11 +15,11 @@ use Rattle.fm_base.specs.declared.kinds.Kind.{Kind}
 use Rattle.fm_world.specs.Programs.{Program}
 use Rattle.fm_frames.specs.Acts.{Choose, Did, literal_made, performed, put_value, set_static, Sources, value_of}
 use Rattle.fm_frames.specs.Effects.{Action, Put, SetStatic, Source, Plain, Exits, acting, going, printing, words}
-use Rattle.fm_frames.specs.States.{Areas, Frame, Moved, ref, State}
+use Rattle.fm_frames.specs.States.{Areas, Frame, Moved, ref, silent, State}
 use Rattle.fm_frames.specs.Steps.{attempted, continued, done_by, locals_of, stack_of}
 use Rattle.fm_frames.specs.declared.ends.Ended.TheVariants as end
 use Rattle.fm_frames.specs.declared.values.Value.{Value}
-use Rattle.fm_frames.specs.inner.Doings.{before, NextFits, silent}
+use Rattle.fm_frames.specs.inner.Doings.{before, NextFits}
 
 -- ---- once all actions are done
 

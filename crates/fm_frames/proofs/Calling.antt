@@ -6,10 +6,10 @@ use Rattle.fm_world.specs.Members.{methods_of}
 use Rattle.fm_world.specs.Programs.{Program}
 use Rattle.fm_frames.specs.Acts.{Choose, performed}
 use Rattle.fm_frames.specs.Effects.{Calls, Returns, going}
-use Rattle.fm_frames.specs.States.{Frame, State}
+use Rattle.fm_frames.specs.States.{Frame, silent, State}
 use Rattle.fm_frames.specs.Steps.{attempted, continued, halted, is_start, max_locals_of}
 use Rattle.fm_frames.specs.declared.ends.Ended.TheVariants as end
-use Rattle.fm_frames.specs.inner.Doings.{AreFramesIn, CanStep, NextFits, silent}
+use Rattle.fm_frames.specs.inner.Doings.{AreFramesIn, CanStep, NextFits}
 use Rattle.fm_frames.specs.inner.Frames.{place_of, topmost, with_called, with_result}
 use Rattle.fm_frames.specs.States.{Moved}
 

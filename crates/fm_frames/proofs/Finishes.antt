@@ -4,12 +4,12 @@ use Rattle.std.proofs.lemmas.Option.{none-some, same_Some}
 use Rattle.fm_world.specs.Programs.{Program}
 use Rattle.fm_frames.specs.Acts.{cell_of, Choose, performed, value_of}
 use Rattle.fm_frames.specs.Effects.{Source, Plain, Faults, going, words}
-use Rattle.fm_frames.specs.States.{Frame, State}
+use Rattle.fm_frames.specs.States.{Frame, silent, State}
 use Rattle.fm_frames.specs.Steps.{attempted, continued, offset_at, written}
 use Rattle.fm_frames.specs.declared.ends.Ended.TheVariants as end
 use Rattle.fm_frames.specs.declared.values.Value.{Value}
 use Rattle.fm_frames.specs.declared.values.Value.TheVariants as value
-use Rattle.fm_frames.specs.inner.Doings.{before, NextFits, silent}
+use Rattle.fm_frames.specs.inner.Doings.{before, NextFits}
 use Rattle.fm_frames.specs.inner.Frames.{on_top, place_of, topmost}
 
 -- the frame after words are taken and given, and locals written

@@ -3,10 +3,10 @@ use Rattle.std.proofs.Common.{◌≡◌, ℕ, ◌+◌, ◌-◌, ◌<◌, ◌≤�
 use Rattle.std.proofs.lemmas.Bool.{lt-ltb, le-ltb}
 use Rattle.fm_frames.specs.Acts.{Choose}
 use Rattle.fm_frames.specs.Effects.{Effect, Next, Falls, Jumps, JumpsIfSame, Calls, Returns, Throws, Enters, Exits, Faults}
-use Rattle.fm_frames.specs.States.{State}
+use Rattle.fm_frames.specs.States.{silent, State}
 use Rattle.fm_frames.specs.Steps.{frames_needed, is_deep, is_over}
 use Rattle.fm_frames.specs.declared.ends.Ended.TheVariants as end
-use Rattle.fm_frames.specs.inner.Doings.{DoesIn, silent}
+use Rattle.fm_frames.specs.inner.Doings.{DoesIn}
 use Rattle.fm_frames.proofs.Underways.{by_tests}
 use Rattle.fm_world.specs.Programs.{Program}
 

@@ -4,9 +4,9 @@ use Rattle.fm_world.specs.Programs.{Program}
 use Rattle.fm_frames.proofs.Finishes.{without_words}
 use Rattle.fm_frames.specs.Acts.{Choose, performed}
 use Rattle.fm_frames.specs.Effects.{Jumps, JumpsIfSame, going, words}
-use Rattle.fm_frames.specs.States.{Frame, State}
+use Rattle.fm_frames.specs.States.{Frame, silent, State}
 use Rattle.fm_frames.specs.Steps.{attempted, continued, target_at}
-use Rattle.fm_frames.specs.inner.Doings.{DoesIn, silent}
+use Rattle.fm_frames.specs.inner.Doings.{DoesIn}
 use Rattle.fm_frames.specs.inner.Frames.{on_top}
 use Rattle.fm_frames.specs.inner.Targets.{goes_same, IsTarget, IsTargetIn}
 

@@ -17,9 +17,9 @@ use Rattle.fm_frames.specs.Elements.{pack_of}
 use Rattle.fm_frames.specs.Literals.{class_literal}
 use Rattle.fm_frames.specs.NativeRows.{class_type, text_type, type_name}
 use Rattle.fm_frames.specs.Runnable.{IsRunnable}
-use Rattle.fm_frames.specs.States.{Areas, ref, State}
+use Rattle.fm_frames.specs.States.{Areas, ref, silent, State}
 use Rattle.fm_frames.specs.Steps.{attempted, most_words, words_made}
-use Rattle.fm_frames.specs.inner.Doings.{DoesIn, Makes, NextFits, silent, Underway}
+use Rattle.fm_frames.specs.inner.Doings.{DoesIn, Makes, NextFits, Underway}
 use Rattle.fm_world.specs.Chains.{is_among}
 use Rattle.fm_world.specs.Programs.{Outline, Program}
 

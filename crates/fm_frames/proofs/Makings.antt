@@ -10,10 +10,10 @@ use Rattle.fm_cells.specs.Stores.{IsOverBudget, object_at, Store, live_words, wo
 use Rattle.fm_world.specs.Programs.{Program}
 use Rattle.fm_frames.specs.Acts.{Choose, Did, made_then, performed, requested}
 use Rattle.fm_frames.specs.Effects.{Action, Effect, Make}
-use Rattle.fm_frames.specs.States.{Moved, State}
+use Rattle.fm_frames.specs.States.{Moved, silent, State}
 use Rattle.fm_frames.specs.Steps.{attempted, done_by, halted, is_deep, is_over, locals_of, most_words, objects_made, stack_of, words_made}
 use Rattle.fm_frames.specs.declared.ends.Ended.TheVariants as end
-use Rattle.fm_frames.specs.inner.Doings.{MakesOne, silent}
+use Rattle.fm_frames.specs.inner.Doings.{MakesOne}
 use Rattle.fm_cells.specs.declared.answers.Cell.{Cell}
 
 -- the words of one object, as they are reported

@@ -4,10 +4,10 @@ use Rattle.fm_world.specs.Programs.{Program}
 use Rattle.fm_frames.proofs.Finishes.{finished-top, moved_on, on_top-then, with_word, without_words}
 use Rattle.fm_frames.specs.Acts.{Choose, value_of}
 use Rattle.fm_frames.specs.Effects.{Source, words}
-use Rattle.fm_frames.specs.States.{Frame, State}
+use Rattle.fm_frames.specs.States.{Frame, silent, State}
 use Rattle.fm_frames.specs.Steps.{attempted}
 use Rattle.fm_frames.specs.declared.values.Value.{Value}
-use Rattle.fm_frames.specs.inner.Doings.{before, NextFits, silent}
+use Rattle.fm_frames.specs.inner.Doings.{before, NextFits}
 use Rattle.fm_frames.specs.inner.Frames.{on_top, with_words}
 
 -- ---- one word after the other

@@ -20,10 +20,10 @@ use Rattle.fm_frames.specs.Effects.{Effect, OfMade, OfOperand, Plain, Put, makin
 use Rattle.fm_frames.specs.Elements.{pack_of}
 use Rattle.fm_frames.specs.NativeRows.{class_type, has_text, text_kind, text_made, text_type}
 use Rattle.fm_frames.specs.Runnable.{IsRunnable}
-use Rattle.fm_frames.specs.States.{Areas, ref, State, word_at}
+use Rattle.fm_frames.specs.States.{Areas, ref, silent, State, word_at}
 use Rattle.fm_frames.specs.Steps.{attempted, most_words, stack_of, words_made}
 use Rattle.fm_frames.specs.declared.values.Value.TheVariants as value
-use Rattle.fm_frames.specs.inner.Doings.{DoesIn, IsReady, Makes, NextFits, silent, Underway}
+use Rattle.fm_frames.specs.inner.Doings.{DoesIn, IsReady, Makes, NextFits, Underway}
 use Rattle.fm_frames.specs.inner.Places.{FitsIn, IsWide, TakesUnits}
 use Rattle.fm_world.specs.BuiltIns.{class_literal_class}
 use Rattle.fm_world.specs.Numbers.{type_number, type_of_class}

@@ -13,9 +13,9 @@ use Rattle.fm_frames.specs.Effects.{Make, OfOperand, Plain, Throws, going, makin
 use Rattle.fm_frames.specs.Elements.{pack_of}
 use Rattle.fm_frames.specs.Operands.{size_of_type, thrown}
 use Rattle.fm_frames.specs.Sights.{type_numbered}
-use Rattle.fm_frames.specs.States.{Areas, Frame, ref, State, word_at}
+use Rattle.fm_frames.specs.States.{Areas, Frame, ref, silent, State, word_at}
 use Rattle.fm_frames.specs.Steps.{attempted, caught, continued, done_by, thrown_by}
-use Rattle.fm_frames.specs.inner.Doings.{MakesOne, NextFits, silent}
+use Rattle.fm_frames.specs.inner.Doings.{MakesOne, NextFits}
 use Rattle.fm_frames.specs.inner.Frames.{stack_in}
 
 -- the type of an object that is thrown

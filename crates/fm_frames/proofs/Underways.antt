@@ -11,11 +11,11 @@ use Rattle.fm_cells.specs.declared.answers.Cell.{Cell}
 use Rattle.fm_world.specs.Programs.{Outline, Program}
 use Rattle.fm_frames.specs.Acts.{cell_of, Choose, copied, Did, is_there, literal_made, literal_text, literal_type, made_then, performed, Performed, put_value, requested, set_static, value_of, with_content}
 use Rattle.fm_frames.specs.Effects.{Action, Make, MakeFixed, MakeLiteral, Put, SetStatic, Start, Free, SetChain, FreeChain, Copy, Source, Plain, Effect, acting, words}
-use Rattle.fm_frames.specs.States.{Areas, Moved, ref, State, word_at}
+use Rattle.fm_frames.specs.States.{Areas, Moved, ref, silent, State, word_at}
 use Rattle.fm_frames.specs.Steps.{attempted, done_by, halted, is_deep, is_over, locals_of, makes, most_words, objects_made, stack_of, stopped, words_among, words_made}
 use Rattle.fm_frames.specs.declared.ends.Ended.TheVariants as end
 use Rattle.fm_frames.specs.declared.values.Value.{Value}
-use Rattle.fm_frames.specs.inner.Doings.{DoesIn, Makes, NextFits, silent, Underway}
+use Rattle.fm_frames.specs.inner.Doings.{DoesIn, Makes, NextFits, Underway}
 use Rattle.fm_frames.proofs.Acting.{done-none, done-one, sources_in}
 
 -- ---- the beginning

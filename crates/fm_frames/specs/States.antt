@@ -1,5 +1,5 @@
 -- A state of the machine (JVMS 2.5, 2.6).
-use Rattle.std.specs.Prelude.{ℕ, Bool, List, Option}
+use Rattle.std.specs.Prelude.{ℕ, Bool, List, [], Option}
 use Rattle.std.specs.List.{slice_index_or}
 use Rattle.fm_cells.specs.Stores.{Store}
 use Rattle.fm_frames.specs.declared.ends.Ended.{Ended}
@@ -46,6 +46,10 @@ pub record State : Type 0 where
 pub record Moved : Type 0 where
   pub state : State
   pub printed : List ℕ
+
+-- a state to which nothing was printed on the way
+abbrev pub silent : State → Moved
+silent x = record { state = x; printed = [] }
 
 -- a word of a stack, and a local, by its place
 abbrev pub word_at : List Value → ℕ → Value

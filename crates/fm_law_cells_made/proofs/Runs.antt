@@ -9,8 +9,7 @@ use Rattle.fm_cells.specs.Stores.{empty_lists, held_count, made_count, opened, S
 use Rattle.fm_world.specs.Programs.{Program}
 use Rattle.fm_frames.specs.Runs.{after, Job}
 use Rattle.fm_frames.specs.Starts.{to_start}
-use Rattle.fm_frames.specs.States.{Moved}
-use Rattle.fm_frames.specs.inner.Doings.{silent}
+use Rattle.fm_frames.specs.States.{Moved, silent}
 use Rattle.fm_law_can_step.proofs.Constants.{rows}
 use Rattle.fm_law_can_step.specs.Ready.{CanRun}
 use Rattle.fm_law_cells_made.proofs.Acts.{choice}

@@ -6,8 +6,7 @@ use Rattle.fm_cells.specs.Soundness.{IsLastReused}
 use Rattle.fm_cells.specs.Stores.{empty_lists, held_count, made_count, opened, Store}
 use Rattle.fm_world.specs.Programs.{Program}
 use Rattle.fm_frames.specs.Runs.{after, Job, opening}
-use Rattle.fm_frames.specs.States.{Moved, State}
-use Rattle.fm_frames.specs.inner.Doings.{silent}
+use Rattle.fm_frames.specs.States.{Moved, silent, State}
 use Rattle.fm_law_can_step.specs.Ready.{CanRun}
 
 -- a run as it is opened, where nothing was made before

@@ -10,11 +10,11 @@ use Rattle.fm_frames.specs.Effects.{Effect, Faults, Free, FreeChain, OfOperand, 
 use Rattle.fm_frames.specs.NativeRows.{free_native, linked, native_effect}
 use Rattle.fm_frames.specs.declared.natives.Native.TheVariants.{FreeMeFree, FreeMeFreeChain, FreeMeLink}
 use Rattle.fm_frames.specs.Sights.{looks, Sight}
-use Rattle.fm_frames.specs.States.{Frame, State, word_at}
+use Rattle.fm_frames.specs.States.{Frame, silent, State, word_at}
 use Rattle.fm_frames.specs.Steps.{attempted, continued, done_by, stack_of}
 use Rattle.fm_frames.specs.declared.values.Value.{Value}
 use Rattle.fm_frames.specs.declared.values.Value.TheVariants as value
-use Rattle.fm_frames.specs.inner.Doings.{DoesIn, NextFits, silent}
+use Rattle.fm_frames.specs.inner.Doings.{DoesIn, NextFits}
 use Rattle.fm_frames.specs.inner.Places.{CountsFrees}
 use Rattle.fm_native.specs.declared.asked.Held.{Held}
 use Rattle.fm_native.specs.declared.asked.OperandRefusal.{OperandRefusal}

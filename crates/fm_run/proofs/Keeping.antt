@@ -6,8 +6,7 @@ use Rattle.fm_cells.specs.Choices.{IsLawful, lawful}
 use Rattle.fm_files.specs.Sink.{Output}
 use Rattle.fm_frames.specs.Acts.{Choose}
 use Rattle.fm_frames.specs.Runs.{after, IsRun}
-use Rattle.fm_frames.specs.States.{Moved, State}
-use Rattle.fm_frames.specs.inner.Doings.{silent}
+use Rattle.fm_frames.specs.States.{Moved, silent, State}
 use Rattle.fm_law_cells_made.specs.MostHeld.{MadeSince, MadeSinceIsMostHeld}
 use Rattle.fm_law_can_step.specs.Ready.{CanRun}
 use Rattle.fm_run.specs.Running.{KeepsWhole, MakesMostHeld, RunsTo}

@@ -9,10 +9,9 @@ use Rattle.fm_files.proofs.SinkLemmas.{with_piece-is, with_pieces-append, with_p
 use Rattle.fm_files.specs.Sink.{FailsPut, Output, with_piece, with_pieces}
 use Rattle.fm_frames.specs.Acts.{Choose}
 use Rattle.fm_frames.specs.Runs.{after, Goes}
-use Rattle.fm_frames.specs.States.{Moved, State}
+use Rattle.fm_frames.specs.States.{Moved, silent, State}
 use Rattle.fm_frames.specs.Steps.{cost, step}
 use Rattle.fm_frames.specs.declared.ends.Ended.{Ended}
-use Rattle.fm_frames.specs.inner.Doings.{silent}
 use Rattle.fm_base.specs.declared.error.NoMemory.{NoMemory}
 use Rattle.fm_native.specs.Doing.{PutsOnce, quiet}
 use Rattle.fm_law_can_step.specs.Ready.{IsGoing}

@@ -10,9 +10,8 @@ use Rattle.fm_law_cells_made.specs.MostHeld.{MadeSince}
 use Rattle.fm_world.specs.Programs.{Program}
 use Rattle.fm_frames.specs.Acts.{Choose}
 use Rattle.fm_frames.specs.Runs.{after, Goes, IsRun}
-use Rattle.fm_frames.specs.States.{State}
+use Rattle.fm_frames.specs.States.{silent, State}
 use Rattle.fm_frames.specs.Steps.{step}
-use Rattle.fm_frames.specs.inner.Doings.{silent}
 use Rattle.fm_same.specs.Resolved.{CallsNoFreeMe, IsResolved}
 use Rattle.fm_law_sound.specs.HeldCells.{HoldsCells}
 use Rattle.fm_law_sound.specs.Sound.{IsSound, Typings}

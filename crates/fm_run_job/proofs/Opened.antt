@@ -12,8 +12,7 @@ use Rattle.fm_files.proofs.SinkLemmas.{with_pieces-nil}
 use Rattle.fm_files.specs.Sink.{Output}
 use Rattle.fm_frames.specs.Reports.{report_of}
 use Rattle.fm_frames.specs.Runs.{after, end_of, Job, opening}
-use Rattle.fm_frames.specs.States.{Moved, State}
-use Rattle.fm_frames.specs.inner.Doings.{silent}
+use Rattle.fm_frames.specs.States.{Moved, silent, State}
 use Rattle.fm_law_can_step.proofs.Loops.{opened_steady}
 use Rattle.fm_law_can_step.proofs.Openings.{opened_births}
 use Rattle.fm_law_can_step.specs.Ready.{CanRun}

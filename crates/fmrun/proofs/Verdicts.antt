@@ -9,8 +9,7 @@ use Rattle.fm_files.specs.Sink.{Output}
 use Rattle.fm_frames.specs.Acts.{Choose}
 use Rattle.fm_frames.specs.Reports.{report_of}
 use Rattle.fm_frames.specs.Runs.{after, IsRun}
-use Rattle.fm_frames.specs.States.{Moved, State}
-use Rattle.fm_frames.specs.inner.Doings.{silent}
+use Rattle.fm_frames.specs.States.{Moved, silent, State}
 use Rattle.fm_load.proofs.GivenLemmas.{Behind, behind, behind_once, given_passes}
 use Rattle.fm_load.proofs.KnownLemmas.{all_taken, bytes_stop, long_stops, not_empty, not_typed}
 use Rattle.fm_load.proofs.VerdictLemmas.{Ends, EndsOnce, Links, Verdict, links_once, one_verdict}

@@ -7,9 +7,8 @@ use Rattle.fm_files.specs.Files.{Bytes, Disk}
 use Rattle.fm_files.specs.Sink.{Output, FailsPut, with_piece}
 use Rattle.fm_frames.specs.Reports.{report_of}
 use Rattle.fm_frames.specs.Runs.{IsRun}
-use Rattle.fm_frames.specs.States.{State}
+use Rattle.fm_frames.specs.States.{silent, State}
 use Rattle.fm_frames.specs.declared.ends.Ended.{Ended}
-use Rattle.fm_frames.specs.inner.Doings.{silent}
 use Rattle.fm_load.specs.Causes.{FailsARead, HasTooMany, IsMissing, IsKnownLong, IsKnownRefused, IsKnownUnlinked, IsKnownUntyped}
 use Rattle.fm_load.specs.ClassRefusal.{class_refusal_line, class_refusal_status}
 use Rattle.fm_load.specs.Given.{AreChecked, AreMany, IsLong, IsNotLinked, IsNotTyped, IsRefusedFile, IsUnread, IsUntouched}

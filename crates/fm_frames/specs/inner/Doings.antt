@@ -11,7 +11,7 @@ use Rattle.fm_frames.specs.Acts.{Choose, Did, performed, Sources, with_content}
 use Rattle.fm_frames.specs.Effects.{Action, Effect}
 use Rattle.fm_frames.specs.Runnable.{IsRunnable}
 use Rattle.fm_frames.specs.Sights.{Sight, sights}
-use Rattle.fm_frames.specs.States.{Frame, Moved, State}
+use Rattle.fm_frames.specs.States.{Frame, Moved, silent, State}
 use Rattle.fm_frames.specs.Steps.{attempted, done_by, locals_of, objects_made, stack_of, stopped}
 use Rattle.fm_frames.specs.declared.ends.Ended.TheVariants as end
 use Rattle.fm_frames.specs.declared.values.Value.{Value}
@@ -69,10 +69,6 @@ abbrev pub seen : Program → State → List Sight
 seen p x = sights p.outline x.areas.store (stack_of x)
 
 -- ---- after it
-
--- a state to which nothing was printed on the way
-abbrev pub silent : State → Moved
-silent x = record { state = x; printed = [] }
 
 -- the effect leads from the one state to the other, whatever the program and the memory
 abbrev pub Does : State → State → Effect → Type 0
