@@ -1,6 +1,6 @@
 -- What is known of a call: the status that goes with its line, or that of a failed put or of memory.
-use Rattle.std.proofs.Common.{◌≡◌, ◌≢◌, ◌<◌, ℕ, inl, inr, List, [], ◌∷◌, Contains, refl, sym, ap, ◌∙◌, subst, arith}
-use Rattle.fm_files.specs.Sink.{Output, with_piece}
+use Rattle.std.proofs.Common.{◌≡◌, ◌≢◌, ◌<◌, ℕ, inl, inr, List, [], ◌∷◌, length, Contains, refl, sym, ap, ◌∙◌, subst, arith}
+use Rattle.fm_files.specs.Sink.{GetsAtMostOne, Output, with_piece}
 use Rattle.fm_cli.specs.Line.{Tells}
 use Rattle.fm_cli.specs.Status.{ComesExactly}
 use Rattle.fm_cli.specs.declared.status.TheConstants.{READ, WRITE, OUT_OF_MEMORY}
@@ -39,6 +39,14 @@ module _ (line : List ℕ) (status : ℕ) (old new : Output) (result : ℕ) (tel
     go (inl put) = absurd (let same = ap (λ (o : Output). o.faults) put.1 in omega arith)
     go (inr (inl failed)) = failed.0
     go (inr (inr lacking)) = absurd (let same = ap (λ (o : Output). o.faults) lacking.1 in omega arith)
+
+  -- a line that has bytes is the only piece that the sink gets
+  pub line_once : 0 < length line → GetsAtMostOne old new
+  line_once some = go tells where
+    go : Tells line status old new result → GetsAtMostOne old new
+    go (inl put) = inr (line, inl (some, put.1))
+    go (inr (inl failed)) = inr (line, inr (some, failed.1))
+    go (inr (inr lacking)) = inl lacking.1
 
   -- a cause that decides the status decides the result, but for a failed put and for memory
   pub told_of_file : (wanted : ℕ) → Contains (wanted ∷ instead_for_file) status → Contains (wanted ∷ instead_for_file) result

@@ -1,6 +1,6 @@
 -- A sink of bytes, as the trait `Sink` shows it, and what puts change.
-use Rattle.std.specs.Prelude.{◌≡◌, ◌<◌, ℕ, List, [], ◌∷◌, ◌++◌, take, slice_get, Option, Some, option_map}
-use Rattle.std.specs.List.{concat}
+use Rattle.std.specs.Prelude.{◌≡◌, ◌<◌, ◌⊎◌, ℕ, ◌+◌, List, [], ◌∷◌, ◌++◌, length, take, Option, option_map}
+use Rattle.std.specs.List.{AllByRecursion, concat}
 
 -- what a sink got: the pieces that were put whole, and all bytes that came in, among them the first bytes
 -- of pieces whose put failed
@@ -29,18 +29,25 @@ with_pieces pieces output = record output { got = option_map (λ got. got_pieces
 abbrev pub with_piece : List ℕ → Output → Output
 with_piece piece output = record output { got = option_map (λ got. got_piece got piece) output.got }
 
--- the put of the piece failed: the faults rose, and the first bytes of the piece came in, maybe none
+-- the put of the piece failed, once: the faults rose by one, and the first bytes of the piece came in, maybe none
 pub record FailsPut (piece : List ℕ) (old new : Output) : Type 0 where
-  pub fault : old.faults < new.faults
+  pub fault : new.faults ≡ old.faults + 1
   pub part : (n : ℕ) × (new.got ≡ option_map (λ (got : Got). record got { bytes = got.bytes ++ take n piece }) old.got)
 
--- the first of these pieces were put, maybe none or all, and nothing else
-abbrev pub PutsPrefix : List (List ℕ) → Output → Output → Type 0
-PutsPrefix pieces old new = (n : ℕ) × (new ≡ with_pieces (take n pieces) old)
+-- a piece that has bytes was put
+abbrev pub GetsPiece : List ℕ → Output → Output → Type 0
+GetsPiece piece old new = (0 < length piece) × (new ≡ with_piece piece old)
 
--- the first of these pieces were put, and the put of the next one failed
-pub record FailsAmong (pieces : List (List ℕ)) (old new : Output) : Type 0 where
-  pub done : ℕ
-  pub piece : List ℕ
-  pub next : slice_get pieces done ≡ Some piece
-  pub fails : FailsPut piece (with_pieces (take done pieces) old) new
+-- the put of a piece that has bytes failed
+abbrev pub FailsPiece : List ℕ → Output → Output → Type 0
+FailsPiece piece old new = (0 < length piece) × FailsPut piece old new
+
+-- at most one piece was put, which has bytes: whole, or in part where its put failed
+abbrev pub GetsAtMostOne : Output → Output → Type 0
+GetsAtMostOne old new = (new ≡ old) ⊎ ((piece : List ℕ) × (GetsPiece piece old new ⊎ FailsPiece piece old new))
+
+-- pieces that have bytes were put, and then the put of one more may have failed, behind which nothing was put
+pub record GetsPieces (old new : Output) : Type 0 where
+  pub pieces : List (List ℕ)
+  pub some : AllByRecursion (λ piece. 0 < length piece) pieces
+  pub last : (new ≡ with_pieces pieces old) ⊎ ((piece : List ℕ) × FailsPiece piece (with_pieces pieces old) new)

@@ -1,5 +1,5 @@
 -- Bytes are refused with one status, and not where they are taken.
-use Rattle.std.proofs.Common.{◌≡◌, ◌≤◌, ℕ, List, [], ◌∷◌, ◌++◌, length, take, refl, sym, ap, ◌∙◌, subst, arith, append_assoc, length-append}
+use Rattle.std.proofs.Common.{◌≡◌, ◌<◌, ◌≤◌, ℕ, List, [], ◌∷◌, ◌++◌, length, take, Option, Some, None, refl, sym, ap, ◌∙◌, subst, arith, append_assoc, length-append}
 use Rattle.std.specs.List.{concat}
 use Rattle.std.proofs.lemmas.List.{take_at}
 use Rattle.fm_base.proofs.ListFacts.{same_parts}
@@ -12,9 +12,16 @@ use Rattle.fm_code.specs.declared.profile.What.{What}
 use Rattle.fm_code.proofs.Bytes.{length-two, two_injective}
 use Rattle.fm_code.proofs.ClassLaw.{one_record}
 use Rattle.fm_code.proofs.ProfileLaws.{over_limit, unsupported}
+use Rattle.fm_cli.specs.declared.command_refusal.CommandRefusal.TheVariants as refusal
+use Rattle.fm_link_refusals.specs.Refused.{refusal_of}
+use Rattle.fm_world.specs.Causes.{Refusal}
 use Rattle.fm_load.specs.ClassRefusal.{IsOverLimit, IsUnsupported, IsRefusedAs, class_refusal_status}
+use Rattle.fm_load.specs.LinkRefusal.{cause_line}
+use Rattle.fm_load.specs.Refusal.{refusal_line}
 use Rattle.fm_load.specs.declared.class_refusal.ClassRefusal.{ClassRefusal}
 use Rattle.fm_load.specs.declared.class_refusal.ClassRefusal.TheVariants as refused
+use Rattle.fm_load.specs.declared.refusal.JobRefusal.{JobRefusal}
+use Rattle.fm_load.specs.declared.refusal.JobRefusal.TheVariants as job_refusal
 
 -- ---- versions
 
@@ -89,3 +96,25 @@ class_status refused.Malformed = record { low = omega arith; high = omega arith 
 class_status (refused.Version major minor) = record { low = omega arith; high = omega arith }
 class_status (refused.Limit kind name count) = record { low = omega arith; high = omega arith }
 class_status (refused.Unsupported name offset) = record { low = omega arith; high = omega arith }
+
+-- ---- lines
+
+cause_some : (cause : Option Refusal) → 0 < length (cause_line cause)
+cause_some None = omega arith
+cause_some (Some refusal) = omega arith
+
+-- the line of a refusal has bytes
+pub refusal_some : (r : JobRefusal) → 0 < length (refusal_line r)
+refusal_some (job_refusal.Shared refusal.Words) = omega arith
+refusal_some (job_refusal.Shared (refusal.Read file)) = omega arith
+refusal_some (job_refusal.Shared refusal.OutOfMemory) = omega arith
+refusal_some (job_refusal.TooManyFiles count) = omega arith
+refusal_some (job_refusal.TooManyArguments count) = omega arith
+refusal_some (job_refusal.TooLong file) = omega arith
+refusal_some (job_refusal.Class file refused.Malformed) = omega arith
+refusal_some (job_refusal.Class file (refused.Version major minor)) = omega arith
+refusal_some (job_refusal.Class file (refused.Limit kind name count)) = omega arith
+refusal_some (job_refusal.Class file (refused.Unsupported name offset)) = omega arith
+refusal_some (job_refusal.Link fail) = cause_some (refusal_of fail)
+refusal_some (job_refusal.Check name) = omega arith
+refusal_some (job_refusal.Write name) = omega arith

@@ -2,8 +2,7 @@
 use Rattle.std.proofs.Common.{◌≡◌, ◌<◌, ℕ, ◌+◌, inl, inr, List, [], ◌∷◌, ◌++◌, length, length-append, codes, Option, Some, None, Ok, Err, string_bytes, ap, arith}
 use Rattle.std.proofs.lemmas.List.{length-map}
 use Rattle.fm_base.proofs.ListFacts.{AllByRecursion-weaker}
-use Rattle.fm_cli.specs.Line.{Tells}
-use Rattle.fm_cli.specs.declared.command_refusal.CommandRefusal.TheVariants as refusal
+use Rattle.fm_cli.proofs.LineLemmas.{line_once}
 use Rattle.fm_cli.specs.declared.status.TheConstants.{DONE}
 use Rattle.fm_cli_requests.specs.ClassFiles.{NameClasses}
 use Rattle.fm_cli_requests.specs.FreemeRequest.{Asks, FreemeJob, matched_in}
@@ -12,21 +11,17 @@ use Rattle.fm_code.specs.Spells.{HasSpelling}
 use Rattle.fm_code.specs.declared.class_file.ClassDef.{ClassDef}
 use Rattle.fm_files.specs.Files.{Bytes, Contents, Disk}
 use Rattle.fm_files.specs.Sink.{Output}
-use Rattle.fm_link_refusals.specs.Refused.{refusal_of}
 use Rattle.fm_law_spelled.proofs.ApartLemmas.{printed_name}
 use Rattle.fm_load.proofs.GivenLemmas.{given_spelled}
 use Rattle.fm_load.proofs.ReadLemmas.{same_number}
+use Rattle.fm_load.proofs.RefusalLemmas.{refusal_some as job_refusal_some}
 use Rattle.fm_load.specs.Given.{AreGiven, made_classes}
-use Rattle.fm_load.specs.LinkRefusal.{cause_line}
 use Rattle.fm_load.specs.Taking.{AreTaken, ClassIsSpelled}
-use Rattle.fm_load.specs.declared.class_refusal.ClassRefusal.TheVariants as refused
-use Rattle.fm_load.specs.declared.refusal.JobRefusal.TheVariants as job_refusal
 use Rattle.fm_rewrite.specs.declared.counts.Count.{Count}
 use Rattle.fm_rewrite.specs.declared.error.RewriteFail.TheVariants as fail
-use Rattle.fm_world.specs.Causes.{Refusal}
 use Rattle.freeme.proofs.ReportedLemmas.{outcome_line}
 use Rattle.freeme.proofs.WrittenLemmas.{names_same, one_count_each}
-use Rattle.freeme.specs.Causes.{GetsAtMostOne, PutsOnce}
+use Rattle.freeme.specs.Causes.{PutsOnce}
 use Rattle.freeme.specs.Jobs.{given_of, main_name}
 use Rattle.freeme.specs.Refusal.{refusal_line, refusal_status}
 use Rattle.freeme.specs.TopCall.{ComesOf, IsDone, IsReported, Outcome}
@@ -36,24 +31,8 @@ use Rattle.freeme.specs.declared.refusal.FreeRefusal.TheVariants as free_refusal
 
 -- ---- the lines of refusals
 
-cause_some : (cause : Option Refusal) → 0 < length (cause_line cause)
-cause_some None = omega arith
-cause_some (Some refusal) = omega arith
-
 refusal_some : (r : FreeRefusal) → 0 < length (refusal_line r)
-refusal_some (free_refusal.Job (job_refusal.Shared refusal.Words)) = omega arith
-refusal_some (free_refusal.Job (job_refusal.Shared (refusal.Read file))) = omega arith
-refusal_some (free_refusal.Job (job_refusal.Shared refusal.OutOfMemory)) = omega arith
-refusal_some (free_refusal.Job (job_refusal.TooManyFiles count)) = omega arith
-refusal_some (free_refusal.Job (job_refusal.TooManyArguments count)) = omega arith
-refusal_some (free_refusal.Job (job_refusal.TooLong file)) = omega arith
-refusal_some (free_refusal.Job (job_refusal.Class file refused.Malformed)) = omega arith
-refusal_some (free_refusal.Job (job_refusal.Class file (refused.Version major minor))) = omega arith
-refusal_some (free_refusal.Job (job_refusal.Class file (refused.Limit kind name count))) = omega arith
-refusal_some (free_refusal.Job (job_refusal.Class file (refused.Unsupported name offset))) = omega arith
-refusal_some (free_refusal.Job (job_refusal.Link fail)) = cause_some (refusal_of fail)
-refusal_some (free_refusal.Job (job_refusal.Check name)) = omega arith
-refusal_some (free_refusal.Job (job_refusal.Write name)) = omega arith
+refusal_some (free_refusal.Job r) = job_refusal_some r
 refusal_some (free_refusal.Rewrite (fail.CallsFree method offset) name) = omega arith
 refusal_some (free_refusal.Rewrite (fail.PoolFull class indices) name) = omega arith
 refusal_some (free_refusal.Rewrite (fail.MethodTooLong method bytes) name) = omega arith
@@ -108,17 +87,11 @@ outcome_some words old new (Ok lines) (inr (inr lacking)) = absurd (let other = 
 
 -- ---- puts
 
--- a line that isn't empty is the only piece that a sink gets
-pub line_once : (line : List ℕ) (status : ℕ) (old new : Output) (result : ℕ) → 0 < length line → Tells line status old new result → GetsAtMostOne old new
-line_once line status old new result some (inl put) = inl (record { piece = line; some = some; put = inl put.1 })
-line_once line status old new result some (inr (inl failed)) = inl (record { piece = line; some = some; put = inr failed.1 })
-line_once line status old new result some (inr (inr lacking)) = inr lacking.1
-
 outcome_once : (before after report report' : Output) (result : ℕ) (o : Outcome) → 0 < length (outcome_line o) → IsReported o before after report report' result
     → PutsOnce before after report report'
-outcome_once before after report report' result (Ok lines) some reports = inl (line_once (string_bytes lines) DONE before after result some reports.0, reports.1)
+outcome_once before after report report' result (Ok lines) some reports = inl (line_once (string_bytes lines) DONE before after result reports.0 some, reports.1)
 outcome_once before after report report' result (Err refusal) some reports =
-    inr (line_once (refusal_line refusal) (refusal_status refusal) report report' result some reports.0, reports.1)
+    inr (line_once (refusal_line refusal) (refusal_status refusal) report report' result reports.0 some, reports.1)
 
 pub puts_once : {words : List Bytes} {old new : Disk} (before after report report' : Output) (result : ℕ) (o : Outcome) → ComesOf words old new o
     → IsReported o before after report report' result → PutsOnce before after report report'

@@ -3,7 +3,7 @@ use Rattle.std.proofs.Common.{◌≡◌, ◌≢◌, ◌<◌, ◌≤◌, ◌⊎�
 use Rattle.fm_base.proofs.ContainsFacts.{unlike_elements}
 use Rattle.fm_files.specs.Files.{Bytes, Disk}
 use Rattle.fm_files.specs.Sink.{Output}
-use Rattle.fm_cli.proofs.LineLemmas.{put_fails, told_among}
+use Rattle.fm_cli.proofs.LineLemmas.{line_once, put_fails, told_among}
 use Rattle.fm_cli.proofs.OutsideLemmas.{no_fault_where_same}
 use Rattle.fm_cli.specs.Line.{Tells}
 use Rattle.fm_cli.specs.Status.{ComesExactly}
@@ -16,7 +16,6 @@ use Rattle.fm_cli_requests.specs.declared.program_text.ProgramText.{ProgramText}
 use Rattle.fm_cli_requests.specs.declared.program_text.ProgramText.TheVariants as text
 use Rattle.fm_load.specs.Causes.{FailsARead, FailsAWrite, IsMissing}
 use Rattle.freeme.proofs.CauseLemmas.{faultless_statuses}
-use Rattle.freeme.proofs.PutLemmas.{line_once}
 use Rattle.freeme.proofs.StatusLemmas.{all_statuses}
 use Rattle.freeme.specs.Causes.{AskFor, AskForGiven, ChangesOnly, IsFaultless, IsForBytes, IsForCheck, IsForDone, IsForLimit, IsForLink, IsForMemory, IsForRead, IsForReturned, IsForRewrite, IsForText, IsForWords, IsForWrite, IsSilent, IsStatus, KeepsContents, PutsOnce, before_writes}
 use Rattle.freeme.specs.TopCall.{IsTextPut, IsTopCall, text_bytes}
@@ -125,7 +124,7 @@ module _ (words : List Bytes) (files : Disk) (before after report : Output) (res
     go (inr (inr lacking)) = lacking.1
 
   pub text_once : PutsOnce before after report report
-  text_once = inl (line_once (text_bytes asked) DONE before after result (some asked) reports, refl) where
+  text_once = inl (line_once (text_bytes asked) DONE before after result reports (some asked), refl) where
     some : (own : ProgramText) → 0 < length (text_bytes own)
     some text.Help = omega arith
     some text.Version = omega arith

@@ -1,7 +1,7 @@
 -- When each status comes, and what a call leaves then. All this follows from what a call does as a whole; a caller reads it one by one.
 use Rattle.std.specs.Prelude.{◌≡◌, ℕ, ◌<◌, ◌⊎◌, List, [], ◌∷◌, Contains, length, Option, Some, None, IsSome}
 use Rattle.fm_files.specs.Files.{Bytes, Disk}
-use Rattle.fm_files.specs.Sink.{FailsPut, Output, with_piece}
+use Rattle.fm_files.specs.Sink.{GetsAtMostOne, Output, with_piece}
 use Rattle.fm_code.specs.declared.class_file.ClassDef.{ClassDef}
 use Rattle.fm_cli.specs.Outside.{HasNoFileFault}
 use Rattle.fm_cli.specs.CommandRefusal.{words_line, read_line, memory_line}
@@ -316,17 +316,7 @@ KeepsContents old new result = Contains before_writes result → (new.contents �
 abbrev pub IsSilent : Output → Output → ℕ → Type 0
 IsSilent before after result = Contains before_writes result → after ≡ before
 
--- the sink got one piece, which isn't empty: whole, or in part where its put failed
-pub record GetsOnePiece (old new : Output) : Type 0 where
-  pub piece : List ℕ
-  pub some : 0 < length piece
-  pub put : (new ≡ with_piece piece old) ⊎ FailsPut piece old new
-
--- one such piece, or nothing
-abbrev pub GetsAtMostOne : Output → Output → Type 0
-GetsAtMostOne old new = GetsOnePiece old new ⊎ (new ≡ old)
-
--- one of the two sinks got at most one piece, and the other one is as it was
+-- one of the two sinks got at most one piece, which has bytes, and the other one is as it was; a put that failed isn't tried again
 abbrev pub PutsOnce : Output → Output → Output → Output → Type 0
 PutsOnce before after report report' = (GetsAtMostOne before after × (report' ≡ report)) ⊎ (GetsAtMostOne report report' × (after ≡ before))
 
