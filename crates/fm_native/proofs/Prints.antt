@@ -1,9 +1,9 @@
 -- Steps with what they print.
-use Rattle.std.proofs.Common.{◌≡◌, inl, inr, ℕ, List, [], Option, Some, None, Result, Ok, Err, OnOk, IsErrOf, slice_get, refl, ap, sym, ◌∙◌, subst}
+use Rattle.std.proofs.Common.{◌≡◌, inr, ℕ, List, [], Option, Some, None, Result, Ok, Err, OnOk, IsErrOf, slice_get, refl, ap, sym, ◌∙◌, subst}
 use Rattle.fm_base.specs.declared.error.NoMemory.{NoMemory}
 use Rattle.fm_frames.specs.declared.turns.StepFail.{StepFail}
 use Rattle.fm_frames.specs.declared.turns.StepFail.TheVariants as fail
-use Rattle.fm_files.specs.Sink.{FailsPut, Output, with_piece}
+use Rattle.fm_files.specs.Sink.{FailsPiece, Output}
 use Rattle.fm_frames.specs.Acts.{Choose, performed}
 use Rattle.fm_frames.specs.Effects.{Effect, printing}
 use Rattle.fm_frames.specs.Natives.{native_of_row}
@@ -11,15 +11,15 @@ use Rattle.fm_frames.specs.declared.natives.Native.{Native}
 use Rattle.std.proofs.lemmas.Option.{none-some, same_Some}
 use Rattle.fm_frames.specs.States.{State}
 use Rattle.fm_frames.specs.inner.Doings.{DoesIn, DoesPrinting}
-use Rattle.fm_native.specs.Doing.{DoesRow, effect_of_native, FailsAt, PrintsRow, quiet, StepsTo}
+use Rattle.fm_native.specs.Doing.{DoesRow, effect_of_native, FailsAt, PrintsRow, PutsOnce, quiet, StepsTo}
 use Rattle.fm_world.specs.Programs.{Program}
 
--- bytes that were put in one piece
+-- bytes that were put in one piece, or none
 pub printing-does : (p : Program) (choose : Choose) (x y : State) (old new : Output) (takes : ℕ) (bytes : List ℕ)
-    → DoesPrinting p choose x y (printing takes bytes) bytes → new ≡ with_piece bytes old → StepsTo p choose x y old new (printing takes bytes)
-printing-does p choose x y old new takes bytes does put = record { printed = bytes; does = does; put = inl put }
+    → DoesPrinting p choose x y (printing takes bytes) bytes → PutsOnce bytes old new → StepsTo p choose x y old new (printing takes bytes)
+printing-does p choose x y old new takes bytes does put = record { printed = bytes; does = does; put = put }
 
-pub printing-fails : (p : Program) (choose : Choose) (x : State) (old new : Output) (takes : ℕ) (bytes : List ℕ) → FailsPut bytes old new
+pub printing-fails : (p : Program) (choose : Choose) (x : State) (old new : Output) (takes : ℕ) (bytes : List ℕ) → FailsPiece bytes old new
     → FailsAt p choose x old new (printing takes bytes)
 unfolding performed
 printing-fails p choose x old new takes bytes fails = fails

@@ -1,6 +1,6 @@
 -- What the code of a built-in method does, stated by its effect.
 use Rattle.std.specs.Prelude.{◌≡◌, ◌⊎◌, ℕ, List, [], Option, None, Some, Result, Ok, Err, slice_get}
-use Rattle.fm_files.specs.Sink.{FailsPut, Output, with_piece}
+use Rattle.fm_files.specs.Sink.{FailsPiece, GetsPiece, Output}
 use Rattle.fm_world.specs.Programs.{Program}
 use Rattle.fm_frames.specs.Acts.{Choose}
 use Rattle.fm_frames.specs.Effects.{Effect}
@@ -22,7 +22,7 @@ DoesRow p choose x y n = (byte : Option ℕ) → DoesIn p choose x y (native_eff
 
 -- what is printed went to the output in one put; nothing went to it where nothing is printed
 abbrev pub PutsOnce : (printed : List ℕ) → Output → Output → Type 0
-PutsOnce printed old new = (new ≡ with_piece printed old) ⊎ ((printed ≡ []) × (new ≡ old))
+PutsOnce printed old new = GetsPiece printed old new ⊎ ((printed ≡ []) × (new ≡ old))
 
 -- an effect leads from one state to the other, and what it prints went to the output
 pub record StepsTo (p : Program) (choose : Choose) (x y : State) (old new : Output) (e : Effect) : Type 0 where
@@ -32,7 +32,7 @@ pub record StepsTo (p : Program) (choose : Choose) (x y : State) (old new : Outp
 
 -- an effect prints something, and the put of it failed
 abbrev pub FailsAt : Program → Choose → State → (old new : Output) → Effect → Type 0
-FailsAt p choose x old new e = FailsPut (attempted p choose x e).printed old new
+FailsAt p choose x old new e = FailsPiece (attempted p choose x e).printed old new
 
 -- the effect of a built-in method with the next byte of the input
 abbrev pub effect_of_native : Program → State → Native → Effect

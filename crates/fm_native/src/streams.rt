@@ -1,8 +1,8 @@
 // What is printed, what is read, and the end of the run.
 
 ghost use Rattle.std.specs.Prelude.{◌≡◌, slice_get, IfOk, IsErrOf, OnOk};
-ghost use Rattle.fm_files.specs.Sink.{with_piece, FailsPut};
-ghost use Rattle.fm_native.specs.Doing.{DoesRow, FailsAt, FailsRow, PrintsRow, StepsTo};
+ghost use Rattle.fm_files.specs.Sink.{FailsPiece};
+ghost use Rattle.fm_native.specs.Doing.{DoesRow, FailsAt, FailsRow, PrintsRow, PutsOnce, StepsTo};
 ghost use Rattle.fm_native.specs.Texts.{HoldsTexts};
 ghost use Rattle.fm_native.specs.inner.Shown.{print_row, shown_bytes};
 ghost use Rattle.fm_frames.specs.declared.turns.StepFail.TheVariants as StepFail;
@@ -23,13 +23,16 @@ use fm_frames::{Machine, Shown, StepFail, Value};
 use fm_world::Program;
 use std::alloc::Global;
 
-// Puts a piece into the output.
+// Puts a piece into the output, and none where there are no bytes.
 fn put_piece<S: Sink>(alloc: Global, out: &mut S, bytes: &[u8]) -> Result<(), StepFail>
-    ensures put { OnOk result (S.output out.new ≡ with_piece bytes.now (S.output out.old)) }
+    ensures put { OnOk result (PutsOnce bytes.now (S.output out.old) (S.output out.new)) }
     ensures failed { IsErrOf result StepFail.SinkFailed
-        → FailsPut bytes.now (S.output out.old) (S.output out.new) }
+        → FailsPiece bytes.now (S.output out.old) (S.output out.new) }
     ensures kept { IsErrOf result StepFail.NoMemory → S.output out.new ≡ S.output out.old }
 {
+    if bytes.is_empty() {
+        return Ok(());
+    }
     match out.put(alloc, bytes) {
         Ok(()) => Ok(()),
         Err(PutFail::SinkFailed) => Err(StepFail::SinkFailed),
@@ -48,7 +51,7 @@ fn shown_bytes(alloc: Global, units: &[u16], ends_line: bool) -> Result<Vec<u8>,
     Ok(bytes)
 }
 
-// Puts bytes into the output in one piece, and takes `takes` words off the stack.
+// Puts bytes into the output in one piece, if there are any, and takes `takes` words off the stack.
 fn print_bytes<M: Memory, S: Sink>(
     alloc: Global,
     machine: &mut Machine<M>,
@@ -75,7 +78,7 @@ fn print_bytes<M: Memory, S: Sink>(
     }
 }
 
-/// print of a value or a text, or println where the line ends after it: one put of all of it.
+/// print of a value or a text, or println where the line ends after it: one put of all of it, and none of an empty text.
 pub fn print<M: Memory, S: Sink>(
     alloc: Global,
     machine: &mut Machine<M>,

@@ -5,7 +5,7 @@ use Rattle.fm_frames.specs.States.{Moved, State}
 use Rattle.fm_frames.specs.Steps.{cost, next_effect}
 use Rattle.fm_frames.specs.declared.ends.Ended.{Ended}
 use Rattle.fm_frames.proofs.StepCounts.{step_going}
-use Rattle.fm_files.specs.Sink.{FailsPut, Output}
+use Rattle.fm_files.specs.Sink.{FailsPiece, Output}
 use Rattle.fm_frames.specs.declared.turns.Turn.{Turn}
 use Rattle.fm_frames.specs.declared.turns.Turn.TheVariants as turn
 use Rattle.fm_native.specs.Doing.{FailsAt, StepsTo}
@@ -19,7 +19,7 @@ step-does p choose x y old new goes told = record { printed = told.printed; is =
 
 pub step-fails : (p : Program) (choose : Choose) (x : State) (old new : Output) → x.ended ≡ None → FailsAt p choose x old new (next_effect p x)
     → FailsStep p choose x old new
-step-fails p choose x old new goes fails = subst (λ (m : Moved). FailsPut m.printed old new) (sym (step_going p choose x goes)) fails
+step-fails p choose x old new goes fails = subst (λ (m : Moved). FailsPiece m.printed old new) (sym (step_going p choose x goes)) fails
 
 abbrev turn_by : ℕ → Option Ended → Turn
 turn_by price None = turn.Went price

@@ -6,7 +6,7 @@ use Rattle.fm_frames.proofs.StepCounts.{costs_some}
 use Rattle.std.proofs.lemmas.List.Folds.{concat-append}
 use Rattle.std.specs.List.{concat}
 use Rattle.fm_files.proofs.SinkLemmas.{with_piece-is, with_pieces-append, with_pieces-nil}
-use Rattle.fm_files.specs.Sink.{FailsPut, Output, with_piece, with_pieces}
+use Rattle.fm_files.specs.Sink.{FailsPiece, Output, with_pieces}
 use Rattle.fm_frames.specs.Acts.{Choose}
 use Rattle.fm_frames.specs.Runs.{after, Goes}
 use Rattle.fm_frames.specs.States.{Moved, silent, State}
@@ -15,7 +15,7 @@ use Rattle.fm_frames.specs.declared.ends.Ended.{Ended}
 use Rattle.fm_base.specs.declared.error.NoMemory.{NoMemory}
 use Rattle.fm_native.specs.Doing.{PutsOnce, quiet}
 use Rattle.fm_law_can_step.specs.Ready.{IsGoing}
-use Rattle.fm_run.specs.Running.{ArePieces, BreaksRun, CanGo, FailsRun, GoFirst, OnePieceMore, printed_at, RunsTo, state_after}
+use Rattle.fm_run.specs.Running.{BreaksRun, CanGo, FailsRun, GoFirst, piece_of, pieces_of, printed_at, RunsTo, state_after}
 use Rattle.fm_run.specs.Stepping.{DoesStep, FailsStep}
 use Rattle.fm_run.specs.inner.Going.{BreaksLater, DidCheap, DidQuietly, FailsLater, FailsNext, Keeps, Leads, LeadsQuietly, left_of, Ran}
 use Rattle.fm_run.specs.inner.Nexts.{Stepped}
@@ -40,27 +40,30 @@ printed-more : (p : Program) (choose : Choose) (count : ℕ) (x : State)
 unfolding after
 printed-more p choose count x = refl
 
+-- a piece has the bytes that are printed
+piece-bytes : (printed : List ℕ) → concat (piece_of printed) ≡ printed
+piece-bytes [] = refl
+piece-bytes (byte ∷ bytes) = append-nil (byte ∷ bytes)
+
 -- the pieces together are what was printed
-pub pieces-printed : (p : Program) (choose : Choose) (x : State) (count : ℕ) (pieces : List (List ℕ)) → ArePieces p choose x count pieces
-    → concat pieces ≡ (after p choose count (silent x)).printed
-pieces-printed p choose x zero pieces are = ap concat are ∙ sym (printed-zero p choose x)
-pieces-printed p choose x (suc count) pieces are =
-    by_piece (pieces-printed p choose x count are.0 are.1) are.2 ∙ sym (printed-more p choose count x) where
-      printed : List ℕ
-      printed = printed_at p choose count x
+pub pieces-printed : (p : Program) (choose : Choose) (x : State) (count : ℕ) → concat (pieces_of p choose x count) ≡ (after p choose count (silent x)).printed
+pieces-printed p choose x zero = sym (printed-zero p choose x)
+pieces-printed p choose x (suc count) =
+    let printed = printed_at p choose count x in
+    let before = pieces-printed p choose x count in
+    concat-append (pieces_of p choose x count) (piece_of printed) ∙ (λ i. before i ++ piece-bytes printed i) ∙ sym (printed-more p choose count x)
 
-      first : List ℕ
-      first = (after p choose count (silent x)).printed
-
-      by_piece : concat are.0 ≡ first → OnePieceMore printed are.0 pieces → concat pieces ≡ first ++ printed
-      by_piece before (inl is) = ap concat is ∙ concat-append are.0 (printed ∷ []) ∙ (λ i. before i ++ append-nil printed i)
-      by_piece before (inr both) = ap concat both.1 ∙ before ∙ sym (append-nil first) ∙ ap (λ more. first ++ more) (sym both.0)
+-- what is put once is one piece, or none
+put-piece : (printed : List ℕ) (old new : Output) → PutsOnce printed old new → new ≡ with_pieces (piece_of printed) old
+put-piece [] old new (inl gets) = absurd (let some = gets.0 in omega arith)
+put-piece [] old new (inr both) = both.1 ∙ sym (with_pieces-nil old)
+put-piece (byte ∷ bytes) old new (inl gets) = gets.1 ∙ with_piece-is (byte ∷ bytes) old
+put-piece (byte ∷ bytes) old new (inr both) = absurd (let none = both.0 in cc)
 
 -- one more piece in the output
-put-more : (pieces : List (List ℕ)) (printed : List ℕ) (first old new : Output) → old ≡ with_pieces pieces first → new ≡ with_piece printed old
-    → new ≡ with_pieces (pieces ++ printed ∷ []) first
-put-more pieces printed first old new put more =
-    more ∙ with_piece-is printed old ∙ ap (with_pieces (printed ∷ [])) put ∙ with_pieces-append pieces (printed ∷ []) first
+put-more : (pieces more : List (List ℕ)) (first old new : Output) → old ≡ with_pieces pieces first → new ≡ with_pieces more old
+    → new ≡ with_pieces (pieces ++ more) first
+put-more pieces more first old new put last = last ∙ ap (with_pieces more) put ∙ with_pieces-append pieces more first
 
 -- ---- what holds of a run that has come so far
 
@@ -69,8 +72,6 @@ ran-here p choose budget x out keeps = record {
   count = zero;
   goes = λ k h. absurd (omega (arith, h));
   state = sym (state-zero p choose x);
-  pieces = [];
-  are = refl;
   put = sym (with_pieces-nil out);
   keeps = keeps;
 }
@@ -134,41 +135,29 @@ module _ (p : Program) (choose : Choose) (budget : ℕ) (first x : State) (old m
     told : does.printed ≡ printed_at p choose ran.count first
     told = sym (ap (λ (m : Moved). m.printed) does.is) ∙ printed-is
 
-    with_pieces-now : (pieces : List (List ℕ)) → OnePieceMore (printed_at p choose ran.count first) ran.pieces pieces → new ≡ with_pieces pieces old
-        → Ran p choose budget first y old new
-    with_pieces-now pieces more put = record {
+    pub ran-more : Ran p choose budget first y old new
+    ran-more = record {
       count = suc ran.count;
       goes = subst (GoFirst p choose budget first) (add-one ran.count) (goes-more p choose budget ran.count first x ran.state goes ran.goes);
       state = state-is;
-      pieces = pieces;
-      are = (ran.pieces, ran.are, more);
-      put = put;
+      put =
+          put-more (pieces_of p choose first ran.count) (piece_of (printed_at p choose ran.count first)) old mid new ran.put
+          (put-piece (printed_at p choose ran.count first) mid new (subst (λ bytes. PutsOnce bytes mid new) told does.put));
       keeps = keeps-more p budget x y ran.keeps goes stepped;
     }
-
-    by_put : PutsOnce does.printed mid new → Ran p choose budget first y old new
-    by_put (inl put) =
-        let printed = printed_at p choose ran.count first in
-        with_pieces-now (ran.pieces ++ printed ∷ []) (inl refl)
-        (put-more ran.pieces printed old mid new ran.put (put ∙ ap (λ bytes. with_piece bytes mid) told))
-    by_put (inr both) = with_pieces-now ran.pieces (inr (sym told ∙ both.0, refl)) (both.1 ∙ ran.put)
-
-    pub ran-more : Ran p choose budget first y old new
-    ran-more = by_put does.put
 
   pub ran-fails : (new : Output) → FailsStep p choose x mid new → FailsRun p choose budget first old new
   ran-fails new fails = record {
     count = ran.count;
     goes = goes-more p choose budget ran.count first x ran.state goes ran.goes;
-    pieces = ran.pieces;
-    are = ran.are;
-    fails = subst (λ bytes. FailsPut bytes (with_pieces ran.pieces old) new) printed-is (subst (λ out. FailsPut next out new) ran.put fails);
+    fails =
+        subst (λ bytes. FailsPiece bytes (with_pieces (pieces_of p choose first ran.count) old) new) printed-is (subst (λ out. FailsPiece next out new) ran.put fails);
   }
 
 pub ran-breaks : (p : Program) (choose : Choose) (budget : ℕ) (first x : State) (old mid new : Output) → Ran p choose budget first x old mid → new ≡ mid
     → BreaksRun p choose budget first old new
 ran-breaks p choose budget first x old mid new ran same =
-    record { count = ran.count; goes = ran.goes; pieces = ran.pieces; are = ran.are; put = same ∙ ran.put }
+    record { count = ran.count; goes = ran.goes; put = same ∙ ran.put }
 
 pub ran-ends : (p : Program) (choose : Choose) (budget : ℕ) (first x : State) (old new : Output) → Ran p choose budget first x old new → ¬ Goes p budget x
     → RunsTo p choose budget first x old new
@@ -180,9 +169,7 @@ ran-ends p choose budget first x old new ran stops = record {
     stops = subst (λ y. ¬ Goes p budget y) ran.state stops;
     is = ap (λ y. record { state = y; printed = (after p choose ran.count (silent first)).printed }) ran.state;
   };
-  pieces = ran.pieces;
-  are = ran.are;
-  joined = pieces-printed p choose first ran.count ran.pieces ran.are;
+  joined = pieces-printed p choose first ran.count;
   put = ran.put;
 }
 

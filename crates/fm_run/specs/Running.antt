@@ -1,11 +1,11 @@
--- The result of a run, with what it prints: each step's bytes go to the output in one put. What
+-- The result of a run, with what it prints: each step's bytes go to the output in one put, and none where it prints nothing. What
 -- holds of its state still, and of the cells that it makes.
-use Rattle.std.specs.Prelude.{◌≡◌, ◌⊎◌, ℕ, zero, suc, ◌+◌, ◌^◌, ◌<◌, List, [], ◌∷◌, ◌++◌}
+use Rattle.std.specs.Prelude.{◌≡◌, ℕ, zero, suc, ◌+◌, ◌^◌, ◌<◌, List, [], ◌∷◌, ◌++◌}
 use Rattle.std.specs.List.{concat}
 use Rattle.fm_exec_calls.specs.inner.Actions.{unmade}
 use Rattle.fm_cells.specs.Choices.{last_choice, lawful}
 use Rattle.fm_cells.specs.Soundness.{IsLastReused}
-use Rattle.fm_files.specs.Sink.{FailsPut, Output, with_pieces}
+use Rattle.fm_files.specs.Sink.{FailsPiece, Output, with_pieces}
 use Rattle.fm_law_cells_made.specs.MostHeld.{MadeSince}
 use Rattle.fm_world.specs.Programs.{Program}
 use Rattle.fm_frames.specs.Acts.{Choose}
@@ -26,15 +26,15 @@ state_after p choose count x = (after p choose count (silent x)).state
 abbrev pub printed_at : Program → Choose → ℕ → State → List ℕ
 printed_at p choose count x = (step p choose (state_after p choose count x)).printed
 
--- one more step's bytes are one piece more; where it prints nothing there may be none
-abbrev pub OnePieceMore : List ℕ → (before pieces : List (List ℕ)) → Type 0
-OnePieceMore printed before pieces = (pieces ≡ before ++ printed ∷ []) ⊎ ((printed ≡ []) × (pieces ≡ before))
+-- a step's bytes are one piece; where it prints nothing there is none
+abbrev pub piece_of : List ℕ → List (List ℕ)
+piece_of [] = []
+piece_of (byte ∷ bytes) = (byte ∷ bytes) ∷ []
 
--- the pieces are what the first steps print, in order
-abbrev pub ArePieces : Program → Choose → State → ℕ → List (List ℕ) → Type 0
-ArePieces p choose x zero pieces = pieces ≡ []
-ArePieces p choose x (suc count) pieces =
-    (before : List (List ℕ)) × ArePieces p choose x count before × OnePieceMore (printed_at p choose count x) before pieces
+-- what the first steps print, in order
+abbrev pub pieces_of : Program → Choose → State → ℕ → List (List ℕ)
+pieces_of p choose x zero = []
+pieces_of p choose x (suc count) = pieces_of p choose x count ++ piece_of (printed_at p choose count x)
 
 -- this many steps are within the budget
 abbrev pub GoFirst : Program → Choose → (budget : ℕ) → State → ℕ → Type 0
@@ -45,26 +45,20 @@ GoFirst p choose budget x count = (k : ℕ) → k < count → Goes p budget (sta
 pub record RunsTo (p : Program) (choose : Choose) (budget : ℕ) (x y : State) (old new : Output) : Type 0 where
   pub printed : List ℕ
   pub run : IsRun p choose budget (silent x) (record { state = y; printed = printed })
-  pub pieces : List (List ℕ)
-  pub are : ArePieces p choose x run.count pieces
-  pub joined : concat pieces ≡ printed
-  pub put : new ≡ with_pieces pieces old
+  pub joined : concat (pieces_of p choose x run.count) ≡ printed
+  pub put : new ≡ with_pieces (pieces_of p choose x run.count) old
 
 -- the put of what one step prints failed; what the steps before it printed went out
 pub record FailsRun (p : Program) (choose : Choose) (budget : ℕ) (x : State) (old new : Output) : Type 0 where
   pub count : ℕ
   pub goes : GoFirst p choose budget x (count + 1)
-  pub pieces : List (List ℕ)
-  pub are : ArePieces p choose x count pieces
-  pub fails : FailsPut (printed_at p choose count x) (with_pieces pieces old) new
+  pub fails : FailsPiece (printed_at p choose count x) (with_pieces (pieces_of p choose x count) old) new
 
 -- the first steps were done, and what they printed went out
 pub record BreaksRun (p : Program) (choose : Choose) (budget : ℕ) (x : State) (old new : Output) : Type 0 where
   pub count : ℕ
   pub goes : GoFirst p choose budget x count
-  pub pieces : List (List ℕ)
-  pub are : ArePieces p choose x count pieces
-  pub put : new ≡ with_pieces pieces old
+  pub put : new ≡ with_pieces (pieces_of p choose x count) old
 
 -- what a run requires of the state from which it goes on: it is sound, and as many objects can be
 -- numbered as steps may be done and texts have no literal yet

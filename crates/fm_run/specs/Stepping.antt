@@ -1,6 +1,6 @@
 -- The result of one step, with what it prints.
 use Rattle.std.specs.Prelude.{◌≡◌, ℕ, List, Option, None, Some}
-use Rattle.fm_files.specs.Sink.{FailsPut, Output}
+use Rattle.fm_files.specs.Sink.{FailsPiece, Output}
 use Rattle.fm_native.specs.Doing.{PutsOnce}
 use Rattle.fm_world.specs.Programs.{Program}
 use Rattle.fm_frames.specs.Acts.{Choose}
@@ -19,7 +19,7 @@ pub record DoesStep (p : Program) (choose : Choose) (x y : State) (old new : Out
 
 -- one step prints something, and the put of it failed
 abbrev pub FailsStep : Program → Choose → State → (old new : Output) → Type 0
-FailsStep p choose x old new = FailsPut (step p choose x).printed old new
+FailsStep p choose x old new = FailsPiece (step p choose x).printed old new
 
 -- the result of a step of this cost: the run has ended, or it goes on
 abbrev pub turn_of : ℕ → State → Turn

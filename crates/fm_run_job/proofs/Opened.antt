@@ -103,8 +103,6 @@ pub ends-breaks : (p : Program) (b : Budgets) (x last : State) (before later : O
 ends-breaks p b x last before later runs = record {
   count = runs.run.count;
   goes = runs.run.goes;
-  pieces = runs.pieces;
-  are = runs.are;
   put = runs.put;
 }
 
@@ -113,7 +111,5 @@ pub none-breaks : (p : Program) (b : Budgets) (x : State) (before later : Output
 none-breaks p b x before later kept = record {
   count = zero;
   goes = λ k h. absurd (omega (arith, h));
-  pieces = [];
-  are = refl;
   put = kept ∙ sym (with_pieces-nil before);
 }

@@ -49,7 +49,7 @@ module _ (words : List Bytes) (old new : Disk) (before after report report' : Ou
       not_unread said.file (subst P (asks_one words said.job job said.asked asked) said.unread)
 
   not_unprinted : ¬ SaysUnprinted words old new before after report report'
-  not_unprinted said = let rose = said.failed.fails.fails.fault in let kept = none.prints in omega arith
+  not_unprinted said = let rose = said.failed.fails.fails.1.fault in let kept = none.prints in omega arith
 
   not_unreported : ¬ SaysUnreported words old new before after report report'
   not_unreported said = let rose = said.fails.fault in let kept = none.puts in omega arith

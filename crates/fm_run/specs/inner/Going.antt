@@ -1,5 +1,5 @@
 -- A run that goes on: what is known of its state, and where steps lead.
-use Rattle.std.specs.Prelude.{◌≡◌, ◌⊎◌, ℕ, ◌+◌, ◌-◌, ◌^◌, ◌<◌, suc, List, Option, None, Some}
+use Rattle.std.specs.Prelude.{◌≡◌, ◌⊎◌, ℕ, ◌+◌, ◌-◌, ◌^◌, ◌<◌, suc, Option, None, Some}
 use Rattle.fm_exec_calls.specs.inner.Actions.{unmade}
 use Rattle.fm_files.specs.Sink.{Output, with_pieces}
 use Rattle.fm_code.specs.declared.instructions.Insn.{Insn}
@@ -9,7 +9,7 @@ use Rattle.fm_frames.specs.States.{State}
 use Rattle.fm_frames.specs.declared.ends.Ended.{Ended}
 use Rattle.fm_frames.specs.inner.Doings.{CanStep}
 use Rattle.fm_law_can_step.specs.Ready.{IsGoing}
-use Rattle.fm_run.specs.Running.{ArePieces, BreaksRun, FailsRun, GoFirst, state_after}
+use Rattle.fm_run.specs.Running.{BreaksRun, FailsRun, GoFirst, pieces_of, state_after}
 use Rattle.fm_run.specs.Stepping.{DoesStep, FailsStep}
 use Rattle.fm_run.specs.inner.Nexts.{StandsIn, Stepped}
 use Rattle.fm_law_sound.specs.HeldCells.{HoldsCells}
@@ -27,9 +27,7 @@ pub record Ran (p : Program) (choose : Choose) (budget : ℕ) (first x : State) 
   pub count : ℕ
   pub goes : GoFirst p choose budget first count
   pub state : x ≡ state_after p choose count first
-  pub pieces : List (List ℕ)
-  pub are : ArePieces p choose first count pieces
-  pub put : new ≡ with_pieces pieces old
+  pub put : new ≡ with_pieces (pieces_of p choose first count) old
   pub keeps : Keeps p budget x
 
 -- how many steps may be left within the budget; none once the run has ended
