@@ -3,6 +3,7 @@ pub mod CompleteLemmas
 pub mod ChangeLemmas
 pub mod EndStatuses
 pub mod JobLemmas
+pub mod PutLemmas
 pub mod ReportedLemmas
 pub mod ReturnedLemmas
 pub mod RequestLimits

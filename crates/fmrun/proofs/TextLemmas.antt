@@ -1,8 +1,9 @@
 -- What each clause says of a call for a text.
-use Rattle.std.proofs.Common.{◌≡◌, ◌≢◌, ◌<◌, ◌≤◌, ◌⊎◌, ℕ, inl, inr, List, Contains, refl, sym, ap, ◌∙◌, subst, arith}
+use Rattle.std.proofs.Common.{◌≡◌, ◌≢◌, ◌<◌, ◌≤◌, ◌⊎◌, ℕ, inl, inr, List, length, Contains, refl, sym, ap, ◌∙◌, subst, arith}
 use Rattle.fm_files.specs.Files.{Bytes, Disk}
+use Rattle.fm_files.proofs.SinkLemmas.{at_most_one}
 use Rattle.fm_files.specs.Sink.{Output}
-use Rattle.fm_cli.proofs.LineLemmas.{put_fails}
+use Rattle.fm_cli.proofs.LineLemmas.{line_once, put_fails}
 use Rattle.fm_cli.proofs.OutsideLemmas.{no_fault_where_same}
 use Rattle.fm_cli.specs.Line.{Tells}
 use Rattle.fm_cli.specs.Status.{ComesExactly}
@@ -12,11 +13,12 @@ use Rattle.fm_cli_requests.proofs.ProgramTextLemmas.{one_text}
 use Rattle.fm_cli_requests.specs.FmrunRequest.{FmrunJob, AskNoJob, AskOnlyForText}
 use Rattle.fm_cli_requests.specs.ProgramText.{AskForText}
 use Rattle.fm_cli_requests.specs.declared.program_text.ProgramText.{ProgramText}
+use Rattle.fm_cli_requests.specs.declared.program_text.ProgramText.TheVariants as text
 use Rattle.fm_frames.specs.declared.ends.Ended.TheVariants as end
 use Rattle.fm_load.specs.Causes.{FailsARead}
 use Rattle.fm_run_job.specs.declared.status.TheConstants.{FAULT}
 use Rattle.fmrun.proofs.EndStatuses.{among_before_run}
-use Rattle.fmrun.specs.Causes.{AskFor, IsFaultless, IsForBytes, IsForCheck, IsForFault, IsForLimit, IsForLink, IsForMemory, IsForRead, IsForReturned, IsForRun, IsForText, IsForWords, IsForWrite, IsSilent, IsStatus, MissesFile, OnlyReads, ReportsMostHeld, refusal_statuses}
+use Rattle.fmrun.specs.Causes.{AskFor, IsFaultless, IsForBytes, IsForCheck, IsForFault, IsForLimit, IsForLink, IsForMemory, IsForRead, IsForReturned, IsForRun, IsForText, IsForWords, IsForWrite, IsSilent, IsStatus, MissesFile, OnlyReads, PutsPieces, ReportsMostHeld, refusal_statuses}
 use Rattle.fmrun.specs.TopCall.{IsTextPut, IsTopCall, text_bytes}
 
 module _ (words : List Bytes) (files : Disk) (before after report : Output) (result : ℕ) (asked : ProgramText) (asks : AskForText words asked) (reports : Tells (text_bytes asked) DONE before after result) where
@@ -127,6 +129,12 @@ module _ (words : List Bytes) (files : Disk) (before after report : Output) (res
 
   pub text_returned : IsForReturned words files files result
   text_returned held status from asks = absurd (none_for asks)
+
+  pub text_pieces : PutsPieces before after report report
+  text_pieces = (at_most_one before after (line_once (text_bytes asked) DONE before after result reports (some asked)), inl refl) where
+    some : (own : ProgramText) → 0 < length (text_bytes own)
+    some text.Help = omega arith
+    some text.Version = omega arith
 
   pub text_reads : OnlyReads words files files
   text_reads = record { asked = λ job has. absurd (no_job job has); unasked = λ none. refl }

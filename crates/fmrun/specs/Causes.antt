@@ -4,7 +4,7 @@ use Rattle.std.specs.List.{sum}
 use Rattle.fm_base.specs.declared.limits.TheConstants.{MAX_ARGUMENTS, MAX_CLASS_FILES, MAX_FILE_BYTES}
 use Rattle.fm_code.specs.declared.class_file.ClassDef.{ClassDef}
 use Rattle.fm_files.specs.Files.{Bytes, Disk}
-use Rattle.fm_files.specs.Sink.{Output, FailsPut, with_piece}
+use Rattle.fm_files.specs.Sink.{FailsPut, GetsAtMostOne, GetsPieces, Output, with_piece}
 use Rattle.fm_frames.specs.Reports.{report_of}
 use Rattle.fm_frames.specs.Runs.{IsRun}
 use Rattle.fm_frames.specs.States.{silent, State}
@@ -341,6 +341,10 @@ IsFaultless old new before after report report' result =
 -- nothing is printed before the run: a refusal leaves the output as it was
 abbrev pub IsSilent : Output → Output → ℕ → Type 0
 IsSilent before after result = Contains before_run result → after ≡ before
+
+-- the output gets pieces that have bytes, and the report at most one; a put that failed isn't tried again
+abbrev pub PutsPieces : Output → Output → Output → Output → Type 0
+PutsPieces before after report report' = GetsPieces before after × GetsAtMostOne report report'
 
 -- a job reads only its files, and words that ask for no job leave the files as they were; no
 -- contents change and no write fails

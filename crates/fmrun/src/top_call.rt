@@ -7,7 +7,7 @@ ghost use Rattle.fm_cli_requests.specs.FmrunRequest.{job_of};
 ghost use Rattle.fm_law_sound.specs.Making.{AreUnits};
 ghost use Rattle.fm_cli.specs.Words.{texts};
 ghost use Rattle.fm_cli.specs.declared.status.TheConstants.{MALFORMED, UNSUPPORTED, VERSION};
-ghost use Rattle.fmrun.specs.Causes.{IsFaultless, IsForBytes, IsForCheck, IsForFault, IsForLimit, IsForLink, IsForMemory, IsForRead, IsForReturned, IsForRun, IsForText, IsForWords, IsForWrite, IsSilent, IsStatus, OnlyReads, ReportsMostHeld};
+ghost use Rattle.fmrun.specs.Causes.{IsFaultless, IsForBytes, IsForCheck, IsForFault, IsForLimit, IsForLink, IsForMemory, IsForRead, IsForReturned, IsForRun, IsForText, IsForWords, IsForWrite, IsSilent, IsStatus, OnlyReads, PutsPieces, ReportsMostHeld};
 ghost use Rattle.fmrun.specs.Complete.{IsComplete};
 ghost use Rattle.fmrun.specs.Jobs.{IsWithinLimits, text_arguments};
 ghost use Rattle.fmrun.specs.TopCall.{ComesOf, ComesTo, IsReported, IsTopCall, StaysWithin};
@@ -101,6 +101,8 @@ pub fn fmrun_run<F: Files, O: Sink, R: Sink>(
     ensures faultless { IsFaultless (F.disk files.old) (F.disk files.new)
         (O.output out.old) (O.output out.new) (R.output report.old) (R.output report.new) result }
     ensures silent { IsSilent (O.output out.old) (O.output out.new) result }
+    ensures pieces { PutsPieces (O.output out.old) (O.output out.new)
+        (R.output report.old) (R.output report.new) }
     ensures reads { OnlyReads (texts words.now) (F.disk files.old) (F.disk files.new) }
 {
     // For their clauses: a run can go on, and no more cells are made than were held at once.

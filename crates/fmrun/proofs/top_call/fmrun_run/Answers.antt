@@ -4,9 +4,10 @@ use Rattle.fm_cli.specs.declared.status.TheConstants.{MALFORMED, VERSION, UNSUPP
 use Rattle.fmrun.proofs.CauseLemmas.{is_for_bytes, is_for_check, is_for_limit, is_for_link, is_for_read, is_for_run, is_for_words, run_only}
 use Rattle.fmrun.proofs.CompleteLemmas.{is_complete}
 use Rattle.fmrun.proofs.ChangeLemmas.{is_faultless, is_for_memory, is_for_write, is_silent, is_status, only_reads}
+use Rattle.fmrun.proofs.PutLemmas.{puts_pieces}
 use Rattle.fmrun.proofs.ReturnedLemmas.{is_for_returned}
 use Rattle.fmrun.proofs.RunFacts.{is_for_fault, reports_most_held}
-use Rattle.fmrun.proofs.TextLemmas.{text_check, text_fault, text_faultless, text_limit, text_link, text_memory, text_most_held, text_of_bytes, text_read, text_reads, text_returned, text_run, text_silent, text_status, text_text, text_whole, text_words, text_write}
+use Rattle.fmrun.proofs.TextLemmas.{text_check, text_fault, text_faultless, text_limit, text_link, text_memory, text_most_held, text_of_bytes, text_pieces, text_read, text_reads, text_returned, text_run, text_silent, text_status, text_text, text_whole, text_words, text_write}
 use Rattle.fmrun.proofs.top_call.fmrun_run.Goals as goal
 
 pub returns-in-Some : goal.returns-in-Some
@@ -43,6 +44,7 @@ returns-in-Some g c =
       most_held = text_most_held words files before after report result asked asks reports;
       faultless = text_faultless words files before after report result asked asks reports;
       silent = text_silent words files before after report result asked asks reports;
+      pieces = text_pieces words files before after report result asked asks reports;
       reads = text_reads words files before after report result asked asks reports;
     }
 
@@ -144,6 +146,11 @@ pub returns-in-None-clause-silent : goal.returns-in-None-clause-silent
 returns-in-None-clause-silent g c =
     is_silent (texts c.args.words.now) (g.F.Files.disk c.args.files.now) (g.F.Files.disk c.do_words-outcome.new.files) (g.O.Sink.output c.args.out.now)
     (g.O.Sink.output c.do_words-outcome.new.out) (g.R.Sink.output c.args.report.now) (g.R.Sink.output c.report_outcome.new.report) c.report_outcome.result c.do_words-outcome.result c.do_words-outcome.ensures c.report_outcome.ensures
+
+pub returns-in-None-clause-pieces : goal.returns-in-None-clause-pieces
+returns-in-None-clause-pieces g c =
+    puts_pieces (g.R.Sink.output c.args.report.now) (g.R.Sink.output c.report_outcome.new.report) c.report_outcome.result c.do_words-outcome.result
+    c.do_words-outcome.ensures c.report_outcome.ensures
 
 pub returns-in-None-clause-reads : goal.returns-in-None-clause-reads
 returns-in-None-clause-reads g c =
