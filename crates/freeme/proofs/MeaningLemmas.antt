@@ -1,10 +1,22 @@
 -- A call that is done keeps the meaning of the classes.
-use Rattle.std.proofs.Common.{◌⊎◌, inl, inr, ℕ, List}
+use Rattle.std.proofs.Common.{◌≡◌, ◌⊎◌, ◌++◌, inl, inr, ℕ, List, length, Option, None, append-nil, ap, ◌∙◌, subst}
+use Rattle.fm_base.proofs.ListFacts.{AllByRecursion-weaker}
+use Rattle.fm_cli_requests.proofs.FreemeRequestLemmas.{asks_one}
+use Rattle.fm_cli_requests.specs.FreemeRequest.{AskOnlyForText, FreemeJob}
+use Rattle.fm_code.specs.ClassBytes.{class_bytes}
+use Rattle.fm_code.specs.Spells.{HasSpelling}
+use Rattle.fm_code.specs.declared.class_file.ClassDef.{ClassDef}
 use Rattle.fm_files.specs.Files.{Bytes, Disk}
 use Rattle.fm_files.specs.Sink.{Output}
-use Rattle.fm_cli_requests.specs.FreemeRequest.{AskOnlyForText}
+use Rattle.fm_load.proofs.GivenLemmas.{given_spelled}
+use Rattle.fm_load.proofs.ReadLemmas.{same_number}
+use Rattle.fm_load.specs.Given.{made_classes}
+use Rattle.fm_load.specs.Taking.{ClassIsSpelled}
+use Rattle.freeme.proofs.WrittenLemmas.{names_same}
 use Rattle.freeme.specs.Causes.{IsForDone, SaysDone}
-use Rattle.freeme.specs.Meaning.{HasKeptMeaning, KeepsMeaning}
+use Rattle.freeme.specs.Jobs.{main_name}
+use Rattle.freeme.specs.Meaning.{HasKeptMeaning, HasRunsAlike, KeepsMeaning, RunsAlike}
+use Rattle.freeme.specs.TopCall.{IsDone}
 
 pub keeps_meaning : (words : List Bytes) (old new : Disk) (before after report report' : Output) (result : ℕ) → IsForDone words old new before after report report' result
     → KeepsMeaning words old new result
@@ -22,3 +34,44 @@ keeps_meaning words old new before after report report' result done is = by_said
     written = said.done.written;
     does = said.done.freed.does;
   })
+
+-- where no class is made, there is a class for each file
+one_each : (files : List Bytes) (read classes : List ClassDef) (made : Option ℕ) → made ≡ None → classes ≡ read ++ made_classes made → length read ≡ length files
+    → length classes ≡ length files
+one_each files read classes made none are same =
+    ap length are ∙ ap (λ number. length (read ++ made_classes number)) none ∙ ap length (append-nil read) ∙ same
+
+-- what is done, of class files
+done_alike : (job : FreemeJob) (lines : List ℕ) (old new : Disk) → job.made ≡ None → IsDone job lines old new → HasRunsAlike job old new
+done_alike job lines old new none done =
+    let given = done.freed.classes in
+    let source = done.freed.checked.linked.source in
+    let does = done.freed.does in
+    record {
+      given = given;
+      one_each = one_each job.files source.read given job.made none source.classes_are (same_number old.contents job.files source.read source.taken.taken);
+      spelled = given_spelled source;
+      reads = done.reads;
+      made = done.made.classes.items;
+      names =
+          names_same given (main_name job) done.made
+          (AllByRecursion-weaker ClassIsSpelled HasSpelling (λ c spells. (class_bytes c, spells)) given (given_spelled source)) done.freed.rewritten;
+      spelled_too = done.freed.spelled;
+      written = done.written;
+      alike = record {
+        marks = done.freed.rewritten.marks;
+        same = does.same;
+        faultless = does.faultless;
+        ends = does.ends;
+        most_held = does.most_held;
+      };
+    }
+
+pub runs_alike : (words : List Bytes) (old new : Disk) (before after report report' : Output) (result : ℕ) → IsForDone words old new before after report report' result
+    → RunsAlike words old new result
+runs_alike words old new before after report report' result done job asked none is = by_said (done.only is) where
+  by_said : SaysDone words old new before after report report' ⊎ AskOnlyForText words → HasRunsAlike job old new
+  by_said (inr text) = absurd (text.no_job job asked)
+  by_said (inl said) =
+      let P : FreemeJob → Type 0 = λ k. IsDone k said.lines old new in
+      done_alike job said.lines old new none (subst P (asks_one words said.job job said.asked asked) said.done)

@@ -1,16 +1,20 @@
 -- That the classes which are written mean what those mean that are read.
-use Rattle.std.specs.Prelude.{◌≡◌, ◌⊎◌, ℕ, List}
+use Rattle.std.specs.Prelude.{◌≡◌, ◌⊎◌, ℕ, List, None, length, map}
+use Rattle.std.specs.List.{AllByRecursion}
 use Rattle.fm_files.specs.Files.{Bytes, Disk}
 use Rattle.fm_cli.specs.declared.status.TheConstants.{DONE}
 use Rattle.fm_code.specs.declared.class_file.ClassDef.{ClassDef}
 use Rattle.fm_cli_requests.specs.FreemeRequest.{AskOnlyForText, Asks, FreemeJob}
-use Rattle.fm_law_headline.specs.Headline.{DoesTheSame}
+use Rattle.fm_law_headline.specs.Headline.{DoesTheSame, EndTheSame, MakesAsHeld}
+use Rattle.fm_law_same_runs.specs.Beside.{InAllRuns, IsWithoutFault, Marks, Same}
 use Rattle.fm_load.specs.Given.{AreChecked}
 use Rattle.fm_load.specs.Returned.{ReadsAs}
+use Rattle.fm_load.specs.Taking.{ClassIsSpelled}
 use Rattle.fm_rewrite.specs.Rewritten.{AreRewritten}
 use Rattle.fm_rewrite.specs.declared.rewriting.Rewritten.{Rewritten}
+use Rattle.fm_world.specs.Programs.{Program, program_of}
 use Rattle.freeme.specs.Jobs.{given_of, main_name}
-use Rattle.freeme.specs.Writing.{AllWritten}
+use Rattle.freeme.specs.Writing.{AllWritten, class_text}
 
 -- The classes whose bytes the reads of this call returned, and those whose bytes it wrote for them, which do the same (JVMS 2.6, 2.10, 2.11): step for matched step on
 -- memory that reuses cells in any way, no freed cell is used, and holders of what isn't needed are null.
@@ -28,3 +32,31 @@ pub record HasKeptMeaning (words : List Bytes) (old new : Disk) : Type 0 where
 -- where it is done, unless the words ask for a text
 abbrev pub KeepsMeaning : List Bytes → Disk → Disk → ℕ → Type 0
 KeepsMeaning words old new result = result ≡ DONE → HasKeptMeaning words old new ⊎ AskOnlyForText words
+
+-- ---- the same, of what programs do, and no word of how classes are taken, analysed and rewritten
+
+-- Two programs: on memory that reuses cells in any way the second one does what the first one does on memory that is never reused, step for matched step, and no
+-- freed cell is used; in whole runs over cells that serve again both end the same; and of each size class the second one makes as many cells as it holds at once.
+pub record RunAlike (one other : Program) : Type 0 where
+  pub marks : Marks
+  pub same : Same one other marks
+  pub faultless : InAllRuns one other marks IsWithoutFault
+  pub ends : EndTheSame one other
+  pub most_held : MakesAsHeld other
+
+-- The class files of a job, whose bytes the reads of this call returned, and those whose bytes it wrote for them: each spells its class, and the names are the same
+-- (JVMS 4). With the main class of the job their programs run alike (JVMS 2.6, 2.10, 2.11, 5).
+pub record HasRunsAlike (job : FreemeJob) (old new : Disk) : Type 0 where
+  pub given : List ClassDef
+  pub one_each : length given ≡ length job.files
+  pub spelled : AllByRecursion ClassIsSpelled given
+  pub reads : ReadsAs job.files given old new
+  pub made : List ClassDef
+  pub names : map class_text made ≡ map class_text given
+  pub spelled_too : AllByRecursion ClassIsSpelled made
+  pub written : AllWritten job.folder made old new
+  pub alike : RunAlike (program_of given (main_name job)) (program_of made (main_name job))
+
+-- where it is done, of class files
+abbrev pub RunsAlike : List Bytes → Disk → Disk → ℕ → Type 0
+RunsAlike words old new result = (job : FreemeJob) → Asks words job → job.made ≡ None → result ≡ DONE → HasRunsAlike job old new

@@ -7,7 +7,7 @@ ghost use Rattle.freeme.specs.Complete.{IsComplete};
 ghost use Rattle.fm_cli_requests.specs.FreemeRequest.{job_of};
 ghost use Rattle.fm_load.specs.Given.{IsMadeAlone};
 ghost use Rattle.freeme.specs.Jobs.{given_of};
-ghost use Rattle.freeme.specs.Meaning.{KeepsMeaning};
+ghost use Rattle.freeme.specs.Meaning.{KeepsMeaning, RunsAlike};
 ghost use Rattle.freeme.specs.TopCall.{ComesOf, ComesTo, IsReported, IsTopCall, StaysWithin};
 ghost use Rattle.freeme.specs.declared.status.TheConstants.{CALLS_FREE, METHOD_TOO_LONG, POOL_FULL};
 
@@ -114,6 +114,7 @@ pub fn freeme_run<F: Files, O: Sink, R: Sink>(
 
     // Where it is done: the classes written do what the classes read do.
     ensures same { KeepsMeaning (texts words.now) (F.disk files.old) (F.disk files.new) result }
+    ensures runs { RunsAlike (texts words.now) (F.disk files.old) (F.disk files.new) result }
 {
     // For its clauses: it makes no difference which exact facts are taken.
     law_exact();

@@ -6,7 +6,7 @@ use Rattle.freeme.proofs.CauseLemmas.{is_for_words, is_for_read, is_for_bytes, i
 use Rattle.freeme.proofs.CompleteLemmas.{is_complete}
 use Rattle.freeme.proofs.PutLemmas.{puts_once}
 use Rattle.freeme.proofs.StatusLemmas.{is_status}
-use Rattle.freeme.proofs.MeaningLemmas.{keeps_meaning}
+use Rattle.freeme.proofs.MeaningLemmas.{keeps_meaning, runs_alike}
 use Rattle.freeme.proofs.TextLemmas.{text_changes, text_check, text_done, text_faultless, text_kept, text_limit, text_link, text_memory, text_of_bytes, text_once, text_read, text_returned, text_rewrite, text_silent, text_status, text_text, text_whole, text_words, text_write}
 use Rattle.freeme.proofs.top_call.freeme_run.Goals as goal
 
@@ -49,6 +49,7 @@ returns-in-Some g c =
       once = text_once words files before after report result asked asks reports;
       others = text_changes words files before after report result asked asks reports;
       same = keeps_meaning words files files before after report report result (text_done words files before after report result asked asks reports);
+      runs = runs_alike words files files before after report report result (text_done words files before after report result asked asks reports);
     }
 
 pub returns-in-None : goal.returns-in-None
@@ -93,4 +94,5 @@ returns-in-None g c =
       once = puts_once before after report report' result o comes reports;
       others = changes_only before after report report' result o comes reports alike;
       same = keeps_meaning words old new before after report report' result (is_for_done before after report report' result o comes reports alike);
+      runs = runs_alike words old new before after report report' result (is_for_done before after report report' result o comes reports alike);
     }
