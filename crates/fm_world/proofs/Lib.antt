@@ -13,3 +13,4 @@ mod KnownLemmas
 pub mod Acyclic
 pub mod Completions
 mod ClassTypes
+pub mod Narrowed

@@ -20,7 +20,7 @@ use crate::known_targets::{KnownTargets, TargetList};
 use crate::parts::Parts;
 use crate::records::{Body, ClassInfo, FieldInfo, MethodInfo};
 use crate::uses::Use;
-use fm_base::{Base, ClassId, FieldId, MethodId, NoMemory, TypeId, TypeRef, Units};
+use fm_base::{Base, ClassId, FieldId, MethodId, NoMemory, Row, TypeId, TypeRef, Units};
 use fm_code::{ACC_INTERFACE, Insn, has_flag};
 use std::alloc::Global;
 use std::marker::Model;
@@ -63,6 +63,18 @@ impl Program {
         let Program { mut parts } = self;
         parts.known = Some(known);
         Ok(Program::new(parts))
+    }
+
+    /// The program in which objects are made only of the classes of the row: its virtual calls lead only
+    /// to what these classes and arrays select. The targets that were found before are forgotten. Takes
+    /// no memory.
+    pub fn narrowed(self, made: Row) -> Program
+        ensures { result ≡ record self { made = Some made } }
+    {
+        let Program { mut parts } = self;
+        parts.made = Some(made);
+        parts.known = None;
+        Program::new(parts)
     }
 
     // The targets of its virtual calls.
