@@ -14,21 +14,21 @@ use Rattle.fm_world.specs.Members.{methods_of}
 use Rattle.fm_world.specs.Programs.{code_at, Program}
 use Rattle.fm_audit.specs.SafePlans.{IsListedIn, IsSafelyPlanned}
 
--- what is to be done with one that may have code
+-- what is to be done with the method is safely planned for its code, and is nothing where it has none
 abbrev pub IsSafelyPlannedIn : Program → Summaries → ℕ → Option Code → Planned → Type 0
 IsSafelyPlannedIn p summaries method None done = done ≡ planned.Same
 IsSafelyPlannedIn p summaries method (Some code) done = IsSafelyPlanned p summaries method code done
 
--- with a method of the program
+-- this is safely planned for this method of the program
 abbrev pub IsSafelyPlannedAt : Program → Summaries → ℕ → Planned → Type 0
 IsSafelyPlannedAt p summaries method done = IsSafelyPlannedIn p summaries method (code_at p method) done
 
--- with each method of a program, as the summaries link the ends of methods
+-- there is something to be done with each method of a program, and it is safely planned as the summaries link the ends of methods
 pub record AreSafelyPlanned (p : Program) (summaries : Summaries) (done : List Planned) : Type 0 where
   pub one_each : length done ≡ length (methods_of p.outline.classes)
   pub each : (method : ℕ) → method < length done → IsSafelyPlannedAt p summaries method (planned_at done method)
 
--- with each method by the exact facts of the program, over least typings: what is inserted is safe, and it is what is planned
+-- what is to be done with each method lists what is inserted, and that is safe by exact facts of the program over least typings
 pub record AreSafelyInserted (p : Program) (done : List Planned) : Type 0 where
   pub facts : Facts
   pub exact : AreFacts p facts

@@ -48,7 +48,7 @@ pub(crate) fn checked(
     Ok(Some(holders))
 }
 
-/// This number, if there are locals left for so many holders, and there is one.
+/// This number, if there are locals left for this number of holders, and there is one.
 fn holder_count(max_locals: u16, count: usize) -> Option<u16>
     ensures { IfSome result (λ holders. (holders ≡ count) × (0 < holders)
         × (max_locals + holders ≤ MAX_LOCAL_WORDS)) }

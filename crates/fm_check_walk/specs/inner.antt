@@ -1,4 +1,4 @@
--- What serves the proofs alone.
+-- What only serves the proofs.
 pub mod Tasks
 pub mod Merging
 pub mod Ranks

@@ -1,3 +1,3 @@
--- What serves the proofs alone.
+-- What only serves the proofs.
 pub mod Gives
 pub mod Entries

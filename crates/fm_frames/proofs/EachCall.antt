@@ -22,7 +22,7 @@ use Rattle.fm_frames.proofs.Cases.{by_any, by_if, by_object, by_on_method, by_re
 use Rattle.fm_frames.proofs.EachInsn.{CallRows}
 use Rattle.fm_frames.proofs.Failures.{ClassChange, Failures, NullPointer}
 
--- how the method that is entered is found of the one that is named: selected in a class, or as invokespecial finds it (JVMS 5.4.6, 6.5.invokespecial)
+-- how the method that is entered is found of the one that is named: selected in a class, or as invokespecial finds it (JVMS 5.4.5, 6.5.invokespecial)
 pub data Reaches (o : Outline) (method : ℕ) (t : TypeRef) (named target : ℕ) : Type 0 where
   Selected : (class : ℕ) → select o.classes class named ≡ Some target → Reaches o method t named target
   Special : special_target o.classes (class_of_method o method) (class_of_type t) named ≡ target → Reaches o method t named target

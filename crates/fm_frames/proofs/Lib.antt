@@ -11,7 +11,7 @@ pub mod Underways
 pub mod FrameRoom
 pub mod Contents
 pub mod TextSteps
-pub mod Copies
+pub mod CopySteps
 pub mod Resized
 pub mod Bits
 pub mod LiteralSteps

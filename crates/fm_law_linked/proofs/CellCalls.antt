@@ -1,5 +1,5 @@
 -- Calls of linked programs meet objects for which a method is selected, invokespecial leads to methods of the own class and above, and constructors are of exactly
--- the class that is named (JVMS 5.4.6, 6.5.invokespecial).
+-- the class that is named (JVMS 5.4.5, 6.5.invokespecial).
 use Rattle.std.proofs.Common.{◌≡◌, refl, sym, ◌∙◌, ap, subst, ℕ, ◌<◌, ◌⊎◌, inl, inr, ◌==◌, ◌||◌, ◌&&◌, not, cond, Bool, true, false, List, [], ◌∷◌, ◌++◌, length, drop, nat_lt, nat_eq, slice_get, Option, Some, None, option_and_then, option_map, option_to_list, unwrap_or, arith, ⊎_elim}
 use Rattle.std.specs.List.{AllByRecursion}
 use Rattle.std.specs.Str.{bytes_eq}

@@ -1,5 +1,5 @@
 -- The class that declares a method that is found: above the class whose objects are called, or one of its interfaces. So a method is selected for each of these
--- objects, of a class that their type fits (JVMS 5.4.5, 5.4.6).
+-- objects, of a class that their type fits (JVMS 5.4.5).
 use Rattle.std.proofs.Common.{◌≡◌, refl, sym, ◌∙◌, ap, subst, ℕ, ◌+◌, ◌-◌, ◌<◌, ◌≤◌, ◌⊎◌, inl, inr, ◌==◌, ◌&&◌, not, cond, Bool, true, false, List, [], ◌∷◌, ◌++◌, length, map, nat_eq, get_or, slice_get, position, codes, Option, Some, None, is_some, option_and_then, option_map, option_to_list, unwrap_or, zero-add, arith, ⊎_elim}
 use Rattle.std.specs.List.{AllByRecursion, flat_map}
 use Rattle.std.specs.Str.{bytes_eq}

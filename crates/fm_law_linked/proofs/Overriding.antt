@@ -13,7 +13,7 @@ use Rattle.fm_world.proofs.Displays.{parent_of-within}
 use Rattle.fm_world.proofs.OwnedMethods.{IsFound, own_method_found, own_within}
 use Rattle.fm_world.proofs.OverridingLemmas.{below_overrides, first_found-first, free_overrides, overriding_own}
 use Rattle.fm_world.specs.Chains.{chain_of, class_at, first_found, is_among, parent_of}
-use Rattle.fm_world.specs.Lookups.{can_override, is_free, is_restricted, is_selectable, opens, overriding, own_selectable, package_of, same_package}
+use Rattle.fm_world.specs.Lookups.{can_override, is_unrestricted, is_restricted, is_selectable, opens, overriding, own_selectable, package_of, same_package}
 use Rattle.fm_world.specs.Members.{method_at, own_method, OwnedMethod}
 use Rattle.fm_world.specs.declared.declarations.DeclaredClass.{DeclaredClass}
 use Rattle.fm_world.specs.inner.Tables.{chain_from}
@@ -113,16 +113,16 @@ module _ (classes : List DeclaredClass) (tree : AreTree classes) where
     -- a class that opens the nearer method opens the farther one
     opens_both : (x : ℕ) → is_among m.class (chain_of classes d) ≡ true → same_package classes d m.class ≡ true → opens classes n x ≡ true → opens classes m x ≡ true
     opens_both x below near is =
-        let outer = and_parts (is_among n.class (chain_of classes x)) (same_package classes x n.class && is_free classes (own_selectable classes n x)) is in
-        let inner = and_parts (same_package classes x n.class) (is_free classes (own_selectable classes n x)) outer.1 in
+        let outer = and_parts (is_among n.class (chain_of classes x)) (same_package classes x n.class && is_unrestricted classes (own_selectable classes n x)) is in
+        let inner = and_parts (same_package classes x n.class) (is_unrestricted classes (own_selectable classes n x)) outer.1 in
         let above : is_among d (chain_of classes x) ≡ true = ap (λ y. is_among y (chain_of classes x)) (sym found.owner) ∙ outer.0 in
         let alike : same_package classes x d ≡ true = ap (same_package classes x) (sym found.owner) ∙ inner.0 in
         let same : own_selectable classes m x ≡ own_selectable classes n x =
         ap (λ a. own_method classes is_selectable a m.method.descriptor x) (sym found.name_is)
         ∙ ap (λ a. own_method classes is_selectable n.method.name a x) (sym found.descriptor_is) in
-        ap (λ b. b && (same_package classes x m.class && is_free classes (own_selectable classes m x))) (among-trans classes tree x d m.class above below)
-        ∙ ap (λ b. b && is_free classes (own_selectable classes m x)) (package-trans classes x d m.class alike near)
-        ∙ ap (is_free classes) same ∙ inner.1
+        ap (λ b. b && (same_package classes x m.class && is_unrestricted classes (own_selectable classes m x))) (among-trans classes tree x d m.class above below)
+        ∙ ap (λ b. b && is_unrestricted classes (own_selectable classes m x)) (package-trans classes x d m.class alike near)
+        ∙ ap (is_unrestricted classes) same ∙ inner.1
 
     joined : {x : Bool} → is_restricted classes m ≡ true → is_among m.class (chain_of classes c) ≡ true → x ≡ true
         → (not (is_restricted classes m) || (is_among m.class (chain_of classes c) && x)) ≡ true
@@ -132,8 +132,8 @@ module _ (classes : List DeclaredClass) (tree : AreTree classes) where
         → (same_package classes c m.class || opened m c) ≡ true
     by_nearer below near false e =
         let opens_here : opens classes m d ≡ true =
-        ap (λ b. b && (same_package classes d m.class && is_free classes (own_selectable classes m d))) below
-        ∙ ap (λ b. b && is_free classes (own_selectable classes m d)) near ∙ ap (is_free classes) own ∙ ap not e in
+        ap (λ b. b && (same_package classes d m.class && is_unrestricted classes (own_selectable classes m d))) below
+        ∙ ap (λ b. b && is_unrestricted classes (own_selectable classes m d)) near ∙ ap (is_unrestricted classes) own ∙ ap not e in
         or_right (same_package classes c m.class) (opened m c) (any_there (opens classes m) (chain_of classes c) d up opens_here)
     by_nearer below near true e =
         let parts = below_parts (is_restricted classes n) (is_among n.class (chain_of classes c)) (same_package classes c n.class || opened n c) e its in

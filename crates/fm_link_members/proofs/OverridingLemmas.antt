@@ -6,7 +6,7 @@ use Rattle.fm_code.specs.AccessFlags.{is_package_private, is_private}
 use Rattle.fm_world.proofs.OwnedMethods.{own_method_found}
 use Rattle.fm_world.proofs.OverridingLemmas.{either_none, first_found-same, last_fails, no_own_past, opens_past, overriding_past, select-free}
 use Rattle.fm_world.specs.Chains.{chain_of, first_found, is_among}
-use Rattle.fm_world.specs.Lookups.{can_override, is_free, is_interface_at, is_restricted, is_selectable, opens, overriding, own_selectable, same_package, select}
+use Rattle.fm_world.specs.Lookups.{can_override, is_unrestricted, is_interface_at, is_restricted, is_selectable, opens, overriding, own_selectable, same_package, select}
 use Rattle.fm_world.specs.Members.{method_at, methods_of}
 use Rattle.fm_world.specs.declared.declarations.DeclaredClass.{DeclaredClass}
 use Rattle.fm_link_supers.proofs.ParentTables.{list_in-row}
@@ -56,7 +56,7 @@ module _ (texts : List (List ℕ)) (classes : List DeclaredClass) (m : Methods) 
         ap (λ cs. same_package cs class (owner_in m method)) is.classes_are ∙ ap (same_package classes class) (owner-is method within)
 
     -- the method that was found is one of the methods
-    free-is : (class : ℕ) (o : Option ℕ) → own_selectable classes (method_at classes method) class ≡ o → is_free_in m h o ≡ is_free classes o
+    free-is : (class : ℕ) (o : Option ℕ) → own_selectable classes (method_at classes method) class ≡ o → is_free_in m h o ≡ is_unrestricted classes o
     free-is class None e = refl
     free-is class (Some k) e =
         let its = (method_at classes method).method in
@@ -64,7 +64,7 @@ module _ (texts : List (List ℕ)) (classes : List DeclaredClass) (m : Methods) 
 
     opens-is : (class : ℕ) → opens_in m h method signature class ≡ opens classes (method_at classes method) class
     opens-is class = by_place (cases_lt class (length classes)) where
-      free : is_free_in m h (own_selectable_in m signature class) ≡ is_free classes (own_selectable classes (method_at classes method) class)
+      free : is_free_in m h (own_selectable_in m signature class) ≡ is_unrestricted classes (own_selectable classes (method_at classes method) class)
       free = ap (is_free_in m h) (own-is class) ∙ free-is class (own_selectable classes (method_at classes method) class) refl
 
       by_place : (class < length classes) ⊎ (length classes ≤ class) → opens_in m h method signature class ≡ opens classes (method_at classes method) class
@@ -75,7 +75,7 @@ module _ (texts : List (List ℕ)) (classes : List DeclaredClass) (m : Methods) 
           ∙ ap (λ b. is_among (method_at classes method).class (chain_of classes class) && (same_package classes class (method_at classes method).class && b)) free
       by_place (inr past) =
           let none = no_own_past classes (method_at classes method) class past in
-          last_fails (is_below_in m h method class) (same_package h.classes.now class (owner_in m method)) (free ∙ ap (is_free classes) none)
+          last_fails (is_below_in m h method class) (same_package h.classes.now class (owner_in m method)) (free ∙ ap (is_unrestricted classes) none)
           ∙ sym (opens_past classes (method_at classes method) class none)
 
     can-is : (class : ℕ) → class < length classes → can_override_in m h method signature class ≡ can_override classes (method_at classes method) class

@@ -12,7 +12,7 @@ use Rattle.fm_base.specs.declared.ids.MethodId.{MethodId}
 use Rattle.fm_code.specs.AccessFlags.{is_private}
 use Rattle.fm_world.proofs.OwnedMethods.{own_method_found, own_within}
 use Rattle.fm_world.specs.Chains.{chain_of, first_found, is_among, parent_of, upwards}
-use Rattle.fm_world.specs.Lookups.{can_override, is_free, is_restricted, is_selectable, opens, overriding, own_selectable, package_of, same_package, select}
+use Rattle.fm_world.specs.Lookups.{can_override, is_unrestricted, is_restricted, is_selectable, opens, overriding, own_selectable, package_of, same_package, select}
 use Rattle.fm_world.specs.Members.{method_among, method_at, methods_of, OwnedMethod}
 use Rattle.fm_world.specs.declared.declarations.DeclaredClass.{DeclaredClass}
 
@@ -225,7 +225,7 @@ last_fails b p e = ap (λ f. b && (p && f)) e ∙ ap (λ f. b && f) (and_false p
 
 pub opens_past : (classes : List DeclaredClass) (m : OwnedMethod) (class : ℕ) → own_selectable classes m class ≡ None → opens classes m class ≡ false
 opens_past classes m class none =
-    last_fails (is_among m.class (chain_of classes class)) (same_package classes class m.class) (ap (is_free classes) none)
+    last_fails (is_among m.class (chain_of classes class)) (same_package classes class m.class) (ap (is_unrestricted classes) none)
 
 pub overriding_past : (classes : List DeclaredClass) (m : OwnedMethod) (class : ℕ) → own_selectable classes m class ≡ None → overriding classes m class ≡ None
 overriding_past classes m class none = ap (λ o. cond (can_override classes m class) o None) none ∙ either_none (can_override classes m class)

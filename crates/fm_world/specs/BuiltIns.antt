@@ -19,7 +19,7 @@ public_static = 0x0009
 abbrev pub public_static_final : ℕ
 public_static_final = 0x0019
 
--- of a class: public, with the searching of special calls; of an interface: public, interface and abstract
+-- of a class: public, and ACC_SUPER as each compiler sets it (JVMS 4.1); of an interface: public, interface and abstract
 abbrev pub class_flags : ℕ
 class_flags = 0x0021
 

@@ -78,27 +78,28 @@ same_package classes class other = bytes_eq (package_of (class_at classes class)
 
 -- ---- the method that is called
 
--- a method that can override
+-- a method that is selected by name and descriptor: neither static nor private
 abbrev pub is_selectable : ℕ → Bool
 is_selectable flags = not (is_static flags) && not (is_private flags)
 
--- the class's own method of the name and the descriptor of this one that can override
+-- the class's own method of the name and the descriptor of this one, if it is neither static nor private
 abbrev pub own_selectable : List DeclaredClass → OwnedMethod → ℕ → Option ℕ
 own_selectable classes m class = own_method classes is_selectable m.method.name m.method.descriptor class
 
--- a method that is overridden in its own package first: of a class, and neither public, protected nor private
+-- a method that classes of other packages override only once it is opened: of a class, and neither public, protected nor private (JVMS 5.4.5)
 abbrev pub is_restricted : List DeclaredClass → OwnedMethod → Bool
 is_restricted classes m = is_package_private m.method.flags && not (is_interface_at classes m.class)
 
 -- there is a method, and it isn't restricted
-abbrev pub is_free : List DeclaredClass → Option ℕ → Bool
-is_free classes None = false
-is_free classes (Some method) = not (is_restricted classes (method_at classes method))
+abbrev pub is_unrestricted : List DeclaredClass → Option ℕ → Bool
+is_unrestricted classes None = false
+is_unrestricted classes (Some method) = not (is_restricted classes (method_at classes method))
 
 -- the class opens the method for all packages: it is below the method's class, of its package, and overrides the method by one that isn't restricted
+-- (JVMS 5.4.5)
 abbrev pub opens : List DeclaredClass → OwnedMethod → ℕ → Bool
 opens classes m class =
-    is_among m.class (chain_of classes class) && (same_package classes class m.class && is_free classes (own_selectable classes m class))
+    is_among m.class (chain_of classes class) && (same_package classes class m.class && is_unrestricted classes (own_selectable classes m class))
 
 -- whether the class's method of the same name and descriptor overrides the method: where that is restricted to a package, the class is below the
 -- method's class, and is of its package or below a class that has opened it; what overrides that one's method overrides the method too (JVMS 5.4.5)
@@ -107,12 +108,12 @@ can_override classes m class =
     not (is_restricted classes m)
     || (is_among m.class (chain_of classes class) && (same_package classes class m.class || list_any (opens classes m) (chain_of classes class)))
 
--- the class's own method by which it overrides the method
+-- the class's own method by which it overrides the method (JVMS 5.4.5)
 abbrev pub overriding : List DeclaredClass → OwnedMethod → ℕ → Option ℕ
 overriding classes m class = if can_override classes m class then own_selectable classes m class else None
 
 -- of an object of the class: the method itself where it is private, else the nearest one that overrides it in the class and its superclasses
--- (JVMS 5.4.6, 6.5.invokevirtual)
+-- (JVMS 5.4.5, 6.5.invokevirtual)
 unfoldable pub select : List DeclaredClass → ℕ → ℕ → Option ℕ
 select classes class method =
     let m = method_at classes method in

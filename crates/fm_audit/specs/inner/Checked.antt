@@ -24,7 +24,7 @@ abbrev pub AreSafeFrees : Seen → (held before : List (ℕ × ℕ)) → Type 0
 AreSafeFrees s held before =
     (freed : ℕ → List ℕ) → before ≡ flat_map (paired freed) (range_with_len 0 (count_of s)) → (j : ℕ) → j < count_of s → IsSafeItem s held j (freed j)
 
--- so many holders have sites of their own, and are freed where it is safe
+-- as many holders as there are have sites of their own, and are freed where it is safe
 pub record IsChecked (s : Seen) (sites : List Site) (pairs : Pairs) (holders : ℕ) : Type 0 where
   pub held : List (ℕ × ℕ)
   pub count : length held ≡ holders

@@ -1,5 +1,5 @@
 use Rattle.std.proofs.Common.{arith}
-use Rattle.fm_frames.proofs.Copies.{copies-all, copies-next, copies-start, copies-there}
+use Rattle.fm_frames.proofs.CopySteps.{copies-all, copies-next, copies-start, copies-there}
 use Rattle.fm_frames.proofs.copies.copy_elements.Goals as goal
 
 pub loop-place-init : goal.loop-place-init

@@ -1,6 +1,6 @@
 use Rattle.std.proofs.Common.{[], Some, None, false, ap, arith, refl, sym, ◌∙◌, subst}
 use Rattle.fm_cells.specs.Objects.{request_of}
-use Rattle.fm_frames.proofs.Copies.{copy-made, copy-takes, copy-words, given-copy}
+use Rattle.fm_frames.proofs.CopySteps.{copy-made, copy-takes, copy-words, given-copy}
 use Rattle.fm_frames.proofs.Throwing.{told-ok, type-request}
 use Rattle.fm_frames.proofs.Underways.{copied-full}
 use Rattle.fm_frames.proofs.machine.Machine.give_copy.Goals as goal
