@@ -18,6 +18,7 @@ use Rattle.fm_world.specs.Programs.{kind_at, Outline}
 use Rattle.fm_frames.specs.Acts.{cell_of, Choose, copied, Did, FullAt, is_there, literal_made, literal_text, literal_type, LostAt, made_object, made_then, performed, Performed, put_value, requested, set_static, Sources, value_of}
 use Rattle.fm_frames.specs.Effects.{Action, Make, MakeFixed, MakeLiteral, Put, SetStatic, Start, Free, SetChain, FreeChain, Copy, Source, Plain, OfOperand, OfMade, OfLiteral}
 use Rattle.fm_frames.specs.Elements.{cut, is_string_type, kept, read}
+use Rattle.fm_frames.specs.NativeRows.{resized}
 use Rattle.fm_frames.proofs.Resized.{resized_where}
 use Rattle.fm_frames.specs.Sights.{has_hidden_field, type_numbered}
 use Rattle.fm_frames.specs.States.{Areas, word_at}
@@ -177,7 +178,7 @@ module _ (o : Outline) (t : TypeRef) (len : ℕ) (fixed : Bool) (number : HasNum
         (leads-later o x.store later more _ _ (whole.elements place u (ap (λ w. kind_at o.classes w place) alike ∙ is))))
         (λ none. inl none) (place_of place);
     hidden = λ has. ⊎_elim
-        (λ same. subst (λ c. LeadsToA o later (is_text_type o) c) (sym same)
+        (λ same. subst (λ c. LeadsToA o later (is_string_type o) c) (sym same)
         (leads-later o x.store later more _ _ (whole.hidden (ap (λ w. has_hidden_field o w) alike ∙ has))))
         (λ none. inl none) (place_of 0);
     fixed = λ lives place u kind_is. absurd (false≢true (sym loose ∙ sym (made_fixed x.store (requested o t len fixed) (copied x.store cell len)) ∙ lives));

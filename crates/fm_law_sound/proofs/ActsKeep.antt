@@ -21,6 +21,7 @@ use Rattle.fm_world.specs.Programs.{kind_at, Outline}
 use Rattle.fm_frames.specs.Acts.{all_freed, cell_of, chain_from, chain_freed, chained, Choose, copied, freed, freed_object, is_there, literal_made, literal_text, literal_type, made_then, performed, Performed, put_value, requested, set_static, value_of, with_content}
 use Rattle.fm_frames.specs.Effects.{Action, Make, MakeFixed, MakeLiteral, Put, SetStatic, Start, Free, SetChain, FreeChain, Copy, Source, OfOperand, OfMade}
 use Rattle.fm_frames.specs.Elements.{cut, kept}
+use Rattle.fm_frames.specs.NativeRows.{resized}
 use Rattle.fm_frames.specs.Sights.{type_numbered}
 use Rattle.fm_frames.specs.States.{Areas, Frame, word_at}
 use Rattle.fm_frames.specs.declared.values.Value.{Value}

@@ -22,6 +22,7 @@ use Rattle.fm_world.specs.Programs.{kind_at, Outline}
 use Rattle.fm_frames.specs.Acts.{all_freed, cell_of, chain_from, chain_freed, chained, Choose, copied, Did, freed, freed_object, FullAt, is_there, literal_made, literal_text, literal_type, LostAt, made_then, performed, Performed, put_value, requested, set_static, sum_of, value_of, with_content}
 use Rattle.fm_frames.specs.Effects.{Action, Make, MakeFixed, MakeLiteral, Put, SetStatic, Start, Free, SetChain, FreeChain, Copy, Source, Plain, OfOperand, OfLocal, LocalPlus, OfPlace, OfStatic, OfMade, OfLiteral, SameOperands}
 use Rattle.fm_frames.specs.Elements.{cut, kept, read}
+use Rattle.fm_frames.specs.NativeRows.{resized}
 use Rattle.fm_frames.proofs.Resized.{resized_where}
 use Rattle.fm_frames.specs.Sights.{type_numbered}
 use Rattle.fm_frames.specs.States.{Areas, Frame, word_at}

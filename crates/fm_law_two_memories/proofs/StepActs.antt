@@ -20,6 +20,7 @@ use Rattle.fm_world.specs.Programs.{kind_at, Outline}
 use Rattle.fm_frames.specs.Acts.{cell_of, Choose, copied, FullAt, is_there, literal_made, literal_text, literal_type, made_then, performed, Performed, put_value, requested, set_static, value_of, with_content}
 use Rattle.fm_frames.specs.Effects.{Action, Copy, Free, FreeChain, Make, MakeFixed, MakeLiteral, OfMade, OfOperand, Put, SetChain, SetStatic, Source, Start}
 use Rattle.fm_frames.specs.Elements.{is_text_type, kept}
+use Rattle.fm_frames.specs.NativeRows.{resized}
 use Rattle.fm_frames.specs.Literals.{literal_count}
 use Rattle.fm_frames.proofs.Resized.{length-resized, resized_both}
 use Rattle.fm_frames.specs.Sights.{type_numbered}
