@@ -21,9 +21,9 @@ use Rattle.fm_frames.proofs.Underways.{copied-next, ended-one, told-whole}
 use Rattle.fm_frames.specs.Acts.{cell_of, Choose, copied, requested, with_content}
 use Rattle.fm_frames.specs.Effects.{Copy, OfMade, Plain, making, words}
 use Rattle.fm_frames.specs.Elements.{pack_of}
-use Rattle.fm_frames.specs.States.{Areas, ref, State, word_at}
+use Rattle.fm_frames.specs.States.{Areas, ref, silent, State, word_at}
 use Rattle.fm_frames.specs.Steps.{attempted, most_words, stack_of, words_made}
-use Rattle.fm_frames.specs.inner.Doings.{DoesIn, Makes, NextFits, silent, Underway}
+use Rattle.fm_frames.specs.inner.Doings.{DoesIn, Makes, NextFits, Underway}
 use Rattle.fm_frames.specs.inner.Places.{TakesCopy, TakesElements, written_units}
 use Rattle.fm_world.specs.Programs.{Program}
 

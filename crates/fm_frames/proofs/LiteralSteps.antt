@@ -6,7 +6,7 @@ use Rattle.std.proofs.lemmas.Option.{get_or_from_slice_get}
 use Rattle.std.specs.List.{slice_index_or}
 use Rattle.std.specs.Prelude.{slice_get}
 use Rattle.fm_base.specs.declared.kinds.TypeRef.{TypeRef}
-use Rattle.fm_cells.specs.Objects.{request_words}
+use Rattle.fm_cells.specs.Objects.{Request, request_words}
 use Rattle.fm_cells.specs.Sizes.{packed_words}
 use Rattle.fm_cells.specs.declared.answers.Cell.{Cell}
 use Rattle.fm_frames.proofs.TextSteps.{literal-pack}
@@ -19,7 +19,7 @@ use Rattle.fm_frames.specs.NativeRows.{class_type, text_type, type_name}
 use Rattle.fm_frames.specs.Runnable.{IsRunnable}
 use Rattle.fm_frames.specs.States.{Areas, ref, silent, State}
 use Rattle.fm_frames.specs.Steps.{attempted, most_words, words_made}
-use Rattle.fm_frames.specs.inner.Doings.{DoesIn, Makes, NextFits, Underway}
+use Rattle.fm_frames.specs.inner.Doings.{DoesIn, IsReady, Makes, NextFits, Underway}
 use Rattle.fm_world.specs.Chains.{is_among}
 use Rattle.fm_world.specs.Programs.{Outline, Program}
 
@@ -89,6 +89,14 @@ given-there p choose x w takes text made fits is some given =
     (λ needed. absurd (omega (arith, needed, none))) in
     ended-one p choose x x w [] takes (MakeLiteral text ∷ []) (OfLiteral text) (ref made) fits refl
     (literal-there p choose x x (giving_literal takes text) [] text [] there so) (ap ref (sym is)) given
+
+-- one more step can be counted when a literal was made and kept
+pub ready-made : (choose : Choose) (x y z w : State) (r : Request) (units : List ℕ) (cell : Cell) (literal : ℕ) → y ≡ x → IsReady x
+    → Makes choose y z r units (Some cell) → w ≡ record z { areas = literal_made z.areas literal cell.0 } → IsReady w
+ready-made choose x y z w r units cell literal same ready (grows, taken, free, is) kept =
+    let before : IsReady y = subst (λ (y : State). IsReady y) (sym same) ready in
+    let made : IsReady z = subst (λ (z : State). IsReady z) (sym is) (record { next_fits = before.next_fits; step_fits = before.step_fits }) in
+    subst (λ (w : State). IsReady w) (sym kept) (record { next_fits = made.next_fits; step_fits = made.step_fits })
 
 -- a literal that is made
 pub given-made : (p : Program) (choose : Choose) (x y z w v : State) (takes text : ℕ) (units : List ℕ) (cell : Cell) → NextFits x.frames → y ≡ x

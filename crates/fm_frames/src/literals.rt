@@ -71,9 +71,10 @@ impl<M: Memory> Machine<M> {
         requires can { CanStep program.now self.old }
         requires none { is_there self.old.areas place ≡ false }
         requires literals { place < length self.old.areas.literals }
-        ensures { OnOk result (literal_type program.now.outline place ≡ type_of_class class.0
-            → literal_text program.now.outline place ≡ units.now
-            → DoesIn program.now M.choose self.old self.new (giving_literal takes place)) }
+        requires class { literal_type program.now.outline place ≡ type_of_class class.0 }
+        requires units { literal_text program.now.outline place ≡ units.now }
+        ensures { OnOk result
+            (DoesIn program.now M.choose self.old self.new (giving_literal takes place)) }
     {
         if !self.reserve(text_words(units.len())) {
             return Ok(());

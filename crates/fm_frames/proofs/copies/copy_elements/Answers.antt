@@ -13,12 +13,12 @@ copy_element-requires-clause-there g c =
 pub copy_element-requires-clause-room : goal.copy_element-requires-clause-room
 copy_element-requires-clause-room g c =
     (copies-there c.args.machine.now c.loop-place.machine c.args.from.0 c.args.to.0 c.loop-place.place c.requires.apart c.requires.takes
-    (omega (arith, c.loop-place-test.true, c.requires.all)) c.loop-place.invariant).1.0
+    (omega (arith, c.loop-place-test.true, c.requires.all)) c.loop-place.invariant).1
 
 pub copy_element-requires-clause-packs : goal.copy_element-requires-clause-packs
 copy_element-requires-clause-packs g c =
     (copies-there c.args.machine.now c.loop-place.machine c.args.from.0 c.args.to.0 c.loop-place.place c.requires.apart c.requires.takes
-    (omega (arith, c.loop-place-test.true, c.requires.all)) c.loop-place.invariant).1.1
+    (omega (arith, c.loop-place-test.true, c.requires.all)) c.loop-place.invariant).2
 
 pub loop-place-preserved : goal.loop-place-preserved
 loop-place-preserved g c =

@@ -21,11 +21,11 @@ returns-then-made-ne0 g c =
     (given (Plain (ref c.literal_in-made.result.0)) refl p g.M.Memory.choose)))
     c.give.ensures
 
-pub type_units-units-requires-clause-inside : goal.type_units-units-requires-clause-inside
-type_units-units-requires-clause-inside g c = c.requires.can.runnable.types c.args.t.0 c.type_of.result c.type_of.ensures
+pub type_units-requires-clause-inside : goal.type_units-requires-clause-inside
+type_units-requires-clause-inside g c = c.requires.can.runnable.types c.args.t.0 c.type_of.result c.type_of.ensures
 
-pub type_units-units-requires-clause-fits : goal.type_units-units-requires-clause-fits
-type_units-units-requires-clause-fits g c =
+pub type_units-requires-clause-fits : goal.type_units-requires-clause-fits
+type_units-requires-clause-fits g c =
     subst (All (λ unit. unit < 2 ^ 16)) (name-is c.args.program.now.outline c.args.t.0 c.type_of.result c.type_of.ensures) c.requires.name
 
 pub give_new-requires-clause-none : goal.give_new-requires-clause-none
@@ -37,18 +37,24 @@ pub give_new-requires-clause-literals : goal.give_new-requires-clause-literals
 give_new-requires-clause-literals g c =
     subst (λ place. place < length c.args.self.now.areas.literals) (sym c.class_place-place.ensures) c.requires.literals
 
-pub returns-in_ok-units : goal.returns-in_ok-units
-returns-in_ok-units g c =
-    let p = c.args.program.now in
-    let o = p.outline in
-    let x = c.args.self.now in
+pub give_new-requires-clause-class : goal.give_new-requires-clause-class
+give_new-requires-clause-class g c =
+    let o = c.args.program.now.outline in
     let runnable = c.requires.can.runnable in
-    let place = c.class_place-place.ensures in
+    ap (literal_type o) c.class_place-place.ensures ∙ class-literal o c.args.t.0 ∙ class_literal-is o runnable.given runnable.classes
+
+pub give_new-requires-clause-units : goal.give_new-requires-clause-units
+give_new-requires-clause-units g c =
+    let o = c.args.program.now.outline in
     let told : c.in_ok-units.units.items ≡ c.deref.result.now = search rules in
+    ap (literal_text o) c.class_place-place.ensures ∙ class-text o c.args.t.0 ∙ name-is o c.args.t.0 c.type_of.result c.type_of.ensures
+    ∙ sym c.in_ok-units.ensures ∙ told
+
+pub returns : goal.returns
+returns g c =
+    let p = c.args.program.now in
+    let x = c.args.self.now in
     told-ok c.give_new.result _ _
     (λ given.
-    subst (λ place. DoesIn p g.M.Memory.choose x c.give_new.new.self (giving_literal c.args.takes place)) place
-    (given
-    (ap (literal_type o) place ∙ class-literal o c.args.t.0 ∙ class_literal-is o runnable.given runnable.classes)
-    (ap (literal_text o) place ∙ class-text o c.args.t.0 ∙ name-is o c.args.t.0 c.type_of.result c.type_of.ensures ∙ sym c.in_ok-units.ensures ∙ told)))
+    subst (λ place. DoesIn p g.M.Memory.choose x c.give_new.new.self (giving_literal c.args.takes place)) c.class_place-place.ensures given)
     c.give_new.ensures

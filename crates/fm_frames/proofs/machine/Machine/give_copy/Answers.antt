@@ -57,7 +57,7 @@ copy_elements-requires-clause-takes g c =
     (c.requires.pack ∙ ap (pack_of c.args.program.now.outline) (sym c.type_numbered-t.ensures.value)
     ∙ sym (c.pack_of-pack.ensures.value c.requires.can.runnable))
     (subst (Makes g.M.Memory.choose c.reserve.new.self c.make_object.new.self (request_of c.type_id-id.result.0 c.args.head.len pack false) [])
-    c.in-Some.is c.in_ok-copy.ensures)).1.0
+    c.in-Some.is c.in_ok-copy.ensures)).1
 
 pub copy_elements-requires-clause-all : goal.copy_elements-requires-clause-all
 copy_elements-requires-clause-all g c =
@@ -67,7 +67,7 @@ copy_elements-requires-clause-all g c =
     (c.requires.pack ∙ ap (pack_of c.args.program.now.outline) (sym c.type_numbered-t.ensures.value)
     ∙ sym (c.pack_of-pack.ensures.value c.requires.can.runnable))
     (subst (Makes g.M.Memory.choose c.reserve.new.self c.make_object.new.self (request_of c.type_id-id.result.0 c.args.head.len pack false) [])
-    c.in-Some.is c.in_ok-copy.ensures)).1.1
+    c.in-Some.is c.in_ok-copy.ensures)).2
 
 pub returns : goal.returns
 returns g c =

@@ -20,12 +20,12 @@ give_new-requires-clause-none g c =
     let zero : c.literal_at-made.result.0 ≡ 0 = omega (arith, c.if-made-ne0.false) in
     none-there c.args.self.now.areas c.args.text c.literal_at-made.result.0 c.literal_at-made.ensures zero
 
-pub returns : goal.returns
-returns g c =
+pub give_new-requires-clause-class : goal.give_new-requires-clause-class
+give_new-requires-clause-class g c =
     let p = c.args.program.now in
     let runnable = c.requires.can.runnable in
-    told-ok c.give_new.result _ _
-    (λ given.
-    given (text-literal p.outline c.args.text c.requires.text ∙ string-is p.outline runnable.given runnable.classes)
-    (text-is p c.args.text c.text.result.now c.requires.text c.text.ensures ∙ sym c.as_slice-units.ensures))
-    c.give_new.ensures
+    text-literal p.outline c.args.text c.requires.text ∙ string-is p.outline runnable.given runnable.classes
+
+pub give_new-requires-clause-units : goal.give_new-requires-clause-units
+give_new-requires-clause-units g c =
+    text-is c.args.program.now c.args.text c.text.result.now c.requires.text c.text.ensures ∙ sym c.as_slice-units.ensures
