@@ -18,8 +18,8 @@ pub give_copy-requires-clause-pack : goal.give_copy-requires-clause-pack
 give_copy-requires-clause-pack g c =
     held-pack c.args.program.now.outline c.args.machine.now.areas.store c.args.machine.now 0 c.in-Ok.held c.requires.packs c.in-Ok.ensures.held
 
-pub returns-then-is_copied-in-Ok : goal.returns-then-is_copied-in-Ok
-returns-then-is_copied-in-Ok g c =
+pub returns-then-is_copied : goal.returns-then-is_copied
+returns-then-is_copied g c =
     let p = c.args.program.now in
     let o = p.outline in
     let x = c.args.machine.now in
@@ -33,8 +33,8 @@ returns-then-is_copied-in-Ok g c =
     (given 0 c.in-Ok.ensures.held.word))
     c.give_copy.ensures
 
-pub returns-else-is_copied-in-Ok : goal.returns-else-is_copied-in-Ok
-returns-else-is_copied-in-Ok g c =
+pub returns-else-is_copied : goal.returns-else-is_copied
+returns-else-is_copied g c =
     let p = c.args.program.now in
     let o = p.outline in
     let x = c.args.machine.now in

@@ -1,10 +1,11 @@
-use Rattle.std.proofs.Common.{◌&&◌, not, ap, sym, ◌∙◌, arith}
+use Rattle.std.proofs.Common.{◌&&◌, not, ap, sym, ◌∙◌, subst, arith}
 use Rattle.fm_frames.proofs.Programs.{built_in-inside, is_text-by}
 use Rattle.fm_native.proofs.BuiltIns.{cloneable-is}
 use Rattle.fm_native.proofs.copies.is_copied.Goals as goal
 use Rattle.fm_types.specs.Named.{built_in_type}
 use Rattle.fm_world.specs.BuiltIns.{cloneable_name}
 use Rattle.fm_world.specs.Chains.{is_sub}
+use Rattle.fm_world.specs.Programs.{IsTypeIn}
 
 pub returns-then-is_text : goal.returns-then-is_text
 returns-then-is_text c =
@@ -13,7 +14,9 @@ returns-then-is_text c =
     (c.if-is_text.ensures ∙ is_text-by c.args.program.now c.args.t c.requires.runnable)
 
 pub is_sub-requires-clause-second : goal.is_sub-requires-clause-second
-is_sub-requires-clause-second c = built_in-inside c.args.program.now 26 c.requires.runnable (omega arith)
+is_sub-requires-clause-second c =
+    subst (IsTypeIn c.args.program.now.outline.classes) (sym c.type_of_class.ensures)
+    (built_in-inside c.args.program.now 26 c.requires.runnable (omega arith))
 
 pub returns : goal.returns
 returns c =

@@ -23,8 +23,8 @@ give_class-requires-clause-name g c =
     class-named c.args.program.now.outline x.areas.store x 0 c.in-Ok.held c.requires.names c.in-Ok.ensures.held c.type_numbered-t.result
     c.type_numbered-t.ensures.value c.in-Some.id.0 c.in-Some.ensures
 
-pub returns-in-Some-in-Ok : goal.returns-in-Some-in-Ok
-returns-in-Some-in-Ok g c =
+pub returns-in-Some : goal.returns-in-Some
+returns-in-Some g c =
     let p = c.args.program.now in
     let o = p.outline in
     let x = c.args.machine.now in
@@ -37,8 +37,8 @@ returns-in-Some-in-Ok g c =
     given)
     c.give_class.ensures
 
-pub returns-in-None-in-Ok : goal.returns-in-None-in-Ok
-returns-in-None-in-Ok g c =
+pub returns-in-None : goal.returns-in-None
+returns-in-None g c =
     let p = c.args.program.now in
     let o = p.outline in
     let x = c.args.machine.now in
