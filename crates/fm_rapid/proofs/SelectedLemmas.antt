@@ -1,7 +1,7 @@
 -- Lists that loops make: what is selected so far.
-use Rattle.std.proofs.Common.{◌≡◌, ℕ, ◌+◌, ◌<◌, ◌≤◌, Bool, List, [], ◌∷◌, ◌++◌, cond, length, take, filter, reverse, get_or, Option, Some, None, Contains, refl, sym, ◌∙◌, ap, option_to_list}
+use Rattle.std.proofs.Common.{◌≡◌, ℕ, ◌+◌, ◌<◌, ◌≤◌, true, List, [], ◌∷◌, ◌++◌, cond, length, take, reverse, get_or, Option, Some, None, Contains, refl, sym, ◌∙◌, ap, option_to_list}
 use Rattle.std.specs.Option.{option_map}
-use Rattle.std.specs.List.{filter_map, range_with_len}
+use Rattle.std.specs.List.{filter_map}
 use Rattle.std.specs.Prelude.{is_none}
 use Rattle.fm_rapid.specs.Reach.{starts_of}
 use Rattle.fm_world.specs.declared.records.ClassInfo.{ClassInfo}
@@ -11,8 +11,8 @@ use Rattle.fm_base.specs.declared.ids.MethodId.{MethodId}
 use Rattle.fm_rapid.proofs.Elements.{among-from_Contains}
 use Rattle.fm_types.proofs.ClassTree.{among-within}
 use Rattle.fm_world.proofs.Displays.{is_among-reverse}
-use Rattle.fm_world.proofs.Marks.{filter-range_more, only_found}
-use Rattle.fm_world.specs.Chains.{chain_of}
+use Rattle.fm_world.proofs.Marks.{only_found}
+use Rattle.fm_world.specs.Chains.{chain_of, is_among}
 use Rattle.fm_world.specs.Members.{start_of}
 use Rattle.fm_world.specs.Programs.{class_info, method_id, Outline}
 use Rattle.fm_world.specs.declared.declarations.DeclaredClass.{DeclaredClass}
@@ -30,13 +30,6 @@ pub found_all : (find : ℕ → Option ℕ) (xs : List ℕ) (i : ℕ) (found : L
     → found ≡ filter_map find xs
 found_all find xs i found past is = is ∙ ap (filter_map find) (take_all i xs past)
 
--- a number more that passes, or not
-pub passed_next : (test : ℕ → Bool) (n : ℕ) (before after : List ℕ) (b : Bool) → before ≡ filter test (range_with_len 0 n)
-    → after ≡ before ++ cond b (n ∷ []) [] → b ≡ test n → after ≡ filter test (range_with_len 0 (n + 1))
-passed_next test n before after b before_is after_is b_is =
-    after_is ∙ ap (λ l. l ++ cond b (n ∷ []) []) before_is ∙ ap (λ x. filter test (range_with_len 0 n) ++ cond x (n ∷ []) []) b_is
-    ∙ sym (filter-range_more test n)
-
 -- the method that starts a class, as the record of the class has it
 pub start_is : (o : Outline) (class : ℕ) → option_map (λ (m : MethodId). m.0) (class_info o class).start ≡ start_of o.classes class
 unfolding class_info
@@ -45,11 +38,14 @@ start_is o class = number (start_of o.classes class) where
   number None = refl
   number (Some m) = refl
 
--- each class of a chain is there
+-- each class of a chain is found in it
+pub among_chain : (classes : List DeclaredClass) (class k : ℕ) → Contains (reverse (chain_of classes class)) k → is_among k (chain_of classes class) ≡ true
+among_chain classes class k found =
+    sym (is_among-reverse k (chain_of classes class)) ∙ among-from_Contains k (reverse (chain_of classes class)) found
+
+-- and is there
 pub chain_inside : (classes : List DeclaredClass) (class k : ℕ) → class < length classes → Contains (reverse (chain_of classes class)) k → k < length classes
-chain_inside classes class k inside found =
-    among-within classes class k inside
-    (sym (is_among-reverse k (chain_of classes class)) ∙ among-from_Contains k (reverse (chain_of classes class)) found)
+chain_inside classes class k inside found = among-within classes class k inside (among_chain classes class k found)
 
 -- ---- what starts a class
 

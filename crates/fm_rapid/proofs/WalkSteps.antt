@@ -1,25 +1,28 @@
 -- What steps of the walk leave.
-use Rattle.std.proofs.Common.{◌≡◌, ℕ, ◌+◌, ◌<◌, filter, get_or, take, Bool, true, false, List, [], ◌∷◌, length, set, Contains, refl, sym, ◌∙◌, ap, subst, inl, inr, ⊎_elim, length-set, arith}
-use Rattle.std.specs.List.{filter_map, range_with_len}
-use Rattle.std.proofs.lemmas.Bool.{false≢true}
+use Rattle.std.proofs.Common.{◌≡◌, ℕ, ◌+◌, ◌<◌, get_or, take, reverse, Bool, true, false, List, [], ◌∷◌, length, set, Contains, refl, sym, ◌∙◌, ap, subst, inl, inr, ⊎_elim, length-set, arith}
+use Rattle.std.specs.List.{filter_map}
+use Rattle.std.proofs.lemmas.Bool.{false≢true, or_cases, or_left, or_right}
 use Rattle.fm_base.specs.Rows.{has}
 use Rattle.fm_base.proofs.ContainsFacts.{Contains-none}
-use Rattle.fm_code.proofs.EdgesLemmas.{Contains-filter, Contains-from_filter}
-use Rattle.fm_conn.proofs.ListLemmas.{Contains-from_range, Contains-one, Contains-range}
+use Rattle.fm_conn.proofs.ListLemmas.{Contains-one}
 use Rattle.fm_flow.proofs.RisingLemmas.{Contains-take_more}
 use Rattle.fm_flow.proofs.RowFacts.{has-set_kept, has-set_only}
 use Rattle.fm_flow.specs.inner.Walks.{Marks}
-use Rattle.fm_rapid.proofs.Elements.{with_one-from, with_one-kept}
+use Rattle.fm_rapid.proofs.Elements.{among-from_Contains, Contains-from_among, with_one-from, with_one-kept}
+use Rattle.fm_rapid.proofs.SelectedLemmas.{among_chain, chain_inside}
+use Rattle.fm_types.proofs.ClassTree.{interface-within}
+use Rattle.fm_world.proofs.Displays.{is_among-reverse}
 use Rattle.fm_world.proofs.ElementLemmas.{Contains-filter_map, Contains-from_filter_map}
 use Rattle.fm_rapid.specs.Reach.{AreIn, starts_of}
 use Rattle.fm_flow.specs.inner.LiveWalks.{list_of}
 use Rattle.fm_rapid.specs.inner.Walks.{is_concrete, with_one, AreAbove, AreNeeded, Goes, IsBelow, IsCalled, IsEntry, IsListedAt, IsMadeNeeded, IsNeeded, IsReceived, IsWalk, Sets, Went}
 use Rattle.fm_law_sound.proofs.FoundMethods.{select_inside}
-use Rattle.fm_world.specs.Chains.{is_subclass}
+use Rattle.fm_world.specs.Chains.{chain_of, interfaces_of, is_among}
 use Rattle.fm_world.specs.Lookups.{select}
 use Rattle.fm_world.specs.Members.{methods_of}
 use Rattle.fm_world.specs.Programs.{Program}
 use Rattle.fm_world.specs.declared.declarations.DeclaredClass.{DeclaredClass}
+use Rattle.fm_world.specs.inner.Tables.{AreInterfaces}
 
 -- ---- steps compose
 
@@ -283,24 +286,46 @@ received_step p w named class listed methods waiting below walk inside is_below 
     (Goes-then p w between (record w { methods = methods; waiting = waiting; below = with_one w.below named class }) first
     (received_one p between named class first.walk inside is_below same.listed))
 
--- what is above a class takes its objects
-pub above_all : (classes : List DeclaredClass) (class : ℕ) (supers : List ℕ) → is_concrete classes class ≡ true
-    → supers ≡ filter (is_subclass classes class) (range_with_len 0 (length classes)) → AreAbove classes class supers
-above_all classes class supers concrete is = λ named found.
-    let from = Contains-from_filter (is_subclass classes class) (range_with_len 0 (length classes)) named (subst (λ (xs : List ℕ). Contains xs named) is found) in
-    let range = Contains-from_range 0 (length classes) named from.0 in
-    record { inside = omega (arith, range.1); receives = record { concrete = concrete; below = from.1 } }
+-- its superclasses take objects of a class
+pub chain_above : (classes : List DeclaredClass) (class : ℕ) (listed : List ℕ) → class < length classes → is_concrete classes class ≡ true
+    → listed ≡ reverse (chain_of classes class) → AreAbove classes class listed
+chain_above classes class listed inside concrete is = λ named found.
+    let there = subst (λ (xs : List ℕ). Contains xs named) is found in
+    record {
+      inside = chain_inside classes class named inside there;
+      receives = record {
+        concrete = concrete;
+        below = or_left (is_among named (chain_of classes class)) (is_among named (interfaces_of classes class)) (among_chain classes class named there);
+      };
+    }
 
--- a class that is listed at all above it is received
-pub received_all : (p : Program) (w : Sets) (class : ℕ) (supers : List ℕ)
-    → supers ≡ filter (is_subclass p.outline.classes class) (range_with_len 0 (length p.outline.classes)) → IsListedAt w.below supers class
-    → IsReceived p w class
-received_all p w class supers is listed = λ named inside receives.
+-- and so do its superinterfaces
+pub interfaces_above : (classes : List DeclaredClass) (class : ℕ) (listed : List ℕ) → is_concrete classes class ≡ true
+    → listed ≡ interfaces_of classes class → AreInterfaces classes listed → AreAbove classes class listed
+interfaces_above classes class listed concrete is only = λ named found.
+    let there = among-from_Contains named listed found in
+    record {
+      inside = interface-within classes named (only named there);
+      receives = record {
+        concrete = concrete;
+        below = or_right (is_among named (chain_of classes class)) (is_among named (interfaces_of classes class)) (sym (ap (is_among named) is) ∙ there);
+      };
+    }
+
+-- a class that is listed at all of them is received
+pub received_all : (p : Program) (x y : Sets) (class : ℕ) (superclasses superinterfaces : List ℕ) → Went p x y
+    → superclasses ≡ reverse (chain_of p.outline.classes class) → IsListedAt x.below superclasses class
+    → superinterfaces ≡ interfaces_of p.outline.classes class → IsListedAt y.below superinterfaces class → IsReceived p y class
+received_all p x y class superclasses superinterfaces went chain first interfaces second = λ named inside receives.
     let classes = p.outline.classes in
-    listed named
-    (subst (λ (xs : List ℕ). Contains xs named) (sym is)
-    (Contains-filter (is_subclass classes class) (range_with_len 0 (length classes)) named
-    (Contains-range 0 (length classes) named (omega arith) (omega (arith, inside))) receives.below))
+    ⊎_elim
+    (λ (up : is_among named (chain_of classes class) ≡ true).
+    went.below named class
+    (first named
+    (Contains-from_among named superclasses (ap (is_among named) chain ∙ is_among-reverse named (chain_of classes class) ∙ up))))
+    (λ (up : is_among named (interfaces_of classes class) ≡ true).
+    second named (Contains-from_among named superinterfaces (ap (is_among named) interfaces ∙ up)))
+    (or_cases (is_among named (chain_of classes class)) (is_among named (interfaces_of classes class)) receives.below)
 
 pub listed_none : (lists : List (List ℕ)) (class : ℕ) → IsListedAt lists [] class
 listed_none lists class = λ named found. absurd (Contains-none named found)

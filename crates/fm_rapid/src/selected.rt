@@ -1,12 +1,11 @@
-// Lists of what calls select, of what is above a class, and of what starts it.
+// Lists of what calls select, and of what starts a class.
 
-ghost use Rattle.std.specs.Prelude.{◌≡◌, ◌<◌, ◌++◌, ◌∷◌, [], ℕ, if◌then◌else◌, Contains, IfOk, OnOk, filter, length, option_to_list};
-ghost use Rattle.std.specs.List.{filter_map, range_with_len};
+ghost use Rattle.std.specs.Prelude.{◌≡◌, ◌<◌, ◌++◌, ℕ, Contains, IfOk, OnOk, length, option_to_list};
+ghost use Rattle.std.specs.List.{filter_map};
 ghost use Rattle.std.specs.Option.{option_map};
 ghost use Rattle.fm_base.specs.declared.ids.MethodId.{MethodId};
 ghost use Rattle.fm_rapid.specs.Reach.{starts_of};
 ghost use Rattle.fm_rapid.specs.inner.Walks.{is_concrete};
-ghost use Rattle.fm_world.specs.Chains.{is_subclass};
 ghost use Rattle.fm_world.specs.Lookups.{select};
 ghost use Rattle.fm_world.specs.Members.{methods_of, start_of};
 
@@ -74,35 +73,6 @@ pub fn is_concrete(program: &Program, class: ClassId) -> bool
 {
     let flags = program.class(class).flags;
     !has_flag(flags, ACC_ABSTRACT) && !has_flag(flags, ACC_INTERFACE)
-}
-
-/// The class itself, and all classes and interfaces above it. Takes as many steps as there are classes.
-pub fn supers_of(alloc: Global, program: &Program, class: ClassId) -> Result<Vec<u32>, NoMemory>
-    requires { class.0 < length program.now.outline.classes }
-    ensures { IfOk result (λ found. found.items
-        ≡ filter (is_subclass program.now.outline.classes class.0)
-        (range_with_len 0 (length program.now.outline.classes))) }
-{
-    let mut found = Vec::new(alloc);
-    for other in 0..program.classes() {
-        push_if(
-            &mut found,
-            other,
-            program.is_subclass(class, ClassId(other)),
-        )?;
-    }
-    Ok(found)
-}
-
-// Puts a number behind the last one, if the test holds of it.
-fn push_if(found: &mut Vec<u32>, number: u32, holds: bool) -> Result<(), NoMemory>
-    ensures { OnOk result (found.new.items
-        ≡ found.old.items ++ (if holds then number ∷ [] else [])) }
-{
-    if holds {
-        found.push(number)?;
-    }
-    Ok(())
 }
 
 /// The methods that start a class and its superclasses, the uppermost first; of a built-in class none.

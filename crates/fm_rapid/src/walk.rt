@@ -14,7 +14,7 @@ ghost use Rattle.fm_world.specs.inner.Marks.{selected_of_arrays};
 
 use crate::lists::{empty_lists, list_at, push_at};
 use crate::named::selected_of_arrays;
-use crate::selected::{is_concrete, selected_by, selected_for, starts_of, supers_of};
+use crate::selected::{is_concrete, selected_by, selected_for, starts_of};
 use fm_base::{ClassId, MethodId, NoMemory, Row, TypeRef};
 use fm_flow::mark;
 use fm_world::{Call, CallKind, Program, class_of_type};
@@ -129,8 +129,10 @@ impl Walk {
         ensures goes { OnOk result (Goes program.now (sets_of self.old) (sets_of self.new)) }
         ensures received { OnOk result (IsReceived program.now (sets_of self.new) class.0) }
     {
-        let supers = supers_of(alloc, program, class)?;
-        self.receive_each(alloc, program, class, supers.as_slice())?;
+        let superclasses = program.display(class);
+        self.receive_each(alloc, program, class, superclasses)?;
+        let superinterfaces = program.interfaces(class);
+        self.receive_each(alloc, program, class, superinterfaces)?;
         Ok(())
     }
 
