@@ -2,6 +2,7 @@
 
 ghost use Rattle.std.specs.Prelude.{◌≡◌, ◌<◌, Contains, IfOk, IfSome, OnOk, length, true};
 ghost use Rattle.std.specs.List.{AllByRecursion};
+ghost use Rattle.fm_rapid.specs.Opening.{HasOpening};
 ghost use Rattle.fm_summ_shapes.specs.Analysed.{AreAnalysable, IsAccepted};
 ghost use Rattle.fm_code.specs.Profile.{IsSupported, IsWithinLimits};
 ghost use Rattle.fm_code.specs.Spells.{HasSpelling};
@@ -16,7 +17,7 @@ mod files;
 
 use crate::analysis::files::{
     A, B, FACTORY, FACTORY_ID, HANDLER, KEPT_MESSAGE, LINKED_NODES, MUTUAL_RECURSION, NODE,
-    OF_ARRAY, VIRTUAL_ESCAPE, X,
+    OF_ARRAY, VIRTUAL_ESCAPE, VIRTUAL_SECOND, X,
 };
 use fm_base::{MethodId, NoMemory};
 use fm_check_program::first_untyped;
@@ -25,11 +26,12 @@ use fm_code::ClassDef;
 use fm_conn::{Classes, End2, Shape, Summaries, classes};
 use fm_flow::live;
 use fm_link::link;
+use fm_rapid::reach;
 use fm_read::read_class;
 use fm_read_limits::{supported, within_limits};
 use fm_summ::summaries;
 use fm_summ_shapes::{Typed, shapes_of};
-use fm_world::{Body, Program};
+use fm_world::{Body, Program, built_in_classes};
 use std::alloc::Global;
 use std::test::Fail;
 
@@ -57,6 +59,10 @@ enum Asked {
     IsLive(u16, u32),
     // whether the call of that number leads to these methods, and no others, in rising order
     LeadsTo(usize, &'static [Named]),
+    // whether the program comes to run the method
+    IsReached,
+    // whether it comes to make objects of the method's class
+    IsMade,
 }
 
 // A program, a method of it, and what is asked and returned.
@@ -67,6 +73,9 @@ const MAIN: Named = (b"M", b"main");
 const NODES: Sources = &[LINKED_NODES, NODE];
 
 const ESCAPE: Sources = &[VIRTUAL_ESCAPE, A, B];
+
+// the same, where a B is made before
+const SECOND: Sources = &[VIRTUAL_SECOND, A, B];
 
 const MESSAGE: Sources = &[KEPT_MESSAGE, X];
 
@@ -161,6 +170,24 @@ const ENDS: [Row; 8] = [
         &[OF_ARRAY],
         MAIN,
         Asked::LeadsTo(0, &[(b"java/lang/Object", b"toString")]),
+        true,
+    ),
+];
+
+const REACHED: [Row; 10] = [
+    (ESCAPE, MAIN, Asked::IsReached, true),
+    (ESCAPE, MAIN, Asked::IsMade, false),
+    (ESCAPE, (b"A", b"k"), Asked::IsReached, true),
+    (ESCAPE, (b"A", b"k"), Asked::IsMade, true),
+    (ESCAPE, (b"B", b"k"), Asked::IsReached, false),
+    (ESCAPE, (b"B", b"k"), Asked::IsMade, false),
+    (ESCAPE, (b"B", b"<init>"), Asked::IsReached, false),
+    (SECOND, (b"B", b"k"), Asked::IsReached, true),
+    (SECOND, (b"B", b"k"), Asked::IsMade, true),
+    (
+        &[OF_ARRAY],
+        (b"java/lang/Object", b"toString"),
+        Asked::IsReached,
         true,
     ),
 ];
@@ -316,6 +343,33 @@ fn leads_to(
     }
 }
 
+// Whether the main method, its class and the built-in classes are there.
+fn has_opening(program: &Program) -> bool
+    ensures { result ≡ true → HasOpening program.now.outline }
+{
+    program.main().0 < program.methods()
+        && program.main_class().0 < program.classes()
+        && built_in_classes().len() <= program.classes() as usize
+}
+
+// Whether the program comes to run the method, and to make objects of its class.
+fn reached_of(
+    alloc: Global,
+    program: &Program,
+    method: MethodId,
+) -> Result<Option<(bool, bool)>, NoMemory>
+    requires analysable { AreAnalysable program.now }
+    requires inside { method.0 < length (methods_of program.now.outline.classes) }
+{
+    if has_opening(program) {
+        let reached = reach(alloc, program)?;
+        let class = class_of_method(program, method);
+        Ok(Some((reached.is_in(method), reached.is_made(class))))
+    } else {
+        Ok(None)
+    }
+}
+
 // What is returned for a method of an analysable program.
 fn answer_in(
     alloc: Global,
@@ -337,6 +391,8 @@ fn answer_in(
         Asked::LeadsTo(call, named) => {
             leads_to(alloc, program, &shapes[method.0 as usize], call, named)
         }
+        Asked::IsReached => Ok(reached_of(alloc, program, method)?.map(|found| found.0)),
+        Asked::IsMade => Ok(reached_of(alloc, program, method)?.map(|found| found.1)),
     }
 }
 
@@ -390,5 +446,11 @@ fn locals_are_live_and_in_classes(rt: HostRuntime) -> Result<(), Fail> {
 #[test]
 fn ends_are_linked_and_calls_lead_to_their_targets(rt: HostRuntime) -> Result<(), Fail> {
     assert_eq!(rt; first_other(rt.alloc(), &ENDS)?, None);
+    Ok(())
+}
+
+#[test]
+fn methods_are_reached_and_classes_are_made(rt: HostRuntime) -> Result<(), Fail> {
+    assert_eq!(rt; first_other(rt.alloc(), &REACHED)?, None);
     Ok(())
 }
