@@ -58,13 +58,12 @@ const LOCALS: [Row; 2] = [
     ),
 ];
 
-const UNSUPPORTED: [Row; 20] = [
+const UNSUPPORTED: [Row; 19] = [
     (b"\x01\0\x01M", b"\x01\0\x02\xc0\x80", "class 0"), // its name has U+0000
     (b"\x01\0\x01M", b"\x01\0\x03\xed\xa0\x80", "class 0"), // its name has half of a surrogate pair
     (b"\x01\0\x01J", b"\x01\0\x01F", "y 0"), // a float field
     (b"\x01\0\x05()LM;", b"\x01\0\x04(D)I", "y 0"), // a double argument
     (b"\x04\x01\0\x1d", b"\x01\x01\0\x1d", "y 0"), // a native method
-    (b"\x12\x13\x57", b"\x12\x02\x57", "main 52"), // ldc of a class
     (b"\x12\x13\x57", b"\x12\x22\x57", "main 52"), // ldc of a float
     (b"\x14\0\x14\x40", b"\x14\0\x23\x40", "main 55"), // ldc2_w of a double
     (b"\xc4\x15\0\x03", b"\xc4\x17\xff\x03", "main 69"), // a wide fload, above the locals

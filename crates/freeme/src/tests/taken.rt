@@ -6,7 +6,7 @@ use std::test::Fail;
 const LINES: &str = "M: 0 sites, 0 frees\nR: 0 sites, 0 frees\n";
 
 // The first change is none.
-const TAKEN: [Change; 19] = [
+const TAKEN: [Change; 20] = [
     (b"[LM;", b"[LM;"), // the class file itself
     (b"\xbe\0\0\0\x31", b"\xbe\0\x03\0\x2d"), // version 45.3
     (b"\xbe\0\0\0\x31", b"\xbe\0\0\0\x2e"), // version 46.0
@@ -26,6 +26,7 @@ const TAKEN: [Change; 19] = [
     ),
     (b"\0\x25\0\0\0\x02\0\x26", b"\0\x26\0\0\0\x03\xff\xff\xff"), // an attribute of an unknown name
     (b"\x1b\xab\0\0", b"\x1b\xab\xca\xfe"), // a padding of other bytes
+    (b"\x12\x13\x57", b"\x12\x02\x57"), // ldc of a class
     (b"\x14\0\x14\x40", b"\x14\0\x14\x41"), // a long at the last two locals
     (b"\0\x55\0\x5b\0\x5c", b"\0\x55\0\x5f\0\x5c"), // a handler up to the end of the code
     (b"\0\x02\0\x32\0\x0e", b"\0\x5f\0\0\0\x0e"), // an empty variable at the end of the code
