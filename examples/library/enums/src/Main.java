@@ -173,7 +173,7 @@ public class Main {
     private static void classes() {
         Object[] objects = {Day.MONDAY, Operation.NONE, Operation.PLUS, "text", new Square(), new Square.Small(), new int[0], new Day[2][3], new long[1][1], new String[0], new RuntimeException()};
         for (Object each : objects) {
-            say(each.getClass().getName() + " " + each.getClass().getSimpleName() + " " + each.getClass());
+            say(each.getClass().getName() + " " + each.getClass().getSimpleName() + " " + each.getClass().isArray() + " " + each.getClass());
         }
         Set<String> names = new java.util.TreeSet<String>();
         for (Class<?> each : new Class<?>[] {Shape.class, Square.class, Main.class, Day[].class, String.class, Class.class}) {

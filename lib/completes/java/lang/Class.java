@@ -12,7 +12,12 @@ public final class Class<T> implements java.io.Serializable {
         return false;
     }
 
-    /** Returns the name without its package and the classes around it, in linear time. */
+    /** Reports whether it is a class of arrays, in constant time but for the name, which is made. */
+    public boolean isArray() {
+        return getName().charAt(0) == '[';
+    }
+
+    /** Returns the name without its package and the classes around it, in linear time. A {@code $} in it is taken for one between two classes. */
     public String getSimpleName() {
         String name = getName();
         int depth = 0;
