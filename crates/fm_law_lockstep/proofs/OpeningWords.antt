@@ -10,10 +10,9 @@ use Rattle.fm_cells.specs.Changes.{Choice, made_by, RefuseStore, Take}
 use Rattle.fm_cells.specs.Choices.{lawful, MayReuse}
 use Rattle.fm_cells.specs.Objects.{Request, request_words}
 use Rattle.fm_cells.specs.Stores.{live_words, opened, Store}
-use Rattle.fm_frames.specs.Acts.{cell_of, Choose, class_started, Did, is_there, literal_made, literal_text, made_then, performed, Performed, put_value, requested, set_static, Sources, value_of, with_content}
+use Rattle.fm_frames.specs.Acts.{cell_of, Choose, class_started, Did, is_there, literal_made, literal_text, literal_type, made_then, performed, Performed, put_value, requested, set_static, Sources, value_of, with_content}
 use Rattle.fm_frames.specs.Effects.{Action, Copy, Free, FreeChain, Make, MakeFixed, MakeLiteral, Put, SetChain, SetStatic, Start}
 use Rattle.fm_frames.specs.Elements.{kept}
-use Rattle.fm_frames.specs.NativeRows.{text_type}
 use Rattle.fm_frames.specs.Runs.{after_action, first_areas, Job, opened_by, opening, opening_actions, opening_frames, unopened, with_streams}
 use Rattle.fm_frames.specs.Starts.{start_actions, start_methods, to_start}
 use Rattle.fm_frames.specs.States.{Areas, State}
@@ -118,7 +117,7 @@ module _ (p : Program) (choose : Choose) (budget : ℕ) (few : budget ≤ most_o
       (room_for x.areas (request_words request) within fresh) fresh (λ y cell is. is)
       (λ y cells is. each_fresh more (types ++ t ∷ []) y cells follows all.1 fit.1 is rest))
   each_fresh (MakeLiteral text ∷ more) types x made follows all fit fresh rest =
-      let t : TypeRef = text_type o in
+      let t : TypeRef = literal_type o text in
       let request : Request = requested o t (length (literal_text o text)) true in
       let next : Follows = λ y cells. opened_by p (lawful choose) more y cells follows in
       let goes : StaysFresh next = λ y cells is. each_fresh more types y cells follows all.1 fit.1 is rest in

@@ -11,9 +11,8 @@ use Rattle.fm_world.specs.Numbers.{text_number}
 use Rattle.fm_world.specs.Programs.{Outline}
 use Rattle.fm_world.specs.declared.declarations.Constant.{Constant}
 use Rattle.fm_world.specs.declared.declarations.Constant.TheVariants as constant
-use Rattle.fm_frames.specs.Acts.{cell_of, chain_freed, chain_from, chained, class_started, copied, freed, is_there, literal_made, literal_text, made_then, performed, Performed, put_value, requested, set_static, value_of}
+use Rattle.fm_frames.specs.Acts.{cell_of, chain_freed, chain_from, chained, class_started, copied, freed, is_there, literal_made, literal_text, literal_type, made_then, performed, Performed, put_value, requested, set_static, value_of}
 use Rattle.fm_frames.specs.Effects.{Copy, Effect, Free, FreeChain, LocalPlus, Make, MakeFixed, MakeLiteral, OfLiteral, OfLocal, OfMade, OfOperand, OfPlace, OfStatic, Plain, Put, SameOperands, SetChain, SetStatic, Source, Start}
-use Rattle.fm_frames.specs.NativeRows.{text_type}
 use Rattle.fm_frames.specs.Rows.{effect_of}
 use Rattle.fm_frames.specs.Starts.{fields_at, set_constant, start_actions, start_methods, start_of_class, to_start, with_start}
 use Rattle.fm_frames.specs.States.{Areas, word_at}
@@ -66,7 +65,7 @@ locals_unseen o choose locals others stack (MakeFixed t ∷ more) x made all =
     then_same x (requested o t 0 true) [] (choose x.store (requested o t 0 true)) _ _
     (λ y cell. locals_unseen o choose locals others stack more y (made ++ cell ∷ []) all.1)
 locals_unseen o choose locals others stack (MakeLiteral text ∷ more) x made all =
-    let request = requested o (text_type o) (length (literal_text o text)) true in
+    let request = requested o (literal_type o text) (length (literal_text o text)) true in
     if_same (is_there x text) _ _ _ _ (locals_unseen o choose locals others stack more x made all.1)
     (then_same x request (literal_text o text) (choose x.store request) _ _
     (λ y cell. locals_unseen o choose locals others stack more (literal_made y text cell) made all.1))
