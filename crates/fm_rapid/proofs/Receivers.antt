@@ -139,7 +139,7 @@ module _ (p : Program) where
 
   -- ---- the targets of a virtual call
 
-  abbrev IsVirtual : Call → Type 0
+  abbrev pub IsVirtual : Call → Type 0
   IsVirtual c = (c.kind ≡ call.Virtual) ⊎ (c.kind ≡ call.Interface)
 
   target_from : (made : List Bool) (c : Call) → IsVirtual c → (target : ℕ) → target < length (methods_of classes)
@@ -158,6 +158,29 @@ module _ (p : Program) where
       Contains-from_among target (selected (narrowed p made) c.named c.method.0)
       (Contains-from_filter test (range_with_len 0 (length (methods_of classes))) target
       (subst (λ (xs : List ℕ). Contains xs target) (targets-selected (narrowed p made) c virtual) found)).1
+
+  -- what an object of a class of the set selects is one
+  pub class_target : (made : List Bool) (c : Call) → IsVirtual c → c.method.0 < length (methods_of classes) → (class target : ℕ) → class < length classes
+      → has made class ≡ true → is_concrete classes class ≡ true → is_sub classes (type_of_class class) c.named ≡ true
+      → select classes class c.method.0 ≡ Some target → Contains (targets (narrowed p made) c) target
+  class_target made c virtual there class target inside is_made concrete below found =
+      target_from made c virtual target (select_inside classes class c.method.0 target there found) (by_named (class_of_type c.named) refl) where
+        by_named : (named : Option ℕ) → class_of_type c.named ≡ named → Contains (selected (narrowed p made) c.named c.method.0) target
+        by_named None is = absurd (false≢true (sym (below_other classes c.named class is) ∙ below))
+        by_named (Some above) is =
+            selected_of_class made c.named c.method.0 class above target is inside is_made
+            (record { concrete = concrete; below = sym (below_named classes c.named class above is) ∙ below }) found
+
+  -- and so is what an array selects, which is what Object does
+  pub array_target : (made : List Bool) (c : Call) → IsVirtual c → c.method.0 < length (methods_of classes) → takes_arrays classes c.named ≡ true
+      → (object target : ℕ) → object_number classes ≡ Some object → select classes object c.method.0 ≡ Some target
+      → Contains (targets (narrowed p made) c) target
+  array_target made c virtual there takes object target number found =
+      target_from made c virtual target (select_inside classes object c.method.0 target there found)
+      (selected_of_array made c.named c.method.0 target
+      (Contains-filter_map (find c.method.0) (arrays c.named) object target
+      (subst (λ (b : Bool). Contains (cond b (option_to_list (object_number classes)) []) object) (sym takes)
+      (subst (λ (o : Option ℕ). Contains (option_to_list o) object) (sym number) (Contains-first object [] object refl))) found))
 
   -- what it selects is in all closed sets
   pub virtual_needed : (c : Call) → IsVirtual c → c.method.0 < length (methods_of classes) → IsCallFollowed p c → IsVirtualNeeded p c.named c.method.0
