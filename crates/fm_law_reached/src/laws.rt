@@ -1,0 +1,24 @@
+// Laws of the definitions, each as the contract of a function that does nothing.
+
+ghost use Rattle.fm_law_reached.specs.Laws.{NarrowedCostsAreSame, NarrowedRunsAreSame, NarrowedStepsAreSame, NarrowedTargetsCover, RunsStayInReach, StepsStayInReach};
+
+/// Where objects are only of classes that are made, the method that a call leads to is among the targets of
+/// the program that is narrowed to these classes.
+pub fn law_covered()
+    ensures { NarrowedTargetsCover }
+{}
+
+/// Runs of a typed and linked program stay within closed sets of methods and classes: each step does, and so
+/// does each state from the opening on.
+pub fn law_reached()
+    ensures steps { StepsStayInReach }
+    ensures runs { RunsStayInReach }
+{}
+
+/// The machine doesn't look at which classes are made: the steps, their costs and the runs of a narrowed
+/// program are those of the program.
+pub fn law_narrowed()
+    ensures steps { NarrowedStepsAreSame }
+    ensures costs { NarrowedCostsAreSame }
+    ensures runs { NarrowedRunsAreSame }
+{}

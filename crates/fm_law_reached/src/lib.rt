@@ -1,0 +1,9 @@
+// What a program reaches holds what its runs do: their methods are among those that are reached, and their
+// objects of classes that are made.
+//
+// The layer above uses it where the targets of calls are narrowed to what these classes select.
+#![tactic(auto)]
+
+mod laws;
+
+pub use laws::{law_covered, law_narrowed, law_reached};
