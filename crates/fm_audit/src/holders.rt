@@ -65,7 +65,7 @@ fn held_by(sites: &[Site], after: &[(u32, u16)], holder: u16) -> Option<(u32, u3
     Some((item, class))
 }
 
-/// The same of as many holders, from 0 on; none where one of them takes no object of a captured site.
+/// The same of as many holders, from 0 on; None where one of them takes no object of a captured site.
 pub(crate) fn held_by_all(
     alloc: Global,
     sites: &[Site],

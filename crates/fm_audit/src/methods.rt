@@ -25,7 +25,7 @@ pub struct NewCode<'a> {
 }
 
 /// What is to be done with each method of a program, so that those of class files get their new code;
-/// none where one of them can't be read, or isn't safe. There is new code for each method of the class
+/// None where one of them can't be read, or isn't safe. There is new code for each method of the class
 /// files, which come last. Takes memory for the shapes of all methods and the links of their ends, and
 /// for the plans.
 pub fn safe_insertions(

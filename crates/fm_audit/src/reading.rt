@@ -30,7 +30,7 @@ pub struct Inserted {
 }
 
 /// What these new items of a method with these old ones are read as, where its own locals are those before
-/// `first`, and `free` is the index of FreeMe.free; none where they aren't the old ones with what may be
+/// `first`, and `free` is the index of FreeMe.free; None where they aren't the old ones with what may be
 /// inserted. Takes memory for what is found.
 pub fn read(
     alloc: Global,

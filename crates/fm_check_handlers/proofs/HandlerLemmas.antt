@@ -1,5 +1,5 @@
 -- What an item brings and carries to handlers, and what that shows of typings.
-use Rattle.std.proofs.Common.{◌≡◌, refl, sym, inr, ⊎_elim, ℕ, ◌+◌, ◌<◌, ◌≤◌, true, false, List, [], ◌∷◌, length, take, get_or, Option, Some, None, Contains, subst, arith, All}
+use Rattle.std.proofs.Common.{◌≡◌, refl, sym, inr, ⊎_elim, ℕ, ◌+◌, ◌<◌, ◌≤◌, true, List, [], ◌∷◌, length, take, get_or, Option, Some, None, Contains, subst, arith, All}
 use Rattle.std.specs.Prelude.{IsSomeAnd}
 use Rattle.std.specs.List.{AllByRecursion, filter}
 use Rattle.std.proofs.lemmas.Bool.{false≢true}

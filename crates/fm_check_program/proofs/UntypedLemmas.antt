@@ -1,10 +1,9 @@
 -- Which methods have code, and what the checker's results mean for them.
-use Rattle.std.proofs.Common.{◌≡◌, refl, sym, ◌∙◌, ap, ℕ, ◌<◌, ◌≤◌, ⊎_elim, inl, inr, length, Bool, true, false, Option, Some, None, IfSome, IsSome, IsSomeAnd, is_some, arith}
+use Rattle.std.proofs.Common.{◌≡◌, refl, sym, ◌∙◌, ap, ℕ, ◌<◌, ◌≤◌, ⊎_elim, inl, inr, length, true, false, Option, Some, None, IfSome, IsSome, IsSomeAnd, is_some, arith}
 use Rattle.std.proofs.lemmas.Bool.{cases_lt, false≢true}
 use Rattle.fm_code.specs.declared.code_array.Code.{Code}
 use Rattle.fm_check.specs.Checking.{coded, HasCode, IsNarrow, IsTooWide}
-use Rattle.fm_check_program.specs.Untyped.{AreCheckable, AreTyped, IsFirstUntyped, IsTypedIfCoded, IsUntyped}
-use Rattle.fm_types.specs.Typed.{Typed}
+use Rattle.fm_check_program.specs.Untyped.{AreCheckable, AreTyped, IsFirstUntyped, IsTypedIfCoded}
 use Rattle.fm_world.specs.Members.{method_at, methods_of}
 use Rattle.fm_world.specs.Programs.{body_of, code_at, method_info, Program}
 use Rattle.fm_world.specs.declared.declarations.DeclaredMethod.{DeclaredMethod}

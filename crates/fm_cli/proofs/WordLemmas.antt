@@ -1,5 +1,5 @@
 -- Words of the command line, compared and counted.
-use Rattle.std.proofs.Common.{◌≡◌, ◌<◌, ℕ, Bool, true, false, List, sym, ◌∙◌, refl, arith, eqb, zero, suc}
+use Rattle.std.proofs.Common.{◌≡◌, ◌<◌, ℕ, Bool, false, sym, ◌∙◌, arith, eqb, zero, suc}
 use Rattle.std.proofs.lemmas.Bool.{false≢true}
 
 -- a length that isn't 0

@@ -18,7 +18,7 @@ is_private flags = has_flag flags ACC_PRIVATE
 abbrev pub is_protected : ℕ → Bool
 is_protected flags = has_flag flags ACC_PROTECTED
 
--- none of these three: for classes of its own package (JVMS 4.6)
+-- neither ACC_PUBLIC, ACC_PROTECTED nor ACC_PRIVATE: for classes of its own package (JVMS 4.6)
 abbrev pub is_package_private : ℕ → Bool
 is_package_private flags = not (is_public flags) && (not (is_protected flags) && not (is_private flags))
 

@@ -1,5 +1,5 @@
 -- The effects of rows that ask an object for its type in the run.
-use Rattle.std.proofs.Common.{◌≡◌, ℕ, pos, Bool, if◌then◌else◌, List, [], None, Some, slice_get, refl, ap, sym, ◌∙◌, codes}
+use Rattle.std.proofs.Common.{◌≡◌, ℕ, pos, Bool, if◌then◌else◌, List, [], None, Some, slice_get, ap, sym, ◌∙◌, codes}
 use Rattle.fm_base.specs.declared.ids.TypeId.{TypeId}
 use Rattle.fm_base.specs.declared.kinds.TypeRef.{TypeRef}
 use Rattle.fm_cells.specs.Stores.{Store}

@@ -1,6 +1,5 @@
 -- What a result of files in memory that never fail means for the widest reads and for the contents.
 use Rattle.std.proofs.Common.{◌≡◌, ◌≢◌, ◌+◌, ◌<◌, ◌≤◌, Result, Ok, Err, Vec, ℕ, IfOk, OnOk, OnErr, IsErrOf, vec_len, max, [], refl, ap, ◌∙◌, arith}
-use Rattle.std.specs.FinMap.{insert}
 use Rattle.fm_files.specs.Calls.{with_read, with_write}
 use Rattle.fm_files.specs.Files.{Bytes, RisesAt}
 use Rattle.fm_files.specs.Sure.{SureFilesState, held_by, widest_of, after_sure_read, after_sure_write}

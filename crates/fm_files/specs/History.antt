@@ -1,7 +1,7 @@
 -- What an object that reaches the system was asked for, and what came of it.
 use Rattle.std.specs.Prelude.{ℕ, List, [], refl}
 use Rattle.std.specs.Coded.{Coded, code_by, coded×, coded_ℕ, coded_list, coded_option}
-use Rattle.fm_files.specs.Files.{Bytes, Call}
+use Rattle.fm_files.specs.Files.{Call}
 use Rattle.fm_files.specs.Sink.{Got}
 
 -- the reads and the writes, in order, and what was handed to puts

@@ -1,5 +1,5 @@
 -- The built-in classes by their numbers, which are the same in each program; and the types that fit one of them.
-use Rattle.std.proofs.Common.{◌≡◌, ℕ, ◌==◌, ◌&&◌, ◌||◌, ◌⊎◌, inl, inr, Bool, true, false, List, ◌++◌, codes, unwrap_or, nat_le, Some, refl, sym, ◌∙◌, ap}
+use Rattle.std.proofs.Common.{◌≡◌, ℕ, ◌==◌, ◌&&◌, ◌⊎◌, inl, inr, true, false, List, ◌++◌, codes, unwrap_or, nat_le, Some, refl, sym, ◌∙◌, ap}
 use Rattle.std.specs.Str.{bytes_eq}
 use Rattle.std.proofs.lemmas.Bool.{and_parts, eqb-true, false≢true, or_cases, or_from}
 use Rattle.std.proofs.lemmas.Iterator.Adapters.{position_from-zero}

@@ -1,15 +1,15 @@
 -- Classes that start: where their fields begin, whether they have started, and the frames of the methods that start them.
-use Rattle.std.proofs.Common.{◌≡◌, ◌⊎◌, inl, inr, ℕ, zero, suc, ◌+◌, ◌-◌, ◌*◌, ◌<◌, ◌≤◌, Bool, true, false, not, cond, List, [], ◌∷◌, ◌++◌, length, length-append, map, filter, take, drop, get_or, option_map, option_to_list, is_none, Option, Some, None, refl, ap, sym, ◌∙◌, subst, arith, add-one, drop-cons, drop_of_length-le, if◌then◌else◌, reverse}
+use Rattle.std.proofs.Common.{◌≡◌, ◌⊎◌, inl, inr, ℕ, zero, suc, ◌+◌, ◌-◌, ◌<◌, ◌≤◌, Bool, true, false, not, cond, List, [], ◌∷◌, ◌++◌, length, length-append, map, filter, take, drop, get_or, option_map, option_to_list, is_none, Option, Some, None, refl, ap, sym, ◌∙◌, arith, add-one, drop-cons, drop_of_length-le, if◌then◌else◌, reverse}
 use Rattle.std.proofs.lemmas.Bool.{cases_lt}
-use Rattle.std.proofs.lemmas.List.{append_assoc, get_or-append-add, get_or-map, get_or_append_left, get_or_default, get_or_past, length-map, map_more}
+use Rattle.std.proofs.lemmas.List.{get_or-append-add, get_or-map, get_or_append_left, get_or_default, length-map, map_more}
 use Rattle.std.proofs.lemmas.List.Elements.{filter_map-append, filter_more}
 use Rattle.std.proofs.lemmas.List.Sums.{sum_by-cons}
-use Rattle.std.specs.List.{cons_option, filter_map, slice_index_or}
+use Rattle.std.specs.List.{cons_option, slice_index_or}
 use Rattle.fm_base.specs.declared.ids.ClassId.{ClassId}
 use Rattle.fm_base.specs.declared.ids.MethodId.{MethodId}
 use Rattle.fm_world.proofs.Marks.{only_found}
 use Rattle.fm_world.specs.Chains.{chain_of, class_at}
-use Rattle.fm_world.specs.Declarations.{no_class, no_field}
+use Rattle.fm_world.specs.Declarations.{no_field}
 use Rattle.fm_world.specs.Members.{field_at, fields_from, fields_of, first_field, owned_fields, OwnedField, start_of}
 use Rattle.fm_world.specs.Programs.{class_info, field_info, method_id, Outline, Program}
 use Rattle.fm_world.specs.declared.declarations.DeclaredClass.{DeclaredClass}
@@ -19,7 +19,7 @@ use Rattle.fm_world.specs.declared.records.FieldInfo.{FieldInfo}
 use Rattle.fm_frames.proofs.Programs.{class-start}
 use Rattle.fm_frames.specs.Starts.{is_started, start_methods, to_start}
 use Rattle.fm_frames.specs.States.{Frame, State}
-use Rattle.fm_frames.specs.Steps.{new_frame, start_frames}
+use Rattle.fm_frames.specs.Steps.{start_frames}
 use Rattle.fm_frames.specs.inner.Frames.{with_start}
 
 -- ---- the first field of a class

@@ -13,7 +13,7 @@ use Rattle.fm_frames.specs.declared.natives.Shown.{Shown}
 use Rattle.fm_frames.specs.declared.natives.Native.{Native}
 use Rattle.fm_frames.specs.declared.natives.Native.TheVariants.{ObjectInit, ObjectHashCode, ObjectEquals, ObjectToString, ObjectClone, ObjectGetClass, StringLength, CharAt, StringEquals, StringHashCode, CompareTo, StringToString, Substring, ValueOf, ValueOfChars, BuilderInit, Append, BuilderLength, BuilderToString, BuilderCharAt, BuilderSetLength, BufferInitOf, Exit, Print, Println, PrintlnNothing, Read, ThrowableInit, ThrowableInitOf, GetMessage, ThrowableToString, FreeMeFree, FreeMeLink, FreeMeFreeChain, ClassGetName}
 use Rattle.fm_frames.specs.Literals.{class_literal}
-use Rattle.fm_frames.specs.declared.natives.Shown.TheVariants.{Int as ShownInt, Long as ShownLong, Char as ShownChar, Boolean as ShownBoolean, Text as ShownText}
+use Rattle.fm_frames.specs.declared.natives.Shown.TheVariants.{Int as ShownInt, Char as ShownChar, Boolean as ShownBoolean}
 use Rattle.fm_frames.specs.Operands.{on_any, on_class, on_chars, on_held, on_inner, on_int, on_object, on_text, thrown}
 use Rattle.fm_frames.specs.Sights.{Looks, Sight, Thing}
 use Rattle.fm_frames.specs.States.{null}

@@ -1,5 +1,5 @@
 -- The words of the arguments of built-in methods, whatever stands for a word.
-use Rattle.std.proofs.Common.{◌≡◌, ◌⊎◌, inl, inr, ℕ, ◌+◌, List, [], ◌∷◌, ◌++◌, length, Some, sym, ◌∙◌, ap, subst, slice_get, arith}
+use Rattle.std.proofs.Common.{◌≡◌, inl, inr, ℕ, ◌+◌, List, [], ◌∷◌, ◌++◌, length, Some, sym, ◌∙◌, ap, subst, slice_get, arith}
 use Rattle.std.proofs.lemmas.List.{length-append}
 use Rattle.fm_base.proofs.ListFacts.{slice_get-append_left, slice_get-append_right}
 use Rattle.fm_frames.specs.NativeRows.{arguments_words, given_words}

@@ -7,7 +7,6 @@ use Rattle.std.proofs.lemmas.List.Sums.{sum_by_more}
 use Rattle.std.specs.List.{flat_map, range_with_len}
 use Rattle.fm_base.specs.Texts.{units}
 use Rattle.fm_base.specs.declared.ids.ClassId.{ClassId}
-use Rattle.fm_base.specs.declared.kinds.Kind.{Kind}
 use Rattle.fm_world.specs.Chains.{class_at}
 use Rattle.fm_world.specs.Declarations.{no_class}
 use Rattle.fm_world.specs.Members.{field_at, first_field, slot_of}

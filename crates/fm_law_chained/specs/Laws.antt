@@ -19,7 +19,7 @@ pub record IsWalked (store : Store) (cell : ℕ) (births : List ℕ) : Type 0 wh
   pub found : chain_from store cell ≡ Some cells
   pub links : AllZip (IsLink store) cells births
 
--- so it is from the first cell of a chain without repeats: no more cells follow than objects are held
+-- from the first cell of a chain without repeats the walk finds the chain: no more cells follow than objects are held
 abbrev pub ChainsAreWalked : Type 0
 ChainsAreWalked =
     (store : Store) (cell : ℕ) (births : List ℕ) → IsOrderly store → IsChain store cell births → IsDistinct nat_eq births → IsWalked store cell births
@@ -58,7 +58,7 @@ pub record StaysPaired (gone : Gone) (o : Outline) (x y : Areas) (cell to : ℕ)
   pub areas : AreasPaired gone o x (chained y cell to)
   pub frames : (fs gs : List Frame) → AllZip (FramesPaired gone x.store y.store) fs gs → AllZip (FramesPaired gone x.store (chained y cell to).store) fs gs
 
--- so it is of each object that is held
+-- memories stay paired where an object that is held is linked to another one
 abbrev pub ChainingKeepsPaired : Type 0
 ChainingKeepsPaired =
     (gone : Gone) (o : Outline) (x y : Areas) → AreasPaired gone o x y → (cell to : ℕ) (object : Object) → object_at y.store cell ≡ Some object
@@ -83,7 +83,7 @@ pub record IsChainFreed (gone : Gone) (o : Outline) (x y : Areas) (cell : ℕ) (
   pub found : chain_from y.store cell ≡ Some cells
   pub freed : AreLinksFreed gone o x y cells births
 
--- so it is of each chain without repeats
+-- each chain without repeats is found, and freed
 abbrev pub ChainsAreFreed : Type 0
 ChainsAreFreed =
     (gone : Gone) (o : Outline) (x y : Areas) → AreasPaired gone o x y → (cell : ℕ) (births : List ℕ) → IsChain y.store cell births

@@ -1,5 +1,5 @@
 -- What calls name is as they want it: nothing is refused of the methods that instructions name (JVMS 5.4.3.3, 6.5).
-use Rattle.std.proofs.Common.{◌≡◌, refl, sym, ◌∙◌, ap, ℕ, zero, suc, ◌+◌, ◌<◌, ◌==◌, Bool, true, false, cond, List, [], ◌∷◌, length, Contains, Option, Some, None, option_and_then, if◌then◌else◌, slice_get, get_or, arith}
+use Rattle.std.proofs.Common.{◌≡◌, refl, sym, ◌∙◌, ap, ℕ, zero, suc, ◌+◌, ◌<◌, Bool, true, false, cond, List, [], ◌∷◌, length, Contains, Option, Some, None, option_and_then, if◌then◌else◌, slice_get, get_or, arith}
 use Rattle.std.specs.List.{cons_option, filter_map, list_any}
 use Rattle.std.proofs.lemmas.Bool.{false≢true, or_parts}
 use Rattle.fm_base.proofs.TestFacts.{same-nat_eq}

@@ -1,5 +1,5 @@
 -- A field whose constant is a number is a field of numbers, and one whose constant is a text is one of references: descriptors suit constants (JVMS 4.7.2).
-use Rattle.std.proofs.Common.{◌≡◌, codes, refl, sym, ◌∙◌, subst, ℕ, ◌+◌, Bool, true, false, cond, List, [], ◌∷◌, ◌++◌, length, map, Contains, Option, Some, None, IsSomeAnd, unwrap_or, arith}
+use Rattle.std.proofs.Common.{◌≡◌, codes, refl, sym, subst, ℕ, ◌+◌, Bool, true, false, cond, List, [], ◌∷◌, ◌++◌, length, map, Contains, Option, Some, None, IsSomeAnd, unwrap_or}
 use Rattle.std.specs.List.{AllByRecursion}
 use Rattle.fm_base.proofs.ListFacts.{AllByRecursion-append, AllByRecursion-get_or}
 use Rattle.fm_base.specs.declared.kinds.Kind.{Kind}

@@ -1,5 +1,5 @@
 -- Frames stay whole where one of them catches an exception: what is thrown is of a type that fits the one that its handler catches.
-use Rattle.std.proofs.Common.{◌≡◌, ℕ, ◌<◌, ◌≤◌, ◌&&◌, Bool, true, false, cond, List, [], ◌∷◌, nat_le, nat_lt, Option, Some, None, option_and_then, sym, ◌∙◌, ap, subst, refl, inr, arith, ⊎_elim}
+use Rattle.std.proofs.Common.{◌≡◌, ℕ, ◌&&◌, Bool, true, false, cond, List, [], ◌∷◌, nat_le, nat_lt, Option, Some, None, option_and_then, sym, ◌∙◌, ap, subst, refl, inr, ⊎_elim}
 use Rattle.std.specs.Prelude.{◌==◌, option_map, unwrap_or}
 use Rattle.std.specs.List.{AllByRecursion}
 use Rattle.std.proofs.lemmas.Bool.{and_parts, false≢true}

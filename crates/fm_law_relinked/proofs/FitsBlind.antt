@@ -1,5 +1,5 @@
 -- States fit still where items have other numbers.
-use Rattle.std.proofs.Common.{◌≡◌, refl, ◌∙◌, ℕ, ◌&&◌, ◌||◌, not, Bool, true, false, List, [], ◌∷◌, ◌++◌, map}
+use Rattle.std.proofs.Common.{◌≡◌, refl, ◌∙◌, ℕ, ◌&&◌, ◌||◌, not, true, List, [], ◌∷◌, ◌++◌, map}
 use Rattle.std.proofs.lemmas.Bool.{and_parts, false≢true}
 use Rattle.fm_law_relinked.proofs.RowSteps.{fits_with}
 use Rattle.fm_law_relinked.specs.Rows.{AreApart, slot_with, StatesFitStill}

@@ -1,5 +1,5 @@
 -- The classes of a program that links are printed under names of their own.
-use Rattle.std.proofs.Common.{◌≡◌, ◌≢◌, ℕ, zero, suc, ◌+◌, ◌-◌, ◌/◌, ◌%◌, ◌<◌, ◌≤◌, ◌&&◌, ◌||◌, not, Bool, true, false, List, [], ◌∷◌, ◌++◌, map, take, Option, Some, None, Contains, IfSome, is_some, refl, sym, ap, ◌∙◌, ap₂, subst, arith, ⊎_elim}
+use Rattle.std.proofs.Common.{◌≡◌, ◌≢◌, ℕ, zero, suc, ◌+◌, ◌-◌, ◌/◌, ◌%◌, ◌<◌, ◌≤◌, ◌&&◌, not, Bool, true, false, List, [], ◌∷◌, ◌++◌, map, take, Option, Some, None, Contains, IfSome, is_some, refl, sym, ap, ◌∙◌, ap₂, subst, arith, ⊎_elim}
 use Rattle.std.specs.Prelude.{nat_le, nat_lt, slice_get, unwrap_or}
 use Rattle.std.specs.Char.Escape.{encode_utf16}
 use Rattle.std.specs.Char.Utf16.{is_high_surrogate, is_low_surrogate, lone_unit_char, surrogate_pair_char, utf16_chars}

@@ -1,5 +1,5 @@
 -- What is dead isn't seen, so a run goes on alike where it is freed.
-use Rattle.std.proofs.Common.{◌≡◌, ℕ, zero, suc, ◌+◌, ◌<◌, ◌≤◌, inl, inr, ◌==◌, true, false, List, [], ◌∷◌, slice_get, Some, None, refl, sym, ◌∙◌, ap, subst, slice_index_or, arith, ⊎_elim}
+use Rattle.std.proofs.Common.{◌≡◌, ℕ, zero, suc, ◌+◌, ◌≤◌, inl, inr, ◌==◌, true, false, List, [], ◌∷◌, slice_get, Some, None, refl, sym, ◌∙◌, ap, subst, slice_index_or, arith, ⊎_elim}
 use Rattle.std.specs.List.{AllByRecursion}
 use Rattle.std.proofs.lemmas.Bool.{cases_Bool, eqb-true, false≢true, or_cases}
 use Rattle.std.proofs.lemmas.Option.{same_Some}

@@ -1,5 +1,5 @@
 -- Laid-out code is code.
-use Rattle.std.proofs.Common.{ℕ, ◌≤◌, List, [], ◌∷◌, ◌++◌, length, sym, subst}
+use Rattle.std.proofs.Common.{ℕ, ◌≤◌, List, length, sym, subst}
 use Rattle.fm_code.proofs.CodePrefixes.{AreBytes-items}
 use Rattle.fm_code.specs.Fits.{AreBytes}
 use Rattle.fm_code.specs.declared.code_array.TheConstants.{MAX_CODE_BYTES}

@@ -1,14 +1,12 @@
 -- What is found in tables of members is what the definitions look up.
 use Rattle.std.proofs.Common.{◌≡◌, refl, sym, ◌∙◌, ap, subst, ℕ, zero, suc, ◌+◌, ◌<◌, ◌≤◌, ◌&&◌, not, Bool, true, false, cond, List, [], ◌∷◌, ◌++◌, length, map, filter, get_or, set, nat_eq, Option, Some, None, option_and_then, slice_get, arith, ◌⊎◌, inl, inr, length-set}
 use Rattle.std.specs.Global.{Vec}
-use Rattle.std.specs.List.{flat_map, filter_map}
+use Rattle.std.specs.List.{flat_map}
 use Rattle.std.proofs.lemmas.Bool.{eq-eqb, eqb-true, cases_lt, false≢true}
 use Rattle.std.proofs.lemmas.List.{get_or_past}
 use Rattle.std.proofs.lemmas.List.FromFn.{length-map-range_with_len}
 use Rattle.std.proofs.lemmas.Option.{slice_get-get_or, slice_get_past}
-use Rattle.fm_world.specs.Chains.{distinct, first_found, interfaces_within, is_among, parent_of, superinterfaces_of}
-use Rattle.fm_world.specs.Declarations.{no_class}
-use Rattle.fm_world.specs.Descriptors.{class_number}
+use Rattle.fm_world.specs.Chains.{distinct, first_found, is_among, parent_of, superinterfaces_of}
 use Rattle.fm_world.specs.declared.declarations.DeclaredClass.{DeclaredClass}
 use Rattle.fm_world.specs.inner.Layers.{value_at, HasRoom}
 use Rattle.fm_world.specs.inner.Tables.{IsLinear, chain_from, numbers_below}

@@ -5,7 +5,7 @@ use Rattle.std.proofs.lemmas.List.{take_more}
 use Rattle.std.proofs.lemmas.List.Folds.{list_any-append}
 use Rattle.std.specs.Global.{Vec}
 use Rattle.fm_link_supers.proofs.Downwards.{among_head, among_left, among_right}
-use Rattle.fm_link_supers.specs.inner.ListTables.{list_in, lists}
+use Rattle.fm_link_supers.specs.inner.ListTables.{lists}
 use Rattle.fm_world.specs.Chains.{is_among}
 use Rattle.fm_link_members.specs.declared.members.MemberRow.{MemberRow}
 use Rattle.fm_link_members.specs.inner.MemberRows.{no_row}

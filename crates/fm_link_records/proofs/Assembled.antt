@@ -1,13 +1,13 @@
 -- Tables that are made one after the other are those that a program has.
-use Rattle.std.proofs.Common.{◌≡◌, refl, sym, ◌∙◌, ap, subst, ℕ, zero, suc, ◌+◌, ◌<◌, List, [], ◌∷◌, length, map, reverse, get_or, Option, Some, None, zero-add, arith}
+use Rattle.std.proofs.Common.{◌≡◌, refl, sym, ◌∙◌, ap, ℕ, zero, suc, ◌+◌, ◌<◌, List, ◌∷◌, length, map, reverse, get_or, Option, Some, None, zero-add, arith}
 use Rattle.std.specs.List.{range_with_len}
-use Rattle.std.proofs.lemmas.List.{ext_get_or, length-map}
+use Rattle.std.proofs.lemmas.List.{ext_get_or}
 use Rattle.std.proofs.lemmas.List.FromFn.{get_or-map-range_with_len, length-map-range_with_len}
 use Rattle.fm_code.specs.declared.code_array.Code.{Code}
 use Rattle.fm_world.specs.Chains.{chain_of}
 use Rattle.fm_world.specs.Declarations.{no_field, no_method}
 use Rattle.fm_world.specs.Members.{field_at, fields_of, methods_of, method_at, slot_of}
-use Rattle.fm_world.specs.Programs.{Outline, Program, body_of, class_info, code_at, field_info, method_info}
+use Rattle.fm_world.specs.Programs.{Outline, Program, body_of, class_info, field_info, method_info}
 use Rattle.fm_world.specs.declared.declarations.DeclaredClass.{DeclaredClass}
 use Rattle.fm_world.specs.declared.declarations.DeclaredMethod.{DeclaredMethod}
 use Rattle.fm_world.specs.declared.records.MethodInfo.{MethodInfo}
@@ -19,7 +19,7 @@ use Rattle.fm_link_supers.proofs.ParentTables.{map_twice}
 use Rattle.fm_link_records.specs.inner.Assembled.{AreCodes, AreFieldKinds, AreFirsts, AreMethodKinds}
 use Rattle.fm_link_records.specs.inner.Classes.{bare_outline}
 use Rattle.fm_link_records.specs.inner.Fields.{field_numbered, fields_told}
-use Rattle.fm_link_records.specs.inner.Methods.{method_numbered, method_told, methods_told}
+use Rattle.fm_link_records.specs.inner.Methods.{method_numbered, methods_told}
 use Rattle.fm_link_records.proofs.ClassSteps.{table_default}
 use Rattle.fm_link_records.proofs.RowSteps.{map_from-numbers}
 

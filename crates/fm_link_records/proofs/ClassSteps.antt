@@ -1,5 +1,5 @@
 -- What is recorded about a class, by tables.
-use Rattle.std.proofs.Common.{◌≡◌, refl, sym, ◌∙◌, ap, ℕ, ◌+◌, ◌<◌, ◌≤◌, true, cond, List, length, map, drop, get_or, Option, Some, None, zero-add, arith}
+use Rattle.std.proofs.Common.{◌≡◌, sym, ◌∙◌, ap, ℕ, ◌+◌, ◌<◌, ◌≤◌, true, cond, List, length, map, drop, get_or, Option, Some, None, zero-add}
 use Rattle.std.specs.Global.{Vec}
 use Rattle.std.specs.List.{position_from}
 use Rattle.std.specs.Option.{option_map}

@@ -1,6 +1,6 @@
 -- What fields hold first is what their values are resolved to.
 use Rattle.std.proofs.Common.{◌≡◌, refl, sym, ◌∙◌, ap, subst, ℕ, zero, suc, ◌+◌, ◌<◌, ◌≤◌, ◌||◌, ◌⊎◌, inl, inr, Bool, true, false, cond, List, [], ◌∷◌, ◌++◌, length, map, replicate, get_or, nat_eq, Option, Some, None, slice_get, zero-add, arith}
-use Rattle.std.specs.List.{AllByRecursion, filter_map, flat_map, list_any}
+use Rattle.std.specs.List.{AllByRecursion, filter_map, flat_map}
 use Rattle.std.specs.Option.{option_and_then}
 use Rattle.std.proofs.Math.ListN.{get_or-eq_default}
 use Rattle.std.proofs.lemmas.Bool.{cases_lt, or_right}
@@ -27,7 +27,7 @@ use Rattle.fm_world.specs.Members.{OwnedField, fields_from, fields_of}
 use Rattle.fm_world.specs.Numbers.{text_number}
 use Rattle.fm_world.specs.Programs.{Outline, class_uses, classes_of, first_value, resolved_at, with_number}
 use Rattle.fm_code.specs.Operands.{pool_index}
-use Rattle.fm_world.specs.Uses.{caught_by, class_items, is_used, pool_indices, used_indices, values_of}
+use Rattle.fm_world.specs.Uses.{caught_by, class_items, is_used, used_indices, values_of}
 use Rattle.fm_world.specs.declared.declarations.Constant.{Constant}
 use Rattle.fm_world.specs.declared.declarations.Constant.TheVariants as constant
 use Rattle.fm_world.specs.declared.declarations.DeclaredClass.{DeclaredClass}

@@ -1,19 +1,18 @@
 -- Texts by their units, one after the other.
-use Rattle.std.proofs.Common.{◌≡◌, refl, sym, ◌∙◌, ap, subst, ℕ, ◌+◌, ◌<◌, ◌≤◌, ◌==◌, ◌⊎◌, inl, inr, Bool, true, false, cond, List, [], ◌∷◌, ◌++◌, length, map, drop, get_or, set, replicate, is_some, Option, Some, None, arith, length-set, get_or-set_same, get_or-set_other}
+use Rattle.std.proofs.Common.{◌≡◌, refl, sym, ◌∙◌, ap, subst, ℕ, ◌+◌, ◌<◌, ◌≤◌, ◌==◌, ◌⊎◌, inl, inr, Bool, false, cond, List, [], ◌∷◌, ◌++◌, length, map, drop, get_or, set, replicate, is_some, Option, Some, None, arith, length-set, get_or-set_same, get_or-set_other}
 use Rattle.std.specs.Borrow.{Bor}
-use Rattle.std.specs.List.{flat_map, list_any, position}
+use Rattle.std.specs.List.{flat_map, list_any}
 use Rattle.std.specs.Str.{bytes_eq}
-use Rattle.std.proofs.lemmas.Bool.{cases_eq, cases_Bool, false≢true, eq-eqb, ne_eqb, false_from_ne_true}
+use Rattle.std.proofs.lemmas.Bool.{cases_eq, eq-eqb, ne_eqb, false_from_ne_true}
 use Rattle.std.proofs.Math.ListN.{get_or-map}
 use Rattle.std.proofs.lemmas.List.{drop_all, get_or_default, get_or-replicate, length-replicate}
 use Rattle.std.proofs.lemmas.Slice.Eq.{bytes_eq-Decides}
 use Rattle.fm_base.proofs.ListFacts.{drop_here, is_some-position}
-use Rattle.fm_base.specs.Texts.{unit_bytes, units, IsModifiedUtf8}
-use Rattle.fm_world.specs.Chains.{distinct}
+use Rattle.fm_base.specs.Texts.{unit_bytes}
 use Rattle.fm_world.specs.Numbers.{text_number}
-use Rattle.fm_link_records.specs.inner.InTurn.{with_all, with_one, Tells}
+use Rattle.fm_link_records.specs.inner.InTurn.{with_all, Tells}
 use Rattle.fm_link_records.specs.inner.TextNumbers.{literals_by, units_at, with_text, AreApart, AreNumbered, IsModified}
-use Rattle.fm_link_records.proofs.OneByOne.{distinct-all, numbered_step, same_sym}
+use Rattle.fm_link_records.proofs.OneByOne.{distinct-all, numbered_step}
 use Rattle.fm_link_names.specs.inner.Numbering.{lent}
 
 -- ---- texts are distinguished by their units

@@ -1,5 +1,5 @@
 -- The types and the texts that are numbered are those of a program.
-use Rattle.std.proofs.Common.{◌≡◌, refl, ◌∙◌, ap, ℕ, List, length, map, ◌++◌, Option, option_to_list}
+use Rattle.std.proofs.Common.{◌≡◌, ◌∙◌, ap, ℕ, List, length, map, ◌++◌, Option, option_to_list}
 use Rattle.std.specs.List.{AllByRecursion, flat_map}
 use Rattle.std.specs.Str.{bytes_eq}
 use Rattle.fm_base.specs.declared.kinds.TypeRef.{TypeRef}

@@ -1,9 +1,8 @@
 -- The tables of each class's own methods, one entry and one table after the other.
-use Rattle.std.proofs.Common.{◌≡◌, refl, sym, ◌∙◌, ap, subst, ℕ, zero, suc, ◌+◌, ◌-◌, ◌<◌, ◌≤◌, ◌&&◌, ◌⊎◌, inl, inr, cond, nat_eq, List, [], ◌∷◌, ◌++◌, length, get_or, Option, Some, None, slice_get, IsSomeAnd, arith}
-use Rattle.std.specs.HashMap.{HashMap, get}
+use Rattle.std.proofs.Common.{◌≡◌, refl, sym, ◌∙◌, ap, subst, ℕ, suc, ◌+◌, ◌-◌, ◌<◌, ◌≤◌, ◌&&◌, ◌⊎◌, inl, inr, cond, nat_eq, List, [], ◌∷◌, ◌++◌, length, get_or, Option, Some, None, slice_get, IsSomeAnd, arith}
+use Rattle.std.specs.HashMap.{HashMap}
 use Rattle.std.proofs.lemmas.Bool.{cases_lt}
 use Rattle.std.proofs.lemmas.List.{length_push}
-use Rattle.std.proofs.lemmas.Option.{slice_get_within}
 use Rattle.fm_base.proofs.ListFacts.{slice_get-append_left, slice_get_push}
 use Rattle.fm_world.specs.Members.{is_instance}
 use Rattle.fm_link_records.specs.inner.Own.{own_from, AreOwnTables, IsOwnTable}

@@ -1,12 +1,11 @@
 -- Parts that are made of the tables of class files are their program.
-use Rattle.std.proofs.Common.{◌≡◌, refl, sym, ◌∙◌, ap, ℕ, List, Option, Some, None}
+use Rattle.std.proofs.Common.{◌≡◌, sym, ◌∙◌, ap, ℕ, List, Option}
 use Rattle.std.specs.Prelude.{unwrap_or}
 use Rattle.fm_code.specs.declared.class_file.ClassDef.{ClassDef}
-use Rattle.fm_code.specs.declared.code_array.Code.{Code}
 use Rattle.fm_link_names.specs.declared.descriptors.Kinds.{Kinds}
 use Rattle.fm_world.specs.Chains.{given_number}
-use Rattle.fm_world.specs.Numbers.{texts_of, types_of}
-use Rattle.fm_world.specs.Programs.{Outline, Program, classes_of, codes_of, main_of, outline_of, program_of, uses_of}
+use Rattle.fm_world.specs.Numbers.{types_of}
+use Rattle.fm_world.specs.Programs.{classes_of, codes_of, main_of, outline_of, program_of, uses_of}
 use Rattle.fm_world.specs.declared.parts.Parts.{Parts}
 use Rattle.fm_world.specs.declared.uses.Use.{Use}
 use Rattle.fm_world.specs.inner.Tables.{outline_in, program_in}

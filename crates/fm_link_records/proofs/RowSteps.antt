@@ -1,7 +1,7 @@
 -- Records of a list one after the other, by a function of their numbers.
-use Rattle.std.proofs.Common.{◌≡◌, refl, sym, ◌∙◌, ap, ℕ, zero, suc, ◌+◌, ◌-◌, ◌<◌, ◌≤◌, List, [], ◌∷◌, ◌++◌, length, map, drop, get_or, zero-add, arith, append_assoc}
+use Rattle.std.proofs.Common.{◌≡◌, refl, sym, ◌∙◌, ap, ℕ, zero, suc, ◌+◌, ◌-◌, ◌<◌, List, [], ◌∷◌, ◌++◌, length, map, get_or, zero-add, arith, append_assoc}
 use Rattle.std.specs.List.{range_with_len}
-use Rattle.std.proofs.lemmas.List.{append-nil, drop_all, get_or_default, length-append}
+use Rattle.std.proofs.lemmas.List.{append-nil, length-append}
 use Rattle.fm_link_records.specs.inner.Rows.{map_from}
 
 pub map_from-append : {A B : Type 0} (f : ℕ → A → B) (n : ℕ) (xs ys : List A) → map_from f n (xs ++ ys)

@@ -1,13 +1,13 @@
 -- The places of fields that are recorded one after the other are those that a program has.
-use Rattle.std.proofs.Common.{◌≡◌, refl, sym, ◌∙◌, ap, subst, ℕ, zero, suc, ◌+◌, ◌-◌, ◌<◌, not, Bool, true, false, cond, List, [], ◌∷◌, ◌++◌, length, map, take, get_or, sum_by, slice_index, zero-add, arith, append_assoc}
+use Rattle.std.proofs.Common.{◌≡◌, refl, sym, ◌∙◌, ap, ℕ, ◌+◌, ◌-◌, ◌<◌, not, Bool, true, false, cond, List, [], ◌∷◌, ◌++◌, length, map, take, get_or, sum_by, slice_index, zero-add, arith, append_assoc}
 use Rattle.std.specs.List.{count_by, fold, range_with_len}
 use Rattle.std.proofs.Math.Seq.{get_or-append_seam, take-append_seam}
-use Rattle.std.proofs.lemmas.List.{append-nil, length-append, length-map}
+use Rattle.std.proofs.lemmas.List.{length-append, length-map}
 use Rattle.std.proofs.lemmas.List.Sums.{sum_by-append}
 use Rattle.fm_code.specs.AccessFlags.{is_static}
 use Rattle.fm_world.specs.Chains.{class_at, superclasses_of}
 use Rattle.fm_world.specs.Declarations.{no_class, no_field}
-use Rattle.fm_world.specs.Members.{OwnedField, field_at, fields_from, fields_of, first_field, hidden_fields, instance_fields, instance_slot, is_instance, owned_fields, size_among, slot_of, static_slot, statics_of}
+use Rattle.fm_world.specs.Members.{OwnedField, fields_from, fields_of, first_field, hidden_fields, instance_fields, instance_slot, is_instance, size_among, slot_of, static_slot, statics_of}
 use Rattle.fm_world.specs.declared.declarations.DeclaredClass.{DeclaredClass}
 use Rattle.fm_world.specs.declared.declarations.DeclaredField.{DeclaredField}
 use Rattle.fm_world.specs.inner.Tables.{numbers_below}

@@ -1,10 +1,7 @@
 -- The places of fields, one after the other.
-use Rattle.std.proofs.Common.{◌≡◌, refl, sym, ◌∙◌, ap, ℕ, ◌+◌, ◌<◌, Bool, true, false, cond, List, [], ◌∷◌, ◌++◌, length, drop, get_or, slice_index, arith, append_assoc}
-use Rattle.std.proofs.lemmas.List.{append-nil}
+use Rattle.std.proofs.Common.{◌≡◌, sym, ◌∙◌, ap, ℕ, ◌+◌, ◌<◌, List, ◌++◌, length, drop, get_or, slice_index, append_assoc}
 use Rattle.fm_base.proofs.ListFacts.{drop_here}
-use Rattle.fm_code.specs.AccessFlags.{is_static}
 use Rattle.fm_world.specs.declared.declarations.DeclaredClass.{DeclaredClass}
-use Rattle.fm_world.specs.declared.declarations.DeclaredField.{DeclaredField}
 use Rattle.fm_link_records.specs.inner.Fields.{slots_among, slots_told, static_fields}
 
 -- the places of one class's fields more

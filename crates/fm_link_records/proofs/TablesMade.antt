@@ -2,7 +2,6 @@
 use Rattle.std.proofs.Common.{◌≡◌, ◌∙◌, sym, ap, subst, ℕ, List, length, map, Option, IfSome}
 use Rattle.fm_code.specs.declared.code_array.Code.{Code}
 use Rattle.fm_link_names.specs.declared.descriptors.Kinds.{Kinds}
-use Rattle.fm_world.specs.Members.{methods_of}
 use Rattle.fm_world.specs.Programs.{class_info}
 use Rattle.fm_world.specs.declared.parts.Parts.{Parts}
 use Rattle.fm_world.specs.declared.records.MethodInfo.{MethodInfo}

@@ -28,7 +28,7 @@ AreInOrder [] files = Unit {0}
 AreInOrder (call ∷ calls) (file ∷ files) = (call.name ≡ file) × (IsSome call.bytes ⊎ (calls ≡ [])) × AreInOrder calls files
 AreInOrder (call ∷ calls) [] = ⊥
 
--- the reads of a call are such
+-- the reads of a call are of these files, in their order
 abbrev pub ReadsInOrder : List Bytes → Disk → Disk → Type 0
 ReadsInOrder files old new = (calls : List Call) × (new.reads ≡ old.reads ++ calls) × AreInOrder calls files
 
@@ -42,7 +42,7 @@ ReadsOnce file old new = (new.reads ≡ old.reads) ⊎ ((bytes : Option Bytes) �
 abbrev pub ReturnsHeld : (held : Bytes → Option Bytes) → Call → Type 0
 ReturnsHeld held call = IsSomeAnd call.bytes (λ bytes. held call.name ≡ Some bytes)
 
--- so did each read of a call
+-- each read of a call returned bytes, those that these contents hold
 abbrev pub ReadsFrom : (held : Bytes → Option Bytes) → Disk → Disk → Type 0
 ReadsFrom held old new = (calls : List Call) × (new.reads ≡ old.reads ++ calls) × AllByRecursion (ReturnsHeld held) calls
 

@@ -1,5 +1,5 @@
 -- Busy by computation and by a witness.
-use Rattle.std.proofs.Common.{◌≡◌, ◌⊎◌, ℕ, ◌<◌, ◌||◌, Bool, true, false, length, reverse, Option, Some, None, IsSomeAnd, refl, ⊎_elim, eq-eqb, arith, Contains}
+use Rattle.std.proofs.Common.{◌≡◌, ◌⊎◌, ℕ, ◌<◌, ◌||◌, Bool, true, length, reverse, Option, Some, None, IsSomeAnd, refl, ⊎_elim, eq-eqb, arith, Contains}
 use Rattle.std.specs.Prelude.{is_some, nat_eq, option_and_then, slice_get}
 use Rattle.std.specs.List.{list_any, range_with_len}
 use Rattle.std.proofs.lemmas.Bool.{and_from, eqb-true, false≢true, or_cases, or_left, or_right}

@@ -1,5 +1,5 @@
 -- Tests over lists by witnesses, and the parts of a test.
-use Rattle.std.proofs.Common.{◌≡◌, ◌&&◌, Bool, true, false, List, refl, Contains}
+use Rattle.std.proofs.Common.{◌≡◌, Bool, true, List, Contains}
 use Rattle.std.specs.List.{list_any}
 use Rattle.std.proofs.lemmas.List.Folds.{list_any-from_Any}
 

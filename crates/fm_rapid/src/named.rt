@@ -17,7 +17,7 @@ use fm_check_rows::{class_of_method, type_of_use};
 use fm_code::Insn;
 use fm_world::{Program, Use, class_of_type};
 
-/// The class of which an instruction makes an object, by what its index stands for. Takes no memory.
+/// The class of which an instruction makes an object, by what its index names. Takes no memory.
 pub fn made_by(program: &Program, insn: &Insn, resolved: Use) -> Option<ClassId>
     requires { HasUsesIn program.now }
     ensures value { option_map (λ (c : ClassId). c.0) result

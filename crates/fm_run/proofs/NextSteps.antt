@@ -1,5 +1,5 @@
 -- The effect of the next instruction is that of its row.
-use Rattle.std.proofs.Common.{◌≡◌, ℕ, List, [], ◌∷◌, Some, refl, ap, sym, ◌∙◌, subst, slice_get, OnOk, Result}
+use Rattle.std.proofs.Common.{◌≡◌, ℕ, List, ◌∷◌, Some, refl, ap, sym, ◌∙◌, subst, slice_get, OnOk, Result}
 use Rattle.fm_base.specs.declared.error.NoMemory.{NoMemory}
 use Rattle.fm_code.specs.declared.instructions.Insn.{Insn}
 use Rattle.fm_exec.specs.Steps.{seen, Steps}

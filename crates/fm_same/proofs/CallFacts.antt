@@ -20,7 +20,7 @@ use Rattle.fm_conn.specs.Rows as pairs
 use Rattle.fm_types.specs.Named.{class_of_method, parameters_of}
 use Rattle.fm_types.specs.Rows.{row_after}
 use Rattle.fm_types.specs.States.{TypeState}
-use Rattle.fm_types.specs.Typed.{FitsAt, made_at, MeetsItem, state_at, use_by, use_in}
+use Rattle.fm_types.specs.Typed.{FitsAt, made_at, MeetsItem, state_at, use_by}
 use Rattle.fm_types.specs.declared.slots.Slot as slots
 use Rattle.fm_world.specs.Causes.{static_method_wanted}
 use Rattle.fm_world.specs.Descriptors.{argument_word_count, parameter_kinds}

@@ -1,5 +1,5 @@
 -- What the tests for captured classes and for busy ones say of the nodes of a class.
-use Rattle.std.proofs.Common.{◌≡◌, ◌≢◌, ℕ, zero, suc, ◌<◌, ◌==◌, ◌&&◌, ◌||◌, not, Bool, true, false, List, [], ◌∷◌, length, IsSomeAnd, refl, sym, ◌∙◌, slice_get, slice_index_or, arith, eq-eqb, Contains}
+use Rattle.std.proofs.Common.{◌≡◌, ◌≢◌, ℕ, zero, suc, ◌<◌, ◌==◌, ◌&&◌, ◌||◌, not, Bool, true, false, List, [], ◌∷◌, length, IsSomeAnd, sym, ◌∙◌, slice_get, slice_index_or, arith, eq-eqb, Contains}
 use Rattle.std.specs.Prelude.{is_some, nat_eq}
 use Rattle.std.specs.List.{list_any, range_with_len}
 use Rattle.std.proofs.lemmas.Bool.{and_from, false≢true, or_left, or_right}

@@ -1,5 +1,5 @@
 -- The law of dead regions along a run from its opening on.
-use Rattle.std.proofs.Common.{◌≡◌, Some, IsSomeAnd, subst, sym}
+use Rattle.std.proofs.Common.{IsSomeAnd, subst, sym}
 use Rattle.fm_cells.proofs.Choices.{lawful_choice-may}
 use Rattle.fm_cells.specs.Choices.{lawful}
 use Rattle.fm_cells.specs.Stores.{opened}
@@ -11,7 +11,7 @@ use Rattle.fm_law_sound.specs.Making.{MakesAreResolved}
 use Rattle.fm_law_sound.specs.Resolved.{MainIsReady, StepsAreResolved}
 use Rattle.fm_law_sound.specs.Sound.{AreTyped}
 use Rattle.fm_types.specs.Typed.{IsTypingOf}
-use Rattle.fm_world.specs.Programs.{code_at, Program}
+use Rattle.fm_world.specs.Programs.{Program}
 use Rattle.fm_same.specs.Colours.{Coloured}
 use Rattle.fm_same.specs.DeadRegions.{AreSound, InEachRun, states_of}
 use Rattle.fm_same.specs.Laws.{DeadRegions, DeadRegionsOfSoundRuns}

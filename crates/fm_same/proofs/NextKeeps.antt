@@ -15,7 +15,7 @@ use Rattle.fm_world.specs.Programs.{Outline, Program}
 use Rattle.fm_frames.specs.Acts.{same_cell, Sources, value_of}
 use Rattle.fm_frames.specs.Effects.{Effect, Next, Falls, Jumps, JumpsIfSame, Calls, Returns, Throws, Enters, Exits, Faults, Source, OfOperand, OfMade}
 use Rattle.fm_frames.specs.States.{Frame, State, word_at}
-use Rattle.fm_frames.specs.Steps.{caught, Caught, continued, fault_of, InFrames, next_insn, is_start, Leaves, new_frame, returned, start_frames, stopped, target_at, thrown_by, type_at}
+use Rattle.fm_frames.specs.Steps.{caught, Caught, InFrames, is_start, Leaves, new_frame, returned, start_frames, target_at, thrown_by, type_at}
 use Rattle.fm_frames.specs.Steps as steps
 use Rattle.fm_frames.specs.declared.values.Value.{Value}
 use Rattle.fm_same.specs.Advances.{point_of}

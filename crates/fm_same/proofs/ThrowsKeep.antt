@@ -1,6 +1,6 @@
 -- What is thrown is everywhere, and so is the word of the handler that catches it: frames that an exception leaves take their holders with them, and the
 -- frame that catches it goes on with the locals that were live before.
-use Rattle.std.proofs.Common.{◌≡◌, ℕ, zero, suc, Bool, true, false, cond, List, [], ◌∷◌, Option, Some, None, refl, sym, ◌∙◌, subst, inr, slice_get, ⊎_elim}
+use Rattle.std.proofs.Common.{◌≡◌, ℕ, zero, suc, true, false, List, [], ◌∷◌, Option, Some, None, refl, sym, ◌∙◌, subst, inr, slice_get, ⊎_elim}
 use Rattle.std.proofs.lemmas.Bool.{false≢true}
 use Rattle.std.proofs.lemmas.Option.{same_Some}
 use Rattle.fm_base.specs.declared.kinds.TypeRef.{TypeRef}
@@ -14,8 +14,7 @@ use Rattle.fm_conn.specs.Nodes.{Global, IsNode, Slot}
 use Rattle.fm_conn.specs.Pairs.{PairAt}
 use Rattle.fm_world.specs.Programs.{Program}
 use Rattle.fm_frames.specs.States.{Frame}
-use Rattle.fm_frames.specs.Steps.{caught, Caught, caught_in, handler_of, InFrames, is_start, Leaves}
-use Rattle.fm_frames.specs.declared.ends.Ended.{Ended}
+use Rattle.fm_frames.specs.Steps.{caught, Caught, caught_in, handler_of, InFrames, is_start}
 use Rattle.fm_frames.specs.declared.ends.Ended.TheVariants as end
 use Rattle.fm_frames.specs.declared.values.Value.{Value}
 use Rattle.fm_types.specs.Named.{class_of_method}

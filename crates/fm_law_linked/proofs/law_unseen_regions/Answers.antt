@@ -1,4 +1,4 @@
-use Rattle.std.proofs.Common.{ℕ, suc, ◌+◌, ◌≤◌, None, arith}
+use Rattle.std.proofs.Common.{None, arith}
 use Rattle.fm_law_sound.specs.Sound.{AreTyped}
 use Rattle.fm_same.proofs.DeadRuns.{run_is_sound}
 use Rattle.fm_world.specs.Programs.{program_of}

@@ -1,7 +1,6 @@
 -- When tables are those of a program.
-use Rattle.std.specs.Prelude.{◌≡◌, ℕ, ◌<◌, List, [], length, map, slice_get, Option, Some, None}
+use Rattle.std.specs.Prelude.{◌≡◌, ℕ, ◌<◌, List, length, Option, Some, None}
 use Rattle.std.specs.List.{slice_index_or}
-use Rattle.std.specs.Option.{option_map}
 use Rattle.fm_code.specs.declared.code_array.Code.{Code}
 use Rattle.fm_world.specs.Descriptors.{declared_kind, field_type, parameter_kinds, result_kind}
 use Rattle.fm_world.specs.Members.{fields_of, field_at, methods_of, method_at}

@@ -1,4 +1,4 @@
-use Rattle.std.proofs.Common.{◌≡◌, ◌<◌, ◌≤◌, length, get_or, set, List, arith, ap, sym, ◌∙◌, length-set}
+use Rattle.std.proofs.Common.{◌≡◌, ◌<◌, ◌≤◌, length, get_or, set, arith, ap, sym, ◌∙◌, length-set}
 use Rattle.std.proofs.lemmas.List.{get_or_read, get_or-set_same}
 use Rattle.fm_base.proofs.GraphLemmas.{Shortens_past, Shortens_then, numbers_then}
 use Rattle.fm_base.proofs.graph.root_of.Goals as goal

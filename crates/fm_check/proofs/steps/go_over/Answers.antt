@@ -1,5 +1,4 @@
-use Rattle.std.proofs.Common.{◌≡◌, ◌∙◌, sym, ap, subst, arith, length, map, List, None, Some}
-use Rattle.std.proofs.lemmas.List.{length-reverse}
+use Rattle.std.proofs.Common.{◌≡◌, ◌∙◌, sym, ap, subst, arith, map, List, None, Some}
 use Rattle.std.specs.List.{slice_index_or}
 use Rattle.fm_check.proofs.ItemLemmas.{GoesOver-none, read_insn}
 use Rattle.fm_check_walk.proofs.Outcomes.{ok_weaker}

@@ -1,4 +1,4 @@
-use Rattle.std.proofs.Common.{ℕ, ◌-◌, ◌≤◌, length}
+use Rattle.std.proofs.Common.{◌-◌, ◌≤◌, length}
 use Rattle.fm_world.specs.Members.{fields_of, first_field}
 use Rattle.fm_frames.proofs.starts.first_field.Given as goal
 

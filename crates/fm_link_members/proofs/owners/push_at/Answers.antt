@@ -1,4 +1,4 @@
-use Rattle.std.proofs.Common.{◌∙◌, sym, ap, arith, set, List, [], ◌∷◌, ◌++◌, ℕ}
+use Rattle.std.proofs.Common.{◌∙◌, sym, ap, arith, set, [], ◌∷◌, ◌++◌, ℕ}
 use Rattle.std.proofs.lemmas.List.{get_or-map, map-set}
 use Rattle.std.specs.Global.{Vec}
 use Rattle.fm_link_supers.specs.inner.ListTables.{lists}

@@ -1,5 +1,4 @@
-use Rattle.std.proofs.Common.{◌≡◌, ◌<◌, ◌+◌, sym, ◌∙◌, ap, ℕ, List, length, map, arith, refl, get_or, None}
-use Rattle.std.proofs.lemmas.List.{get_or_default, length-map}
+use Rattle.std.proofs.Common.{◌+◌, ◌∙◌, length, arith, None}
 use Rattle.fm_world.proofs.TableLemmas.{length-row}
 use Rattle.fm_world.specs.Chains.{listed_interfaces, parent_of}
 use Rattle.fm_world.specs.Members.{first_method, size_of}
@@ -8,7 +7,6 @@ use Rattle.fm_link_records.specs.inner.Classes.{bare_outline}
 use Rattle.fm_link_records.proofs.ClassSteps.{info_is, length-lists, list_at, table_default}
 use Rattle.fm_link_records.proofs.RowSteps.{row_more}
 use Rattle.fm_link_records.proofs.classes.class_infos.Goals as goal
-use Rattle.fm_link_supers.specs.inner.ListTables.{lists}
 
 pub bounds-listed-place : goal.bounds-listed-place
 bounds-listed-place c =

@@ -1,7 +1,6 @@
-use Rattle.std.proofs.Common.{◌≡◌, ◌∙◌, sym, ap, refl, subst, length, arith, List}
+use Rattle.std.proofs.Common.{sym, ap, refl, length, arith}
 use Rattle.std.proofs.lemmas.List.{length_push}
 use Rattle.fm_link_names.specs.inner.Numbering.{lent}
-use Rattle.fm_link_records.specs.inner.DeclaredKinds.{AreKinds}
 use Rattle.fm_link_records.proofs.KindSteps.{kinds_more}
 use Rattle.fm_link_records.proofs.LiteralSteps.{lent_at}
 use Rattle.fm_link_records.proofs.kinds.kinds_by_text.Goals as goal

@@ -1,4 +1,4 @@
-use Rattle.std.proofs.Common.{◌≡◌, rules, sym, ◌∙◌, ap, length, drop, ◌+◌, ◌++◌}
+use Rattle.std.proofs.Common.{rules, ◌∙◌, ap, length, drop, ◌+◌, ◌++◌}
 use Rattle.fm_base.proofs.ListFacts.{drop_here}
 use Rattle.fm_world.specs.Members.{methods_from, methods_of}
 use Rattle.fm_link_records.specs.inner.Methods.{method_numbered, methods_among, methods_told}

@@ -1,4 +1,4 @@
-use Rattle.std.proofs.Common.{◌≡◌, ◌+◌, ◌++◌, sym, ◌∙◌, ap, length, take, get_or, append_assoc, arith}
+use Rattle.std.proofs.Common.{◌+◌, ◌++◌, sym, ◌∙◌, ap, length, take, get_or, append_assoc, arith}
 use Rattle.std.specs.List.{filter_map, flat_map}
 use Rattle.fm_base.specs.declared.kinds.TypeRef.{TypeRef}
 use Rattle.std.proofs.Common.{Option}

@@ -1,4 +1,4 @@
-use Rattle.std.proofs.Common.{◌≡◌, ◌+◌, ◌++◌, sym, ◌∙◌, ap, take, option_to_list, append_assoc}
+use Rattle.std.proofs.Common.{◌+◌, ◌++◌, sym, ◌∙◌, ap, take, option_to_list, append_assoc}
 use Rattle.std.specs.List.{filter_map}
 use Rattle.fm_code.specs.declared.code_array.Item.{Item}
 use Rattle.fm_link_records.specs.inner.Named.{made_at}

@@ -1,4 +1,4 @@
-use Rattle.std.proofs.Common.{◌-◌, ◌+◌, ◌≡◌, ℕ, nat_eq, arith}
+use Rattle.std.proofs.Common.{◌-◌, nat_eq, arith}
 use Rattle.std.specs.HashMap.{get}
 use Rattle.fm_link_records.proofs.OwnSteps.{own_step}
 use Rattle.fm_link_records.proofs.own.own_table.Goals as goal

@@ -1,4 +1,4 @@
-use Rattle.std.proofs.Common.{◌-◌, ◌+◌, ◌≡◌, ◌∙◌, ap, length, arith, refl}
+use Rattle.std.proofs.Common.{◌-◌, ap, length, arith, refl}
 use Rattle.fm_link_records.proofs.OwnSteps.{tables_more}
 use Rattle.std.proofs.lemmas.List.{length_push}
 use Rattle.fm_link_records.proofs.own.own_tables.Goals as goal

@@ -1,4 +1,4 @@
-use Rattle.std.proofs.Common.{◌<◌, sym, ◌∙◌, ap, length, drop, arith}
+use Rattle.std.proofs.Common.{◌∙◌, length, arith}
 use Rattle.fm_world.specs.Chains.{chain_of}
 use Rattle.fm_link_records.specs.inner.Sizes.{base_of}
 use Rattle.fm_link_records.proofs.ClassSteps.{length-lists, list_at}

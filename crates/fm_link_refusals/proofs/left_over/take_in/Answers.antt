@@ -1,4 +1,4 @@
-use Rattle.std.proofs.Common.{◌≡◌, ◌<◌, ◌∙◌, sym, ap, subst, length, get_or, not, true, false, Some}
+use Rattle.std.proofs.Common.{◌<◌, ◌∙◌, sym, ap, subst, length, get_or, true, false}
 use Rattle.fm_link_names.specs.inner.Numbering.{texts_in}
 use Rattle.fm_link_members.specs.inner.MemberTables.{nearest_in}
 use Rattle.fm_link_refusals.proofs.FirstRefusals.{on_ok_then}

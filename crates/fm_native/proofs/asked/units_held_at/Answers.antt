@@ -1,4 +1,4 @@
-use Rattle.std.proofs.Common.{◌≡◌, Ok, Err, false, true, sym, ◌∙◌, subst, rules}
+use Rattle.std.proofs.Common.{◌≡◌, Ok, Err, false, true, sym, subst, rules}
 use Rattle.fm_native.proofs.Asks.{fits-named, text-known, units-found, units-refused, units-told, units-unfit}
 use Rattle.fm_native.proofs.asked.units_held_at.Goals as goal
 use Rattle.fm_frames.specs.inner.Doings.{seen}

@@ -1,6 +1,6 @@
 use Rattle.std.proofs.Common.{◌≡◌, is_none, ap, ◌∙◌}
 use Rattle.std.specs.FinMap.{get}
-use Rattle.fm_files.specs.Folder.{FolderFilesState, after_folder_read}
+use Rattle.fm_files.specs.Folder.{FolderFilesState}
 use Rattle.fm_files.specs.History.{Past}
 use Rattle.fm_files.specs.Names.{ByName}
 use Rattle.fm_files.specs.Tally.{no_tally, tallies_after_read}

@@ -1,4 +1,4 @@
-use Rattle.std.proofs.Common.{arith, not, sym, ◌<◌, ◌^◌, ◌∙◌, ap, refl, subst, cond, false, true, is_some, List, ℕ, [], ◌∷◌, ◌++◌, set, Some}
+use Rattle.std.proofs.Common.{arith, not, sym, ◌<◌, ◌^◌, ◌∙◌, ap, refl, subst, cond, false, true, is_some, [], ◌∷◌, ◌++◌, set, Some}
 use Rattle.std.proofs.lemmas.List.Elements.{All-from_recursion}
 use Rattle.fm_base.specs.Texts.{units, IsModifiedUtf8}
 use Rattle.fm_link_records.specs.inner.TextNumbers.{units_at, AreNumbered}

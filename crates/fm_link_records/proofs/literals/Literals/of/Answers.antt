@@ -1,10 +1,10 @@
-use Rattle.std.proofs.Common.{sym, ◌∙◌, refl, ap, map, None, Option, ℕ, List, length}
+use Rattle.std.proofs.Common.{sym, ap, map, ℕ, List, length}
 use Rattle.std.specs.Borrow.{Bor}
 use Rattle.std.specs.Str.{bytes_eq}
 use Rattle.std.proofs.lemmas.List.{length-map}
 use Rattle.fm_link_records.specs.inner.InTurn.{with_all}
 use Rattle.fm_link_records.specs.inner.TextNumbers.{units_at}
-use Rattle.fm_link_records.proofs.LiteralSteps.{all_literals, literals_end, literals_step, none_numbered}
+use Rattle.fm_link_records.proofs.LiteralSteps.{literals_end, literals_step, none_numbered}
 use Rattle.fm_link_records.proofs.literals.Literals.of.Goals as goal
 use Rattle.fm_link_names.specs.inner.Numbering.{lent}
 

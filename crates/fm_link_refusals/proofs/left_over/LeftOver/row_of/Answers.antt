@@ -1,4 +1,4 @@
-use Rattle.std.proofs.Common.{◌≡◌, ◌≤◌, ℕ, None, ◌∙◌, sym, ap, subst, arith, get_or, length}
+use Rattle.std.proofs.Common.{◌≤◌, ℕ, None, ◌∙◌, sym, ap, subst, arith, get_or, length}
 use Rattle.fm_link_names.specs.inner.Numbering.{texts_in}
 use Rattle.fm_link_supers.proofs.ParentTables.{row_within}
 use Rattle.fm_world.proofs.Displays.{parent_of-within}

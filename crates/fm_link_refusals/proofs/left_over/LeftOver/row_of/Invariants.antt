@@ -1,4 +1,4 @@
-use Rattle.std.proofs.Common.{◌≡◌, ◌<◌, ◌≤◌, List, length}
+use Rattle.std.proofs.Common.{◌<◌, ◌≤◌, List, length}
 use Rattle.fm_link_refusals.specs.inner.LeftOver.{is_part_owed, HasCounts, IsCounting, IsLeftOver}
 use Rattle.fm_world.specs.declared.declarations.DeclaredClass.{DeclaredClass}
 use Rattle.fm_link_refusals.proofs.left_over.LeftOver.row_of.Given as goal

@@ -1,4 +1,4 @@
-use Rattle.std.proofs.Common.{◌≡◌, ◌∙◌, sym, ap, ℕ, ◌+◌, ◌*◌, ◌/◌, ◌%◌, ◌<◌, ◌≤◌, List, [], length, get_or, false, arith}
+use Rattle.std.proofs.Common.{◌≡◌, ◌∙◌, sym, ap, ◌/◌, ◌%◌, ◌<◌, ◌≤◌, List, [], length, get_or, arith}
 use Rattle.std.proofs.Math.Nat.{div-add-mod, mod-lt}
 use Rattle.std.proofs.lemmas.Bool.{ltb-false, ltb-true}
 use Rattle.std.proofs.lemmas.List.{get_or_read, get_or_past}
@@ -6,7 +6,6 @@ use Rattle.fm_types.proofs.PieceLemmas.{read_piece}
 use Rattle.fm_types.specs.States.{local_at}
 use Rattle.fm_types.specs.declared.slots.Slot.{Slot}
 use Rattle.fm_types.specs.declared.slots.Slot.TheVariants as slot
-use Rattle.fm_types.specs.inner.Pieces.{in_one}
 use Rattle.fm_types.proofs.shared_slots.SharedSlots.slot.Goals as goal
 
 pub returns-in-Some : goal.returns-in-Some

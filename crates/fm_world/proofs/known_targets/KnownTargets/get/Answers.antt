@@ -1,5 +1,4 @@
 use Rattle.std.proofs.Common.{◌≡◌, ◌<◌, sym, ◌∙◌, ap, length, arith}
-use Rattle.fm_base.specs.declared.ids.MethodId.{MethodId}
 use Rattle.fm_world.proofs.TypeTests.{tested_same}
 use Rattle.fm_world.proofs.known_targets.KnownTargets.get.Goals as goal
 

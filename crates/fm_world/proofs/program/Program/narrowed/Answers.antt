@@ -1,4 +1,4 @@
-use Rattle.std.proofs.Common.{◌≡◌, ◌∙◌, ap, Some}
+use Rattle.std.proofs.Common.{◌∙◌, ap, Some}
 use Rattle.fm_world.proofs.Narrowed.{narrowed_tables}
 use Rattle.fm_world.specs.Programs.{Program}
 use Rattle.fm_world.proofs.program.Program.narrowed.Goals as goal

@@ -4,7 +4,6 @@ use Rattle.fm_world.proofs.OverridingLemmas.{package_within, take-package}
 use Rattle.fm_world.proofs.Told.{class_info-name, class_info-package}
 use Rattle.fm_world.proofs.program.Program.package_name.Goals as goal
 use Rattle.fm_world.specs.Chains.{class_at}
-use Rattle.fm_world.specs.Lookups.{package_of}
 
 -- the bytes that are the package's are within the name
 pub slice_bounds-result-end : goal.slice_bounds-result-end
