@@ -375,3 +375,90 @@ const ESCAPING_STATIC_READ: ClassFile<'static> = ClassFile {
         ..NOTHING
     },
 };
+
+/// The names of classes, one of them by an object, whose class literal is that of the type.
+pub const CLASS_LITERALS: TestProgram<'static> = TestProgram {
+    read: &[CLASS_LITERALS_READ],
+    written: &[CLASS_LITERALS_WRITTEN],
+};
+
+const CLASS_LITERALS_READ: ClassFile<'static> = ClassFile {
+    name: "M.class",
+    bytes: Repeated {
+        start: b"\
+            \xca\xfe\xba\xbe\0\0\0\x31\0'\x01\0\x01M\x07\0\x01\x01\0\x10java/lang/Object\x07\0\x03\
+            \x01\0\x04main\x01\0\x16([Ljava/lang/String;)V\x01\0\x04Code\x01\0\x10java/lang/System\
+            \x07\0\x08\x01\0\x03out\x01\0\x15Ljava/io/PrintStream;\x0c\0\x0a\0\x0b\x09\0\x09\0\x0c\
+            \x01\0\x0fjava/lang/Class\x07\0\x0e\x01\0\x07getName\x01\0\x14()Ljava/lang/String;\x0c\
+            \0\x10\0\x11\x0a\0\x0f\0\x12\x01\0\x13java/io/PrintStream\x07\0\x14\x01\0\x07println\
+            \x01\0\x15(Ljava/lang/String;)V\x0c\0\x16\0\x17\x0a\0\x15\0\x18\x01\0\x08getClass\x01\0\
+            \x13()Ljava/lang/Class;\x0c\0\x1a\0\x1b\x0a\0\x04\0\x1c\x01\0\x02[I\x07\0\x1e\x01\0\x06\
+            equals\x01\0\x15(Ljava/lang/Object;)Z\x0c\0\x20\0!\x0a\0\x04\0\"\x01\0\x04(I)V\x0c\0\
+            \x16\0$\x0a\0\x15\0%\0!\0\x02\0\x04\0\0\0\0\0\x01\0\x09\0\x05\0\x06\0\x01\0\x07\0\0\0\
+            \x38\0\x03\0\x02\0\0\0,\xb2\0\x0d\x12\x02\xb6\0\x13\xb6\0\x19\x05\xbc\x0aL\xb2\0\x0d+\
+            \xb6\0\x1d\xb6\0\x13\xb6\0\x19\xb2\0\x0d+\xb6\0\x1d\x12\x1f\xb6\0#\xb6\0&\xb1\0\0\0\0\0\
+            \0",
+        ..NOTHING
+    },
+};
+
+const CLASS_LITERALS_WRITTEN: ClassFile<'static> = ClassFile {
+    name: "M.class",
+    bytes: Repeated {
+        start: b"\
+            \xca\xfe\xba\xbe\0\0\0\x31\0-\x01\0\x01M\x07\0\x01\x01\0\x10java/lang/Object\x07\0\x03\
+            \x01\0\x04main\x01\0\x16([Ljava/lang/String;)V\x01\0\x04Code\x01\0\x10java/lang/System\
+            \x07\0\x08\x01\0\x03out\x01\0\x15Ljava/io/PrintStream;\x0c\0\x0a\0\x0b\x09\0\x09\0\x0c\
+            \x01\0\x0fjava/lang/Class\x07\0\x0e\x01\0\x07getName\x01\0\x14()Ljava/lang/String;\x0c\
+            \0\x10\0\x11\x0a\0\x0f\0\x12\x01\0\x13java/io/PrintStream\x07\0\x14\x01\0\x07println\
+            \x01\0\x15(Ljava/lang/String;)V\x0c\0\x16\0\x17\x0a\0\x15\0\x18\x01\0\x08getClass\x01\0\
+            \x13()Ljava/lang/Class;\x0c\0\x1a\0\x1b\x0a\0\x04\0\x1c\x01\0\x02[I\x07\0\x1e\x01\0\x06\
+            equals\x01\0\x15(Ljava/lang/Object;)Z\x0c\0\x20\0!\x0a\0\x04\0\"\x01\0\x04(I)V\x0c\0\
+            \x16\0$\x0a\0\x15\0%\x01\0\x06FreeMe\x07\0'\x01\0\x04free\x01\0\x15(Ljava/lang/Object;)\
+            V\x0c\0)\0*\x0a\0(\0+\0!\0\x02\0\x04\0\0\0\0\0\x01\0\x09\0\x05\0\x06\0\x01\0\x07\0\0\0Z\
+            \0\x04\0\x05\0\0\0N\x01M\x01N\x01:\x04\xb2\0\x0d\x12\x02\xb6\0\x13YM\xb6\0\x19,\xb8\0,\
+            \x01M\x05\xbc\x0aYNL\xb2\0\x0d+\xb6\0\x1d\xb6\0\x13Y:\x04\xb6\0\x19\x19\x04\xb8\0,\x01:\
+            \x04\xb2\0\x0d+\xb6\0\x1d-\xb8\0,\x01N\x12\x1f\xb6\0#\xb6\0&\xb1\0\0\0\0\0\0",
+        ..NOTHING
+    },
+};
+
+/// An array is copied, and then changed.
+pub const COPIED_ARRAY: TestProgram<'static> = TestProgram {
+    read: &[COPIED_ARRAY_READ],
+    written: &[COPIED_ARRAY_WRITTEN],
+};
+
+const COPIED_ARRAY_READ: ClassFile<'static> = ClassFile {
+    name: "M.class",
+    bytes: Repeated {
+        start: b"\
+            \xca\xfe\xba\xbe\0\0\0\x31\0\x1a\x01\0\x01M\x07\0\x01\x01\0\x10java/lang/Object\x07\0\
+            \x03\x01\0\x04main\x01\0\x16([Ljava/lang/String;)V\x01\0\x04Code\x01\0\x02[I\x07\0\x08\
+            \x01\0\x05clone\x01\0\x14()Ljava/lang/Object;\x0c\0\x0a\0\x0b\x0a\0\x09\0\x0c\x01\0\x10\
+            java/lang/System\x07\0\x0e\x01\0\x03out\x01\0\x15Ljava/io/PrintStream;\x0c\0\x10\0\x11\
+            \x09\0\x0f\0\x12\x01\0\x13java/io/PrintStream\x07\0\x14\x01\0\x07println\x01\0\x04(I)V\
+            \x0c\0\x16\0\x17\x0a\0\x15\0\x18\0!\0\x02\0\x04\0\0\0\0\0\x01\0\x09\0\x05\0\x06\0\x01\0\
+            \x07\0\0\0\x34\0\x03\0\x03\0\0\0(\x05\xbc\x0aL+\x03\x10\x07O+\xb6\0\x0d\xc0\0\x09M+\x03\
+            \x10\x09O\xb2\0\x13,\x03.\xb6\0\x19\xb2\0\x13,\xbe\xb6\0\x19\xb1\0\0\0\0\0\0",
+        ..NOTHING
+    },
+};
+
+const COPIED_ARRAY_WRITTEN: ClassFile<'static> = ClassFile {
+    name: "M.class",
+    bytes: Repeated {
+        start: b"\
+            \xca\xfe\xba\xbe\0\0\0\x31\0\x20\x01\0\x01M\x07\0\x01\x01\0\x10java/lang/Object\x07\0\
+            \x03\x01\0\x04main\x01\0\x16([Ljava/lang/String;)V\x01\0\x04Code\x01\0\x02[I\x07\0\x08\
+            \x01\0\x05clone\x01\0\x14()Ljava/lang/Object;\x0c\0\x0a\0\x0b\x0a\0\x09\0\x0c\x01\0\x10\
+            java/lang/System\x07\0\x0e\x01\0\x03out\x01\0\x15Ljava/io/PrintStream;\x0c\0\x10\0\x11\
+            \x09\0\x0f\0\x12\x01\0\x13java/io/PrintStream\x07\0\x14\x01\0\x07println\x01\0\x04(I)V\
+            \x0c\0\x16\0\x17\x0a\0\x15\0\x18\x01\0\x06FreeMe\x07\0\x1a\x01\0\x04free\x01\0\x15(Ljav\
+            a/lang/Object;)V\x0c\0\x1c\0\x1d\x0a\0\x1b\0\x1e\0!\0\x02\0\x04\0\0\0\0\0\x01\0\x09\0\
+            \x05\0\x06\0\x01\0\x07\0\0\0>\0\x04\0\x04\0\0\0\x32\x01N\x05\xbc\x0aYNL+\x03\x10\x07O+\
+            \xb6\0\x0d\xc0\0\x09M+\x03\x10\x09O\xb2\0\x13,\x03.\xb6\0\x19\xb2\0\x13,\xbe-\xb8\0\x1f\
+            \x01N\xb6\0\x19\xb1\0\0\0\0\0\0",
+        ..NOTHING
+    },
+};

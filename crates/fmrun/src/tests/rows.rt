@@ -23,7 +23,7 @@ type Row = (
 
 const RETURNED: &str = "returned";
 
-const OBJECTS: [Row; 10] = [
+const OBJECTS: [Row; 12] = [
     (
         ARRAY_POPPED,
         &[],
@@ -93,6 +93,20 @@ const OBJECTS: [Row; 10] = [
         b"",
         (0, RETURNED, [5, 4, 0, 0, 8, 8, 4]),
         Some((0, RETURNED, [5, 4, 0, 0, 8, 8, 4])),
+    ),
+    (
+        CLASS_LITERALS,
+        &[],
+        b"M\n[I\n1\n",
+        (0, RETURNED, [19, 8, 0, 0, 21, 21, 8]),
+        Some((0, RETURNED, [43, 8, 3, 9, 12, 18, 7])),
+    ),
+    (
+        COPIED_ARRAY,
+        &[],
+        b"7\n2\n",
+        (0, RETURNED, [25, 5, 0, 0, 12, 12, 5]),
+        Some((0, RETURNED, [33, 5, 1, 3, 9, 12, 5])),
     ),
 ];
 

@@ -11,7 +11,7 @@ use std::test::Fail;
 type Row = (TestProgram<'static>, u8, &'static str);
 
 // Objects and arrays.
-const OBJECTS: [Row; 10] = [
+const OBJECTS: [Row; 12] = [
     (ARRAY_POPPED, 0, "M: 1 sites, 1 frees\n"),
     (ARRAY_LENGTH, 0, "M: 1 sites, 1 frees\n"),
     (BYTE_ARRAY, 0, "M: 1 sites, 1 frees\n"),
@@ -30,6 +30,8 @@ const OBJECTS: [Row; 10] = [
     (CHAINS, 0, "M: 1 sites, 1 frees\nNode: 0 sites, 0 frees\n"),
     (BIRTH_HASHES, 0, "M: 2 sites, 2 frees\n"),
     (ESCAPING_STATIC, 0, "M: 0 sites, 0 frees\n"),
+    (CLASS_LITERALS, 0, "M: 3 sites, 3 frees\n"),
+    (COPIED_ARRAY, 0, "M: 1 sites, 1 frees\n"),
 ];
 
 // Calls, texts, handlers, jumps and switches.
