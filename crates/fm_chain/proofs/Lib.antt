@@ -1,2 +1,9 @@
 pub mod SearchLemmas
 pub mod LoopLemmas
+pub mod EntriesLemmas
+pub mod PlanLemmas
+pub mod PlanLaws
+pub mod Replaced
+pub mod LaidChains
+pub mod WithoutChains
+pub mod ChainsExample

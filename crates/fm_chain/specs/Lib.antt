@@ -1,3 +1,10 @@
 pub mod Loops
 pub mod LoopsExample
+pub mod ChainEntries
+pub mod Planned
+pub mod Chained
+pub mod Chaining
+pub mod SafeChains
+pub mod Laws
+pub mod ChainsExample
 pub mod inner
