@@ -1,80 +1,27 @@
 -- The listed pairs of calls are those of the definition, as summaries link ends.
-use Rattle.std.proofs.Common.{◌≡◌, ℕ, ◌+◌, ◌-◌, ◌<◌, Bool, true, List, [], ◌∷◌, ◌++◌, length, Option, Some, None, is_some, Contains, refl, ap, sym, ◌∙◌, subst, inl, inr, ⊎_elim, arith}
+use Rattle.std.proofs.Common.{◌≡◌, ℕ, ◌+◌, ◌-◌, ◌<◌, Bool, true, List, [], ◌∷◌, ◌++◌, length, Option, Some, None, is_some, Contains, refl, ap, sym, ◌∙◌, ◌⊎◌, subst, inl, inr, ⊎_elim, arith}
 use Rattle.std.proofs.lemmas.List.Elements.{Contains-append_left, Contains-append_right, Contains-append_cases}
 use Rattle.std.specs.List.{flat_map, range_with_len}
 use Rattle.fm_base.proofs.ContainsFacts.{Contains-flat_map, Contains-none}
-use Rattle.fm_code.proofs.EdgesLemmas.{Contains-from_map, Contains-map}
 use Rattle.fm_code.specs.declared.instructions.Insn.{Insn}
 use Rattle.fm_code.specs.declared.instructions.Insn.TheVariants as insn
 use Rattle.fm_types.specs.States.{TypeState}
 use Rattle.fm_world.specs.Programs.{targets}
 use Rattle.fm_world.specs.declared.calls.Call.{Call}
 use Rattle.fm_conn.proofs.ListLemmas.{Contains-from_flat_map, Contains-one, Contains-range}
-use Rattle.fm_conn.proofs.ListedEndLemmas.{first_with-one, first_with-there, links-from, links-is, numbered-from, numbered-of}
+use Rattle.fm_conn.proofs.ListedEndLemmas.{linked_ends, linked_first, links-is}
 use Rattle.fm_conn.proofs.PairLemmas.{below_is, IsTabled, PairNumbers, place_complete, place_sound, PlaceFits, slot_is, state_inside}
 use Rattle.fm_conn.proofs.WordLemmas.{HasNumber, Located, located-at, located-some, node_below, reached_at, slot_number-some, words_count}
 use Rattle.fm_conn.specs.Nodes.{Global, IsNode, Node, Slot, TypedMethod}
 use Rattle.fm_conn.specs.Pairs.{call_of, CalledAt, IsEnd, StandsFor}
 use Rattle.fm_conn.specs.Rows.{Given}
-use Rattle.fm_conn.specs.Summaries.{end_number, ends_at, linked_by, links, AreSummariesOf}
+use Rattle.fm_conn.specs.Summaries.{end_number, ends_at, linked_by, AreSummariesOf}
 use Rattle.fm_conn.specs.declared.ends.End2.{End2}
 use Rattle.fm_conn.specs.declared.ends.End2.TheVariants as end
 use Rattle.fm_conn.specs.declared.summaries.Summaries.{Summaries}
-use Rattle.fm_conn.specs.inner.ListedEnds.{first_with, numbered}
+use Rattle.fm_conn.specs.inner.ListedEnds.{link_pairs}
 use Rattle.fm_conn.specs.inner.NodeTables.{global_number, number_of, slot_number, table_of}
-use Rattle.fm_conn.specs.inner.PairLists.{at_place, call_pairs, call_pairs_at, call_pairs_in, end_entry, ItemPlace, link_pairs, located, pairs_of_targets, place_at, place_number, stand_ins}
-
--- ---- pairs of linked ends
-
-record LinkedPair (entries ends : List (End2 × ℕ)) (m n : ℕ) : Type 0 where
-  one : End2 × ℕ
-  other : End2 × ℕ
-  first : Contains ends one
-  second : Contains ends other
-  number : ℕ
-  one_is : end_number entries one.0 ≡ Some number
-  other_is : end_number entries other.0 ≡ Some number
-  first_is : m ≡ one.1
-  second_is : n ≡ other.1
-
-link_sound : (ends entries : List (End2 × ℕ)) (m n : ℕ) → Contains (link_pairs ends entries) (m, n) → LinkedPair entries ends m n
-link_sound ends entries m n found =
-    let all = numbered entries ends in
-    let piece = Contains-from_map (λ (x : ℕ × ℕ). (x.1, first_with all x.0 x.1)) all (m, n) found in
-    let x = piece.0 in
-    let one = numbered-of entries ends x.0 x.1 piece.1 in
-    let other = numbered-of entries ends x.0 (first_with all x.0 x.1) (first_with-there all x.0 x.1 x.1 piece.1) in
-    record {
-      one = (one.end, x.1);
-      other = (other.end, first_with all x.0 x.1);
-      first = one.listed;
-      second = other.listed;
-      number = x.0;
-      one_is = one.number;
-      other_is = other.number;
-      first_is = ap (λ (v : ℕ × ℕ). v.0) (sym piece.2);
-      second_is = ap (λ (v : ℕ × ℕ). v.1) (sym piece.2);
-    }
-
-record LinkedFirst (entries ends : List (End2 × ℕ)) (m n : ℕ) : Type 0 where
-  first : ℕ
-  one : Contains (link_pairs ends entries) (m, first)
-  other : Contains (link_pairs ends entries) (n, first)
-
-link_complete : (ends entries : List (End2 × ℕ)) (e f : End2) (m n : ℕ) → Contains ends (e, m) → Contains ends (f, n) → links entries e f ≡ true →
-    LinkedFirst entries ends m n
-link_complete ends entries e f m n one other linked =
-    let all = numbered entries ends in
-    let number = links-is entries e f linked in
-    let k = number.0 in
-    let first = numbered-from entries ends e k m one number.1 in
-    let second = numbered-from entries ends f k n other number.2 in
-    let pair : (ℕ × ℕ) → ℕ × ℕ = λ x. (x.1, first_with all x.0 x.1) in
-    record {
-      first = first_with all k m;
-      one = Contains-map pair all (k, m) first;
-      other = subst (λ v. Contains (link_pairs ends entries) (n, v)) (first_with-one all k n n m second) (Contains-map pair all (k, n) second);
-    }
+use Rattle.fm_conn.specs.inner.PairLists.{at_place, call_pairs, call_pairs_at, call_pairs_in, end_entry, ItemPlace, located, pairs_of_targets, place_at, place_number, stand_ins}
 
 -- ---- the nodes of ends at a call
 
@@ -183,9 +130,10 @@ called_sound x reached summaries j i s (Some called) m n tabled are at is found 
     let fits = call_fits x.code.max_locals x i called is in
     let piece = Contains-from_flat_map (λ target. link_pairs ends (ends_at summaries target)) (targets x.program called) (m, n) found in
     let target = piece.0 in
-    let linked = link_sound ends (ends_at summaries target) m n piece.2 in
-    let first = stand_sound x reached j i s linked.one.0 linked.one.1 tabled at fits linked.first in
-    let second = stand_sound x reached j i s linked.other.0 linked.other.1 tabled at fits linked.second in
+    let linked = linked_ends (ends_at summaries target) ends m n piece.2 in
+    let number = links-is (ends_at summaries target) linked.one linked.other linked.linked in
+    let first = stand_sound x reached j i s linked.one m tabled at fits linked.first in
+    let second = stand_sound x reached j i s linked.other n tabled at fits linked.second in
     record {
       item = j;
       one = first.node;
@@ -201,17 +149,17 @@ called_sound x reached summaries j i s (Some called) m n tabled are at is found 
           is = is;
           target = target;
           among = piece.1;
-          one = linked.one.0;
-          other = linked.other.0;
-          first_end = end_there x summaries target linked.one.0 linked.number are linked.one_is;
-          second_end = end_there x summaries target linked.other.0 linked.number are linked.other_is;
-          links = links-from (ends_at summaries target) linked.one.0 linked.other.0 linked.number linked.one_is linked.other_is;
+          one = linked.one;
+          other = linked.other;
+          first_end = end_there x summaries target linked.one number.0 are number.1;
+          second_end = end_there x summaries target linked.other number.0 are number.2;
+          links = linked.linked;
           first = first.stands;
           second = second.stands;
         })));
       };
-      first = subst (HasNumber x first.node) (sym linked.first_is) first.number;
-      second = subst (HasNumber x second.node) (sym linked.second_is) second.number;
+      first = first.number;
+      second = second.number;
     }
 
 at_call_sound : (x : TypedMethod) (reached : List Bool) (summaries : Summaries) (j m n : ℕ) (o : Option ItemPlace) → IsTabled x reached →
@@ -228,11 +176,13 @@ calls_sound x reached summaries m n tabled are found =
     let piece = Contains-from_flat_map (call_pairs_at x summaries) (range_with_len 0 (length x.code.items)) (m, n) found in
     at_call_sound x reached summaries piece.0 m n (located x piece.0) tabled are refl piece.2
 
--- the pair of each stand-in with the first one that is linked with it
+-- each stand-in is the first one that is linked with it, or paired with that
 pub record CalledFirst (x : TypedMethod) (summaries : Summaries) (a b : Node) : Type 0 where
   pub first : ℕ
-  pub one : Contains (flat_map (call_pairs_at x summaries) (range_with_len 0 (length x.code.items))) (number_of (table_of x) a, first)
-  pub other : Contains (flat_map (call_pairs_at x summaries) (range_with_len 0 (length x.code.items))) (number_of (table_of x) b, first)
+  pub one : (number_of (table_of x) a ≡ first)
+      ⊎ Contains (flat_map (call_pairs_at x summaries) (range_with_len 0 (length x.code.items))) (number_of (table_of x) a, first)
+  pub other : (number_of (table_of x) b ≡ first)
+      ⊎ Contains (flat_map (call_pairs_at x summaries) (range_with_len 0 (length x.code.items))) (number_of (table_of x) b, first)
 
 at_call : (x : TypedMethod) (reached : List Bool) (summaries : Summaries) (j : ℕ) (i : Insn) (s : TypeState) (called : Call) (target : ℕ) (p : ℕ × ℕ) →
     IsTabled x reached → Located x j i s → call_of x i ≡ Some called → Contains (targets x.program called) target →
@@ -256,9 +206,10 @@ called_listed x reached summaries j i s a b tabled at is_a is_b c =
     let fits = call_fits x.code.max_locals x i c.called c.is in
     let first = stand_complete x j i s c.one a at fits c.first is_a in
     let second = stand_complete x j i s c.other b at fits c.second is_b in
-    let linked = link_complete ends (ends_at summaries c.target) c.one c.other (number_of t a) (number_of t b) first second c.links in
+    let linked = linked_first (ends_at summaries c.target) ends c.one c.other (number_of t a) (number_of t b) first second c.links in
+    let listed = λ (p : ℕ × ℕ). at_call x reached summaries j i s c.called c.target p tabled at c.is c.among in
     record {
       first = linked.first;
-      one = at_call x reached summaries j i s c.called c.target (number_of t a, linked.first) tabled at c.is c.among linked.one;
-      other = at_call x reached summaries j i s c.called c.target (number_of t b, linked.first) tabled at c.is c.among linked.other;
+      one = ⊎_elim (λ same. inl same) (λ paired. inr (listed (number_of t a, linked.first) paired)) linked.one;
+      other = ⊎_elim (λ same. inl same) (λ paired. inr (listed (number_of t b, linked.first) paired)) linked.other;
     }

@@ -85,8 +85,9 @@ all_lists x reached summaries tabled are = record { sound = sound; complete = co
       AreJoined (all_pairs x reached summaries) (number_of (table_of x) a) (number_of (table_of x) b)
   own a b there = numbers_one (all_pairs x reached summaries) _ _ (inl (Contains-append_left (own_pairs x reached) calls _ there))
 
-  call : (m n : ℕ) → Contains calls (m, n) → AreJoined (all_pairs x reached summaries) m n
-  call m n there = numbers_one (all_pairs x reached summaries) m n (inl (Contains-append_right (own_pairs x reached) calls (m, n) there))
+  call : (m n : ℕ) → (m ≡ n) ⊎ Contains calls (m, n) → AreJoined (all_pairs x reached summaries) m n
+  call m n (inl same) = ([], same)
+  call m n (inr there) = numbers_one (all_pairs x reached summaries) m n (inl (Contains-append_right (own_pairs x reached) calls (m, n) there))
 
   by_case : (j : ℕ) (i : Insn) (s : TypeState) (a b : Node) (pair : PairAt (linked_by summaries) x j a b) → Located x j i s →
       StaysAt x j i a b ⊎ JoinedAt x j i a b ⊎ CalledAt (linked_by summaries) x j i a b ⊎ CaughtAt x j a b →

@@ -26,7 +26,7 @@ pub use class_numbers::Classes;
 pub use ends::End2;
 pub use joined_nodes::classes;
 pub use laws::{law_facts, law_joined_example, law_types};
-pub use listed_ends::{first_with, numbered};
+pub use listed_ends::push_links;
 pub use nodes::is_reference;
 pub use own_classes::shape;
 pub use rows::{is_reference_kind, words_taken};

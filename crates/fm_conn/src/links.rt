@@ -4,13 +4,14 @@ ghost use Rattle.std.specs.Prelude.{◌≡◌, ◌++◌, ◌<◌, ◌≤◌, IfO
 ghost use Rattle.std.specs.List.{flat_map, range_with_len};
 ghost use Rattle.fm_base.specs.declared.ids.MethodId.{MethodId};
 ghost use Rattle.fm_conn.specs.Summaries.{ends_at};
+ghost use Rattle.fm_conn.specs.inner.ListedEnds.{link_pairs};
 ghost use Rattle.fm_conn.specs.inner.NodeTables.{table_of};
-ghost use Rattle.fm_conn.specs.inner.PairLists.{call_pairs, call_pairs_at, end_entry, link_pairs, method_in, pairs_of_call, pairs_of_targets, place_of, stand_ins, IsAsked, IsCallIn};
+ghost use Rattle.fm_conn.specs.inner.PairLists.{call_pairs, call_pairs_at, end_entry, method_in, pairs_of_call, pairs_of_targets, place_of, stand_ins, IsAsked, IsCallIn};
 
 use crate::analysed_method::AnalysedMethod;
 use crate::ends::End2;
 use crate::item_nodes::ItemNodes;
-use crate::listed_ends::{first_with, numbered};
+use crate::listed_ends::push_links;
 use crate::nodes::Nodes;
 use crate::pairs::item_at;
 use crate::summaries::Summaries;
@@ -55,25 +56,7 @@ fn push_end(ends: &mut Vec<(End2, u32)>, end: End2, number: Option<u32>) -> Resu
     Ok(())
 }
 
-// Pairs each of them that the method lists with the first one that it links with it.
-fn push_links(
-    alloc: Global,
-    pairs: &mut Vec<(u32, u32)>,
-    ends: &[(End2, u32)],
-    entries: &[(End2, u32)],
-) -> Result<(), NoMemory>
-    ensures { OnOk result
-        (pairs.new.items ≡ pairs.old.items ++ link_pairs ends.now entries.now) }
-{
-    let numbers = numbered(alloc, entries, ends)?;
-    let found = numbers.as_slice();
-    for entry in found {
-        pairs.push((entry.1, first_with(found, entry.0, entry.1)))?;
-    }
-    Ok(())
-}
-
-// The same for one of the methods that are called; of one that isn't there none.
+// The pairs of one of the methods that are called; of one that isn't there none.
 fn push_target(
     alloc: Global,
     pairs: &mut Vec<(u32, u32)>,

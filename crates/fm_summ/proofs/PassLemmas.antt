@@ -1,5 +1,5 @@
 -- The pairs that calls make: what each joins, and that all linked ends become one.
-use Rattle.std.proofs.Common.{◌≡◌, ℕ, ◌⊎◌, ◌+◌, ◌<◌, Bool, true, false, cond, eqb, List, [], ◌∷◌, ◌++◌, length, drop, get_or, append_assoc, Contains, refl, ap, sym, ◌∙◌, subst, inl, inr, ⊎_elim, arith, eqb-true}
+use Rattle.std.proofs.Common.{◌≡◌, ℕ, ◌⊎◌, ◌+◌, ◌<◌, true, List, [], ◌∷◌, ◌++◌, length, drop, get_or, append_assoc, Contains, refl, ap, sym, ◌∙◌, subst, ⊎_elim, arith}
 use Rattle.std.proofs.lemmas.List.Elements.{Contains-append_left, Contains-append_right, Contains-append_cases}
 use Rattle.std.proofs.lemmas.List.{drop_more}
 use Rattle.std.specs.Global.{Vec}
@@ -11,73 +11,20 @@ use Rattle.fm_conn.specs.Summaries.{links}
 use Rattle.fm_conn.specs.declared.ends.End2.{End2}
 use Rattle.fm_conn.specs.declared.shapes.CallShape.{CallShape}
 use Rattle.fm_conn.specs.declared.shapes.Shape.{Shape}
-use Rattle.fm_conn.proofs.ListedEndLemmas.{first_with-one, first_with-there, links-from, links-is, numbered-from, numbered-of}
-use Rattle.fm_conn.proofs.ListLemmas.{Contains-first, Contains-from_flat_map, Contains-one}
+use Rattle.fm_conn.proofs.ListedEndLemmas.{linked_ends, linked_first, LinkedEnds}
+use Rattle.fm_conn.proofs.ListLemmas.{Contains-first, Contains-from_flat_map}
 use Rattle.fm_summ.specs.inner.Callers.{call_targets, numbers_of, targets_at}
-use Rattle.fm_conn.specs.inner.ListedEnds.{first_with, numbered}
-use Rattle.fm_summ.specs.inner.Passed.{call_pairs, ends_at, method_pairs, pair_unless_same, stand_pairs, target_pairs}
-
--- ---- pairs
-
-abbrev pairs_by : Bool → ℕ → ℕ → List (ℕ × ℕ)
-pairs_by b x first = cond b [] ((x, first) ∷ [])
-
-pair_has : (x first m n : ℕ) → Contains (pair_unless_same x first) (m, n) → (m ≡ x) × (n ≡ first)
-pair_has x first m n found =
-    (elim (eqb x first) as (λ b. Contains (pairs_by b x first) (m, n) → (m ≡ x) × (n ≡ first)) [
-      | true ↦ (λ none. absurd (Contains-none (m, n) none))
-      | false ↦ (λ one.
-          let same : (m, n) ≡ (x, first) = Contains-one (x, first) (m, n) one in
-          (ap (λ (v : ℕ × ℕ). v.0) same, ap (λ (v : ℕ × ℕ). v.1) same))
-    ]) found
-
-pair_or_same : (x first : ℕ) → (x ≡ first) ⊎ Contains (pair_unless_same x first) (x, first)
-pair_or_same x first =
-    (elim (eqb x first) as (λ b. eqb x first ≡ b → (x ≡ first) ⊎ Contains (pairs_by b x first) (x, first)) [
-      | true ↦ (λ is. inl (eqb-true x first is))
-      | false ↦ (λ is. inr (Contains-first (x, first) []))
-    ]) refl
-
--- two ends that the callee links, with their nodes
-pub record LinkedEnds (entries ends : List (End2 × ℕ)) (m n : ℕ) : Type 0 where
-  pub one : End2
-  pub other : End2
-  pub first : Contains ends (one, m)
-  pub second : Contains ends (other, n)
-  pub linked : links entries one other ≡ true
-
-linked_ends : (entries ends : List (End2 × ℕ)) (m n : ℕ) → Contains (stand_pairs (numbered entries ends) (numbered entries ends)) (m, n) →
-    LinkedEnds entries ends m n
-linked_ends entries ends m n found =
-    let all = numbered entries ends in
-    let piece = Contains-from_flat_map (λ (x : ℕ × ℕ). pair_unless_same x.1 (first_with all x.0 x.1)) all (m, n) found in
-    let x = piece.0 in
-    let is = pair_has x.1 (first_with all x.0 x.1) m n piece.2 in
-    let one = numbered-of entries ends x.0 x.1 piece.1 in
-    let other = numbered-of entries ends x.0 (first_with all x.0 x.1) (first_with-there all x.0 x.1 x.1 piece.1) in
-    record {
-      one = one.end;
-      other = other.end;
-      first = subst (λ k. Contains ends (one.end, k)) (sym is.0) one.listed;
-      second = subst (λ k. Contains ends (other.end, k)) (sym is.1) other.listed;
-      linked = links-from entries one.end other.end x.0 one.number other.number;
-    }
+use Rattle.fm_conn.specs.inner.ListedEnds.{link_pairs}
+use Rattle.fm_summ.specs.inner.Passed.{call_pairs, ends_at, method_pairs, target_pairs}
 
 -- numbers of linked ends become one
-ends_become_one : (f : ℕ → ℕ) (entries ends : List (End2 × ℕ)) →
-    ((m n : ℕ) → Contains (stand_pairs (numbered entries ends) (numbered entries ends)) (m, n) → f m ≡ f n) →
+ends_become_one : (f : ℕ → ℕ) (entries ends : List (End2 × ℕ)) → ((m n : ℕ) → Contains (link_pairs ends entries) (m, n) → f m ≡ f n) →
     (e g : End2) (m n : ℕ) → Contains ends (e, m) → Contains ends (g, n) → links entries e g ≡ true → f m ≡ f n
 ends_become_one f entries ends same e g m n first second linked =
-    let all = numbered entries ends in
-    let number = links-is entries e g linked in
-    let one : Contains all (number.0, m) = numbered-from entries ends e number.0 m first number.1 in
-    let other : Contains all (number.0, n) = numbered-from entries ends g number.0 n second number.2 in
-    let to_first : (x : ℕ) → Contains all (number.0, x) → f x ≡ f (first_with all number.0 x) = λ x there.
-    ⊎_elim (λ (is : x ≡ first_with all number.0 x). ap f is)
-    (λ pair. same x (first_with all number.0 x)
-    (Contains-flat_map (λ (y : ℕ × ℕ). pair_unless_same y.1 (first_with all y.0 y.1)) all (number.0, x) (x, first_with all number.0 x) there pair))
-    (pair_or_same x (first_with all number.0 x)) in
-    to_first m one ∙ ap f (first_with-one all number.0 m m n one) ∙ sym (to_first n other)
+    let all = linked_first entries ends e g m n first second linked in
+    let to_first : (x : ℕ) → (x ≡ all.first) ⊎ Contains (link_pairs ends entries) (x, all.first) → f x ≡ f all.first =
+    λ x. ⊎_elim (λ is. ap f is) (λ pair. same x all.first pair) in
+    to_first m all.one ∙ sym (to_first n all.other)
 
 -- ---- of all calls of a method
 

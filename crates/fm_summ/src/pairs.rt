@@ -5,25 +5,11 @@ ghost use Rattle.std.specs.List.{flat_map, slice_index_or};
 ghost use Rattle.fm_base.specs.declared.ids.MethodId.{MethodId};
 ghost use Rattle.fm_summ.specs.Exact.{shape_at};
 ghost use Rattle.fm_summ.specs.inner.Callers.{numbers_of, targets_at};
-ghost use Rattle.fm_summ.specs.inner.Passed.{call_pairs, ends_at, method_pairs, stand_pairs, target_pairs};
+ghost use Rattle.fm_summ.specs.inner.Passed.{call_pairs, ends_at, method_pairs, target_pairs};
 
 use fm_base::{MethodId, NoMemory};
-use fm_conn::{CallShape, End2, Shape, first_with, numbered};
+use fm_conn::{CallShape, End2, Shape, push_links};
 use std::alloc::Global;
-
-// Pairs the node of each end with the node of the first one of its number, where they differ.
-fn push_first_pairs(pairs: &mut Vec<(u32, u32)>, found: &[(u32, u32)]) -> Result<(), NoMemory>
-    ensures { OnOk result
-        (pairs.new.items ≡ pairs.old.items ++ stand_pairs found.now found.now) }
-{
-    for entry in found {
-        let first = first_with(found, entry.0, entry.1);
-        if entry.1 != first {
-            pairs.push((entry.1, first))?;
-        }
-    }
-    Ok(())
-}
 
 // The ends of a method; of one that isn't there none.
 fn ends_of(shapes: &[Shape], method: MethodId) -> &[(End2, u32)]
@@ -46,8 +32,7 @@ fn push_target(
     ensures { OnOk result (pairs.new.items
         ≡ pairs.old.items ++ target_pairs shapes.now ends.now target.0) }
 {
-    let found = numbered(alloc, ends_of(shapes, target), ends)?;
-    push_first_pairs(pairs, found.as_slice())
+    push_links(alloc, pairs, ends, ends_of(shapes, target))
 }
 
 // The pairs of a call by each of them.

@@ -28,7 +28,7 @@ use Rattle.fm_conn.specs.declared.item_nodes.ItemNodes.{ItemNodes}
 use Rattle.fm_conn.specs.declared.analysed_method.AnalysedMethod.{AnalysedMethod}
 use Rattle.fm_conn.specs.declared.shapes.CallShape.{CallShape}
 use Rattle.fm_conn.specs.declared.summaries.Summaries.{Summaries}
-use Rattle.fm_conn.specs.inner.ListedEnds.{first_with, numbered}
+use Rattle.fm_conn.specs.inner.ListedEnds.{link_pairs}
 use Rattle.fm_conn.specs.inner.NodeTables.{class_at, global_number, local_number, NodeTable, return_number, slot_number, table_of}
 
 -- the method that is asked, as definitions see it
@@ -150,14 +150,7 @@ stand_ins t x =
     ++ end_entry end.Return (place_number t x (Given 0))
     ++ (end.Global, global_number t) ∷ []
 
--- each with the first one that has its number, and so is linked with it
-abbrev pub first_pairs : List (ℕ × ℕ) → List (ℕ × ℕ) → List (ℕ × ℕ)
-first_pairs all found = map (λ x. (x.1, first_with all x.0 x.1)) found
-
--- the stand-ins of ends that are linked are paired
-abbrev pub link_pairs : List (End2 × ℕ) → List (End2 × ℕ) → List (ℕ × ℕ)
-link_pairs ends entries = let found = numbered entries ends in first_pairs found found
-
+-- the stand-ins of ends that targets link are paired
 unfoldable pub pairs_of_targets : Summaries → List (End2 × ℕ) → List ℕ → List (ℕ × ℕ)
 pairs_of_targets s ends called = flat_map (λ target. link_pairs ends (ends_at s target)) called
 

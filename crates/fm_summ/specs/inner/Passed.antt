@@ -1,7 +1,7 @@
 -- What is passed on from the methods that are called to those that call them.
 use Rattle.std.specs.Prelude.{◌≡◌, ◌==◌, ◌<◌, not, ℕ, Bool, true, false, List, [], ◌∷◌, ◌++◌, map, sum_by, slice_set, if◌then◌else◌}
 use Rattle.std.specs.List.{flat_map, list_any}
-use Rattle.fm_conn.specs.inner.ListedEnds.{first_with, numbered}
+use Rattle.fm_conn.specs.inner.ListedEnds.{link_pairs}
 use Rattle.fm_conn.specs.declared.ends.End2.{End2}
 use Rattle.fm_conn.specs.declared.shapes.CallShape.{CallShape}
 use Rattle.fm_conn.specs.declared.shapes.Shape.{Shape}
@@ -14,18 +14,9 @@ use Rattle.fm_summ.specs.inner.Numbers.{Merges}
 abbrev pub ends_at : List Shape → ℕ → List (End2 × ℕ)
 ends_at shapes method = (shape_at shapes method).ends
 
--- an entry with the first one of its class, unless it is that one
-abbrev pub pair_unless_same : ℕ → ℕ → List (ℕ × ℕ)
-pair_unless_same x first = if x == first then [] else (x, first) ∷ []
-
--- each entry with the first one of its class
-abbrev pub stand_pairs : List (ℕ × ℕ) → List (ℕ × ℕ) → List (ℕ × ℕ)
-stand_pairs all found = flat_map (λ x. pair_unless_same x.1 (first_with all x.0 x.1)) found
-
 -- what a target pairs at a call
 abbrev pub target_pairs : List Shape → List (End2 × ℕ) → ℕ → List (ℕ × ℕ)
-target_pairs shapes ends target =
-    let found = numbered (ends_at shapes target) ends in stand_pairs found found
+target_pairs shapes ends target = link_pairs ends (ends_at shapes target)
 
 -- what all targets of a call pair
 abbrev pub call_pairs : List Shape → List ℕ → CallShape → List (ℕ × ℕ)

@@ -2,7 +2,7 @@ use Rattle.std.proofs.Common.{◌≡◌, ◌++◌, map, take}
 use Rattle.std.specs.List.{flat_map}
 use Rattle.fm_base.specs.declared.ids.MethodId.{MethodId}
 use Rattle.fm_conn.specs.Summaries.{ends_at}
-use Rattle.fm_conn.specs.inner.PairLists.{link_pairs}
+use Rattle.fm_conn.specs.inner.ListedEnds.{link_pairs}
 use Rattle.fm_conn.proofs.links.push_targets.Given as goal
 
 abbrev pub invariant-loop-target : goal.invariant-loop-target
