@@ -21,16 +21,16 @@ use Rattle.fm_link_refusals.proofs.LeftOverCounts.{sections_of}
 
 -- ---- loops
 
--- the counts of one class more are 0
-pub zero_more : (row xs : List ℕ) (i class : ℕ) → i < length xs → ((k : ℕ) → is_among k (take i xs) ≡ true → get_or row k 0 ≡ 0)
-    → get_or row (get_or xs i 0) 0 ≡ 0 → is_among class (take (i + 1) xs) ≡ true → get_or row class 0 ≡ 0
-zero_more row xs i class within before here among =
+-- it holds of one class more
+pub holds_more : (P : ℕ → Type 0) (xs : List ℕ) (i class : ℕ) → i < length xs → ((k : ℕ) → is_among k (take i xs) ≡ true → P k) → P (get_or xs i 0)
+    → is_among class (take (i + 1) xs) ≡ true → P class
+holds_more P xs i class within before here among =
     by_part (among_either class (take i xs) (get_or xs i 0 ∷ []) (ap (is_among class) (sym (take_more xs i 0 within)) ∙ among)) where
-      last : (b : Bool) → nat_eq class (get_or xs i 0) ≡ b → (b || false) ≡ true → get_or row class 0 ≡ 0
-      last true e h = ap (λ k. get_or row k 0) (eqb-true class (get_or xs i 0) e) ∙ here
+      last : (b : Bool) → nat_eq class (get_or xs i 0) ≡ b → (b || false) ≡ true → P class
+      last true e h = subst P (sym (eqb-true class (get_or xs i 0) e)) here
       last false e h = absurd (false≢true h)
 
-      by_part : (is_among class (take i xs) ≡ true) ⊎ (is_among class (get_or xs i 0 ∷ []) ≡ true) → get_or row class 0 ≡ 0
+      by_part : (is_among class (take i xs) ≡ true) ⊎ (is_among class (get_or xs i 0 ∷ []) ≡ true) → P class
       by_part (inl h) = before class h
       by_part (inr h) = last (nat_eq class (get_or xs i 0)) refl h
 

@@ -6,7 +6,7 @@
 // one above it, its methods are asked for one by one.
 // Only classes with objects, or with such classes below, have counts: no others are asked for theirs.
 
-ghost use Rattle.std.specs.Prelude.{◌≡◌, ◌<◌, ◌≤◌, ◌+◌, ℕ, Bool, IfOk, List, OnOk, Some, length, not, slice_index, slice_set, true, if◌then◌else◌};
+ghost use Rattle.std.specs.Prelude.{◌≡◌, ◌↔◌, ◌<◌, ◌≤◌, ◌+◌, ℕ, Bool, IfOk, IsTrue, List, OnOk, Some, length, not, slice_get, slice_index, slice_set, true, if◌then◌else◌};
 ghost use Rattle.std.specs.List.{slice_index_or};
 ghost use Rattle.fm_link_members.specs.inner.MemberRows.{no_row};
 ghost use Rattle.fm_link_supers.specs.inner.ListTables.{lists};
@@ -363,10 +363,10 @@ fn changed(count: u32, adds: bool) -> Result<u32, NoMemory>
     }
 }
 
-// Whether the counts of all these classes are 0.
+// Whether the counts of all these classes are there, and 0.
 fn are_zero(row: &[u32], classes: &[u32]) -> bool
-    ensures { result ≡ true → (class : ℕ) → is_among class classes.now ≡ true
-        → slice_index row.now class ≡ 0 }
+    ensures { IsTrue result ↔ ((class : ℕ) → is_among class classes.now ≡ true
+        → slice_get row.now class ≡ Some 0) }
 {
     for class in classes {
         if !is_zero(row, *class) {
@@ -376,9 +376,9 @@ fn are_zero(row: &[u32], classes: &[u32]) -> bool
     true
 }
 
-// Whether a count is 0.
+// Whether the count of a class is there, and 0.
 fn is_zero(row: &[u32], class: u32) -> bool
-    ensures { result ≡ true → slice_index row.now class ≡ 0 }
+    ensures { IsTrue result ↔ (slice_get row.now class ≡ Some 0) }
 {
     match row.get(class as usize) {
         Some(count) => *count == 0,

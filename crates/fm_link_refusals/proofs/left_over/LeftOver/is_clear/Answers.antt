@@ -1,4 +1,5 @@
 use Rattle.std.proofs.Common.{◌≡◌, ◌∙◌, sym, ap, subst, length, refl, rules, Some}
+use Rattle.std.proofs.lemmas.Option.{get_or_from_slice_get}
 use Rattle.fm_link_names.specs.inner.Numbering.{texts_in}
 use Rattle.fm_link_supers.proofs.ParentTables.{list_in-row}
 use Rattle.fm_link_supers.specs.inner.ListTables.{list_in}
@@ -21,5 +22,5 @@ returns c = λ classes linked within are clear.
     none_of_both (texts_in c.args.linking.texts.now) classes m q row (chain_of classes c.args.class) (interfaces_of classes c.args.class) linked.methods
     (long ∙ ap length linked.hierarchy.classes_are)
     (subst (HasCounts m (length classes) q) (sym row_is) (are c.args.class within))
-    (λ k among. c.if-not-are_zero.ensures refl k (ap (is_among k) chain ∙ among))
-    (λ k among. c.are_zero-2.ensures clear k (ap (is_among k) listed ∙ among))
+    (λ k among. get_or_from_slice_get row k 0 0 (c.if-not-are_zero.ensures.0 refl k (ap (is_among k) chain ∙ among)))
+    (λ k among. get_or_from_slice_get row k 0 0 (c.are_zero-2.ensures.0 clear k (ap (is_among k) listed ∙ among)))
