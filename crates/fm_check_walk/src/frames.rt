@@ -1,7 +1,7 @@
 // Which places of a state the row of an instruction leaves alone: it neither looks at what is there
 // nor changes it.
 
-ghost use Rattle.std.specs.Prelude.{◌≡◌, All, IfOk, IsTrue};
+ghost use Rattle.std.specs.Prelude.{◌≡◌, ◌↔◌, All, IfOk, IsTrue};
 ghost use Rattle.fm_check_walk.specs.inner.Risen.{IsLeftAlone, are_apart, called_words, is_bare, leaves_alone, leaves_local, leaves_word, words_taken};
 ghost use Rattle.fm_check_walk.specs.inner.Tasks.{IsSound, task};
 ghost use Rattle.fm_check_rows.specs.Members.{NamesMember};
@@ -106,7 +106,7 @@ fn leaves_alone(insn: &Insn, below: usize, rise: Rise) -> bool
 
 /// Whether the row leaves each of these places alone, where it takes no word below `below`.
 pub fn all_left_alone(insn: &Insn, below: usize, rises: &[Rise]) -> bool
-    ensures { IsTrue result → All (IsLeftAlone insn.now below) rises.now }
+    ensures { IsTrue result ↔ All (IsLeftAlone insn.now below) rises.now }
 {
     for rise in rises {
         if !leaves_alone(insn, below, *rise) {

@@ -35,7 +35,7 @@ carry_on-requires-clause-ready c =
     let enough : c.saturating_sub-below.result ≡ words_below t insn own = omega (arith, long, left, count) in
     let alone = asked-alone insn c.saturating_sub-below.result (words_below t insn own) own locals c.as_slice-in-Some-risen.result.now c.in_ok-rises.rises.items
     c.as_slice-in-Some-risen-2.result.now c.as_slice-in-Some-risen-2.ensures.value c.in_ok-rises.ensures c.as_slice-in-Some-risen.ensures enough
-    (c.all_left_alone.ensures c.if-all_left_alone.true) in
+    (c.all_left_alone.ensures.0 c.if-all_left_alone.true) in
     let found = c.in_ok-rises.ensures ∙ ap (λ (xs : List SlotPlace). map (rise_of own) xs) c.as_slice-in-Some-risen.ensures in
     subst (λ (rises : List Rise). IsReady t w c.args.item insn rises) (sym (c.as_slice-then-all_left_alone.ensures.value ∙ found))
     (ready t c.args.item insn own locals w c.requires.sound c.requires.stands at
@@ -58,7 +58,7 @@ returns-then-all_left_alone c =
     let enough : c.saturating_sub-below.result ≡ words_below t i own = omega (arith, long, left, count) in
     let alone = asked-alone i c.saturating_sub-below.result (words_below t i own) own known c.as_slice-in-Some-risen.result.now c.in_ok-rises.rises.items
     c.as_slice-in-Some-risen-2.result.now c.as_slice-in-Some-risen-2.ensures.value c.in_ok-rises.ensures c.as_slice-in-Some-risen.ensures enough
-    (c.all_left_alone.ensures c.if-all_left_alone.true) in
+    (c.all_left_alone.ensures.0 c.if-all_left_alone.true) in
     let carried = c.in_ok-rises.ensures ∙ ap (λ (xs : List SlotPlace). map (rise_of own) xs) c.as_slice-in-Some-risen.ensures in
     let levels = c.carry_on.new.levels.items in
     let On : List Rise → Type 0 = λ rises. CarriesOnGuarded t c.args.item i rises levels old new in
