@@ -1,4 +1,5 @@
 pub mod FirstOnes
+pub mod AskedLemmas
 pub mod FoundLemmas
 pub mod StartLemmas
 pub mod LayerSteps

@@ -6,4 +6,5 @@ pub mod FoundMembers
 pub mod MemberSteps
 pub mod Overriding
 pub mod Owners
+pub mod Asked
 pub mod SearchStarts
