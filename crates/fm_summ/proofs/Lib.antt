@@ -4,6 +4,7 @@ pub mod JoinLemmas
 pub mod KeptLemmas
 pub mod RoundLemmas
 pub mod NumberLemmas
+pub mod OrderLemmas
 pub mod BareLemmas
 pub mod CallerLemmas
 pub mod StartLemmas
