@@ -10,11 +10,13 @@ use Rattle.fm_cells.specs.Answers.{head_of}
 use Rattle.fm_cells.specs.Objects.{Object}
 use Rattle.fm_cells.specs.Stores.{object_at}
 use Rattle.fm_cells.specs.declared.answers.Head.{Head}
+use Rattle.fm_code.specs.declared.operations.Elem.{Elem}
 use Rattle.fm_code.specs.declared.operations.Elem.TheVariants as elem
-use Rattle.fm_fast.specs.Packed.{ArePacked, IsPacked}
+use Rattle.fm_fast.specs.Packed.{ArePacked, IsPacked, elem_pack}
 use Rattle.fm_frames.specs.ArrayRows.{element_kind}
 use Rattle.fm_frames.specs.Elements.{is_text_type, pack_of, pack_of_base}
 use Rattle.fm_frames.specs.States.{State}
+use Rattle.fm_law_sound.proofs.NestedArrays.{array_is_no_text}
 use Rattle.fm_types.specs.ArrayRows.{has_letter, is_array_of}
 use Rattle.fm_types.specs.Fits.{depth_of, depth_with}
 use Rattle.fm_world.specs.Descriptors.{kind_with}
@@ -59,6 +61,52 @@ packed-ints o t is = ints-told (t.dims == 1) (is_text_type o t) t.base is
 
 pub packed-bytes : (o : Outline) (t : TypeRef) → pack_of o t ≡ 8 → is_array_of elem.Byte t ≡ true
 packed-bytes o t is = bytes-told (t.dims == 1) (is_text_type o t) t.base is
+
+-- a word holds as many elements of an array as the letter says by which they are loaded and stored
+letter-pack : (e : Elem) (b : Base) → has_letter e b ≡ true → pack_of_base b ≡ elem_pack e
+letter-pack elem.Boolean base.Boolean is = refl
+letter-pack elem.Boolean b is = absurd (false≢true is)
+letter-pack elem.Byte base.Byte is = refl
+letter-pack elem.Byte base.Boolean is = refl
+letter-pack elem.Byte b is = absurd (false≢true is)
+letter-pack elem.Char base.Char is = refl
+letter-pack elem.Char b is = absurd (false≢true is)
+letter-pack elem.Short base.Short is = refl
+letter-pack elem.Short b is = absurd (false≢true is)
+letter-pack elem.Int base.Int is = refl
+letter-pack elem.Int b is = absurd (false≢true is)
+letter-pack elem.Long base.Long is = refl
+letter-pack elem.Long b is = absurd (false≢true is)
+letter-pack elem.Ref b is = absurd (false≢true is)
+
+number-pack : (o : Outline) (t : TypeRef) (e : Elem) → ((t.dims == 1) && has_letter e t.base) ≡ true → pack_of o t ≡ elem_pack e
+number-pack o t e is =
+    let parts = and_parts (t.dims == 1) (has_letter e t.base) is in
+    ap (λ one. packing one (is_text_type o t) t.base) parts.0 ∙ letter-pack e t.base parts.1
+
+deep-some : (dims : ℕ) (b : Base) → 0 < depth_with dims b → 0 < dims
+deep-some dims (base.OfClass class) deep = deep
+deep-some dims b deep = omega (arith, deep)
+
+class-pack : (one text : Bool) (class : ClassId) → text ≡ false → packing one text (base.OfClass class) ≡ 1
+class-pack true text class none = refl
+class-pack false text class none = ap (λ b. if b then 4 else 1) none
+
+deep-pack : (dims : ℕ) (b : Base) (text : Bool) → 0 < depth_with dims b → text ≡ false → packing (dims == 1) text b ≡ 1
+deep-pack dims (base.OfClass class) text deep none = class-pack (dims == 1) text class none
+deep-pack dims b text deep none =
+    ap (λ one. packing one text b) (ne_eqb dims 1 (λ e. absurd (omega (arith, e, deep)))) ∙ ap (λ x. if x then 4 else 1) none
+
+pub array-pack : (o : Outline) (t : TypeRef) (e : Elem) → is_array_of e t ≡ true → pack_of o t ≡ elem_pack e
+array-pack o t elem.Ref is =
+    let deep = ltb-true 0 (depth_of t) is in
+    deep-pack t.dims t.base (is_text_type o t) deep (array_is_no_text o t (deep-some t.dims t.base deep))
+array-pack o t elem.Boolean is = number-pack o t elem.Boolean is
+array-pack o t elem.Byte is = number-pack o t elem.Byte is
+array-pack o t elem.Char is = number-pack o t elem.Char is
+array-pack o t elem.Short is = number-pack o t elem.Short is
+array-pack o t elem.Int is = number-pack o t elem.Int is
+array-pack o t elem.Long is = number-pack o t elem.Long is
 
 -- ---- kinds of elements
 

@@ -5,14 +5,14 @@
 // tested. For ints, and for bytes and booleans, the head is enough to see that an object is such an
 // array.
 
-ghost use Rattle.std.specs.Prelude.{◌≡◌, ◌≢◌, ◌+◌, ◌-◌, ◌<◌, true, false, Some, slice_get};
+ghost use Rattle.std.specs.Prelude.{◌≡◌, ◌≢◌, ◌↔◌, ◌+◌, ◌-◌, ◌<◌, true, false, IsTrue, Some, slice_get};
 ghost use Rattle.fm_code.specs.declared.operations.Elem.TheVariants as elem;
 ghost use Rattle.fm_exec.specs.Holding.{HoldsElements, HoldsLength, TakesElement};
 ghost use Rattle.fm_exec.specs.Steps.{seen};
 ghost use Rattle.fm_fast.specs.Flows.{on};
 ghost use Rattle.fm_fast.specs.Operands.{AsksOfStore, HasInt, HasLong, HasReference};
 ghost use Rattle.fm_fast.specs.FlowsOver.{FlowsOver};
-ghost use Rattle.fm_fast.specs.Packed.{ArePacked, IsPacked};
+ghost use Rattle.fm_fast.specs.Packed.{ArePacked, IsPacked, elem_pack};
 ghost use Rattle.fm_code.specs.StackWords.{element_words};
 ghost use Rattle.fm_frames.specs.ArrayRows.{array_load_effect, array_store_effect, element_kind, length_effect};
 ghost use Rattle.fm_frames.specs.Runnable.{IsRunnable};
@@ -64,7 +64,9 @@ pub fn array_length<M: Memory>(machine: &Machine<M>, frames: &mut Frames, progra
 
 // How many elements of such an array a word holds.
 #[inline(always)]
-fn pack_of(e: Elem) -> u8 {
+fn pack_of(e: Elem) -> u8
+    ensures { result ≡ elem_pack e }
+{
     match e {
         Elem::Boolean | Elem::Byte => BYTE_PACK,
         Elem::Char | Elem::Short => CHAR_PACK,
@@ -86,8 +88,8 @@ fn type_there(program: &Program, head: Head) -> TypeRef
 #[inline(always)]
 fn is_array(program: &Program, head: Head, e: Elem) -> bool
     requires { IsPacked program.now head.class head.pack }
-    ensures { result ≡ true
-        → is_array_of e (type_numbered program.now.outline head.class) ≡ true }
+    ensures { IsTrue result
+        ↔ (is_array_of e (type_numbered program.now.outline head.class) ≡ true) }
 {
     match e {
         Elem::Int => head.pack == INT_PACK,

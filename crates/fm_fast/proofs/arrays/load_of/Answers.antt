@@ -29,14 +29,14 @@ kind_of_elements-kind-requires-clause-packed g c =
     head-packed p m c.in-Some.cell.0 it.object c.in-Some.head c.requires.packed it.held it.head_is
 
 pub kind_of_elements-kind-requires-clause-array : goal.kind_of_elements-kind-requires-clause-array
-kind_of_elements-kind-requires-clause-array g c = c.is_array-array.ensures (search rules)
+kind_of_elements-kind-requires-clause-array g c = c.is_array-array.ensures.0 (search rules)
 
 pub place-value-requires : goal.place-value-requires
 place-value-requires g c =
     let o = c.args.program.now.outline in
     let m = c.args.machine.now in
     let it = found-over o m c.args.frames.now m.steps 1 c.in-Some.cell c.in-Some.head c.in-Some.ensures in
-    let array : is_array_of c.args.e (type_numbered o c.in-Some.head.class) ≡ true = c.is_array-array.ensures (search rules) in
+    let array : is_array_of c.args.e (type_numbered o c.in-Some.head.class) ≡ true = c.is_array-array.ensures.0 (search rules) in
     let n = element_at m.areas.store c.in-Some.cell.0 c.in-Some-place_in.place in
     subst (λ k. IsOfKind k n) (sym (c.kind_of_elements-kind.ensures ∙ sym (λ i. element_kind (type_numbered o (it.head_is i).class))))
     (c.requires.holds c.in-Some.cell.0 c.in-Some-place_in.place it.object (it.word, it.held)
@@ -54,7 +54,7 @@ returns-clause-did g c said steps =
     let i = c.int_there-index.result in
     let own = element_kind (type_numbered o c.in-Some.head.class) in
     let it = found-over o m old steps 1 c.in-Some.cell c.in-Some.head c.in-Some.ensures in
-    let array : is_array_of c.args.e (type_numbered o c.in-Some.head.class) ≡ true = c.is_array-array.ensures (search rules) in
+    let array : is_array_of c.args.e (type_numbered o c.in-Some.head.class) ≡ true = c.is_array-array.ensures.0 (search rules) in
     let there : place_in c.in-Some.head.len i ≡ Some place = search rules in
     let kind_is = c.kind_of_elements-kind.ensures in
     carried p g.M.Memory.choose x y (array_load_effect o c.args.e (seen p x)) (words 2 (loaded own (OfPlace 1 place own)))

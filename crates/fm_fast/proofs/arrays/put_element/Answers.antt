@@ -30,7 +30,7 @@ kind_of_elements-kind-requires-clause-packed g c =
     head-packed p m c.in-Some.cell.0 it.object c.in-Some.head c.requires.packed it.held it.head_is
 
 pub kind_of_elements-kind-requires-clause-array : goal.kind_of_elements-kind-requires-clause-array
-kind_of_elements-kind-requires-clause-array g c = c.is_array-array.ensures (search rules)
+kind_of_elements-kind-requires-clause-array g c = c.is_array-array.ensures.0 (search rules)
 
 pub put_place-requires : goal.put_place-requires
 put_place-requires g c =
@@ -41,7 +41,7 @@ put_place-requires g c =
     let w = c.args.words in
     let cell = c.in-Some.cell in
     let it = found-over o m c.args.frames.now m.steps (w + 1) cell c.in-Some.head c.in-Some.ensures in
-    let array : is_array_of c.args.e (type_numbered o c.in-Some.head.class) ≡ true = c.is_array-array.ensures (search rules) in
+    let array : is_array_of c.args.e (type_numbered o c.in-Some.head.class) ≡ true = c.is_array-array.ensures.0 (search rules) in
     let kind_is = c.kind_of_elements-kind.ensures in
     subst (λ v. FitsIn store cell.0 c.kind_of_elements-kind.result v) (word-over m c.args.frames.now m.steps (w - 1) c.args.value (sym c.requires.value))
     (subst (λ k. FitsIn store cell.0 k (word_at (stack_of x) (w - 1)))
@@ -64,7 +64,7 @@ returns-clause-did g c said steps =
     let i = c.int_there-index.result in
     let own = element_kind (type_numbered o c.in-Some.head.class) in
     let it = found-over o m old steps (w + 1) cell c.in-Some.head c.in-Some.ensures in
-    let array : is_array_of c.args.e (type_numbered o c.in-Some.head.class) ≡ true = c.is_array-array.ensures (search rules) in
+    let array : is_array_of c.args.e (type_numbered o c.in-Some.head.class) ≡ true = c.is_array-array.ensures.0 (search rules) in
     let there : place_in c.in-Some.head.len i ≡ Some place = search rules in
     let kind_is = c.kind_of_elements-kind.ensures in
     carried p g.M.Memory.choose x y (array_store_effect o c.args.e (seen p x))
