@@ -4,7 +4,33 @@ use fm_base::Name;
 use fm_cli::{CommandRefusal, command_words, modified, printed, put_line};
 use fm_files::MemSink;
 use std::env;
+use std::env::FillError;
+use std::rt::Env;
 use std::test::Fail;
+
+// What a process was given whose second word is no text.
+struct NoText;
+
+impl Env for NoText {
+    fn arg(&self, i: usize, buf: &mut [u8]) -> Result<usize, FillError> {
+        if i > 2 {
+            return Err(FillError::NotPresent);
+        }
+        if buf.is_empty() {
+            return Err(FillError::TooLong);
+        }
+        buf[0] = if i == 2 { 0xFF } else { b'a' };
+        Ok(1)
+    }
+
+    fn var(&self, _name: &str, _buf: &mut [u8]) -> Result<usize, FillError> {
+        Err(FillError::NotPresent)
+    }
+
+    fn var_at(&self, _i: usize, _buf: &mut [u8]) -> Result<usize, FillError> {
+        Err(FillError::NotPresent)
+    }
+}
 
 #[test]
 fn each_refusal_is_put_as_its_line_with_its_status(rt: HostRuntime) -> Result<(), Fail> {
@@ -42,6 +68,13 @@ fn the_words_are_those_after_the_name_of_the_program(rt: HostRuntime) -> Result<
     let words = command_words(&rt)?;
     let all = env::args(&rt)?.count();
     assert_eq!(rt; words.len() + 1, all);
+    Ok(())
+}
+
+#[test]
+fn there_are_no_words_where_one_is_no_text(rt: HostRuntime) -> Result<(), Fail> {
+    let words = command_words(&(NoText, rt.alloc()))?;
+    assert!(rt; words.is_empty());
     Ok(())
 }
 
