@@ -1,4 +1,4 @@
--- The classes written are accepted again, where no local holds an object that isn't initialised while the constructor of an object that is held is called.
+-- The classes written are accepted again, where no local holds a copy of an object that is held while its constructor is called.
 use Rattle.std.specs.Prelude.{◌≡◌, ℕ, List, [], Option, Some, None}
 use Rattle.std.specs.List.{AllByRecursion}
 use Rattle.fm_code.specs.Spells.{HasSpelling}

@@ -11,8 +11,8 @@ pub fn law_lengths()
     ensures { AcceptedHaveLengthsAlone }
 {}
 
-/// So are files that hold the classes written, where no local holds an object that isn't initialised while
-/// the constructor of an object that is held is called.
+/// So are files that hold the classes written, where no local holds a copy of an object that is held while
+/// its constructor is called.
 pub fn law_written()
     ensures { WrittenHaveLengthsAlone }
 {

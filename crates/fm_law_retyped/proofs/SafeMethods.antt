@@ -29,13 +29,14 @@ use Rattle.fm_code.specs.declared.instructions.Insn.TheVariants as insn
 use Rattle.fm_conn.specs.Facts.{AreFacts, Facts}
 use Rattle.fm_conn.specs.Links.{typed_method}
 use Rattle.fm_conn.specs.Nodes.{TypedMethod}
+use Rattle.fm_conn.specs.Pairs.{depth_below}
 use Rattle.fm_law_woven_flow.specs.Laws.{CodesStand, HasRoles}
 use Rattle.fm_law_woven_flow.specs.Roles.{CanStand, FreeBefore, HasInsn, IsOpposite, IsRetargeted, Keep}
 use Rattle.fm_place.proofs.FullLemmas.{numbers-found}
 use Rattle.fm_place.specs.Insertions.{after_at, before_at, Holder, Insertions}
 use Rattle.fm_place.specs.Rewriting.{free_index, Plans, rewritten, rewritten_class}
 use Rattle.fm_place.specs.Safe.{AreSafe, IsSafeHolder, method_in_facts}
-use Rattle.fm_place.specs.Sites.{is_captured, kind_of_site, site_class, site_kind}
+use Rattle.fm_place.specs.Sites.{is_captured, kind_of_site, new_item_at, site_class, site_kind}
 use Rattle.fm_place.specs.Woven.{woven_code}
 use Rattle.fm_law_linked.proofs.CodedMethods.{contains_at}
 use Rattle.fm_law_linked.specs.Laws.{IsLinkedWell, ProgramsAreLinkedWell, StepsAreLinked, StepsOfProgramsAreLinked}
@@ -48,7 +49,7 @@ use Rattle.fm_law_retyped.proofs.SiteStates.{GivesObject, site-gives}
 use Rattle.fm_law_retyped.proofs.Trims.{all_trimmed, locals_at, trimmed_at, trimmed_row, trimmed_twice, typings_trimmed}
 use Rattle.fm_law_retyped.proofs.WrittenMethods.{HasMember, IsWritten, written_method}
 use Rattle.fm_law_retyped.proofs.WrittenUses.{free_use, freed_use, handler_use, insn_use, outlines_same, program_outline, used_by_item}
-use Rattle.fm_law_retyped.specs.Retyped.{AreReadyAtHeld, SafeClassesAreTyped}
+use Rattle.fm_law_retyped.specs.Retyped.{AreNoCopies, AreReadyAtHeld, receiver_new, SafeClassesAreTyped}
 use Rattle.fm_law_retyped.proofs.Trimmed.{trimmed, trimmed_state}
 use Rattle.fm_types.specs.Fits.{AreTree}
 use Rattle.fm_types.specs.Rows.{row_after}
@@ -254,8 +255,11 @@ module _ (numbered : ClassTypesAreNumbered) (stand : CodesStand) (given : List C
         let row = sym (ap (option_and_then (λ k.
         row_after (program_of given main).outline method j (made_at (program_of given main) method code) (use_by (program_of given main) method k) k s)) site.there) ∙ is in
         site-gives facts t j (made_at (program_of given main) method code) s after steps.constructors i site.kind_some at
-        (λ kind. ready holder.holder s (contains_at plan.holders h holder.holder holder.at)
-        (ap (site_kind facts t) holder.site_is ∙ site.same ∙ kind) (ap (state_at (facts.typing method)) holder.site_is ∙ at))
+        (λ kind.
+        subst (λ (new : Option ℕ). AreNoCopies new s.locals)
+        (ap (receiver_new t) holder.site_is ∙ ap (option_and_then (λ (k : Insn). new_item_at t j (depth_below t j k))) site.there)
+        (ready holder.holder s (contains_at plan.holders h holder.holder holder.at) (ap (site_kind facts t) holder.site_is ∙ site.same ∙ kind)
+        (ap (state_at (facts.typing method)) holder.site_is ∙ at)))
         (no_static j i site.there) row
 
     -- the same where states are trimmed

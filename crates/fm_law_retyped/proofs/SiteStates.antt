@@ -1,6 +1,6 @@
--- After a site its object is on top, by a type; and where no local holds an object that isn't
--- initialised nothing but the stack has changed.
-use Rattle.std.proofs.Common.{◌≡◌, refl, ap, sym, ◌∙◌, ℕ, suc, ◌+◌, ◌-◌, ◌&&◌, Bool, true, false, not, cond, List, [], ◌∷◌, ◌++◌, length, length-append, reverse, replicate, Option, Some, None, is_some, option_and_then, option_map, slice_get, append_assoc, arith}
+-- After a site its object is on top, by a type; and where no local holds a copy of the object whose
+-- constructor is called nothing but the stack has changed.
+use Rattle.std.proofs.Common.{◌≡◌, refl, ap, sym, subst, ◌∙◌, ℕ, zero, suc, ◌+◌, ◌-◌, ◌&&◌, Bool, true, false, not, cond, List, [], ◌∷◌, ◌++◌, length, length-append, reverse, replicate, Option, Some, None, is_some, option_and_then, option_map, slice_get, append_assoc, arith}
 use Rattle.std.specs.Prelude.{nat_le, nat_lt, option_to_list}
 use Rattle.std.specs.List.{list_any}
 use Rattle.std.proofs.lemmas.Bool.{false≢true}
@@ -19,13 +19,13 @@ use Rattle.fm_code.specs.declared.instructions.Insn.{Insn}
 use Rattle.fm_code.specs.declared.instructions.Insn.TheVariants as insn
 use Rattle.fm_conn.specs.Facts.{Facts}
 use Rattle.fm_conn.specs.Nodes.{depth_at, TypedMethod}
-use Rattle.fm_conn.specs.Pairs.{call_of, call_with, use_at}
+use Rattle.fm_conn.specs.Pairs.{call_of, call_with, depth_below, use_at}
 use Rattle.fm_conn.specs.Rows.{is_reference_kind, words_taken}
 use Rattle.fm_conn.specs.Summaries.{same_number}
 use Rattle.fm_frames.specs.CallRows.{words_of_arguments}
 use Rattle.fm_place.proofs.BusyLemmas.{depth_of}
-use Rattle.fm_place.specs.Sites.{constructs, Constructs, has_reference_result, is_doubled, kind_of_site, makes_array, MakesArray, may_give_old, names_constructor, new_item, receives_new, ReceivesNew, SiteKind}
-use Rattle.fm_law_retyped.specs.Retyped.{AreInitialised}
+use Rattle.fm_place.specs.Sites.{constructs, Constructs, has_reference_result, is_doubled, kind_of_site, makes_array, MakesArray, may_give_old, names_constructor, new_item, new_item_at, receives_new, ReceivesNew, SiteKind}
+use Rattle.fm_law_retyped.specs.Retyped.{AreNoCopies}
 use Rattle.fm_same.proofs.CallWords.{taken_off}
 use Rattle.fm_same.proofs.SiteNodes.{chosen, doubled-stack, doubled_in, refers, word_above}
 use Rattle.fm_law_sound.specs.Going.{ConstructorsGiveNothing}
@@ -134,23 +134,23 @@ method-gives facts x k s after u follows each is there = absurd (none-some after
 
 -- ---- calls of constructors
 
-one_kept : (item : ℕ) (t : TypeRef) (s : Slot) → new_item s ≡ None → cond (is_uninit item s) (slot.Ref t) s ≡ s
+one_kept : (item : ℕ) (t : TypeRef) (s : Slot) → same_number (Some item) (new_item s) ≡ false → cond (is_uninit item s) (slot.Ref t) s ≡ s
 one_kept item t slot.Top is = refl
 one_kept item t slot.Int is = refl
 one_kept item t slot.Long is = refl
 one_kept item t slot.Null is = refl
 one_kept item t (slot.Ref r) is = refl
-one_kept item t (slot.Uninit other) is = absurd (none-some other (sym is))
+one_kept item t (slot.Uninit other) is = ap (λ b. cond b (slot.Ref t) (slot.Uninit other)) is
 one_kept item t slot.UninitThis is = refl
 
 -- no local becomes another one
-none_replaced : (item : ℕ) (t : TypeRef) (locals : List Slot) → AreInitialised locals → replaced (is_uninit item) (slot.Ref t) locals ≡ locals
+none_replaced : (item : ℕ) (t : TypeRef) (locals : List Slot) → AreNoCopies (Some item) locals → replaced (is_uninit item) (slot.Ref t) locals ≡ locals
 none_replaced item t [] none = refl
 none_replaced item t (s ∷ locals) none = λ k. one_kept item t s none.0 k ∷ none_replaced item t locals none.1 k
 
 -- the object and the copy of it under it are of one `new`
 built-gives : (o : Outline) (method : ℕ) (news : ℕ → Option TypeRef) (named : TypeRef) (receiver below : Slot) (rest : List Slot) (s after : TypeState)
-    → AreInitialised s.locals → same_number (new_item receiver) (new_item below) ≡ true
+    → AreNoCopies (new_item receiver) s.locals → same_number (new_item receiver) (new_item below) ≡ true
     → constructed o method news named receiver (record s { stack = below ∷ rest }) ≡ Some after → GivesObject s after
 built-gives o method news named (slot.Uninit item) (slot.Uninit other) rest s after none same there =
     let new = initialised (is_uninit item) named (record s { stack = slot.Uninit other ∷ rest }) in
@@ -167,7 +167,8 @@ built-gives o method news named (slot.Uninit item) (slot.Uninit other) rest s af
 built-gives o method news named (slot.Uninit item) below rest s after none same there = absurd (false≢true same)
 built-gives o method news named receiver below rest s after none same there = absurd (false≢true same)
 
-constructor-gives : (o : Outline) (method : ℕ) (news : ℕ → Option TypeRef) (m : ℕ) (named : TypeRef) (s after : TypeState) → AreInitialised s.locals
+constructor-gives : (o : Outline) (method : ℕ) (news : ℕ → Option TypeRef) (m : ℕ) (named : TypeRef) (s after : TypeState)
+    → AreNoCopies (option_and_then new_item (slice_get (reverse s.stack) (length s.stack - (1 + words_of_arguments o m)))) s.locals
     → doubled_in s.stack (length s.stack - (1 + words_of_arguments o m)) ≡ true → constructor_called o method news m named s ≡ Some after
     → GivesObject s after
 constructor-gives o method news m named s after none doubled there = by_rest (taken o (argument_words o m) s.stack) refl there where
@@ -193,7 +194,9 @@ constructor-gives o method news m named s after none doubled there = by_rest (ta
       let second : slice_get (reverse s.stack) (length rest) ≡ Some under =
       ap (λ list. slice_get (reverse list) (length rest)) (off.is ∙ sym (append_assoc off.words (receiver ∷ []) (under ∷ rest)))
       ∙ word_above (off.words ++ receiver ∷ []) rest under in
-      built-gives o method news named receiver under rest s after none
+      built-gives o method news named receiver under rest s after
+      (subst (λ (new : Option ℕ). AreNoCopies new s.locals)
+      (ap (λ k. option_and_then new_item (slice_get (reverse s.stack) k)) depth ∙ ap (option_and_then new_item) first) none)
       (sym (λ k. same_number (option_and_then new_item (first k)) (option_and_then new_item (second k)))
       ∙ sym (ap (doubled_in s.stack) depth) ∙ doubled) further
 
@@ -208,7 +211,7 @@ module _ (facts : Facts) (x : TypedMethod) (j : ℕ) (news : ℕ → Option Type
   abbrev o : Outline
   o = x.program.outline
 
-  special-gives : (index : ℕ) → state_at x.states j ≡ Some s → AreInitialised s.locals
+  special-gives : (index : ℕ) → state_at x.states j ≡ Some s → AreNoCopies (new_item_at x j (depth_below x j (insn.Special index))) s.locals
       → ((m : MethodId) (t : TypeId) → use_at x (insn.Special index) ≡ resolved.OfMethod m t
       → is_static (method_at x.program.outline.classes m.0).method.flags ≡ false)
       → constructs x j (insn.Special index) ≡ true → special_call_row x.program.outline x.number news (use_at x (insn.Special index)) s ≡ Some after
@@ -230,8 +233,17 @@ module _ (facts : Facts) (x : TypedMethod) (j : ℕ) (news : ℕ → Option Type
         let under : doubled_in s.stack (length s.stack - (1 + words_of_arguments o m.0)) ≡ true =
         sym (λ k. doubled_in s.stack (depth k - words k))
         ∙ sym (doubled-stack x j s at (depth_at x j - words_taken o (resolved.OfMethod m t) (insn.Special index))) ∙ doubled in
+        let depth_is : depth_below x j (insn.Special index) ≡ length s.stack - (1 + words_of_arguments o m.0) =
+        ap (λ u. depth_at x j - words_taken o u (insn.Special index)) used ∙ (λ k. depth k - words k) in
+        let item_is : new_item_at x j (depth_below x j (insn.Special index))
+        ≡ option_and_then new_item (slice_get (reverse s.stack) (length s.stack - (1 + words_of_arguments o m.0))) =
+        ap (new_item_at x j) depth_is
+        ∙ ap (λ (found : Option TypeState).
+        option_and_then new_item
+        (option_and_then (λ (z : TypeState). slice_get (reverse z.stack) (length s.stack - (1 + words_of_arguments o m.0))) found)) at in
         option_and_then_some _ (slice_get o.types t.0) after row
-        (λ named found gives. constructor-gives o x.number news m.0 named s after none under
+        (λ named found gives.
+        constructor-gives o x.number news m.0 named s after (subst (λ (new : Option ℕ). AreNoCopies new s.locals) item_is none) under
         (chosen (is_constructor o m.0) (constructor_called o x.number news m.0 named s) _ after constructor gives))
     by_use (resolved.OfType t) used both row = absurd (false≢true both)
     by_use (resolved.OfField f t) used both row = absurd (false≢true both)
@@ -293,7 +305,7 @@ module _ (facts : Facts) (x : TypedMethod) (j : ℕ) (news : ℕ → Option Type
       (index : ℕ) (m : MethodId) (t : TypeId) → i ≡ insn.Special index → use_at x (insn.Special index) ≡ resolved.OfMethod m t
       → is_static (method_at x.program.outline.classes m.0).method.flags ≡ false
 
-  constructed-gives : (i : Insn) → state_at x.states j ≡ Some s → AreInitialised s.locals → NoStatic i
+  constructed-gives : (i : Insn) → state_at x.states j ≡ Some s → AreNoCopies (new_item_at x j (depth_below x j i)) s.locals → NoStatic i
       → constructs x j i ≡ true → row_after o x.number j news (use_at x i) i s ≡ Some after → GivesObject s after
   unfolding row_after
   constructed-gives (insn.Special index) at none no_static is there = special-gives index at none (λ m t used. no_static index m t refl used) is there
@@ -304,7 +316,7 @@ module _ (facts : Facts) (x : TypedMethod) (j : ℕ) (news : ℕ → Option Type
 
   -- each kind of a site
   pub site-gives : (i : Insn) → is_some (kind_of_site facts x j i) ≡ true → state_at x.states j ≡ Some s
-      → (kind_of_site facts x j i ≡ Some Constructs → AreInitialised s.locals) → NoStatic i
+      → (kind_of_site facts x j i ≡ Some Constructs → AreNoCopies (new_item_at x j (depth_below x j i)) s.locals) → NoStatic i
       → row_after o x.number j news (use_at x i) i s ≡ Some after → GivesObject s after
   site-gives i is at none no_static there = by_array (makes_array i) refl where
     by_call : (b : Bool) → receives_new facts x (call_of x i) ≡ b → is_some (kind_by false false b) ≡ true → GivesObject s after

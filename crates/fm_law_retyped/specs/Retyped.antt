@@ -1,31 +1,38 @@
--- Which written classes are typed: those of typed classes, where no local holds an object that isn't initialised while the constructor of an object
--- that is held is called.
-use Rattle.std.specs.Prelude.{◌≡◌, ℕ, List, [], Option, Some, None, Contains}
+-- Which written classes are typed: those of typed classes, where no local holds a copy of an object that is held while its constructor is called.
+use Rattle.std.specs.Prelude.{◌≡◌, ℕ, false, List, [], Option, Some, option_and_then, Contains}
 use Rattle.std.specs.List.{AllByRecursion}
+use Rattle.fm_code.specs.Edges.{insn_of}
 use Rattle.fm_code.specs.Spells.{HasSpelling}
 use Rattle.fm_code.specs.declared.class_file.ClassDef.{ClassDef}
 use Rattle.fm_code.specs.declared.code_array.Code.{Code}
+use Rattle.fm_code.specs.declared.instructions.Insn.{Insn}
 use Rattle.fm_conn.specs.Facts.{Facts}
 use Rattle.fm_conn.specs.Nodes.{TypedMethod}
+use Rattle.fm_conn.specs.Pairs.{depth_below}
+use Rattle.fm_conn.specs.Summaries.{same_number}
 use Rattle.fm_place.specs.Insertions.{Holder, Insertions}
 use Rattle.fm_place.specs.Rewriting.{Plans}
 use Rattle.fm_place.specs.Safe.{method_in_facts, Safe}
-use Rattle.fm_place.specs.Sites.{Constructs, new_item, site_kind}
+use Rattle.fm_place.specs.Sites.{Constructs, new_item, new_item_at, site_kind}
 use Rattle.fm_types.specs.States.{TypeState}
 use Rattle.fm_types.specs.Typed.{state_at, Typed}
 use Rattle.fm_types.specs.declared.slots.Slot.{Slot}
 use Rattle.fm_world.specs.Linking.{refusals}
 use Rattle.fm_world.specs.Programs.{code_at, Program, program_of}
 
--- none of these is an object of a `new` whose constructor hasn't returned (JVMS 4.10.2.4)
-abbrev pub AreInitialised : List Slot → Type 0
-AreInitialised slots = AllByRecursion (λ s. new_item s ≡ None) slots
+-- none of these is the object of this `new`, whose constructor hasn't returned (JVMS 4.10.2.4)
+abbrev pub AreNoCopies : Option ℕ → List Slot → Type 0
+AreNoCopies new slots = AllByRecursion (λ s. same_number new (new_item s) ≡ false) slots
 
--- no local is, where the constructor of a held object is called
+-- the item of the `new` whose object is the receiver of the call that the item makes
+abbrev pub receiver_new : TypedMethod → ℕ → Option ℕ
+receiver_new x j = option_and_then (λ (i : Insn). new_item_at x j (depth_below x j i)) (insn_of x.code j)
+
+-- where the constructor of a held object is called, no local holds a copy of it
 abbrev pub AreReadyAtHeld : Facts → TypedMethod → Insertions → Type 0
 AreReadyAtHeld facts x plan =
     (h : Holder) (s : TypeState) → Contains plan.holders h → site_kind facts x h.site ≡ Some Constructs → state_at x.states h.site ≡ Some s
-    → AreInitialised s.locals
+    → AreNoCopies (receiver_new x h.site) s.locals
 
 -- the same of all methods into which something is inserted
 abbrev pub NoneUnready : Program → Facts → Plans → Type 0

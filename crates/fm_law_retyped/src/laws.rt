@@ -6,8 +6,8 @@ use fm_law_linked::{law_linking, law_steps};
 use fm_law_woven_flow::law_stands;
 use fm_world::law_class_types;
 
-/// Each method of classes with safe insertions is typed, where no local holds an object that isn't
-/// initialised while the constructor of an object that is held is called.
+/// Each method of classes with safe insertions is typed, where no local holds a copy of an object that is
+/// held while its constructor is called.
 pub fn law_typed()
     ensures { SafeClassesAreTyped }
 {
