@@ -39,11 +39,11 @@ use Rattle.fmrun.specs.TopCall.{AreManyArguments, ComesOf, HasBroken, HasFailed,
 abbrev pub before_run : List ℕ
 before_run = WORDS ∷ READ ∷ MALFORMED ∷ VERSION ∷ LIMIT ∷ UNSUPPORTED ∷ LINK ∷ CHECK ∷ []
 
--- and of all refusals
+-- the statuses of all refusals
 abbrev pub refusal_statuses : List ℕ
 refusal_statuses = WORDS ∷ READ ∷ MALFORMED ∷ VERSION ∷ LIMIT ∷ UNSUPPORTED ∷ LINK ∷ CHECK ∷ WRITE ∷ OUT_OF_MEMORY ∷ []
 
--- there is no status but these and those of ends
+-- there is no status but those of refusals and of ends
 abbrev pub IsStatus : ℕ → Type 0
 IsStatus result = Contains refusal_statuses result ⊎ ((e : Ended) × (result ≡ end_status e))
 
@@ -53,7 +53,7 @@ IsStatus result = Contains refusal_statuses result ⊎ ((e : Ended) × (result �
 abbrev pub AskFor : List Bytes → (FmrunJob → Type 0) → Type 0
 AskFor words P = (job : FmrunJob) × (Asks words job × P job)
 
--- for one that has no more arguments than may be, so that its files are read
+-- the words ask for a job such as this with no more arguments than may be, so that its files are read
 abbrev pub AskToRead : List Bytes → (FmrunJob → Type 0) → Type 0
 AskToRead words P = AskFor words (λ job. (length (job_arguments job) ≤ MAX_ARGUMENTS) × P job)
 
@@ -65,7 +65,7 @@ pub record SaysWords (words : List Bytes) (old new : Disk) (before after report 
   pub kept : new ≡ old
   pub refused : IsRefusedBy words_line before after report report'
 
--- exactly where the words ask for nothing, unless the put fails or memory can't be had
+-- this status comes exactly where the words ask for nothing, unless the put fails or memory can't be had
 abbrev pub IsForWords : List Bytes → Disk → Disk → Output → Output → Output → Output → ℕ → Type 0
 IsForWords words old new before after report report' result =
     ComesExactly WORDS (WRITE ∷ OUT_OF_MEMORY ∷ []) result (SaysWords words old new before after report report') (AskNothing words)
@@ -92,7 +92,7 @@ pub record LacksInput (old : Disk) (job : FmrunJob) : Type 0 where
 abbrev pub MissesFile : List Bytes → Disk → Disk → Type 0
 MissesFile words old new = FailsARead old new ⊎ AskToRead words (λ job. IsMissing old (given_of job) ⊎ LacksInput old job)
 
--- exactly there, unless the put fails or memory can't be had
+-- this status comes exactly there, unless the put fails or memory can't be had
 abbrev pub IsForRead : List Bytes → Disk → Disk → Output → Output → Output → Output → ℕ → Type 0
 IsForRead words old new before after report report' result =
     ComesExactly READ (WRITE ∷ OUT_OF_MEMORY ∷ []) result (SaysRead words old new before after report report') (MissesFile words old new)
@@ -109,7 +109,7 @@ pub record SaysRefused (status : ℕ) (words : List Bytes) (old new : Disk) (bef
   pub unaccepted : IsRefusedFile job.files file refusal old new
   pub refused : IsRefusedBy (class_refusal_line file refusal) before after report report'
 
--- exactly where one is known to be so, unless a read or the put fails or memory can't be had
+-- this status comes exactly where one is known to be so, unless a read or the put fails or memory can't be had
 abbrev pub IsForBytes : ℕ → List Bytes → Disk → Disk → Output → Output → Output → Output → ℕ → Type 0
 IsForBytes status words old new before after report report' result =
     ComesExactly status (READ ∷ WRITE ∷ OUT_OF_MEMORY ∷ []) result (SaysRefused status words old new before after report report')
@@ -117,22 +117,22 @@ IsForBytes status words old new before after report report' result =
 
 -- ---- 68
 
--- there are too many class files,
+-- there are too many class files, and all files are as they were
 pub record SaysMany (words : List Bytes) (old new : Disk) (before after report report' : Output) : Type 0 where
   pub job : FmrunJob
   pub asked : Asks words job
   pub many : AreMany job.files (length job.files) old new
   pub refused : IsRefusedBy (many_line (length job.files)) before after report report'
 
--- or too many arguments,
+-- there are too many arguments, and all files are as they were
 pub record SaysManyArguments (words : List Bytes) (old new : Disk) (before after report report' : Output) : Type 0 where
   pub job : FmrunJob
   pub asked : Asks words job
   pub many : AreManyArguments job (length (job_arguments job)) old new
   pub refused : IsRefusedBy (many_arguments_line (length (job_arguments job))) before after report report'
 
--- or a file is too long, or the class files up to it are, where contents are known; and enough
--- bytes were read to show it
+-- a file is too long, or the class files up to it are, where contents are known; and enough bytes
+-- were read to show it
 pub record SaysLong (words : List Bytes) (old new : Disk) (before after report report' : Output) : Type 0 where
   pub job : FmrunJob
   pub asked : Asks words job
@@ -140,7 +140,7 @@ pub record SaysLong (words : List Bytes) (old new : Disk) (before after report r
   pub long : IsLong job.files file old new ⊎ IsInputLong job file old new
   pub refused : IsRefusedBy (long_line file) before after report report'
 
--- or a count of a method is above its limit
+-- there are too many class files or arguments, or a file is too long, or a count of a method is above its limit
 abbrev pub SaysLimit : List Bytes → Disk → Disk → Output → Output → Output → Output → Type 0
 SaysLimit words old new before after report report' =
     SaysMany words old new before after report report'
@@ -159,7 +159,7 @@ pub record HasLongInput (old : Disk) (job : FmrunJob) : Type 0 where
   pub taken : AllTaken old.contents job.files classes
   pub long : IsKnownSuch old.contents file (λ bytes. MAX_FILE_BYTES < length bytes)
 
--- exactly there, unless a read or the put fails or memory can't be had; of too many files or arguments no file is read
+-- this status comes exactly there, unless a read or the put fails or memory can't be had; of too many files or arguments no file is read
 pub record IsForLimit (words : List Bytes) (old new : Disk) (before after report report' : Output) (result : ℕ) : Type 0 where
   pub only : result ≡ LIMIT → SaysLimit words old new before after report report'
   pub many : AskFor words (λ job. HasTooMany (given_of job) ⊎ HasManyArguments job) → Contains (LIMIT ∷ WRITE ∷ OUT_OF_MEMORY ∷ []) result
@@ -177,7 +177,7 @@ pub record SaysLink (words : List Bytes) (old new : Disk) (before after report r
   pub unlinked : IsNotLinked (given_of job) (Some cause) old new
   pub refused : IsRefusedBy (link_line cause) before after report report'
 
--- exactly where this is known, unless a read or the put fails or memory can't be had
+-- this status comes exactly where this is known, unless a read or the put fails or memory can't be had
 abbrev pub IsForLink : List Bytes → Disk → Disk → Output → Output → Output → Output → ℕ → Type 0
 IsForLink words old new before after report report' result =
     ComesExactly LINK (READ ∷ WRITE ∷ OUT_OF_MEMORY ∷ []) result (SaysLink words old new before after report report')
@@ -185,7 +185,7 @@ IsForLink words old new before after report report' result =
 
 -- ---- 71
 
--- they make one, and a method of it isn't typed; the line names the first
+-- all files are taken, the classes make a program, and a method of it isn't typed; the line names the first such method
 pub record SaysCheck (words : List Bytes) (old new : Disk) (before after report report' : Output) : Type 0 where
   pub job : FmrunJob
   pub asked : Asks words job
@@ -194,7 +194,7 @@ pub record SaysCheck (words : List Bytes) (old new : Disk) (before after report 
   pub untyped : IsNotTyped (given_of job) name old new
   pub refused : IsRefusedBy (check_line name) before after report report'
 
--- exactly where this is known, unless a read or the put fails or memory can't be had
+-- this status comes exactly where this is known, unless a read or the put fails or memory can't be had
 abbrev pub IsForCheck : List Bytes → Disk → Disk → Output → Output → Output → Output → ℕ → Type 0
 IsForCheck words old new before after report report' result =
     ComesExactly CHECK (READ ∷ WRITE ∷ OUT_OF_MEMORY ∷ []) result (SaysCheck words old new before after report report')
@@ -225,7 +225,7 @@ pub record IsKnownReady (old : Disk) (job : FmrunJob) : Type 0 where
   pub input : Bytes
   pub ready : IsReady job old.contents classes input
 
--- and the run reaches an end of this status
+-- contents are known, a job is ready to run with them, and its run reaches an end of this status
 pub record IsKnownRun (status : ℕ) (old : Disk) (job : FmrunJob) : Type 0 where
   pub known : IsSome old.contents
   pub classes : List ClassDef
@@ -298,7 +298,7 @@ pub record SaysUnprinted (words : List Bytes) (old new : Disk) (before after rep
   pub failed : HasFailed job old new before after
   pub silent : report' ≡ report
 
--- or what the words ask for came out in some way, and the put of its line failed
+-- what the words ask for came out in some way, and the put of its line failed
 pub record SaysUnreported (words : List Bytes) (old new : Disk) (before after report report' : Output) : Type 0 where
   pub outcome : Outcome
   pub comes : ComesOf words old new before after outcome
@@ -306,7 +306,7 @@ pub record SaysUnreported (words : List Bytes) (old new : Disk) (before after re
   pub line_is : outcome_line outcome ≡ Some line
   pub fails : FailsPut line report report'
 
--- only there, or where the words ask for a text, and exactly where a sink's faults rose
+-- this status comes only there, or where the words ask for a text, and exactly where a sink's faults rose
 pub record IsForWrite (words : List Bytes) (old new : Disk) (before after report report' : Output) (result : ℕ) : Type 0 where
   pub only : result ≡ WRITE
       → SaysUnprinted words old new before after report report' ⊎ (SaysUnreported words old new before after report report' ⊎ AskOnlyForText words)
@@ -319,13 +319,13 @@ pub record SaysMemory (words : List Bytes) (old new : Disk) (before after report
   pub stopped : (IsUntouched old new × (after ≡ before)) ⊎ AskFor words (λ job. HasBroken job old new before after)
   pub reported : report' ≡ with_piece memory_line report
 
--- or memory couldn't be had for a line, and the report is as it was
+-- memory couldn't be had for the line of what the words ask for, and the report is as it was
 pub record LacksLine (words : List Bytes) (old new : Disk) (before after report report' : Output) : Type 0 where
   pub outcome : Outcome
   pub comes : ComesOf words old new before after outcome
   pub silent : report' ≡ report
 
--- only there, or where the words ask for a text
+-- this status comes only there, or where the words ask for a text
 abbrev pub IsForMemory : List Bytes → Disk → Disk → Output → Output → Output → Output → ℕ → Type 0
 IsForMemory words old new before after report report' result =
     result ≡ OUT_OF_MEMORY

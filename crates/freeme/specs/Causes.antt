@@ -52,7 +52,7 @@ pub record SaysWords (words : List Bytes) (old new : Disk) (before after report 
   pub kept : new ≡ old
   pub refused : IsRefusedBy words_line before after report report'
 
--- exactly where the words ask for nothing, unless the put fails or memory can't be had
+-- this status comes exactly where the words ask for nothing, unless the put fails or memory can't be had
 abbrev pub IsForWords : List Bytes → Disk → Disk → Output → Output → Output → Output → ℕ → Type 0
 IsForWords words old new before after report report' result =
     ComesExactly WORDS (WRITE ∷ OUT_OF_MEMORY ∷ []) result (SaysWords words old new before after report report') (AskNothing words)
@@ -67,7 +67,7 @@ pub record SaysRead (words : List Bytes) (old new : Disk) (before after report r
   pub unread : IsUnread job.files file old new
   pub refused : IsRefusedBy (read_line file) before after report report'
 
--- exactly there, unless the put fails or memory can't be had
+-- this status comes exactly there, unless the put fails or memory can't be had
 abbrev pub IsForRead : List Bytes → Disk → Disk → Output → Output → Output → Output → ℕ → Type 0
 IsForRead words old new before after report report' result =
     ComesExactly READ (WRITE ∷ OUT_OF_MEMORY ∷ []) result (SaysRead words old new before after report report')
@@ -86,7 +86,7 @@ pub record SaysRefused (status : ℕ) (words : List Bytes) (old new : Disk) (bef
   pub unaccepted : IsRefusedFile job.files file refusal old new
   pub refused : IsRefusedBy (class_refusal_line file refusal) before after report report'
 
--- exactly there, unless a read or the put fails or memory can't be had
+-- this status comes exactly there, unless a read or the put fails or memory can't be had
 abbrev pub IsForBytes : ℕ → List Bytes → Disk → Disk → Output → Output → Output → Output → ℕ → Type 0
 IsForBytes status words old new before after report report' result =
     ComesExactly status (READ ∷ WRITE ∷ OUT_OF_MEMORY ∷ []) result (SaysRefused status words old new before after report report')
@@ -116,7 +116,7 @@ SaysLimit words old new before after report report' =
     SaysMany words old new before after report report'
     ⊎ (SaysLong words old new before after report report' ⊎ SaysRefused LIMIT words old new before after report report')
 
--- exactly there, unless a read or the put fails or memory can't be had; of too many files none is read
+-- this status comes exactly there, unless a read or the put fails or memory can't be had; of too many files none is read
 pub record IsForLimit (words : List Bytes) (old new : Disk) (before after report report' : Output) (result : ℕ) : Type 0 where
   pub only : result ≡ LIMIT → SaysLimit words old new before after report report'
   pub many : AskForGiven words HasTooMany → Contains (LIMIT ∷ WRITE ∷ OUT_OF_MEMORY ∷ []) result
@@ -133,7 +133,7 @@ pub record SaysLink (words : List Bytes) (old new : Disk) (before after report r
   pub unlinked : IsNotLinked (given_of job) (Some cause) old new
   pub refused : IsRefusedBy (link_line cause) before after report report'
 
--- exactly there, unless a read or the put fails or memory can't be had
+-- this status comes exactly there, unless a read or the put fails or memory can't be had
 abbrev pub IsForLink : List Bytes → Disk → Disk → Output → Output → Output → Output → ℕ → Type 0
 IsForLink words old new before after report report' result =
     ComesExactly LINK (READ ∷ WRITE ∷ OUT_OF_MEMORY ∷ []) result (SaysLink words old new before after report report')
@@ -150,7 +150,7 @@ pub record SaysCheck (words : List Bytes) (old new : Disk) (before after report 
   pub untyped : IsNotTyped (given_of job) name old new
   pub refused : IsRefusedBy (check_line name) before after report report'
 
--- exactly there, unless a read or the put fails or memory can't be had
+-- this status comes exactly there, unless a read or the put fails or memory can't be had
 abbrev pub IsForCheck : List Bytes → Disk → Disk → Output → Output → Output → Output → ℕ → Type 0
 IsForCheck words old new before after report report' result =
     ComesExactly CHECK (READ ∷ WRITE ∷ OUT_OF_MEMORY ∷ []) result (SaysCheck words old new before after report report')
@@ -196,7 +196,7 @@ pub record IsKnownAs (status : ℕ) (old : Disk) (job : FreemeJob) : Type 0 wher
   pub checked : AreChecked (given_of job) old.contents classes
   pub becomes : BecomesAs status classes (main_name job) (first_call (given_program (given_of job) classes))
 
--- exactly there, unless a read or the put fails or memory can't be had
+-- this status comes exactly there, unless a read or the put fails or memory can't be had
 abbrev pub IsForRewrite : ℕ → List Bytes → Disk → Disk → Output → Output → Output → Output → ℕ → Type 0
 IsForRewrite status words old new before after report report' result =
     ComesExactly status (READ ∷ WRITE ∷ OUT_OF_MEMORY ∷ []) result (SaysNotFreed status words old new before after report report')
@@ -215,7 +215,7 @@ pub record SaysDone (words : List Bytes) (old new : Disk) (before after report r
   pub line : after ≡ with_piece lines before
   pub unreported : report' ≡ report
 
--- only there, or where the words ask for a text; exactly where there is no cause against it, unless a read, a write or the put fails or
+-- this status comes only there, or where the words ask for a text; exactly where there is no cause against it, unless a read, a write or the put fails or
 -- memory can't be had
 abbrev pub IsForDone : List Bytes → Disk → Disk → Output → Output → Output → Output → ℕ → Type 0
 IsForDone words old new before after report report' result =
@@ -312,7 +312,7 @@ before_writes =
 abbrev pub KeepsContents : Disk → Disk → ℕ → Type 0
 KeepsContents old new result = Contains before_writes result → (new.contents ≡ old.contents) × (new.writes ≡ old.writes)
 
--- and it leaves the output as it was: only the report gets something
+-- such a refusal leaves the output as it was: only the report gets something
 abbrev pub IsSilent : Output → Output → ℕ → Type 0
 IsSilent before after result = Contains before_writes result → after ≡ before
 
