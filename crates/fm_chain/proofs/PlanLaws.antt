@@ -1,17 +1,17 @@
 -- The flags of a plan's holders are those of the holders whose sites lie in loops.
-use Rattle.std.proofs.Common.{◌≡◌, ◌⊎◌, ℕ, zero, suc, ◌+◌, ◌<◌, ◌==◌, ◌||◌, Bool, true, false, cond, List, [], ◌∷◌, length, length-set, map, set, replicate, Some, Contains, refl, inl, inr, ⊎_elim, sym, subst, ap, ◌∙◌, arith, if◌then◌else◌}
+use Rattle.std.proofs.Common.{◌≡◌, ◌⊎◌, ℕ, zero, suc, ◌+◌, ◌<◌, ◌==◌, ◌||◌, Bool, true, false, List, [], ◌∷◌, length, length-set, map, set, replicate, Some, Contains, refl, inl, inr, ⊎_elim, sym, subst, ap, ◌∙◌, arith, if◌then◌else◌}
 use Rattle.std.specs.Prelude.{slice_get}
 use Rattle.std.specs.List.{flat_map, list_any, range_with_len}
 use Rattle.std.proofs.lemmas.Bool.{eq-eqb, eqb-true, false≢true}
 use Rattle.std.proofs.lemmas.List.{length-map, length-replicate}
-use Rattle.std.proofs.lemmas.Option.{none-some, same_Some, slice_get_within}
+use Rattle.std.proofs.lemmas.Option.{same_Some, slice_get_within}
 use Rattle.fm_base.proofs.ContainsFacts.{Contains-cons_cases, Contains-flat_map}
 use Rattle.fm_base.specs.Rows.{has}
 use Rattle.fm_code.proofs.EdgesLemmas.{Contains-first, Contains-later, Contains-map}
 use Rattle.fm_code.specs.declared.code_array.Code.{Code}
 use Rattle.fm_conn.proofs.ListLemmas.{Contains-from_flat_map, Contains-range}
 use Rattle.fm_flow.proofs.RowFacts.{has-replicate, has-set_kept, has-set_only, has-set_same}
-use Rattle.fm_place.proofs.FullLemmas.{Numbered, numbers-found}
+use Rattle.fm_place.proofs.FullLemmas.{Numbered, numbers-found, numbers-from}
 use Rattle.fm_place.specs.Insertions.{after_at, Holder, Insertions, numbers_of}
 use Rattle.fm_place.specs.PlansBy.{IsPlanOf, paired}
 use Rattle.fm_place.specs.declared.plans.Plan.{Plan}
@@ -79,20 +79,6 @@ paired_found x (h ∷ hs) p found =
     ⊎_elim (λ (same : p ≡ (x, h)). (ap (λ (q : ℕ × ℕ). q.0) same, Contains-first h hs p.1 (ap (λ (q : ℕ × ℕ). q.1) same)))
     (λ later. let rest = paired_found x hs p later in (rest.0, Contains-later h hs p.1 rest.1)) (Contains-cons_cases (x, h) (map (λ h. (x, h)) hs) p found)
 
-number_listed : (test : Holder → Bool) (n : ℕ) (holders : List Holder) (place : ℕ) (h : Holder) → slice_get holders place ≡ Some h → test h ≡ true
-    → Contains (numbers_of test n holders) (n + place)
-number_listed test n [] place h there passes = absurd (none-some h there)
-number_listed test n (g ∷ holders) zero h there passes =
-    subst (λ (b : Bool). Contains (cond b (n ∷ numbers_of test (n + 1) holders) (numbers_of test (n + 1) holders)) (n + 0))
-    (sym passes ∙ ap test (sym (same_Some g h there)))
-    (Contains-first n (numbers_of test (n + 1) holders) (n + 0) (omega arith))
-number_listed test n (g ∷ holders) (suc place) h there passes =
-    by_test (test g) (subst (Contains (numbers_of test (n + 1) holders)) (omega arith) (number_listed test (n + 1) holders place h there passes)) where
-      by_test : (b : Bool) → Contains (numbers_of test (n + 1) holders) (n + suc place)
-          → Contains (cond b (n ∷ numbers_of test (n + 1) holders) (numbers_of test (n + 1) holders)) (n + suc place)
-      by_test true rest = Contains-later n (numbers_of test (n + 1) holders) (n + suc place) rest
-      by_test false rest = rest
-
 row_is : (row : List Bool) (holders : List Holder) (f : Holder → Bool) → length row ≡ length holders
     → ((n : ℕ) (h : Holder) → slice_get holders n ≡ Some h → has row n ≡ f h) → row ≡ map f holders
 row_is [] [] f size same = refl
@@ -132,7 +118,7 @@ module _ (code : Code) (ins : Insertions) where
         (Contains-range 0 items h.site (omega arith) (let few = inside n h at in omega (arith, few)))
         (Contains-map (λ (k : ℕ). (h.site, k)) (after_at ins h.site) n
         (subst (Contains (after_at ins h.site)) (omega arith)
-        (number_listed (λ (g : Holder). g.site == h.site) 0 ins.holders n h at (eq-eqb h.site h.site refl)))))
+        (numbers-from (λ (g : Holder). g.site == h.site) 0 ins.holders n h at (eq-eqb h.site h.site refl)))))
         (omega (arith, within, length-replicate (length ins.holders) false)) looped
 
     found_flag : (n : ℕ) (h : Holder) → slice_get ins.holders n ≡ Some h → has flags n ≡ true → is_looped code h.site ≡ true

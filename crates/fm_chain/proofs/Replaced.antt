@@ -19,7 +19,7 @@ use Rattle.fm_layout.specs.Rooms.{rooms_of, widened_rooms}
 use Rattle.fm_layout.specs.Tables.{AreAnchors}
 use Rattle.fm_layout.specs.declared.laying.TheConstants.{MAX_NEW_ITEMS}
 use Rattle.fm_layout.specs.declared.new_items.NewItem.{NewItem}
-use Rattle.fm_place.proofs.WovenLemmas.{targets-of-with}
+use Rattle.fm_place.proofs.WovenLemmas.{all-map, same-but-targets, targets-of-with}
 use Rattle.fm_place.specs.Woven.{kept}
 
 -- what is inserted at items, by their numbers
@@ -131,20 +131,6 @@ numbers_are_anchors code started anchors ahead behind count counted =
 
 -- ---- each item
 
-all_zero : (f : ℕ → ℕ) (targets : List ℕ) → map (λ (t : ℕ). zero) (map f targets) ≡ map (λ (t : ℕ). zero) targets
-all_zero f [] = refl
-all_zero f (t ∷ targets) = ap (λ ts. zero ∷ ts) (all_zero f targets)
-
-same_but_targets : (f : ℕ → ℕ) (i : Insn) → IsSameButTargets (with_targets f i) i
-same_but_targets f (insn.IfInt t n) = refl
-same_but_targets f (insn.IfPair t n) = refl
-same_but_targets f (insn.IfSame t n) = refl
-same_but_targets f (insn.IfNull t n) = refl
-same_but_targets f (insn.Goto n) = refl
-same_but_targets f (insn.Table low others targets) = ap (λ ts. insn.Table low zero ts) (all_zero f targets)
-same_but_targets f (insn.Lookup others keys targets) = ap (λ ts. insn.Lookup zero keys ts) (all_zero f targets)
-same_but_targets f i = refl
-
 -- what holds of what is inserted, and of each kept item, holds of all
 all_replaced : (P : NewItem → Type 0) (anchors : List ℕ) (ahead behind : Inserts) (Q : ℕ → Item → Type 0)
     → ((j : ℕ) → AllByRecursion P (ahead j)) → ((j : ℕ) → AllByRecursion P (behind j)) → ((j : ℕ) (item : Item) → Q j item → P (kept anchors j item.insn))
@@ -183,10 +169,6 @@ in_turn anchors ahead behind before after j (item ∷ items) =
 
 -- ---- together
 
-all_map : (P Q : ℕ → Type 0) (f : ℕ → ℕ) (xs : List ℕ) → ((x : ℕ) → Q x → P (f x)) → AllByRecursion Q xs → AllByRecursion P (map f xs)
-all_map P Q f [] each all = tt
-all_map P Q f (x ∷ xs) each (first, rest) = (each x first, all_map P Q f xs each rest)
-
 -- what is inserted is, and goes nowhere
 pub record MayBeInserted (old : List Item) (items : List NewItem) : Type 0 where
   pub origin : AllByRecursion (HasOrigin old) items
@@ -216,12 +198,12 @@ module _ (code : Code) (started : List NewItem) (ahead behind : Inserts) (count 
   keeps : (j : ℕ) (item : Item) → slice_get code.items j ≡ Some item → HasOrigin code.items (kept numbers j item.insn)
   keeps j item is =
       subst (λ o. IsSomeAnd o (λ (old : Item). IsSameButTargets (with_targets (slice_index numbers) item.insn) old.insn)) (sym is)
-      (same_but_targets (slice_index numbers) item.insn)
+      (same-but-targets (slice_index numbers) item.insn)
 
   named : (j : ℕ) (item : Item) → ItemIsSpelled code.items item → Named (kept numbers j item.insn)
   named j item spelled =
       subst (AllByRecursion (λ target. target < length all)) (sym (targets-of-with (slice_index numbers) item.insn))
-      (all_map (λ t. t < length all) (λ t. t < length code.items) (slice_index numbers) (targets_of item.insn) reaches spelled.targets)
+      (all-map (λ t. t < length all) (λ t. t < length code.items) (slice_index numbers) (targets_of item.insn) reaches spelled.targets)
 
   pub replaced_is_laid_out : AreOldItems code.items → MayBeInserted code.items started → ((j : ℕ) → MayBeInserted code.items (ahead j))
       → ((j : ℕ) → MayBeInserted code.items (behind j)) → length all < MAX_NEW_ITEMS → AreNewItems code.items all

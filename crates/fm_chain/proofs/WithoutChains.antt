@@ -1,8 +1,8 @@
 -- Where no holder holds a chain, what is written is what is written without chains; and all that can be inserted is safe.
-use Rattle.std.proofs.Common.{◌≡◌, ℕ, zero, suc, ◌+◌, ◌*◌, ◌||◌, ◌++◌, Bool, true, false, cond, List, [], ◌∷◌, length, map, replicate, Option, Some, None, refl, sym, ap, ◌∙◌, arith}
+use Rattle.std.proofs.Common.{◌≡◌, ℕ, zero, suc, ◌+◌, ◌*◌, ◌||◌, ◌++◌, Bool, true, false, cond, List, [], ◌∷◌, length, map, replicate, Option, Some, None, refl, ap, ◌∙◌, arith}
 use Rattle.std.specs.Prelude.{slice_get}
 use Rattle.std.specs.List.{flat_map, list_any, range_with_len, sum}
-use Rattle.std.proofs.lemmas.Bool.{false≢true}
+use Rattle.fm_base.proofs.TestFacts.{or_left_fails, or_right_fails}
 use Rattle.fm_code.specs.FreeEntries.{with_free}
 use Rattle.fm_code.specs.Members.{code_of}
 use Rattle.fm_code.specs.declared.class_file.ClassDef.{ClassDef}
@@ -21,7 +21,7 @@ use Rattle.fm_place.specs.Insertions.{after_at, before_at, Holder, Insertions}
 use Rattle.fm_place.specs.Rewriting.{changes, first_given, free_index, Plans, rewritten_attribute, rewritten_class, rewritten_from, rewritten_major, rewritten_method, rewritten_methods}
 use Rattle.fm_place.specs.Rewriting as plain
 use Rattle.fm_place.specs.Safe.{full_plans}
-use Rattle.fm_place.specs.Woven.{freed_items, kept, local_of, null_stored, null_stored_items, top_stored_items, woven, woven_from, woven_item, woven_marks}
+use Rattle.fm_place.specs.Woven.{freed_items, kept, local_of, null_stored, null_stored_items, top_stored_items, woven, woven_from, woven_item}
 use Rattle.fm_place.specs.Woven as woven_specs
 use Rattle.fm_world.specs.Programs.{program_of}
 use Rattle.fm_chain.specs.Chained.{added_words, anchors_from, anchors_of, chained, chained_item, chained_items, count_at, has_chain, holds_chain, looped_at, released, taken, taken_items}
@@ -31,19 +31,11 @@ use Rattle.fm_chain.specs.declared.calls.Calls.{Calls}
 
 -- ---- holders
 
-none_left : (b c : Bool) → (b || c) ≡ false → b ≡ false
-none_left false c none = refl
-none_left true c none = absurd (false≢true (sym none))
-
-none_right : (b c : Bool) → (b || c) ≡ false → c ≡ false
-none_right false c none = none
-none_right true c none = absurd (false≢true (sym none))
-
 none_in : (holders : List Holder) (number : ℕ) → list_any (λ (h : Holder). h.looped) holders ≡ false → holds_chain (slice_get holders number) ≡ false
 none_in [] zero none = refl
 none_in [] (suc number) none = refl
-none_in (h ∷ holders) zero none = none_left h.looped (list_any (λ (g : Holder). g.looped) holders) none
-none_in (h ∷ holders) (suc number) none = none_in holders number (none_right h.looped (list_any (λ (g : Holder). g.looped) holders) none)
+none_in (h ∷ holders) zero none = or_left_fails h.looped (list_any (λ (g : Holder). g.looped) holders) none
+none_in (h ∷ holders) (suc number) none = none_in holders number (or_right_fails h.looped (list_any (λ (g : Holder). g.looped) holders) none)
 
 -- ---- one code
 
@@ -117,14 +109,8 @@ method_same : (calls : Calls) (plan : Option Insertions) → plan_has_chain plan
 method_same calls None none m = refl
 method_same calls (Some plan) none m = λ k. record m { attributes = map (λ a. attribute_same calls plan none a k) m.attributes }
 
--- the marks of a method that is written without chains
-abbrev plain_marks : (free : ℕ) → Option Code → Option Insertions → List (Option ℕ)
-plain_marks free None plan = []
-plain_marks free (Some code) None = map (λ j. Some j) (range_with_len 0 (length code.items))
-plain_marks free (Some code) (Some plan) = woven_marks free code plan
-
 marks_in_same : (calls : Calls) (code : Option Code) (plan : Option Insertions) → plan_has_chain plan ≡ false
-    → marks_in calls code plan ≡ plain_marks calls.free code plan
+    → marks_in calls code plan ≡ plain.marks_in calls.free code plan
 marks_in_same calls None plan none = refl
 marks_in_same calls (Some code) None none = refl
 marks_in_same calls (Some code) (Some plan) none = (code_same calls code plan none).marks_are

@@ -16,6 +16,7 @@ use Rattle.fm_fast.specs.Packed.{ArePacked, IsPacked, elem_pack}
 use Rattle.fm_frames.specs.ArrayRows.{element_kind}
 use Rattle.fm_frames.specs.Elements.{is_text_type, pack_of, pack_of_base}
 use Rattle.fm_frames.specs.States.{State}
+use Rattle.fm_law_sound.proofs.InsnActs.{depth_deep}
 use Rattle.fm_law_sound.proofs.NestedArrays.{array_is_no_text}
 use Rattle.fm_types.specs.ArrayRows.{has_letter, is_array_of}
 use Rattle.fm_types.specs.Fits.{depth_of, depth_with}
@@ -84,10 +85,6 @@ number-pack o t e is =
     let parts = and_parts (t.dims == 1) (has_letter e t.base) is in
     ap (λ one. packing one (is_text_type o t) t.base) parts.0 ∙ letter-pack e t.base parts.1
 
-deep-some : (dims : ℕ) (b : Base) → 0 < depth_with dims b → 0 < dims
-deep-some dims (base.OfClass class) deep = deep
-deep-some dims b deep = omega (arith, deep)
-
 class-pack : (one text : Bool) (class : ClassId) → text ≡ false → packing one text (base.OfClass class) ≡ 1
 class-pack true text class none = refl
 class-pack false text class none = ap (λ b. if b then 4 else 1) none
@@ -100,7 +97,7 @@ deep-pack dims b text deep none =
 pub array-pack : (o : Outline) (t : TypeRef) (e : Elem) → is_array_of e t ≡ true → pack_of o t ≡ elem_pack e
 array-pack o t elem.Ref is =
     let deep = ltb-true 0 (depth_of t) is in
-    deep-pack t.dims t.base (is_text_type o t) deep (array_is_no_text o t (deep-some t.dims t.base deep))
+    deep-pack t.dims t.base (is_text_type o t) deep (array_is_no_text o t (depth_deep t.dims t.base deep))
 array-pack o t elem.Boolean is = number-pack o t elem.Boolean is
 array-pack o t elem.Byte is = number-pack o t elem.Byte is
 array-pack o t elem.Char is = number-pack o t elem.Char is

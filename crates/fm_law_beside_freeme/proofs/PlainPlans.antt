@@ -19,13 +19,12 @@ use Rattle.fm_layout.specs.Laid.{laid_length, laid_of, marks_of, refused_length}
 use Rattle.fm_layout.specs.Tables.{moved_tables}
 use Rattle.fm_layout.specs.declared.new_items.NewItem.{NewItem}
 use Rattle.fm_place.specs.Insertions.{after_at, before_at, Holder, Insertions, numbers_of}
-use Rattle.fm_place.specs.Rewriting.{changes, first_given, free_count, free_index, frees_in, marks_from, marks_of_methods, marks_with, method_marks, Plans, rewritten, rewritten_attribute, rewritten_class, rewritten_from, rewritten_major, rewritten_method, rewritten_methods, site_count, sites_in}
+use Rattle.fm_place.specs.Rewriting.{changes, first_given, free_count, free_index, frees_in, marks_from, marks_in, marks_of_methods, marks_with, method_marks, Plans, rewritten, rewritten_attribute, rewritten_class, rewritten_from, rewritten_major, rewritten_method, rewritten_methods, site_count, sites_in}
 use Rattle.fm_place.specs.Woven.{anchors_from, anchors_of, count_at, freed, freed_items, kept, local_of, null_stored, null_stored_items, top_stored, top_stored_items, woven, woven_code, woven_from, woven_item}
 use Rattle.fm_rewrite.specs.Rewritten.{counts_from, counts_of, first_cause, full_from, full_pool, long_among, long_code, long_from, long_method, max_pool_indices, method_too_long, pool_full}
 use Rattle.fm_rewrite.specs.declared.counts.Count.{Count}
 use Rattle.fm_law_beside_freeme.specs.Exact.{ServeAlike}
 use Rattle.fm_world.specs.BuiltIns.{built_in}
-use Rattle.fm_law_retyped.proofs.WrittenMethods.{marks_in}
 use Rattle.fm_place_weave.proofs.ClassLawLemmas.{by_change}
 
 -- ---- plans without the numbers of classes

@@ -1,6 +1,6 @@
 -- After a site its object is on top, by a type; and where no local holds a copy of the object whose
 -- constructor is called nothing but the stack has changed.
-use Rattle.std.proofs.Common.{◌≡◌, refl, ap, sym, subst, ◌∙◌, ℕ, zero, suc, ◌+◌, ◌-◌, ◌&&◌, Bool, true, false, not, cond, List, [], ◌∷◌, ◌++◌, length, length-append, reverse, replicate, Option, Some, None, is_some, option_and_then, option_map, slice_get, append_assoc, arith}
+use Rattle.std.proofs.Common.{◌≡◌, refl, ap, sym, subst, ◌∙◌, ℕ, suc, ◌+◌, ◌-◌, ◌&&◌, Bool, true, false, not, cond, List, [], ◌∷◌, ◌++◌, length, length-append, reverse, replicate, Option, Some, None, is_some, option_and_then, option_map, slice_get, append_assoc, arith}
 use Rattle.std.specs.Prelude.{nat_le, nat_lt, option_to_list}
 use Rattle.std.specs.List.{list_any}
 use Rattle.std.proofs.lemmas.Bool.{false≢true}

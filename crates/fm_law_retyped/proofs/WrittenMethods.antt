@@ -1,6 +1,6 @@
 -- A method that has code is one of a given class, and has its new code among the methods of the written class.
 use Rattle.std.proofs.Common.{◌≡◌, refl, sym, ◌∙◌, ap, ℕ, zero, suc, ◌+◌, ◌-◌, ◌<◌, ◌≤◌, ◌⊎◌, inl, inr, List, [], ◌∷◌, ◌++◌, length, map, replicate, get_or, Option, Some, None, Contains, slice_get, arith}
-use Rattle.std.specs.List.{flat_map, range_with_len, slice_index_or}
+use Rattle.std.specs.List.{flat_map, slice_index_or}
 use Rattle.std.proofs.lemmas.Bool.{cases_lt}
 use Rattle.std.proofs.lemmas.List.{get_or-append-add, get_or-replicate, get_or_append_left, length-map, length-replicate}
 use Rattle.std.proofs.lemmas.Option.{none-some}
@@ -11,9 +11,7 @@ use Rattle.fm_code.specs.Members.{code_of}
 use Rattle.fm_code.specs.declared.class_file.ClassDef.{ClassDef}
 use Rattle.fm_code.specs.declared.class_file.Member.{Member}
 use Rattle.fm_code.specs.declared.code_array.Code.{Code}
-use Rattle.fm_place.specs.Insertions.{Insertions}
-use Rattle.fm_place.specs.Rewriting.{first_given, free_index, marks_from, marks_of_methods, marks_with, Plans, rewritten, rewritten_class, rewritten_from}
-use Rattle.fm_place.specs.Woven.{woven_marks}
+use Rattle.fm_place.specs.Rewriting.{first_given, free_index, marks_from, marks_in, marks_of_methods, marks_with, Plans, rewritten, rewritten_class, rewritten_from}
 use Rattle.fm_law_linked.proofs.Rows.{all_methods}
 use Rattle.fm_types.specs.Named.{class_of_method}
 use Rattle.fm_world.proofs.OwnedMethods.{no_owned}
@@ -38,12 +36,6 @@ member_there (m ∷ members) zero within = record { member = m; among = Contains
 member_there (m ∷ members) (suc i) within =
     let rest = member_there members i (omega (arith, within)) in
     record { member = rest.member; among = Contains-later m members rest.member rest.among; code_is = rest.code_is }
-
--- the marks of a method by its code
-abbrev pub marks_in : (free : ℕ) → Option Code → Option Insertions → List (Option ℕ)
-marks_in free None plan = []
-marks_in free (Some code) None = map (λ j. Some j) (range_with_len 0 (length code.items))
-marks_in free (Some code) (Some plan) = woven_marks free code plan
 
 methods_marks : (plans : Plans) (free first : ℕ) (methods : List Member) (i : ℕ)
     → get_or (marks_of_methods plans free first methods) i [] ≡ marks_in free (get_or (map code_of methods) i None) (plans (first + i))

@@ -25,7 +25,7 @@ use Rattle.fm_law_relinked.proofs.FreeUse.{ClassTypesAreNumbered, has_free, type
 use Rattle.fm_law_relinked.specs.Codes.{code_with}
 use Rattle.fm_law_retyped.proofs.KeptRows.{same_row}
 use Rattle.fm_law_retyped.proofs.SafeMethods.{safe_can}
-use Rattle.fm_law_retyped.proofs.WrittenMethods.{HasMember, IsWritten, marks_in, written_method}
+use Rattle.fm_law_retyped.proofs.WrittenMethods.{HasMember, IsWritten, written_method}
 use Rattle.fm_law_retyped.proofs.WrittenUses.{free_use, freed_use, handler_use, insn_use, outlines_same, program_outline, used_by_item}
 use Rattle.fm_law_same_runs.specs.Beside.{Marks}
 use Rattle.fm_law_unwoven.proofs.LaidTodos.{laid}
@@ -36,7 +36,7 @@ use Rattle.fm_law_woven_flow.specs.Roles.{CanStand, IsOpposite, IsRetargeted}
 use Rattle.fm_layout.specs.Spelling.{conditional, opposite}
 use Rattle.fm_link_supers.proofs.ParentRefusals.{spelled_at}
 use Rattle.fm_place.specs.Insertions.{Insertions}
-use Rattle.fm_place.specs.Rewriting.{free_index, marks_with, Plans, rewritten, rewritten_class}
+use Rattle.fm_place.specs.Rewriting.{free_index, marks_in, marks_with, Plans, rewritten, rewritten_class}
 use Rattle.fm_place.specs.Safe.{AreSafe, method_in_facts, Safe}
 use Rattle.fm_place.specs.Woven.{woven_code, woven_marks}
 use Rattle.fm_same.specs.Resolved.{IsResolved}

@@ -111,7 +111,7 @@ numbers-later test n g holders k later =
       | false ↦ later
     ]
 
-numbers-from : (test : Holder → Bool) (n : ℕ) (holders : List Holder) (place : ℕ) (h : Holder) → slice_get holders place ≡ Some h → test h ≡ true
+pub numbers-from : (test : Holder → Bool) (n : ℕ) (holders : List Holder) (place : ℕ) (h : Holder) → slice_get holders place ≡ Some h → test h ≡ true
     → Contains (numbers_of test n holders) (n + place)
 numbers-from test n [] place h there passes = absurd (none-some h there)
 numbers-from test n (g ∷ holders) zero h there passes =

@@ -122,7 +122,7 @@ all-zero : (f : ℕ → ℕ) (targets : List ℕ) → map (λ (t : ℕ). zero) (
 all-zero f [] = refl
 all-zero f (t ∷ targets) = ap (λ ts. zero ∷ ts) (all-zero f targets)
 
-same-but-targets : (f : ℕ → ℕ) (i : Insn) → IsSameButTargets (with_targets f i) i
+pub same-but-targets : (f : ℕ → ℕ) (i : Insn) → IsSameButTargets (with_targets f i) i
 same-but-targets f (insn.IfInt t n) = refl
 same-but-targets f (insn.IfPair t n) = refl
 same-but-targets f (insn.IfSame t n) = refl
@@ -206,7 +206,7 @@ after-inside plan j h found =
     let inside = slice_get_within plan.holders was.place was.holder was.there in
     omega (arith, inside, was.number)
 
-all-map : (P Q : ℕ → Type 0) (f : ℕ → ℕ) (xs : List ℕ) → ((x : ℕ) → Q x → P (f x)) → AllByRecursion Q xs → AllByRecursion P (map f xs)
+pub all-map : (P Q : ℕ → Type 0) (f : ℕ → ℕ) (xs : List ℕ) → ((x : ℕ) → Q x → P (f x)) → AllByRecursion Q xs → AllByRecursion P (map f xs)
 all-map P Q f [] each all = tt
 all-map P Q f (x ∷ xs) each (first, rest) = (each x first, all-map P Q f xs each rest)
 

@@ -75,13 +75,15 @@ rewritten plans given = rewritten_from plans first_given given
 
 -- ---- marks
 
--- of each item of a method's new code, which old item it is; none of a method without code
+-- of each item of new code, which old item it is; none where there is no code
+abbrev pub marks_in : (free : ℕ) → Option Code → Option Insertions → List (Option ℕ)
+marks_in free None plan = []
+marks_in free (Some code) None = map (λ j. Some j) (range_with_len 0 (length code.items))
+marks_in free (Some code) (Some plan) = woven_marks free code plan
+
+-- the marks of a method
 abbrev pub method_marks : (free : ℕ) → Option Insertions → Member → List (Option ℕ)
-method_marks free plan m = of_code (code_of m) plan where
-  of_code : Option Code → Option Insertions → List (Option ℕ)
-  of_code None plan = []
-  of_code (Some code) None = map (λ j. Some j) (range_with_len 0 (length code.items))
-  of_code (Some code) (Some plan) = woven_marks free code plan
+method_marks free plan m = marks_in free (code_of m) plan
 
 -- the marks of the methods of a class, whose first one has this number
 abbrev pub marks_of_methods : Plans → (free first : ℕ) → List Member → List (List (Option ℕ))
