@@ -2,7 +2,7 @@
 
 A class file names what is in its constant pool: classes (JVMS 4.4.1), and those in the descriptors of its fields, methods and calls. A class file that
 completes a built-in class (lib/completes) goes with a program only where a member that it declares is named, or the program itself names an interface
-that it lists.
+that it lists; that of Class also where the program itself has a class literal or calls getClass, since what prints an object calls its toString.
 
     scripts/class_library.py FOLDER    takes the members of built-in classes out of the class files of lib/completes in the folder
 """
@@ -12,6 +12,8 @@ import struct
 import sys
 from functools import cache
 from pathlib import Path
+
+from mutated_classes import BYTES
 
 LIBRARY = Path(__file__).resolve().parent.parent / "lib"
 CLASSES = LIBRARY / "classes"
@@ -27,6 +29,8 @@ LENGTHS = {
     INVOKE_DYNAMIC: 4,
 }
 MAGIC, POOL_AT = 0xCAFEBABE, 10
+LDC, LDC_W, IINC, TABLESWITCH, LOOKUPSWITCH, WIDE = 18, 19, 132, 170, 171, 196
+OF_LITERALS, GET_CLASS = "java/lang/Class", (None, "getClass", "()Ljava/lang/Class;")
 
 
 def read_pool(data):
@@ -143,6 +147,57 @@ def names_in(file):
     return found.union(*(re.findall(r"L([^;]+);", text) for text in types))
 
 
+def length_at(code, at):
+    """How many bytes the instruction at a place of a code array has (JVMS 6.5)."""
+    padded = 4 - at % 4
+    if code[at] == TABLESWITCH:
+        low, high = struct.unpack_from(">2i", code, at + padded + 4)
+        return padded + 12 + 4 * max(0, high - low + 1)
+    if code[at] == LOOKUPSWITCH:
+        return padded + 8 + 8 * max(0, struct.unpack_from(">i", code, at + padded + 4)[0])
+    if code[at] == WIDE:
+        return 6 if code[at + 1] == IINC else 4
+    return BYTES[code[at]]
+
+
+def constants_loaded(code):
+    """The indices that the ldc and ldc_w of a code array name."""
+    at = 0
+    while at < len(code):
+        if code[at] == LDC:
+            yield code[at + 1]
+        elif code[at] == LDC_W:
+            yield struct.unpack_from(">H", code, at + 1)[0]
+        at += length_at(code, at)
+
+
+def codes_of(data):
+    """The code arrays of a class file (JVMS 4.7.3)."""
+    pool, end = read_pool(data)
+    texts = texts_of(pool)
+    _, (_, methods) = members_of(data, end)
+    for begin, _ in methods:
+        at = begin + 8
+        for _ in range(struct.unpack_from(">H", data, begin + 6)[0]):
+            name, length = struct.unpack_from(">HI", data, at)
+            if texts[name] == "Code":
+                yield data[at + 14 : at + 14 + struct.unpack_from(">I", data, at + 10)[0]]
+            at += 6 + length
+
+
+@cache
+def has_literals(file):
+    """Whether a class file has class literals, or calls getClass; not where it isn't one or can't be read."""
+    if GET_CLASS in members_named(file):
+        return True
+    try:
+        data = file.read_bytes()
+        pool, _ = read_pool(data)
+        return any(pool[index][0] == CLASS for code in codes_of(data) for index in constants_loaded(code))
+    except (OSError, struct.error, IndexError, KeyError):
+        return False
+
+
 def own_name(file):
     """The name of the class of a class file, or none where it isn't one or can't be read."""
     try:
@@ -160,6 +215,8 @@ def needed(files):
     waiting = {name: completed_by(name) for name in COMPLETING if name not in given}
     own = set().union(*map(names_in, files))
     names, members = set(), set()
+    if any(map(has_literals, files)) and waiting.pop(OF_LITERALS, None):
+        names.add(OF_LITERALS)
     while fresh:
         file = fresh.pop()
         names |= names_in(file)

@@ -41,5 +41,6 @@ public class Main {
             shape.print();
         }
         System.out.println(shapes.contains(new Box()) + " " + (shapes.get(0).getClass() == Square.class));
+        System.out.println(shapes.get(1).getClass() + ", " + int[].class);
     }
 }
