@@ -18,7 +18,6 @@ use Rattle.fm_frames.proofs.Failures.{Failures}
 use Rattle.fm_frames.proofs.UsualAsks.{each_native}
 use Rattle.fm_frames.specs.ArrayRows as arrays
 use Rattle.fm_frames.specs.ArrayRows.{on_element, put_element, put_reference}
-use Rattle.fm_frames.specs.CallRows as calls
 use Rattle.fm_frames.specs.CallRows.{entered_as, native_of, words_of_arguments}
 use Rattle.fm_frames.specs.Effects.{Calls, Effect, Enters as EntersMethods, going, int_word, loaded, Make, making, Next, OfPlace, words}
 use Rattle.fm_frames.specs.JumpRows as jumps

@@ -6,3 +6,4 @@ mod Goes
 mod Steps
 mod Openings
 mod Narrowed
+mod Within

@@ -104,7 +104,7 @@ module _ (p : Program) (ready : IsReady p) (methods made : List Bool) (closed : 
   main_started choose started x cells =
       opened_by p choose (start_actions o (to_start o started o.main_class)) (record x { areas = with_streams x.areas cells }) cells (last_frames started cells)
 
-  opening_in : (choose : Choose) (job : Job) (budget : ℕ) (limit : Option ℕ) (free : List (List ℕ)) → R (opening p choose job (opened budget limit free)).state
+  pub opening_in : (choose : Choose) (job : Job) (budget : ℕ) (limit : Option ℕ) (free : List (List ℕ)) → R (opening p choose job (opened budget limit free)).state
   unfolding opening
   opening_in choose job budget limit free =
       let store : Store = opened budget limit free in

@@ -12,7 +12,6 @@ use Rattle.fm_code.proofs.EdgesLemmas.{Contains-from_filter}
 use Rattle.fm_code.specs.Edges.{insn_of}
 use Rattle.fm_code.specs.declared.code_array.Code.{Code}
 use Rattle.fm_code.specs.declared.instructions.Insn.{Insn}
-use Rattle.fm_code.specs.declared.instructions.Insn.TheVariants as insn
 use Rattle.fm_conn.specs.Shapes.{method_with}
 use Rattle.fm_frames.proofs.StepCounts.{step_is, stepped}
 use Rattle.fm_frames.specs.Acts.{Choose, Did, FullAt, LostAt, performed, Performed, Sources, value_of}
@@ -53,7 +52,6 @@ use Rattle.fm_world.specs.Members.{start_of}
 use Rattle.fm_world.specs.Programs.{Outline, Program, targets}
 use Rattle.fm_world.specs.declared.calls.Call.{Call}
 use Rattle.fm_world.specs.declared.uses.Use.{Use}
-use Rattle.fm_world.specs.declared.uses.Use.TheVariants as resolved
 
 -- ---- what comes next
 

@@ -7,7 +7,7 @@ use Rattle.fm_frames.specs.Acts.{Choose}
 use Rattle.fm_frames.specs.Runs.{after, Job, opening}
 use Rattle.fm_frames.specs.States.{State}
 use Rattle.fm_frames.specs.Steps.{cost, step}
-use Rattle.fm_law_reached.specs.Reached.{HoldsMade, IsInReach}
+use Rattle.fm_law_reached.specs.Reached.{HasClosedSets, HoldsMade, IsInReach, IsReached}
 use Rattle.fm_law_sound.specs.Laws.{MakesFewBefore}
 use Rattle.fm_law_sound.specs.Making.{ArgumentsFit, MakesAreResolved}
 use Rattle.fm_law_sound.specs.Resolved.{MainIsReady, StepsAreResolved}
@@ -43,6 +43,24 @@ RunsStayInReach =
     → (choose : Choose) (job : Job) → ArgumentsFit job.arguments → (budget : ℕ) (limit : Option ℕ) (free : List (List ℕ)) (k : ℕ)
     → MakesFewBefore p (lawful choose) job (opened budget limit free) k
     → IsInReach p.outline methods made (after p (lawful choose) k (opening p (lawful choose) job (opened budget limit free))).state
+
+-- ---- programs that may be narrowed
+
+-- Where a sound state is within the sets to which the program is narrowed, if it is, the method that a call leads to is among the targets;
+abbrev pub ReachedStatesCover : Type 0
+ReachedStatesCover = (p : Program) → IsResolved p → (facts : Facts) (x : State) → IsSoundBy p facts.typing x → IsReached p x → Covers p facts x
+
+-- each step stays so,
+abbrev pub ReachedStatesStep : Type 0
+ReachedStatesStep =
+    (p : Program) (typings : Typings) → IsReady p → (choose : Choose) (x : State) → IsSoundBy p typings x → IsReached p x
+    → IsReached p (step p choose x).state
+
+-- and so is the opening.
+abbrev pub OpeningsAreReached : Type 0
+OpeningsAreReached =
+    (p : Program) → IsReady p → HasClosedSets p → (choose : Choose) (job : Job) (budget : ℕ) (limit : Option ℕ) (free : List (List ℕ))
+    → IsReached p (opening p choose job (opened budget limit free)).state
 
 -- ---- narrowed programs
 

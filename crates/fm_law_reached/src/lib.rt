@@ -6,4 +6,4 @@
 
 mod laws;
 
-pub use laws::{law_covered, law_narrowed, law_reached};
+pub use laws::{law_covered, law_narrowed, law_reached, law_within};
