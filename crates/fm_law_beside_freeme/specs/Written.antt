@@ -1,4 +1,5 @@
--- The classes written are accepted again, where no local holds a copy of an object that is held while its constructor is called.
+-- The classes written are accepted again, where no local holds a copy of an object that is held while its constructor is called and a handler's
+-- range ends right behind that call.
 use Rattle.std.specs.Prelude.{◌≡◌, ℕ, List, [], Option, Some, None}
 use Rattle.std.specs.List.{AllByRecursion}
 use Rattle.fm_code.specs.Spells.{HasSpelling}

@@ -12,7 +12,7 @@ pub fn law_lengths()
 {}
 
 /// So are files that hold the classes written, where no local holds a copy of an object that is held while
-/// its constructor is called.
+/// its constructor is called and a handler's range ends right behind that call.
 pub fn law_written()
     ensures { WrittenHaveLengthsAlone }
 {

@@ -1,6 +1,6 @@
 -- Typed code with insertions is typed: the states written out, by what each item is for, are a
 -- typing of it.
-use Rattle.std.proofs.Common.{◌≡◌, refl, sym, ◌∙◌, ap, subst, ℕ, zero, suc, ◌+◌, ◌<◌, ◌≤◌, ◌==◌, ◌⊎◌, ◌↔◌, inl, inr, true, cond, List, [], ◌∷◌, ◌++◌, length, length-append, map, replicate, Option, Some, None, is_some, option_and_then, option_map, IsSomeAnd, Contains, arith}
+use Rattle.std.proofs.Common.{◌≡◌, refl, sym, ◌∙◌, ap, subst, ℕ, zero, suc, ◌+◌, ◌<◌, ◌≤◌, ◌==◌, ◌⊎◌, ◌↔◌, inl, inr, true, cond, List, [], ◌∷◌, ◌++◌, length, length-append, map, replicate, Option, Some, None, is_some, option_and_then, option_map, IsSomeAnd, Contains, ⊎_elim, arith}
 use Rattle.std.specs.Prelude.{slice_get}
 use Rattle.std.specs.List.{AllByRecursion}
 use Rattle.std.proofs.lemmas.Bool.{false≢true}
@@ -15,13 +15,17 @@ use Rattle.fm_code.specs.declared.code_array.Handler.{Handler}
 use Rattle.fm_code.specs.declared.instructions.Insn.{Insn}
 use Rattle.fm_law_relinked.proofs.RowSteps.{whole_with}
 use Rattle.fm_law_relinked.specs.Rows.{slot_with}
+use Rattle.fm_check_walk.proofs.MergingLemmas.{fits-from, fits-parts, state-trans}
 use Rattle.fm_law_woven_flow.proofs.LaidItems.{falls-conditional}
 use Rattle.fm_law_woven_flow.specs.Roles.{DupAfter, FallsAt, Follows, FreeBefore, HasHolder, HasInsn, IsBranch, IsEntry, IsOwnerReached, JumpOf, Keep, LoadBefore, NullBefore, owner, Role, StartNull, StartStore, StoreAfter, StoreBefore}
 use Rattle.fm_place.specs.Insertions.{after_at}
 use Rattle.fm_law_retyped.proofs.KeptRows.{branch_keeps, KeepsLocals}
-use Rattle.fm_law_retyped.proofs.RoleRows.{after_small, after_whole, dup_after, entered, entry_count, Fits, free_before, Goes, held_at, held_type, jump_of, keep, load_before, null_before, Old, old_at, old_state, start_null, start_store, state_after_is, store_after, store_before}
-use Rattle.fm_law_retyped.proofs.RoleStates.{begun, CanRetype, held_slot, held_slots, kept_state, Retyping, role_state, role_states, start_state, state_after}
+use Rattle.fm_law_retyped.proofs.RoleRows.{after_small, after_whole, dup_after, entered, entry_count, Fits, free_before, Goes, held_at, held_type, jump_of, keep, load_before, next_old, null_before, Old, old_at, old_state, start_null, start_store, state_after_is, store_after, store_before}
+use Rattle.fm_law_retyped.proofs.RoleStates.{AllGoOn, begun, CanRetype, held_slot, held_slots, kept_state, Retyping, role_state, role_states, start_state, state_after}
 use Rattle.fm_law_retyped.proofs.SlotLists.{begun_count, begun_none, entry_more, held_count}
+use Rattle.fm_types.proofs.Order.{fits-refl}
+use Rattle.fm_types.proofs.StateOrder.{Fitting}
+use Rattle.fm_types.proofs.Zips.{zip-refl}
 use Rattle.fm_types.specs.Fits.{fits_type}
 use Rattle.fm_types.specs.Named.{throwable_type}
 use Rattle.fm_types.specs.Rows.{row_after}
@@ -95,15 +99,59 @@ module _ (w : Retyping) (f : CanRetype w) where
       (h : Handler) → Contains w.code.handlers h → IsSomeAnd (owner r) (λ j. Catches j h.handler h)
       → IsSomeAnd (caught_type w.given w.method h) (λ c. (to : Role) → IsEntry w.code h.handler to → Fits w f to (handler_state c s))
 
+  -- the handler takes what this state leaves it
+  abbrev Takes : TypeState → Handler → Type 0
+  Takes s h = IsSomeAnd (caught_type w.given w.method h) (λ c. FitsAt w.given w.states h.handler (handler_state c s))
+
+  caught_of : (z s : TypeState) → s.locals ≡ (kept z).locals → s.built ≡ z.built → (h : Handler) → Takes z h
+      → IsSomeAnd (caught_type w.given w.method h) (λ c. (to : Role) → IsEntry w.code h.handler to → Fits w f to (handler_state c s))
+  caught_of z s locals built h takes =
+      IsSomeAnd-weaker (caught_type w.given w.method h) (λ c. FitsAt w.given w.states h.handler (handler_state c z))
+      (λ c. (to : Role) → IsEntry w.code h.handler to → Fits w f to (handler_state c s))
+      (λ c fit to entry. subst (λ t. Fits w f to t) (λ k. record { locals = sym locals k; stack = slot.Ref c ∷ []; built = sym built k })
+      (entered w f h.handler (handler_state c z) to entry fit)) takes
+
+  takes_at : (j : ℕ) (x : Old w f j) (h : Handler) → Contains w.code.handlers h → Catches j h.handler h → Takes x.s h
+  takes_at j x h listed catches = each_contained (FitsHandler w.given w.method w.states j x.s) w.code.handlers h x.meets.handlers listed catches
+
   caught_at : (j : ℕ) (x : Old w f j) (s : TypeState) → s.locals ≡ (kept x.s).locals → s.built ≡ x.s.built
       → (h : Handler) → Contains w.code.handlers h → Catches j h.handler h
       → IsSomeAnd (caught_type w.given w.method h) (λ c. (to : Role) → IsEntry w.code h.handler to → Fits w f to (handler_state c s))
-  caught_at j x s locals built h listed catches =
-      let own = each_contained (FitsHandler w.given w.method w.states j x.s) w.code.handlers h x.meets.handlers listed in
+  caught_at j x s locals built h listed catches = caught_of x.s s locals built h (takes_at j x h listed catches)
+
+  -- the handlers of an item take what it leaves: where it changes but the stack,
+  abbrev AllTake : (j : ℕ) → Old w f j → Type 0
+  AllTake j x = (h : Handler) → Contains w.code.handlers h → Catches j h.handler h → Takes x.after h
+
+  take_same : (j : ℕ) (x : Old w f j) → x.after.locals ≡ x.s.locals → x.after.built ≡ x.s.built → AllTake j x
+  take_same j x locals built h listed catches =
       IsSomeAnd-weaker (caught_type w.given w.method h) (λ c. FitsAt w.given w.states h.handler (handler_state c x.s))
-      (λ c. (to : Role) → IsEntry w.code h.handler to → Fits w f to (handler_state c s))
-      (λ c fit to entry. subst (λ t. Fits w f to t) (λ k. record { locals = sym locals k; stack = slot.Ref c ∷ []; built = sym built k })
-      (entered w f h.handler (handler_state c x.s) to entry fit)) (own catches)
+      (λ c. FitsAt w.given w.states h.handler (handler_state c x.after))
+      (λ c fit. subst (FitsAt w.given w.states h.handler) (λ k. record { locals = sym locals k; stack = slot.Ref c ∷ []; built = sym built k }) fit)
+      (takes_at j x h listed catches)
+
+  handlers_fit : (c : TypeRef) (s t : TypeState) → state_fits o s t ≡ true → state_fits o (handler_state c s) (handler_state c t) ≡ true
+  handlers_fit c s t fit =
+      let parts = fits-parts o s t fit in
+      fits-from o (handler_state c s) (handler_state c t)
+      (record { locals = parts.locals; stack = zip-refl (Fitting o) (fits-refl o f.tree) (slot.Ref c ∷ []); built = parts.built })
+
+  -- and where all their ranges go on
+  take_next : (j : ℕ) (x : Old w f j) → FallsAt w.code j → AllGoOn w.code.handlers j → AllTake j x
+  take_next j x falls all h listed catches =
+      let next = next_old w f j x falls in
+      let there : Catches (j + 1) h.handler h = record {
+        after_start = let start = catches.after_start in omega (arith, start);
+        before_end = all h listed catches.after_start catches.before_end;
+        handler_is = refl;
+      } in
+      IsSomeAnd-weaker (caught_type w.given w.method h) (λ c. FitsAt w.given w.states h.handler (handler_state c next.0.s))
+      (λ c. FitsAt w.given w.states h.handler (handler_state c x.after))
+      (λ c fit.
+      let found = Some-from_some_and (state_at w.states h.handler) (λ s. state_fits o (handler_state c next.0.s) s ≡ true) fit in
+      IsSomeAnd-from_some (state_at w.states h.handler) (λ s. state_fits o (handler_state c x.after) s ≡ true) found.0 found.1
+      (state-trans o f.tree (handler_state c x.after) (handler_state c next.0.s) found.0 (handlers_fit c x.after next.0.s next.1) found.2))
+      (takes_at (j + 1) next.0 h listed there)
 
   -- ---- each item
 
@@ -165,12 +213,13 @@ module _ (w : Retyping) (f : CanRetype w) where
         caught_at j x (pushed (top ∷ []) (kept x.s)) refl refl h listed (subst (λ x. IsSomeAnd x (λ j. Catches j h.handler h)) is caught);
   }
 
-  -- after an item that changes but the stack, and goes on
-  fine_after : (n j : ℕ) (x : Old w f j) (r : Role) (more : List Slot) → owner r ≡ Some j → KeepsLocals x.s x.after → FallsAt w.code j → length more ≤ 1
+  -- after an item that goes on
+  fine_after : (n j : ℕ) (x : Old w f j) (r : Role) (more : List Slot) → owner r ≡ Some j → length x.after.locals ≡ length x.s.locals
+      → AllTake j x → FallsAt w.code j → length more ≤ 1
       → is_whole (more ++ map (slot_with w.numbers) x.after.stack) ≡ is_whole (map (slot_with w.numbers) x.after.stack)
       → Goes w f n r (pushed more (kept x.after)) → Fine n r (pushed more (kept x.after))
-  fine_after n j x r more is keeps falls few same goes = record {
-    locals = kept_locals x.after (ap length keeps.locals ∙ x.meets.locals);
+  fine_after n j x r more is count takes falls few same goes = record {
+    locals = kept_locals x.after (count ∙ x.meets.locals);
     stack =
         let small = kept_stack x.after (after_small w f j x falls) in
         let both = length-append more (map (slot_with w.numbers) x.after.stack) in
@@ -178,8 +227,8 @@ module _ (w : Retyping) (f : CanRetype w) where
     whole = same ∙ whole_with w.numbers x.after.stack ∙ after_whole w f j x;
     goes = goes;
     caught = λ h listed caught.
-        caught_at j x (pushed more (kept x.after)) (ap (λ l. map (slot_with w.numbers) l ++ held_slots w.types) keeps.locals) keeps.built h listed
-        (subst (λ x. IsSomeAnd x (λ j. Catches j h.handler h)) is caught);
+        caught_of x.after (pushed more (kept x.after)) refl refl h
+        (takes h listed (subst (λ x. IsSomeAnd x (λ j. Catches j h.handler h)) is caught));
   }
 
   whole_ref : (h : ℕ) (stack : List Slot) → h < length w.plan.holders → is_whole (held_slot w h ∷ stack) ≡ is_whole stack
@@ -202,8 +251,9 @@ module _ (w : Retyping) (f : CanRetype w) where
         let x = old_at w f j t at in
         (x, same_Some (g x.after) s (sym (ap (option_map g) (state_after_is w f j x)) ∙ is))
 
-  held_keeps : (j h : ℕ) (x : Old w f j) → Contains (after_at w.plan j) h → KeepsLocals x.s x.after
-  held_keeps j h x there = let a = held_at w f j h x there in record { locals = a.locals; built = a.built }
+  held_take : (j h : ℕ) (x : Old w f j) → Contains (after_at w.plan j) h → AllTake j x
+  held_take j h x there =
+      ⊎_elim (λ locals. take_same j x locals (held_at w f j h x there).built) (take_next j x (f.can.goes_on j h there)) (held_at w f j h x there).locals
 
   branch_of : (j : ℕ) (x : Old w f j) → IsSomeAnd (insn_of w.code j) IsBranch → KeepsLocals x.s x.after × FallsAt w.code j
   branch_of j x there =
@@ -253,16 +303,19 @@ module _ (w : Retyping) (f : CanRetype w) where
             let found = after_of j kept s state in
             let branch = branch_of j found.0 has.0 in
             subst (Fine n (JumpOf j)) found.1
-            (fine_after n j found.0 (JumpOf j) [] refl branch.0 branch.1 (omega arith) refl (jump_of w f n j found.0 i is has))
+            (fine_after n j found.0 (JumpOf j) [] refl (ap length branch.0.locals) (take_same j found.0 branch.0.locals branch.0.built) branch.1
+            (omega arith) refl (jump_of w f n j found.0 i is has))
         by_role (DupAfter j h) s state within there (i, is, has) =
             let found = after_of j kept s state in
             subst (Fine n (DupAfter j h)) found.1
-            (fine_after n j found.0 (DupAfter j h) [] refl (held_keeps j h found.0 within) (f.can.goes_on j h within) (omega arith) refl
+            (fine_after n j found.0 (DupAfter j h) [] refl (held_at w f j h found.0 within).count (held_take j h found.0 within)
+            (f.can.goes_on j h within) (omega arith) refl
             (dup_after w f n j h found.0 i within is has))
         by_role (StoreAfter j h) s state within there (i, is, has) =
             let found = after_of j (λ t. pushed (held_slot w h ∷ []) (kept t)) s state in
             subst (Fine n (StoreAfter j h)) found.1
-            (fine_after n j found.0 (StoreAfter j h) (held_slot w h ∷ []) refl (held_keeps j h found.0 within) (f.can.goes_on j h within) (omega arith)
+            (fine_after n j found.0 (StoreAfter j h) (held_slot w h ∷ []) refl (held_at w f j h found.0 within).count (held_take j h found.0 within)
+            (f.can.goes_on j h within) (omega arith)
             (whole_ref h (map (slot_with w.numbers) found.0.after.stack) (f.after j h within)) (store_after w f n j h found.0 i within is has))
 
   -- ---- the typing

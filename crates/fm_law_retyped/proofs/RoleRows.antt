@@ -157,6 +157,13 @@ module _ (w : Retyping) (f : CanRetype w) where
           falls = falls;
         }))
 
+  -- the next item, where control goes on to it
+  pub next_old : (j : ℕ) (x : Old j) → FallsAt w.code j → (y : Old (j + 1)) × (state_fits o x.after y.s ≡ true)
+  next_old j x falls =
+      let next = Some-from_some_and (state_at w.states (j + 1)) (λ s. state_fits o x.after s ≡ true)
+      (x.each (j + 1) (edge_on j falls (inside_of j x falls))) in
+      (old_at (j + 1) next.0 next.1, subst (λ s. state_fits o x.after s ≡ true) (sym (old_state (j + 1) next.0 next.1)) next.2)
+
   pub after_small : (j : ℕ) (x : Old j) → FallsAt w.code j → length x.after.stack ≤ w.code.max_stack
   after_small j x falls =
       let inside = inside_of j x falls in
@@ -405,11 +412,11 @@ module _ (w : Retyping) (f : CanRetype w) where
 
   -- ---- after an item
 
-  pub held_at : (j h : ℕ) (x : Old j) → Contains (after_at w.plan j) h → IsHeld w h x.s x.after
+  pub held_at : (j h : ℕ) (x : Old j) → Contains (after_at w.plan j) h → IsHeld w j h x.s x.after
   held_at j h x there = f.held j h x.s x.after there x.at x.after_is
 
   -- what it leaves has the holder's object on top
-  top_is : (j h : ℕ) (x : Old j) → h < length w.plan.holders → (a : IsHeld w h x.s x.after)
+  top_is : (j h : ℕ) (x : Old j) → h < length w.plan.holders → (a : IsHeld w j h x.s x.after)
       → map (slot_with w.numbers) x.after.stack ≡ held_slot w h ∷ map (slot_with w.numbers) a.rest
   top_is j h x within a =
       let t = held_type h within in
@@ -455,9 +462,8 @@ module _ (w : Retyping) (f : CanRetype w) where
       let within = f.after j h there in
       let a = held_at j h x there in
       let count : length (own x.after) ≡ w.code.max_locals =
-      length-map x.after.locals (slot_with w.numbers) ∙ ap length a.locals ∙ x.meets.locals in
-      let short : trimmed (own x.after) ≡ own x.after =
-      trimmed_still w.numbers x.after.locals (ap trimmed a.locals ∙ f.short j x.s x.at ∙ sym a.locals) in
+      length-map x.after.locals (slot_with w.numbers) ∙ a.count ∙ x.meets.locals in
+      let short : trimmed (own x.after) ≡ own x.after = trimmed_still w.numbers x.after.locals a.short in
       record {
         after = kept x.after;
         is =

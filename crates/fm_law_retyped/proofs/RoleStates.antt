@@ -1,5 +1,5 @@
 -- The state of each item of code with insertions, by what it is for, and what is known where such code is typed again.
-use Rattle.std.proofs.Common.{◌≡◌, ℕ, zero, suc, ◌+◌, ◌<◌, List, [], ◌∷◌, ◌++◌, length, map, Option, Some, None, option_and_then, option_map, Contains}
+use Rattle.std.proofs.Common.{◌≡◌, ℕ, zero, suc, ◌+◌, ◌<◌, ◌≤◌, ◌⊎◌, List, [], ◌∷◌, ◌++◌, length, map, Option, Some, None, option_and_then, option_map, Contains}
 use Rattle.std.specs.Prelude.{slice_get}
 use Rattle.std.specs.List.{AllByRecursion}
 use Rattle.fm_base.specs.declared.kinds.TypeRef.{TypeRef}
@@ -92,12 +92,18 @@ abbrev pub made_by : Program → ℕ → Insn → Option TypeRef
 made_by p method (insn.New index) = type_of_use p.outline (use_in p method index)
 made_by p method i = None
 
--- after an item that gives an object to a holder: it is on top, and nothing but the stack has
--- changed
-pub record IsHeld (w : Retyping) (h : ℕ) (s after : TypeState) : Type 0 where
+-- each range of the exception table that holds the item holds the next one too
+abbrev pub AllGoOn : List Handler → ℕ → Type 0
+AllGoOn handlers j = (handler : Handler) → Contains handlers handler → handler.start ≤ j → j < handler.end → j + 1 < handler.end
+
+-- after an item that gives an object to a holder: it is on top, the locals are as many, and they are as they were if a handler's range ends
+-- right behind it
+pub record IsHeld (w : Retyping) (j h : ℕ) (s after : TypeState) : Type 0 where
   pub rest : List Slot
   pub top : after.stack ≡ held_slot w h ∷ rest
-  pub locals : after.locals ≡ s.locals
+  pub count : length after.locals ≡ length s.locals
+  pub short : trimmed after.locals ≡ after.locals
+  pub locals : (after.locals ≡ s.locals) ⊎ AllGoOn w.code.handlers j
   pub built : after.built ≡ s.built
 
 -- FreeMe.free takes what a holder holds
@@ -126,4 +132,4 @@ pub record CanRetype (w : Retyping) : Type 0 where
   pub before : (j h : ℕ) → Contains (before_at w.plan j) h → h < length w.plan.holders
   pub after : (j h : ℕ) → Contains (after_at w.plan j) h → h < length w.plan.holders
   pub held : (j h : ℕ) (s after : TypeState) → Contains (after_at w.plan j) h → state_at w.states j ≡ Some s
-      → after_item w.given w.method w.code j s ≡ Some after → IsHeld w h s after
+      → after_item w.given w.method w.code j s ≡ Some after → IsHeld w j h s after

@@ -1,14 +1,14 @@
 -- A method with safe insertions is typed again, and so are all methods of classes with such.
-use Rattle.std.proofs.Common.{◌≡◌, refl, sym, ◌∙◌, ap, subst, ℕ, zero, suc, ◌<◌, ◌≤◌, ◌==◌, ◌⊎◌, inl, inr, Bool, true, false, cond, List, [], ◌∷◌, length, map, Option, Some, None, is_some, option_and_then, option_map, Contains, slice_get, arith}
+use Rattle.std.proofs.Common.{◌≡◌, ◌≢◌, refl, sym, ◌∙◌, ap, subst, ℕ, zero, suc, ◌+◌, ◌<◌, ◌≤◌, ◌==◌, ◌⊎◌, inl, inr, Bool, true, false, cond, List, [], ◌∷◌, length, map, Option, Some, None, is_some, option_and_then, option_map, Contains, slice_get, ⊎_elim, arith}
 use Rattle.std.specs.List.{AllByRecursion}
-use Rattle.std.proofs.lemmas.Bool.{cases_lt, eqb-true, false≢true}
+use Rattle.std.proofs.lemmas.Bool.{cases_eq, cases_lt, eqb-true, false≢true}
 use Rattle.std.proofs.lemmas.List.{get_or_past, length-map}
 use Rattle.std.proofs.lemmas.Option.{none-some, same_Some, slice_get_within}
 use Rattle.fm_link_supers.proofs.ParentRefusals.{spelled_at}
 use Rattle.fm_law_relinked.proofs.Codes.{codes_woven, no_code}
 use Rattle.fm_law_relinked.proofs.FreeUse.{ClassTypesAreNumbered, has_free}
 use Rattle.fm_law_relinked.specs.Codes.{code_with}
-use Rattle.fm_base.proofs.ContainsFacts.{Contains-none}
+use Rattle.fm_base.proofs.ContainsFacts.{Contains-cons_cases, Contains-none}
 use Rattle.fm_base.proofs.ListFacts.{AllByRecursion-at}
 use Rattle.fm_base.proofs.OptionFacts.{IsSomeAnd-from_some, option_map-some, same_value, Some-from_some_and}
 use Rattle.fm_base.proofs.TestFacts.{and_left}
@@ -43,13 +43,13 @@ use Rattle.fm_law_linked.specs.Laws.{IsLinkedWell, ProgramsAreLinkedWell, StepsA
 use Rattle.fm_law_retyped.proofs.FreeRow.{free_row}
 use Rattle.fm_law_retyped.proofs.KeptRows.{same_row}
 use Rattle.fm_law_retyped.proofs.Retypes.{retyped}
-use Rattle.fm_law_retyped.proofs.RoleStates.{CanRetype, Frees, held_slots, IsHeld, Retyping, role_states}
+use Rattle.fm_law_retyped.proofs.RoleStates.{AllGoOn, CanRetype, Frees, held_slots, IsHeld, Retyping, role_states}
 use Rattle.fm_law_retyped.proofs.SameTypings.{made_same, same_typing}
-use Rattle.fm_law_retyped.proofs.SiteStates.{GivesObject, site-gives}
-use Rattle.fm_law_retyped.proofs.Trims.{all_trimmed, locals_at, trimmed_at, trimmed_row, trimmed_twice, typings_trimmed}
+use Rattle.fm_law_retyped.proofs.SiteStates.{IsSameAt, leaves-if, LeavesObject, site-gives}
+use Rattle.fm_law_retyped.proofs.Trims.{all_trimmed, length_trimmed, locals_at, trimmed_at, trimmed_row, trimmed_twice, typings_trimmed}
 use Rattle.fm_law_retyped.proofs.WrittenMethods.{HasMember, IsWritten, written_method}
 use Rattle.fm_law_retyped.proofs.WrittenUses.{free_use, freed_use, handler_use, insn_use, outlines_same, program_outline, used_by_item}
-use Rattle.fm_law_retyped.specs.Retyped.{AreNoCopies, AreReadyAtHeld, receiver_new, SafeClassesAreTyped}
+use Rattle.fm_law_retyped.specs.Retyped.{AreNoCopies, AreReadyAtHeld, EndsBehind, receiver_new, SafeClassesAreTyped}
 use Rattle.fm_law_retyped.proofs.Trimmed.{trimmed, trimmed_state}
 use Rattle.fm_types.specs.Fits.{AreTree}
 use Rattle.fm_types.specs.Rows.{row_after}
@@ -116,8 +116,36 @@ site_at facts x j is = by_state (is_some (state_at x.states j)) refl is where
   by_state false so some = absurd (false≢true some)
 
 -- the same of equal states
-carried : (s t after other : TypeState) → s ≡ t → after ≡ other → GivesObject s after → GivesObject t other
-carried s t after other first second g = subst (GivesObject t) second (subst (λ z. GivesObject z after) first g)
+carried : (Same : Type 0) (s t after other : TypeState) → s ≡ t → after ≡ other → LeavesObject Same s after → LeavesObject Same t other
+carried Same s t after other first second g = subst (LeavesObject Same t) second (subst (λ z. LeavesObject Same z after) first g)
+
+-- a handler's range ends right behind an item
+abbrev OneEnds : List Handler → ℕ → Type 0
+OneEnds handlers j = (handler : Handler) × Contains handlers handler × EndsBehind j handler
+
+-- one does, or all go on
+one_ends : (handlers : List Handler) (j : ℕ) → OneEnds handlers j ⊎ AllGoOn handlers j
+one_ends [] j = inr (λ handler there. absurd (Contains-none handler there))
+one_ends (first ∷ handlers) j = by_rest (one_ends handlers j) where
+  with_first : ((first.start ≤ j) → (j < first.end) → j + 1 < first.end) → AllGoOn handlers j → AllGoOn (first ∷ handlers) j
+  with_first own rest handler there start within =
+      ⊎_elim (λ (same : handler ≡ first).
+      subst (λ (z : Handler). j + 1 < z.end) (sym same) (own (subst (λ (z : Handler). z.start ≤ j) same start) (subst (λ (z : Handler). j < z.end) same within)))
+      (λ later. rest handler later start within) (Contains-cons_cases first handlers handler there)
+
+  by_place : (first.end ≢ j + 1) → (j + 1 < first.end) ⊎ (first.end ≤ j + 1) → j < first.end → j + 1 < first.end
+  by_place other (inl more) within = more
+  by_place other (inr past) within = absurd (other (omega (arith, past, within)))
+
+  by_end : AllGoOn handlers j → (j < first.start) ⊎ (first.start ≤ j) → (first.end ≡ j + 1) ⊎ (first.end ≢ j + 1)
+      → OneEnds (first ∷ handlers) j ⊎ AllGoOn (first ∷ handlers) j
+  by_end rest (inl before) end = inr (with_first (λ start within. absurd (omega (arith, start, before))) rest)
+  by_end rest (inr start) (inl end) = inl (first, Contains-first first handlers first refl, (start, end))
+  by_end rest (inr start) (inr other) = inr (with_first (λ start within. by_place other (cases_lt (j + 1) first.end) within) rest)
+
+  by_rest : OneEnds handlers j ⊎ AllGoOn handlers j → OneEnds (first ∷ handlers) j ⊎ AllGoOn (first ∷ handlers) j
+  by_rest (inl (handler, there, ends)) = inl (handler, Contains-later first handlers handler there, ends)
+  by_rest (inr rest) = by_end rest (cases_lt j first.start) (cases_eq first.end (j + 1))
 
 -- ---- holders
 
@@ -248,23 +276,23 @@ module _ (numbered : ClassTypesAreNumbered) (stand : CodesStand) (given : List C
         (record { code = code; code_is = code_is; item = j; insn_is = there ∙ ap Some is; use_is = used }) refl
 
     gives : (j h : ℕ) → IsHolder facts t plan j h → (s after : TypeState) → state_at (facts.typing method) j ≡ Some s
-        → after_item (program_of given main) method code j s ≡ Some after → GivesObject s after
+        → after_item (program_of given main) method code j s ≡ Some after → LeavesObject (OneEnds code.handlers j) s after
     gives j h holder s after at is =
         let site = site_at facts t j holder.some in
         let i = site.i in
         let row = sym (ap (option_and_then (λ k.
         row_after (program_of given main).outline method j (made_at (program_of given main) method code) (use_by (program_of given main) method k) k s)) site.there) ∙ is in
-        site-gives facts t j (made_at (program_of given main) method code) s after steps.constructors i site.kind_some at
-        (λ kind.
+        leaves-if (IsSameAt facts t j (made_at (program_of given main) method code) s after steps.constructors i) (OneEnds code.handlers j) s after
+        (λ one kind.
         subst (λ (new : Option ℕ). AreNoCopies new s.locals)
         (ap (receiver_new t) holder.site_is ∙ ap (option_and_then (λ (k : Insn). new_item_at t j (depth_below t j k))) site.there)
-        (ready holder.holder s (contains_at plan.holders h holder.holder holder.at) (ap (site_kind facts t) holder.site_is ∙ site.same ∙ kind)
-        (ap (state_at (facts.typing method)) holder.site_is ∙ at)))
-        (no_static j i site.there) row
+        (ready holder.holder s one.0 (contains_at plan.holders h holder.holder holder.at) (ap (site_kind facts t) holder.site_is ∙ site.same ∙ kind)
+        (ap (state_at (facts.typing method)) holder.site_is ∙ at) one.1 (subst (λ k. EndsBehind k one.0) (sym holder.site_is) one.2)))
+        (site-gives facts t j (made_at (program_of given main) method code) s after steps.constructors i site.kind_some at (no_static j i site.there) row)
 
     -- the same where states are trimmed
     gives_trimmed : (j h : ℕ) → IsHolder facts t plan j h → (s after : TypeState) → state_at (all_trimmed (facts.typing method)) j ≡ Some s
-        → after_item (program_of given main) method code j s ≡ Some after → GivesObject s after
+        → after_item (program_of given main) method code j s ≡ Some after → LeavesObject (OneEnds code.handlers j) s after
     gives_trimmed j h holder s after at is =
         let found = option_map-some trimmed_state (state_at (facts.typing method) j) s (sym (trimmed_at (facts.typing method) j) ∙ at) in
         let first = found.0 in
@@ -276,26 +304,37 @@ module _ (numbered : ClassTypesAreNumbered) (stand : CodesStand) (given : List C
         let other_is : after_item (program_of given main) method code j s ≡ Some r.other =
         subst (λ z. after_item (program_of given main) method code j z ≡ Some r.other) found.2 r.other_is in
         let same : r.other ≡ after = same_value (after_item (program_of given main) method code j s) r.other after other_is is in
-        carried (trimmed_state first) s r.other after found.2 same (leaves first r.after r.other g r.leaves) where
-          leaves : (s after other : TypeState) → GivesObject s after
-              → (other ≡ trimmed_state after) ⊎ ((other ≡ after) × (trimmed s.locals ≡ s.locals)) → GivesObject (trimmed_state s) other
+        carried (OneEnds code.handlers j) (trimmed_state first) s r.other after found.2 same (leaves first r.after r.other g r.leaves) where
+          leaves : (s after other : TypeState) → LeavesObject (OneEnds code.handlers j) s after
+              → (other ≡ trimmed_state after) ⊎ ((other ≡ after) × (trimmed s.locals ≡ s.locals))
+              → LeavesObject (OneEnds code.handlers j) (trimmed_state s) other
           leaves s after other g (inl is) = record {
             type = g.type;
             rest = g.rest;
             top = ap (λ (z : TypeState). z.stack) is ∙ g.top;
-            locals = ap (λ (z : TypeState). z.locals) is ∙ ap trimmed g.locals;
+            count = ap (λ (z : TypeState). length z.locals) is ∙ length_trimmed after.locals ∙ g.count ∙ sym (length_trimmed s.locals);
+            short = λ short.
+                ap (λ (z : TypeState). trimmed z.locals) is ∙ trimmed_twice after.locals ∙ sym (ap (λ (z : TypeState). z.locals) is);
+            locals = λ one. ap (λ (z : TypeState). z.locals) is ∙ ap trimmed (g.locals one);
             built = ap (λ (z : TypeState). z.built) is ∙ g.built;
           }
           leaves s after other g (inr (is, same)) = record {
             type = g.type;
             rest = g.rest;
             top = ap (λ (z : TypeState). z.stack) is ∙ g.top;
-            locals = ap (λ (z : TypeState). z.locals) is ∙ g.locals ∙ sym same;
+            count = ap (λ (z : TypeState). length z.locals) is ∙ g.count ∙ sym (length_trimmed s.locals);
+            short = λ short. ap (λ (z : TypeState). trimmed z.locals) is ∙ g.short same ∙ sym (ap (λ (z : TypeState). z.locals) is);
+            locals = λ one. ap (λ (z : TypeState). z.locals) is ∙ g.locals one ∙ sym same;
             built = ap (λ (z : TypeState). z.built) is ∙ g.built;
           }
 
+    short_at : (j : ℕ) (s : TypeState) → state_at (all_trimmed (facts.typing method)) j ≡ Some s → trimmed s.locals ≡ s.locals
+    short_at j s at =
+        let found = option_map-some trimmed_state (state_at (facts.typing method) j) s (sym (trimmed_at (facts.typing method) j) ∙ at) in
+        subst (λ (z : TypeState). trimmed z.locals ≡ z.locals) found.2 (trimmed_twice found.0.locals)
+
     held : (j h : ℕ) (s after : TypeState) → Contains (after_at plan j) h → state_at (all_trimmed (facts.typing method)) j ≡ Some s
-        → after_item (program_of given main) method code j s ≡ Some after → IsHeld w h s after
+        → after_item (program_of given main) method code j s ≡ Some after → IsHeld w j h s after
     held j h s after there at is =
         let holder = holder_after facts t plan safe j h there in
         let g = gives_trimmed j h holder s after at is in
@@ -306,7 +345,9 @@ module _ (numbered : ClassTypesAreNumbered) (stand : CodesStand) (given : List C
         record {
           rest = g.rest;
           top = g.top ∙ ap (λ z. z ∷ g.rest) (sym (held_of type_of plan.holders h holder.holder holder.at ∙ ap slot.Ref type_is));
-          locals = g.locals;
+          count = g.count;
+          short = g.short (short_at j s at);
+          locals = ⊎_elim (λ one. inl (g.locals one)) inr (one_ends code.handlers j);
           built = g.built;
         }
 
@@ -348,9 +389,7 @@ module _ (numbered : ClassTypesAreNumbered) (stand : CodesStand) (given : List C
       outline = outline;
       typing = typings_trimmed (program_of given main) linked.tree method code (facts.typing method) fit typing;
       fit = fit;
-      short = λ j s at.
-          let found = option_map-some trimmed_state (state_at (facts.typing method) j) s (sym (trimmed_at (facts.typing method) j) ∙ at) in
-          subst (λ (z : TypeState). trimmed z.locals ≡ z.locals) found.2 (trimmed_twice found.0.locals);
+      short = short_at;
       can = can;
       stands = roles.stands;
       more_locals = refl;

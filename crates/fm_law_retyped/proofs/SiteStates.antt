@@ -1,9 +1,10 @@
 -- After a site its object is on top, by a type; and where no local holds a copy of the object whose
 -- constructor is called nothing but the stack has changed.
-use Rattle.std.proofs.Common.{◌≡◌, refl, ap, sym, subst, ◌∙◌, ℕ, suc, ◌+◌, ◌-◌, ◌&&◌, Bool, true, false, not, cond, List, [], ◌∷◌, ◌++◌, length, length-append, reverse, replicate, Option, Some, None, is_some, option_and_then, option_map, slice_get, append_assoc, arith}
+use Rattle.std.proofs.Common.{◌≡◌, refl, ap, sym, subst, ◌∙◌, ℕ, suc, ◌+◌, ◌-◌, ◌==◌, ◌&&◌, Bool, true, false, not, cond, List, [], ◌∷◌, ◌++◌, length, length-append, drop, reverse, replicate, Option, Some, None, is_some, option_and_then, option_map, slice_get, append_assoc, arith}
 use Rattle.std.specs.Prelude.{nat_le, nat_lt, option_to_list}
 use Rattle.std.specs.List.{list_any}
 use Rattle.std.proofs.lemmas.Bool.{false≢true}
+use Rattle.std.proofs.lemmas.List.{length-map}
 use Rattle.std.proofs.lemmas.List.Elements.{length_all_zip}
 use Rattle.std.proofs.lemmas.Option.{none-some, option_and_then_some, same_Some}
 use Rattle.fm_base.proofs.OptionFacts.{cond-some_else, cond-some_then}
@@ -25,6 +26,7 @@ use Rattle.fm_conn.specs.Summaries.{same_number}
 use Rattle.fm_frames.specs.CallRows.{words_of_arguments}
 use Rattle.fm_place.proofs.BusyLemmas.{depth_of}
 use Rattle.fm_place.specs.Sites.{constructs, Constructs, has_reference_result, is_doubled, kind_of_site, makes_array, MakesArray, may_give_old, names_constructor, new_item, new_item_at, receives_new, ReceivesNew, SiteKind}
+use Rattle.fm_law_retyped.proofs.Trimmed.{trimmed}
 use Rattle.fm_law_retyped.specs.Retyped.{AreNoCopies}
 use Rattle.fm_same.proofs.CallWords.{taken_off}
 use Rattle.fm_same.proofs.SiteNodes.{chosen, doubled-stack, doubled_in, refers, word_above}
@@ -55,6 +57,31 @@ pub record GivesObject (s after : TypeState) : Type 0 where
   pub top : after.stack ≡ slot.Ref type ∷ rest
   pub locals : after.locals ≡ s.locals
   pub built : after.built ≡ s.built
+
+-- a reference is on top; the locals are as many, the last one is no first half if it was none, and all are as they were if this holds
+pub record LeavesObject (Same : Type 0) (s after : TypeState) : Type 0 where
+  pub type : TypeRef
+  pub rest : List Slot
+  pub top : after.stack ≡ slot.Ref type ∷ rest
+  pub count : length after.locals ≡ length s.locals
+  pub short : trimmed s.locals ≡ s.locals → trimmed after.locals ≡ after.locals
+  pub locals : Same → after.locals ≡ s.locals
+  pub built : after.built ≡ s.built
+
+leaves-given : (Same : Type 0) (s after : TypeState) → GivesObject s after → LeavesObject Same s after
+leaves-given Same s after g = record {
+  type = g.type;
+  rest = g.rest;
+  top = g.top;
+  count = ap length g.locals;
+  short = λ short. ap trimmed g.locals ∙ short ∙ sym g.locals;
+  locals = λ same. g.locals;
+  built = g.built;
+}
+
+pub leaves-if : (Same Other : Type 0) (s after : TypeState) → (Other → Same) → LeavesObject Same s after → LeavesObject Other s after
+leaves-if Same Other s after same g =
+    record { type = g.type; rest = g.rest; top = g.top; count = g.count; short = g.short; locals = λ other. g.locals (same other); built = g.built }
 
 worked-gives : (o : Outline) (wanted : List Slot) (t : TypeRef) (s after : TypeState) → worked o wanted (slot.Ref t ∷ []) s ≡ Some after → GivesObject s after
 worked-gives o wanted t s after = by_rest (taken o wanted s.stack) where
@@ -148,11 +175,33 @@ none_replaced : (item : ℕ) (t : TypeRef) (locals : List Slot) → AreNoCopies 
 none_replaced item t [] none = refl
 none_replaced item t (s ∷ locals) none = λ k. one_kept item t s none.0 k ∷ none_replaced item t locals none.1 k
 
+-- the last local is no first half
+still_short : (item : ℕ) (t : TypeRef) (locals : List Slot) → trimmed locals ≡ locals
+    → trimmed (replaced (is_uninit item) (slot.Ref t) locals) ≡ replaced (is_uninit item) (slot.Ref t) locals
+still_short item t [] short = refl
+still_short item t (s ∷ []) short = by_slot s short where
+  by_test : (b : Bool) (other : ℕ) → trimmed (cond b (slot.Ref t) (slot.Uninit other) ∷ []) ≡ cond b (slot.Ref t) (slot.Uninit other) ∷ []
+  by_test true other = refl
+  by_test false other = refl
+
+  by_slot : (s : Slot) → trimmed (s ∷ []) ≡ s ∷ []
+      → trimmed (cond (is_uninit item s) (slot.Ref t) s ∷ []) ≡ cond (is_uninit item s) (slot.Ref t) s ∷ []
+  by_slot slot.Top short = refl
+  by_slot slot.Int short = refl
+  by_slot slot.Long short = short
+  by_slot slot.Null short = refl
+  by_slot (slot.Ref r) short = refl
+  by_slot (slot.Uninit other) short = by_test (item == other) other
+  by_slot slot.UninitThis short = refl
+still_short item t (s ∷ u ∷ locals) short =
+    ap (λ rest. cond (is_uninit item s) (slot.Ref t) s ∷ rest) (still_short item t (u ∷ locals) (ap (drop 1) short))
+
 -- the object and the copy of it under it are of one `new`
 built-gives : (o : Outline) (method : ℕ) (news : ℕ → Option TypeRef) (named : TypeRef) (receiver below : Slot) (rest : List Slot) (s after : TypeState)
-    → AreNoCopies (new_item receiver) s.locals → same_number (new_item receiver) (new_item below) ≡ true
-    → constructed o method news named receiver (record s { stack = below ∷ rest }) ≡ Some after → GivesObject s after
-built-gives o method news named (slot.Uninit item) (slot.Uninit other) rest s after none same there =
+    → same_number (new_item receiver) (new_item below) ≡ true
+    → constructed o method news named receiver (record s { stack = below ∷ rest }) ≡ Some after
+    → LeavesObject (AreNoCopies (new_item receiver) s.locals) s after
+built-gives o method news named (slot.Uninit item) (slot.Uninit other) rest s after same there =
     let new = initialised (is_uninit item) named (record s { stack = slot.Uninit other ∷ rest }) in
     let left = cond-some_then (is_type named (news item)) (Some new) after there in
     let is : new ≡ after = same_Some new after left.1 in
@@ -161,22 +210,29 @@ built-gives o method news named (slot.Uninit item) (slot.Uninit other) rest s af
       rest = replaced (is_uninit item) (slot.Ref named) rest;
       top = ap (λ (t : TypeState). t.stack) (sym is)
           ∙ ap (λ b. cond b (slot.Ref named) (slot.Uninit other) ∷ replaced (is_uninit item) (slot.Ref named) rest) same;
-      locals = ap (λ (t : TypeState). t.locals) (sym is) ∙ none_replaced item named s.locals none;
+      count = ap (λ (t : TypeState). length t.locals) (sym is) ∙ length-map s.locals (λ z. cond (is_uninit item z) (slot.Ref named) z);
+      short = λ short.
+          ap (λ (t : TypeState). trimmed t.locals) (sym is) ∙ still_short item named s.locals short ∙ ap (λ (t : TypeState). t.locals) is;
+      locals = λ none. ap (λ (t : TypeState). t.locals) (sym is) ∙ none_replaced item named s.locals none;
       built = ap (λ (t : TypeState). t.built) (sym is);
     }
-built-gives o method news named (slot.Uninit item) below rest s after none same there = absurd (false≢true same)
-built-gives o method news named receiver below rest s after none same there = absurd (false≢true same)
+built-gives o method news named (slot.Uninit item) below rest s after same there = absurd (false≢true same)
+built-gives o method news named receiver below rest s after same there = absurd (false≢true same)
+
+-- no local holds a copy of the object in the word at this depth
+abbrev IsApart : ℕ → TypeState → Type 0
+IsApart depth s = AreNoCopies (option_and_then new_item (slice_get (reverse s.stack) depth)) s.locals
 
 constructor-gives : (o : Outline) (method : ℕ) (news : ℕ → Option TypeRef) (m : ℕ) (named : TypeRef) (s after : TypeState)
-    → AreNoCopies (option_and_then new_item (slice_get (reverse s.stack) (length s.stack - (1 + words_of_arguments o m)))) s.locals
     → doubled_in s.stack (length s.stack - (1 + words_of_arguments o m)) ≡ true → constructor_called o method news m named s ≡ Some after
-    → GivesObject s after
-constructor-gives o method news m named s after none doubled there = by_rest (taken o (argument_words o m) s.stack) refl there where
+    → LeavesObject (IsApart (length s.stack - (1 + words_of_arguments o m)) s) s after
+constructor-gives o method news m named s after doubled there = by_rest (taken o (argument_words o m) s.stack) refl there where
   of_rest : List Slot → Option TypeState
   of_rest [] = None
   of_rest (receiver ∷ stack) = constructed o method news named receiver (record s { stack = stack })
 
-  below : (rest : List Slot) → taken o (argument_words o m) s.stack ≡ Some rest → of_rest rest ≡ Some after → GivesObject s after
+  below : (rest : List Slot) → taken o (argument_words o m) s.stack ≡ Some rest → of_rest rest ≡ Some after
+      → LeavesObject (IsApart (length s.stack - (1 + words_of_arguments o m)) s) s after
   below [] found further = absurd (none-some after further)
   below (receiver ∷ []) found further =
       let off = taken_off o (argument_words o m) s.stack (receiver ∷ []) found in
@@ -194,14 +250,15 @@ constructor-gives o method news m named s after none doubled there = by_rest (ta
       let second : slice_get (reverse s.stack) (length rest) ≡ Some under =
       ap (λ list. slice_get (reverse list) (length rest)) (off.is ∙ sym (append_assoc off.words (receiver ∷ []) (under ∷ rest)))
       ∙ word_above (off.words ++ receiver ∷ []) rest under in
-      built-gives o method news named receiver under rest s after
+      leaves-if (AreNoCopies (new_item receiver) s.locals) (IsApart (length s.stack - (1 + words_of_arguments o m)) s) s after
       (subst (λ (new : Option ℕ). AreNoCopies new s.locals)
-      (ap (λ k. option_and_then new_item (slice_get (reverse s.stack) k)) depth ∙ ap (option_and_then new_item) first) none)
+      (ap (λ k. option_and_then new_item (slice_get (reverse s.stack) k)) depth ∙ ap (option_and_then new_item) first))
+      (built-gives o method news named receiver under rest s after
       (sym (λ k. same_number (option_and_then new_item (first k)) (option_and_then new_item (second k)))
-      ∙ sym (ap (doubled_in s.stack) depth) ∙ doubled) further
+      ∙ sym (ap (doubled_in s.stack) depth) ∙ doubled) further)
 
   by_rest : (found : Option (List Slot)) → taken o (argument_words o m) s.stack ≡ found → option_and_then of_rest found ≡ Some after
-      → GivesObject s after
+      → LeavesObject (IsApart (length s.stack - (1 + words_of_arguments o m)) s) s after
   by_rest None found further = absurd (none-some after further)
   by_rest (Some rest) found further = below rest found further
 
@@ -211,19 +268,23 @@ module _ (facts : Facts) (x : TypedMethod) (j : ℕ) (news : ℕ → Option Type
   abbrev o : Outline
   o = x.program.outline
 
-  special-gives : (index : ℕ) → state_at x.states j ≡ Some s → AreNoCopies (new_item_at x j (depth_below x j (insn.Special index))) s.locals
+  -- no local holds a copy of the receiver of a call
+  abbrev pub IsApartAt : Insn → Type 0
+  IsApartAt i = AreNoCopies (new_item_at x j (depth_below x j i)) s.locals
+
+  special-gives : (index : ℕ) → state_at x.states j ≡ Some s
       → ((m : MethodId) (t : TypeId) → use_at x (insn.Special index) ≡ resolved.OfMethod m t
       → is_static (method_at x.program.outline.classes m.0).method.flags ≡ false)
       → constructs x j (insn.Special index) ≡ true → special_call_row x.program.outline x.number news (use_at x (insn.Special index)) s ≡ Some after
-      → GivesObject s after
+      → LeavesObject (IsApartAt (insn.Special index)) s after
   unfolding special_call_row words_taken
-  special-gives index at none no_static made there = by_use (use_at x (insn.Special index)) refl made there where
+  special-gives index at no_static made there = by_use (use_at x (insn.Special index)) refl made there where
     depth : depth_at x j ≡ length s.stack
     depth = ap depth_of at
 
     by_use : (u : Use) → use_at x (insn.Special index) ≡ u
         → (names_constructor o u && is_doubled x j (depth_at x j - words_taken o u (insn.Special index))) ≡ true
-        → special_call_row o x.number news u s ≡ Some after → GivesObject s after
+        → special_call_row o x.number news u s ≡ Some after → LeavesObject (IsApartAt (insn.Special index)) s after
     by_use (resolved.OfMethod m t) used both row =
         let doubled_so = is_doubled x j (depth_at x j - words_taken o (resolved.OfMethod m t) (insn.Special index)) in
         let constructor : is_constructor o m.0 ≡ true = and_left (is_constructor o m.0) doubled_so both in
@@ -243,8 +304,10 @@ module _ (facts : Facts) (x : TypedMethod) (j : ℕ) (news : ℕ → Option Type
         (option_and_then (λ (z : TypeState). slice_get (reverse z.stack) (length s.stack - (1 + words_of_arguments o m.0))) found)) at in
         option_and_then_some _ (slice_get o.types t.0) after row
         (λ named found gives.
-        constructor-gives o x.number news m.0 named s after (subst (λ (new : Option ℕ). AreNoCopies new s.locals) item_is none) under
-        (chosen (is_constructor o m.0) (constructor_called o x.number news m.0 named s) _ after constructor gives))
+        leaves-if (IsApart (length s.stack - (1 + words_of_arguments o m.0)) s) (IsApartAt (insn.Special index)) s after
+        (subst (λ (new : Option ℕ). AreNoCopies new s.locals) item_is)
+        (constructor-gives o x.number news m.0 named s after under
+        (chosen (is_constructor o m.0) (constructor_called o x.number news m.0 named s) _ after constructor gives)))
     by_use (resolved.OfType t) used both row = absurd (false≢true both)
     by_use (resolved.OfField f t) used both row = absurd (false≢true both)
     by_use (resolved.OfInt value) used both row = absurd (false≢true both)
@@ -305,32 +368,36 @@ module _ (facts : Facts) (x : TypedMethod) (j : ℕ) (news : ℕ → Option Type
       (index : ℕ) (m : MethodId) (t : TypeId) → i ≡ insn.Special index → use_at x (insn.Special index) ≡ resolved.OfMethod m t
       → is_static (method_at x.program.outline.classes m.0).method.flags ≡ false
 
-  constructed-gives : (i : Insn) → state_at x.states j ≡ Some s → AreNoCopies (new_item_at x j (depth_below x j i)) s.locals → NoStatic i
-      → constructs x j i ≡ true → row_after o x.number j news (use_at x i) i s ≡ Some after → GivesObject s after
+  constructed-gives : (i : Insn) → state_at x.states j ≡ Some s → NoStatic i
+      → constructs x j i ≡ true → row_after o x.number j news (use_at x i) i s ≡ Some after → LeavesObject (IsApartAt i) s after
   unfolding row_after
-  constructed-gives (insn.Special index) at none no_static is there = special-gives index at none (λ m t used. no_static index m t refl used) is there
-  constructed-gives i at none no_static is there = absurd (false≢true is)
+  constructed-gives (insn.Special index) at no_static is there = special-gives index at (λ m t used. no_static index m t refl used) is there
+  constructed-gives i at no_static is there = absurd (false≢true is)
 
   abbrev kind_by : Bool → Bool → Bool → Option SiteKind
   kind_by array made received = cond array (Some MakesArray) (cond made (Some Constructs) (cond received (Some ReceivesNew) None))
 
+  -- the same where the call is that of a constructor
+  abbrev pub IsSameAt : Insn → Type 0
+  IsSameAt i = kind_of_site facts x j i ≡ Some Constructs → IsApartAt i
+
   -- each kind of a site
   pub site-gives : (i : Insn) → is_some (kind_of_site facts x j i) ≡ true → state_at x.states j ≡ Some s
-      → (kind_of_site facts x j i ≡ Some Constructs → AreNoCopies (new_item_at x j (depth_below x j i)) s.locals) → NoStatic i
-      → row_after o x.number j news (use_at x i) i s ≡ Some after → GivesObject s after
-  site-gives i is at none no_static there = by_array (makes_array i) refl where
-    by_call : (b : Bool) → receives_new facts x (call_of x i) ≡ b → is_some (kind_by false false b) ≡ true → GivesObject s after
-    by_call true so some = received-gives i so there
+      → NoStatic i → row_after o x.number j news (use_at x i) i s ≡ Some after
+      → LeavesObject (IsSameAt i) s after
+  site-gives i is at no_static there = by_array (makes_array i) refl where
+    by_call : (b : Bool) → receives_new facts x (call_of x i) ≡ b → is_some (kind_by false false b) ≡ true → LeavesObject (IsSameAt i) s after
+    by_call true so some = leaves-given (IsSameAt i) s after (received-gives i so there)
     by_call false so some = absurd (false≢true some)
 
-    by_new : makes_array i ≡ false → (b : Bool) → constructs x j i ≡ b → GivesObject s after
+    by_new : makes_array i ≡ false → (b : Bool) → constructs x j i ≡ b → LeavesObject (IsSameAt i) s after
     by_new no_array true so =
         let kind_is : kind_of_site facts x j i ≡ Some Constructs = λ k. kind_by (no_array k) (so k) (receives_new facts x (call_of x i)) in
-        constructed-gives i at (none kind_is) no_static so there
+        leaves-if (IsApartAt i) (IsSameAt i) s after (λ same. same kind_is) (constructed-gives i at no_static so there)
     by_new no_array false so =
         by_call (receives_new facts x (call_of x i)) refl
         (sym (λ k. is_some (kind_by (no_array k) (so k) (receives_new facts x (call_of x i)))) ∙ is)
 
-    by_array : (b : Bool) → makes_array i ≡ b → GivesObject s after
-    by_array true so = array-gives o x.number j news (use_at x i) i s after so there
+    by_array : (b : Bool) → makes_array i ≡ b → LeavesObject (IsSameAt i) s after
+    by_array true so = leaves-given (IsSameAt i) s after (array-gives o x.number j news (use_at x i) i s after so there)
     by_array false so = by_new so (constructs x j i) refl

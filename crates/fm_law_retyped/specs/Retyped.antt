@@ -1,10 +1,12 @@
--- Which written classes are typed: those of typed classes, where no local holds a copy of an object that is held while its constructor is called.
-use Rattle.std.specs.Prelude.{◌≡◌, ℕ, false, List, [], Option, Some, option_and_then, Contains}
+-- Which written classes are typed: those of typed classes, where no local holds a copy of an object that is held while its constructor is called
+-- and a handler's range ends right behind that call.
+use Rattle.std.specs.Prelude.{◌≡◌, ◌≤◌, ◌+◌, ℕ, false, List, [], Option, Some, option_and_then, Contains}
 use Rattle.std.specs.List.{AllByRecursion}
 use Rattle.fm_code.specs.Edges.{insn_of}
 use Rattle.fm_code.specs.Spells.{HasSpelling}
 use Rattle.fm_code.specs.declared.class_file.ClassDef.{ClassDef}
 use Rattle.fm_code.specs.declared.code_array.Code.{Code}
+use Rattle.fm_code.specs.declared.code_array.Handler.{Handler}
 use Rattle.fm_code.specs.declared.instructions.Insn.{Insn}
 use Rattle.fm_conn.specs.Facts.{Facts}
 use Rattle.fm_conn.specs.Nodes.{TypedMethod}
@@ -28,11 +30,15 @@ AreNoCopies new slots = AllByRecursion (λ s. same_number new (new_item s) ≡ f
 abbrev pub receiver_new : TypedMethod → ℕ → Option ℕ
 receiver_new x j = option_and_then (λ (i : Insn). new_item_at x j (depth_below x j i)) (insn_of x.code j)
 
--- where the constructor of a held object is called, no local holds a copy of it
+-- the range of an entry of the exception table holds the item, and ends right behind it
+abbrev pub EndsBehind : ℕ → Handler → Type 0
+EndsBehind j handler = (handler.start ≤ j) × (handler.end ≡ j + 1)
+
+-- where the constructor of a held object is called, and a handler's range ends right behind the call, no local holds a copy of the object
 abbrev pub AreReadyAtHeld : Facts → TypedMethod → Insertions → Type 0
 AreReadyAtHeld facts x plan =
-    (h : Holder) (s : TypeState) → Contains plan.holders h → site_kind facts x h.site ≡ Some Constructs → state_at x.states h.site ≡ Some s
-    → AreNoCopies (receiver_new x h.site) s.locals
+    (h : Holder) (s : TypeState) (handler : Handler) → Contains plan.holders h → site_kind facts x h.site ≡ Some Constructs
+    → state_at x.states h.site ≡ Some s → Contains x.code.handlers handler → EndsBehind h.site handler → AreNoCopies (receiver_new x h.site) s.locals
 
 -- the same of all methods into which something is inserted
 abbrev pub NoneUnready : Program → Facts → Plans → Type 0

@@ -7,7 +7,7 @@ use fm_law_woven_flow::law_stands;
 use fm_world::law_class_types;
 
 /// Each method of classes with safe insertions is typed, where no local holds a copy of an object that is
-/// held while its constructor is called.
+/// held while its constructor is called and a handler's range ends right behind that call.
 pub fn law_typed()
     ensures { SafeClassesAreTyped }
 {
