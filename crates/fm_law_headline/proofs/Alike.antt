@@ -1,5 +1,5 @@
 -- Classes with safe insertions do alike, by the lockstep of their programs.
-use Rattle.std.proofs.Common.{◌≡◌, ℕ, List, None, refl}
+use Rattle.std.proofs.Common.{ℕ, List}
 use Rattle.fm_code.specs.declared.class_file.ClassDef.{ClassDef}
 use Rattle.fm_conn.specs.Facts.{AreFacts, Facts}
 use Rattle.fm_law_headline.proofs.InStep.{do_alike}
@@ -8,6 +8,7 @@ use Rattle.fm_law_headline.specs.InStep.{AreInStep, DoAlike}
 use Rattle.fm_law_linked.specs.Cells.{CellsOfProgramsAreResolved}
 use Rattle.fm_law_linked.specs.Laws.{ProgramsAreResolved}
 use Rattle.fm_law_linked.specs.TwoMemories.{LinkedIsWithoutFrees}
+use Rattle.fm_law_reached.specs.Reached.{HasClosedSets}
 use Rattle.fm_law_lockstep.proofs.Paced.{balanced, keep_paces}
 use Rattle.fm_law_lockstep.specs.Both.{Both}
 use Rattle.fm_law_lockstep.specs.Composing.{LockstepsStep}
@@ -65,9 +66,9 @@ woven_alike steps openings costs one other facts plans marks woven linked few =
 -- ---- classes
 
 -- no program of class files is narrowed
-all_made : (given : List ClassDef) (main : List ℕ) → (program_of given main).made ≡ None
+whole_sets : (given : List ClassDef) (main : List ℕ) → HasClosedSets (program_of given main)
 unfolding program_of
-all_made given main = refl
+whole_sets given main = tt
 
 module _ (resolved : ProgramsAreResolved) (cells : CellsOfProgramsAreResolved) (without : LinkedIsWithoutFrees) where
   pub are_linked : (given : List ClassDef) (main : List ℕ) → AreTaken given main → (facts : Facts) → AreFacts (program_of given main) facts
@@ -76,7 +77,7 @@ module _ (resolved : ProgramsAreResolved) (cells : CellsOfProgramsAreResolved) (
     exact = exact;
     resolved = resolved given main taken.spelled taken.linked taken.few;
     cells = cells given main taken.spelled taken.supported taken.linked taken.few;
-    all_made = all_made given main;
+    closed = whole_sets given main;
     without = without given main taken.spelled taken.supported taken.linked taken.few facts.typing (facts_type (program_of given main) facts exact) taken.no_free;
   }
 

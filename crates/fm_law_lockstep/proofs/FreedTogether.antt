@@ -199,6 +199,7 @@ module _ (laws : FreeLaws) (b : Both) (x z : State) (f g : Frame) (callers below
           coloured = retired.coloured;
           covered = h.known.covered;
           whole = h.known.whole;
+          reached = h.known.reached;
           no_fault = h.known.no_fault;
           made_at = h.known.made_at;
           clean = λ birth depth class own. h.known.clean birth depth class (some_of birth depth class own);

@@ -11,12 +11,13 @@ use Rattle.fm_law_holders.specs.Laws.{StepsKeepMade}
 use Rattle.fm_law_holders.specs.Uninitialised.{Made}
 use Rattle.fm_law_lockstep.specs.Known.{IsKnown, IsKnownOn, IsLinked, KnownStatesStand, StepsStayKnown}
 use Rattle.fm_law_no_fault.specs.Laws.{StepsKeepWhole}
+use Rattle.fm_law_reached.specs.Laws.{IsReady, ReachedStatesCover, ReachedStatesStep}
 use Rattle.fm_law_no_fault.specs.Whole.{HasNoFault, IsWholeBy}
 use Rattle.fm_law_sound.specs.Making.{MakesFew}
 use Rattle.fm_same.specs.Advances.{GoesOver, OwesAt}
 use Rattle.fm_same.specs.Colours.{Colour}
 use Rattle.fm_same.specs.Covering.{CoversAt}
-use Rattle.fm_same.specs.Laws.{CallsAreCovered, EffectsOwe, FramesStayCovered, FullTargetsCover, PlacesAreByKinds, ResolvedHoldsNumbers, SoundFramesStand, StepsKeepColours}
+use Rattle.fm_same.specs.Laws.{CallsAreCovered, EffectsOwe, FramesStayCovered, PlacesAreByKinds, ResolvedHoldsNumbers, SoundFramesStand, StepsKeepColours}
 use Rattle.fm_same.specs.Regions.{Everywhere, Given, Own, Region, Retired}
 use Rattle.fm_same.specs.Standing.{Stand}
 use Rattle.fm_same.specs.Targets.{AreCovered}
@@ -30,7 +31,8 @@ pub record StepLaws : Type 0 where
   pub covered : CallsAreCovered
   pub stays : FramesStayCovered
   pub places : PlacesAreByKinds
-  pub targets : FullTargetsCover
+  pub targets : ReachedStatesCover
+  pub reached : ReachedStatesStep
   pub owe : EffectsOwe
   pub colours : StepsKeepColours
   pub whole : StepsKeepWhole
@@ -53,6 +55,10 @@ was_own frames (Own d c) depth class is = by_test (nat_lt d frames) is where
   by_test true same = same
   by_test false same = absurd (cc)
 
+-- what linking makes sure of, as the laws of reached states use it
+pub ready_of : (p : Program) (facts : Facts) → IsLinked p facts → IsReady p
+ready_of p facts linked = record { steps = linked.without.steps; makes = linked.without.makes; resolved = linked.resolved }
+
 -- ---- a state that is known
 
 module _ (laws : StepLaws) (p : Program) (facts : Facts) (linked : IsLinked p facts) (x : State) (colour : Colour) (made : Made) (known : IsKnown p facts x colour made) where
@@ -61,7 +67,7 @@ module _ (laws : StepLaws) (p : Program) (facts : Facts) (linked : IsLinked p fa
 
   pub covers_here : CoversAt p facts x x.frames
   covers_here =
-      laws.covered p facts linked.exact linked.resolved linked.without.no_free x stand_here (laws.targets p linked.resolved linked.all_made facts x known.whole.sound)
+      laws.covered p facts linked.exact linked.resolved linked.without.no_free x stand_here (laws.targets p linked.resolved facts x known.whole.sound known.reached)
       (laws.places p facts linked.resolved x stand_here)
 
 -- ---- the next one
@@ -112,6 +118,7 @@ module _ (laws : StepLaws) (p : Program) (facts : Facts) (linked : IsLinked p fa
           coloured = clean.0;
           covered = covered;
           whole = whole.0;
+          reached = laws.reached p facts.typing (ready_of p facts linked) (lawful choose) x known.whole.sound known.reached;
           no_fault = whole.1;
           made_at = laws.made p facts.typing linked.resolved linked.without.steps linked.without.makes linked.cells linked.without.no_free choose x made known.whole
               few known.made_at;

@@ -26,6 +26,8 @@ use Rattle.fm_law_lockstep.specs.Known.{IsKnown, IsLinked}
 use Rattle.fm_law_lockstep.specs.Opening.{OpeningsAreTogether}
 use Rattle.fm_law_lockstep.specs.Together.{CatchesUpAt, GoTogetherAt, HoldsNothing, OfRoom, OfWords, OpenAtEnd, OpensTogether, OpenTogether, OpenWanting}
 use Rattle.fm_law_no_fault.specs.Whole.{HasNoFault, IsWholeBy}
+use Rattle.fm_law_reached.specs.Laws.{OpeningsAreReached}
+use Rattle.fm_law_lockstep.proofs.KnownSteps.{ready_of}
 use Rattle.fm_law_same_runs.specs.Beside.{kept_item, most_original_words}
 use Rattle.fm_law_sound.proofs.Budgets.{opening_budget}
 use Rattle.fm_law_sound.proofs.CallsStand.{max_locals_in}
@@ -75,6 +77,7 @@ end_same x none words one other (end.Fault method offset cell) e is same = absur
 pub record OpeningLaws : Type 0 where
   pub sound : SoundRuns
   pub whole : RunsNeverFaultWhileFew
+  pub reached : OpeningsAreReached
   pub numbers : ResolvedHoldsNumbers
   pub covered : OpeningIsCovered
   pub colours : OpeningHasColours
@@ -145,6 +148,7 @@ module _ (laws : OpeningLaws) (b : Both) (from : IsWovenFrom b.one b.other b.fac
     coloured = coloured.0;
     covered = laws.covered b.one b.facts first job one;
     whole = whole.0;
+    reached = laws.reached b.one (ready_of b.one b.facts linked) linked.closed (lawful first) job b.words None [];
     no_fault = whole.1;
     made_at = laws.made b.one b.facts.typing first job one (λ birth. 0) (whole.0).sound;
     clean = coloured.1;

@@ -12,6 +12,7 @@ use Rattle.fm_law_held_objects.specs.Clean.{IsClean}
 use Rattle.fm_law_holders.specs.Uninitialised.{AreMade, Made, made_after}
 use Rattle.fm_law_no_fault.specs.CellsResolved.{CellsAreResolved}
 use Rattle.fm_law_no_fault.specs.Whole.{HasNoFault, IsWholeBy}
+use Rattle.fm_law_reached.specs.Reached.{HasClosedSets, IsReached}
 use Rattle.fm_law_sound.specs.Making.{MakesFew}
 use Rattle.fm_law_two_memories.specs.Pairing.{Gone}
 use Rattle.fm_law_two_memories.specs.Runs.{IsWithoutFrees}
@@ -30,7 +31,8 @@ pub record IsLinked (p : Program) (facts : Facts) : Type 0 where
   pub exact : AreFacts p facts
   pub resolved : IsResolved p
   pub cells : CellsAreResolved p
-  pub all_made : p.made ≡ None
+  -- of a program that is narrowed: closed sets
+  pub closed : HasClosedSets p
   pub without : IsWithoutFrees p facts.typing
 
 -- A state with these colours, and these items at which objects were made. No object has an own region of a frame that isn't there, and what a frame still has
@@ -39,6 +41,7 @@ pub record IsKnown (p : Program) (facts : Facts) (x : State) (colour : Colour) (
   pub coloured : Coloured p facts x colour
   pub covered : AreCovered p facts x.frames
   pub whole : IsWholeBy p facts.typing x
+  pub reached : IsReached p x
   pub no_fault : HasNoFault x
   pub made_at : AreMade facts.typing x made
   pub clean : IsClean (length x.frames) colour

@@ -13,7 +13,7 @@ use fm_law_holders::{law_new_results, law_uninitialised};
 use fm_law_no_fault::{law_no_fault, law_rows};
 use fm_law_sound::law_sound;
 use fm_law_unwoven::{law_kept_steps, law_opened, law_reached};
-use fm_same::{law_calls, law_colours, law_effects, law_place_kinds, law_sites, law_targets};
+use fm_same::{law_calls, law_colours, law_effects, law_place_kinds, law_sites};
 
 /// No word of the topmost stack leads to what is gone, where all of that is retired.
 pub fn law_seen()
@@ -29,7 +29,7 @@ pub fn law_known()
     // By these laws.
     law_calls();
     law_place_kinds();
-    law_targets();
+    fm_law_reached::law_within();
     law_effects();
     law_colours();
     law_no_fault();
@@ -125,6 +125,7 @@ pub fn law_opens()
     law_clean();
     law_uninitialised();
     law_new_initialised();
+    fm_law_reached::law_within();
     law_opened();
     law_reached();
 }
