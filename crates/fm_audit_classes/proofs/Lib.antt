@@ -1,0 +1,6 @@
+pub mod LowLemmas
+pub mod InsertedLemmas
+pub mod WovenClassLemmas
+pub mod NumberedLemmas
+pub mod AuditedLemmas
+pub mod StepLemmas

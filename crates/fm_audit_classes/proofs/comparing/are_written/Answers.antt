@@ -1,0 +1,62 @@
+use Rattle.std.proofs.Common.{◌≡◌, ◌∙◌, sym, ap, subst, ◌+◌, ◌<◌, List, drop, take, length, refl, arith}
+use Rattle.fm_audit_classes.proofs.StepLemmas.{spelled_more, written_more}
+use Rattle.fm_audit_classes.specs.inner.Compared.{MayBeCompared, MayBeComparedEach}
+use Rattle.fm_code.specs.declared.class_file.ClassDef.{ClassDef}
+use Rattle.fm_place_weave.specs.declared.planned.Planned.{Planned}
+use Rattle.fm_rewrite.proofs.StepLemmas.{left, others_counted}
+use Rattle.fm_rewrite.specs.inner.ByPlans.{classes_by, method_count, others, own, rewritten_by}
+use Rattle.fm_audit_classes.proofs.comparing.are_written.Goals as goal
+
+pub split_at-requires : goal.split_at-requires
+split_at-requires c =
+    let here = c.loop-place in
+    let classes = c.args.classes.now in
+    let class = c.index-classes-place.result in
+    let counted : method_count (drop here.place classes) ≡ length class.methods + method_count (drop (here.place + 1) classes) =
+    ap (λ cs. method_count cs)
+    (left classes here.place class c.loop-place-test.true c.index-classes-place.is (λ (cs : List ClassDef). drop here.place classes ≡ cs) refl) in
+    omega (arith, counted, here.invariant.one_each, c.len.ensures)
+
+pub is_written-requires-clause-class : goal.is_written-requires-clause-class
+is_written-requires-clause-class c =
+    let here = c.loop-place in
+    let classes = c.args.classes.now in
+    let class = c.index-classes-place.result in
+    let may = (left classes here.place class c.loop-place-test.true c.index-classes-place.is (λ (cs : List ClassDef). MayBeComparedEach here.rest.now cs)
+    here.invariant.may).0 in
+    let front = c.split_at.ensures.front ∙ ap (λ n. take n here.rest.now) c.len.ensures in
+    subst (λ (ds : List Planned). MayBeCompared ds class) (sym front) may
+
+pub is_written-requires-clause-written : goal.is_written-requires-clause-written
+is_written-requires-clause-written c =
+    (spelled_more c.args.written.now c.loop-place.place c.index-written-place.result
+    (let within : c.loop-place.place < length c.args.written.now = omega (arith, c.loop-place-test.true, c.if-classes-written.false) in within)
+    c.index-written-place.is c.loop-place.invariant.spelled).0
+
+pub loop-place-preserved : goal.loop-place-preserved
+loop-place-preserved c =
+    let here = c.loop-place in
+    let classes = c.args.classes.now in
+    let written = c.args.written.now in
+    let place = here.place in
+    let class = c.index-classes-place.result in
+    let new = c.index-written-place.result in
+    let within = c.loop-place-test.true in
+    let is = c.index-classes-place.is in
+    let inside : place < length written = omega (arith, within, c.if-classes-written.false) in
+    let done = here.rest.now in
+    let front = c.split_at.ensures.front ∙ ap (λ n. take n done) c.len.ensures in
+    let after : c.split_at.result.1.now ≡ others class done = c.split_at.ensures.back ∙ ap (λ n. drop n done) c.len.ensures in
+    let rest = drop (place + 1) classes in
+    record {
+      one_each = ap length after ∙ others_counted classes place class within is done here.invariant.one_each;
+      may =
+          subst (λ (d : List Planned). MayBeComparedEach d rest) (sym after)
+          (left classes place class within is (λ (cs : List ClassDef). MayBeComparedEach done cs) here.invariant.may).1;
+      spelled = (spelled_more written place new inside c.index-written-place.is here.invariant.spelled).1;
+      same = λ same_rest.
+          let here_same : new ≡ rewritten_by (own class done) class =
+          c.in_ok-is_written.ensures c.if-not-branch.false ∙ ap (λ d. rewritten_by d class) front in
+          here.invariant.same (written_more classes written place class new done within inside is c.index-written-place.is here_same
+          (same_rest ∙ ap (λ d. classes_by d rest) after));
+    }

@@ -1,0 +1,47 @@
+-- What is to be done with methods by insertions that have room.
+use Rattle.std.specs.Prelude.{◌≡◌, ℕ, ◌+◌, ◌<◌, ◌≤◌, List, [], ◌∷◌, length, Contains, Option, Some, None}
+use Rattle.std.specs.List.{AllByRecursion}
+use Rattle.fm_base.specs.declared.limits.TheConstants.{MAX_LOCAL_WORDS}
+use Rattle.fm_code.specs.Edges.{MeetsCodeRules}
+use Rattle.fm_code.specs.Members.{code_of}
+use Rattle.fm_code.specs.declared.class_file.ClassDef.{ClassDef}
+use Rattle.fm_code.specs.declared.class_file.Member.{Member}
+use Rattle.fm_code.specs.declared.code_array.Code.{Code}
+use Rattle.fm_layout.specs.Conditions.{AreOldItems}
+use Rattle.fm_place.specs.Insertions.{before_at, Insertions}
+use Rattle.fm_place.specs.Rewriting.{Plans}
+use Rattle.fm_place.specs.declared.plans.Plan.{Plan}
+use Rattle.fm_place_weave.specs.Laws.{IsWholePlan}
+use Rattle.fm_place_weave.specs.declared.planned.Planned.{Planned}
+use Rattle.fm_place_weave.specs.declared.planned.Planned.TheVariants as planned
+use Rattle.fm_rewrite.specs.Alike.{IsOwnCode}
+use Rattle.fm_rewrite.specs.inner.ByPlans.{others, own}
+
+-- the plan lists the insertions, for which there is room, in the only code of the method
+pub record HasInsertions (ins : Insertions) (plan : Plan) (m : Member) : Type 0 where
+  pub code : Code
+  pub coded : code_of m ≡ Some code
+  pub own : AllByRecursion (IsOwnCode code) m.attributes
+  pub whole : IsWholePlan code ins plan
+  pub old_items : AreOldItems code.items
+  pub rules : MeetsCodeRules code
+  pub room : code.max_locals + length ins.holders ≤ MAX_LOCAL_WORDS
+  pub before : (j number : ℕ) → Contains (before_at ins j) number → number < length ins.holders
+
+-- what is to be done with a method is what is inserted into it: nothing, or what the plan lists
+abbrev pub IsInserted : Option Insertions → Planned → Member → Type 0
+IsInserted None planned.Same m = Unit {0}
+IsInserted (Some ins) (planned.Woven plan) m = HasInsertions ins plan m
+IsInserted o d m = ⊥
+
+-- the same of the methods of a class, of which the first has this number
+abbrev pub AreInserted : Plans → (first : ℕ) → List Planned → List Member → Type 0
+AreInserted plans first [] [] = Unit {0}
+AreInserted plans first (d ∷ done) (m ∷ methods) = IsInserted (plans first) d m × AreInserted plans (first + 1) done methods
+AreInserted plans first done methods = ⊥
+
+-- of classes
+abbrev pub AreAllInserted : Plans → (first : ℕ) → List Planned → List ClassDef → Type 0
+AreAllInserted plans first done [] = Unit {0}
+AreAllInserted plans first done (c ∷ classes) =
+    AreInserted plans first (own c done) c.methods × AreAllInserted plans (first + length c.methods) (others c done) classes

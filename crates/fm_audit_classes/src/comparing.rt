@@ -1,0 +1,105 @@
+// Whether written classes are the given ones, each by what is to be done with its methods.
+
+ghost use Rattle.std.specs.Prelude.{◌≡◌, IfOk, IsTrue, length};
+ghost use Rattle.std.specs.List.{AllByRecursion};
+ghost use Rattle.fm_audit_classes.specs.inner.Compared.{MayBeCompared, MayBeComparedEach};
+ghost use Rattle.fm_code.specs.Spells.{HasSpelling};
+ghost use Rattle.fm_rewrite.specs.inner.ByPlans.{changes_by, classes_by, is_changed, method_count, rewritten_by};
+
+use crate::low::are_low;
+use fm_base::NoMemory;
+use fm_code::ClassDef;
+use fm_place_weave::{FreePool, Planned, WeaveFail, woven_class};
+use fm_pool::AddFail;
+use fm_write::write_class;
+use std::alloc::Global;
+
+/// Whether the written classes are these, each by what is to be done with its methods. Takes memory for
+/// one class at a time, and twice for its bytes.
+pub(crate) fn are_written(
+    alloc: Global,
+    classes: &[ClassDef],
+    written: &[ClassDef],
+    planned: &[Planned],
+) -> Result<bool, NoMemory>
+    requires one_each { length planned.now ≡ method_count classes.now }
+    requires classes { MayBeComparedEach planned.now classes.now }
+    requires written { AllByRecursion HasSpelling written.now }
+    ensures { IfOk result
+        (λ same. IsTrue same → written.now ≡ classes_by planned.now classes.now) }
+{
+    if classes.len() != written.len() {
+        return Ok(false);
+    }
+    let mut rest = planned;
+    for place in 0..classes.len() {
+        let class = &classes[place];
+        let (own, later) = rest.split_at(class.methods.len());
+        if !is_written(alloc, class, &written[place], own)? {
+            return Ok(false);
+        }
+        rest = later;
+    }
+    Ok(true)
+}
+
+/// Whether the written class is this one, by what is to be done with its methods. A class that can't be
+/// woven is none that was written.
+fn is_written(
+    alloc: Global,
+    class: &ClassDef,
+    written: &ClassDef,
+    planned: &[Planned],
+) -> Result<bool, NoMemory>
+    requires class { MayBeCompared planned.now class.now }
+    requires written { HasSpelling written.now }
+    ensures { IfOk result
+        (λ same. IsTrue same → written.now ≡ rewritten_by planned.now class.now) }
+{
+    if !changes(planned) {
+        return is_same(alloc, written, class);
+    }
+    if !are_low(planned, &class.methods) {
+        return Ok(false);
+    }
+    let pool = match FreePool::of(alloc, class) {
+        Ok(pool) => pool,
+        Err(AddFail::Full(_)) => return Ok(false),
+        Err(AddFail::NoMemory) => return Err(NoMemory),
+    };
+    match woven_class(alloc, class, pool, planned) {
+        Ok(woven) => is_same(alloc, written, &woven),
+        Err(WeaveFail::TooLong(..)) => Ok(false),
+        Err(WeaveFail::NoMemory) => Err(NoMemory),
+    }
+}
+
+/// Whether one of the methods doesn't stay as it is.
+fn changes(planned: &[Planned]) -> bool
+    ensures { result ≡ changes_by planned.now }
+{
+    for method in planned {
+        if is_changed(method) {
+            return true;
+        }
+    }
+    false
+}
+
+/// Whether the method doesn't stay as it is.
+fn is_changed(planned: &Planned) -> bool
+    ensures { result ≡ is_changed planned.now }
+{
+    !matches!(planned, Planned::Same)
+}
+
+/// Whether two classes are one: their bytes are. Takes memory for both.
+fn is_same(alloc: Global, first: &ClassDef, second: &ClassDef) -> Result<bool, NoMemory>
+    requires first { HasSpelling first.now }
+    requires second { HasSpelling second.now }
+    ensures { IfOk result (λ same. IsTrue same → first.now ≡ second.now) }
+{
+    let bytes = write_class(alloc, first)?;
+    let others = write_class(alloc, second)?;
+    Ok(bytes.as_slice() == others.as_slice())
+}
