@@ -9,6 +9,7 @@ use std::rt::Env;
 use std::test::Fail;
 
 // What a process was given whose second word is no text.
+#[derive(Drop)]
 struct NoText;
 
 impl Env for NoText {
