@@ -175,7 +175,7 @@ const OF_T: FieldId = FieldId(4);
 // equals(Object) of Object, and of String; m()V of A, B, C, I, J and E.
 const OF_OBJECT: MethodId = MethodId(2);
 
-const OF_STRING: MethodId = MethodId(7);
+const OF_STRING: MethodId = MethodId(8);
 
 const OF_A: MethodId = MethodId(BUILT_IN_METHODS + 1);
 
