@@ -1,4 +1,4 @@
-use Rattle.std.proofs.Common.{◌≡◌, ◌-◌, sym, ◌∙◌, ap, subst, ℕ, List, drop, length, arith, IfOk, IsTrue}
+use Rattle.std.proofs.Common.{◌≡◌, ◌-◌, sym, ◌∙◌, ap, subst, List, drop, length, arith, IfOk, IsTrue}
 use Rattle.fm_audit_classes.proofs.AuditedLemmas.{parts_of}
 use Rattle.fm_audit_classes.specs.inner.Compared.{MayBeComparedEach}
 use Rattle.fm_place.specs.Rewriting.{first_given}
