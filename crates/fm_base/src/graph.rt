@@ -8,8 +8,8 @@ use crate::error::NoMemory;
 use std::alloc::Global;
 
 /// For each node from 0 on the least node to which a path of pairs leads, itself among them. A pair
-/// leads in both directions. Takes memory for a number for each node, and time near linear in the number of
-/// nodes and pairs: a few steps for each, over numbers that are side by side where the pairs are.
+/// leads in both directions. Takes memory for a number for each node, a step for each node, and for each
+/// pair on average at most as many steps as the logarithm of the number of nodes.
 pub fn components(alloc: Global, n: u32, pairs: &[(u32, u32)]) -> Result<Vec<u32>, NoMemory>
     requires { AreNodes n pairs.now }
     ensures { IfOk result (λ least. AreLeastJoined pairs.now n least.items) }

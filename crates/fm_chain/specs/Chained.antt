@@ -15,7 +15,7 @@ use Rattle.fm_chain.specs.declared.calls.Calls.{Calls}
 
 -- ---- what is inserted for a holder, by its local
 
--- what is on top of the stack is put before the chain that the local holds, and the local holds the whole; null, and what lives for ever, is put before none
+-- what is on top of the stack is put before the chain that the local holds, and the local holds the whole; null and what lives for ever are put before none
 abbrev pub top_linked : (link local : ℕ) → List NewItem
 top_linked link local =
     inserted insn.Dup ∷ inserted (insn.Load reg.Ref local) ∷ inserted (insn.Static link) ∷ inserted (insn.Store reg.Ref local) ∷ []

@@ -39,7 +39,7 @@ pub record AreRewrittenClasses (plans : Plans) (given : List ClassDef) : Type 0 
 abbrev pub ClassesAreRewritten : Type 0
 ClassesAreRewritten = (plans : Plans) → ((method : ℕ) → plan_has_chain (plans method) ≡ false) → (given : List ClassDef) → AreRewrittenClasses plans given
 
--- all held sites and all places together are safe, with chains too
+-- all held sites and all places together are among what `SafeChains` names
 abbrev pub FullChainsAreSafe : Type 0
 FullChainsAreSafe =
     (given : List ClassDef) (main : List ℕ) (written : List ClassDef) (marks : List (List (Option ℕ)))

@@ -1,4 +1,4 @@
--- Which insertions with chains keep a program's meaning, and which of these is made.
+-- Which insertions with chains are called safe: those whose plans are safe without chains; and the full ones.
 use Rattle.std.specs.Prelude.{◌≡◌, ℕ, List, map, Option, Some, None}
 use Rattle.fm_code.specs.declared.class_file.ClassDef.{ClassDef}
 use Rattle.fm_code.specs.declared.code_array.Code.{Code}

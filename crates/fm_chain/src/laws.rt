@@ -45,7 +45,8 @@ pub fn law_plans()
     ensures chains { PlansHaveTheChains }
 {}
 
-/// Holders for all held sites, those of sites in loops with chains, freed at all their places, are safe.
+/// Holders for all held sites, those of sites in loops with chains, freed at all their places, are among
+/// what `SafeChains` names.
 pub fn law_full()
     ensures { FullChainsAreSafe }
 {}

@@ -31,7 +31,7 @@ pub fn this_class(program: &Program, m: MethodId) -> ClassId
     program.self_of(class_of_method(program, m))
 }
 
-/// What an index of the method's class stands for. Takes no memory.
+/// What an index of the method's class is resolved to. Takes no memory.
 pub fn use_in(program: &Program, m: MethodId, index: u16) -> Use
     requires { m.0 < length (methods_of program.now.outline.classes) }
     ensures value { result ≡ use_in program.now m.0 index }

@@ -7,7 +7,7 @@ use Rattle.fm_code.specs.declared.constant_pool.Entry.TheVariants as entry
 
 -- ---- entries by their content
 
--- what an entry stands for: its tag, and its own text or the texts to which its indices lead
+-- the content of an entry: its tag, and its own text or the texts to which its indices lead
 pub data Content : Type 0 where
   of_utf8 : List ℕ → Content
   of_class : List ℕ → Content

@@ -120,7 +120,8 @@ pub fn go_to<M: Memory>(machine: &mut Machine<M>, program: &Program, target: u32
     machine.jump(0, target as usize);
 }
 
-/// The item of a key: of the keys from the least one on in order, and of all others. Takes no memory.
+/// The item to which a key leads: the target at its place in the order of keys from `low` on, and `others`
+/// for each other key. Takes no memory.
 #[inline(always)]
 pub fn table_item(low: i32, others: u32, targets: &[u32], key: i32) -> u32
     ensures { slice_get (others ∷ targets.now) (table_target low (length targets.now) key) ≡ Some result }
@@ -165,7 +166,8 @@ fn key_place(keys: &[i32], key: i32) -> Option<usize>
     keys.iter().position(|known| key == *known)
 }
 
-/// The item of a key, which is looked for among as many of the first keys as there are targets. Takes no memory.
+/// The item to which a key leads, which is looked for among as many of the first keys as there are targets;
+/// `others` for a key that isn't there. Takes no memory.
 #[inline(always)]
 pub fn key_item(others: u32, keys: &[i32], targets: &[u32], key: i32) -> u32
     ensures { slice_get (others ∷ targets.now)

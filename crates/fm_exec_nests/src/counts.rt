@@ -11,7 +11,7 @@ use fm_exec::len_of;
 use fm_frames::Machine;
 use std::alloc::Global;
 
-/// So many ints from the top of the stack, the lowest first; none where one of these words isn't an int.
+/// This number of ints from the top of the stack, the lowest first; none where one of these words isn't an int.
 pub(crate) fn counts_on<M: Memory>(
     alloc: Global,
     machine: &Machine<M>,

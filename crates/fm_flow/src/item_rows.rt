@@ -5,7 +5,7 @@ ghost use Rattle.std.specs.Prelude.{◌≡◌, false, IfOk, replicate};
 use fm_base::{NoMemory, Row};
 use std::alloc::Global;
 
-/// So many rows with no bit set, each with this many bits.
+/// This number of rows with no bit set, each with this many bits.
 pub fn empty_rows(alloc: Global, count: u32, bits: u32) -> Result<Vec<Row>, NoMemory>
     ensures { IfOk result (λ rows. rows.items ≡ replicate count (replicate bits false)) }
 {

@@ -171,7 +171,7 @@ class_started x class = record x { started = slice_set x.started class true }
 abbrev pub copied : Store → (cell len : ℕ) → List ℕ
 copied store cell len = resized (elements_at store cell) len
 
--- the object of a literal is in this cell from now on (JVMS 5.1)
+-- the object of a literal is in this cell from now on (JVMS 5.1, 6.5.ldc)
 abbrev pub literal_made : Areas → ℕ → ℕ → Areas
 literal_made x text cell = record x { literals = slice_set x.literals text cell }
 

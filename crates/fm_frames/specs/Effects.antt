@@ -41,7 +41,7 @@ pub data Action : Type 0 where
   Free : ℕ → Action
   SetChain : (operand to : ℕ) → Action
   FreeChain : ℕ → Action
-  -- an object of `len` elements, which are those of an operand's object
+  -- an object of `len` elements, which are those of an operand's object, cut or filled with 0
   Copy : (type : TypeRef) (len operand : ℕ) → Action
 
 -- what comes next

@@ -1,4 +1,4 @@
--- Which literals there are: those of the texts by their numbers, and after them the class literals of the types (JVMS 5.1).
+-- Which literals there are: those of the texts by their numbers, and after them the class literals of the types (JVMS 5.1, 6.5.ldc).
 use Rattle.std.specs.Prelude.{ℕ, ◌+◌, length, Option, Some, None}
 use Rattle.fm_world.specs.Programs.{Outline}
 use Rattle.fm_world.specs.declared.uses.Use.{Use}

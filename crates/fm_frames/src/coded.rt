@@ -59,7 +59,7 @@ fn pack_of_base(base: Base) -> u8
     }
 }
 
-/// Whether the type is that of objects of this class. Takes no memory.
+// Whether the type is that of objects of this class.
 fn is_class(t: TypeRef, class: ClassId) -> bool
     ensures { result ≡ same_type (type_of_class class.0) t }
 {
@@ -108,7 +108,7 @@ pub fn shows_units(t: TypeRef) -> bool
     is_text(t) || is_chars(t)
 }
 
-// The same by the numbers of the classes of texts.
+// How many elements of an object of the type a word holds, by the numbers of String and Class.
 fn pack_by(t: TypeRef) -> u8
     ensures value { result ≡ (if t.dims == 1 then pack_of_base t.base
         else (if same_type (type_of_class 1) t || same_type (type_of_class class_literal_class) t

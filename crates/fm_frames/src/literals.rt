@@ -1,4 +1,4 @@
-// The literals of texts and types: each is made once (JVMS 5.1).
+// The literals of texts and types: each is made once (JVMS 5.1, 6.5.ldc).
 
 ghost use Rattle.std.specs.Prelude.{◌≡◌, ◌+◌, ◌<◌, ◌^◌, false, length, OnOk};
 ghost use Rattle.std.specs.List.{All, slice_index_or};

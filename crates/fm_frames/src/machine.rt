@@ -23,7 +23,7 @@ pub struct Machine<M: Memory> {
     pub(crate) statics: Vec<Value>,
     /// A bit for each class.
     pub(crate) started: Row,
-    /// For each text the cell of its literal, null while it isn't made.
+    /// For each literal its cell, null while it isn't made.
     pub(crate) literals: Vec<Cell>,
     pub(crate) input: Vec<u8>,
     /// How many bytes of the input were read.

@@ -24,7 +24,7 @@ use fm_base::{NoMemory, TypeId, TypeRef};
 use fm_cells::{Cell, MakeFail, Memory, cell_words, object_words};
 use fm_world::Program;
 
-// The words of the cell of an object of so many elements, where a word holds `pack` of them.
+// The words of the cell of an object of this number of elements, where a word holds `pack` of them.
 fn object_cell_words(len: u32, pack: u8) -> u64
     requires len_fits { len < 2 ^ 31 }
     requires pack_is { IsPack pack }

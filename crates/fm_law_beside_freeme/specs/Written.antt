@@ -1,5 +1,5 @@
--- The classes written are accepted again, where no local holds a copy of an object that is held while its constructor is called and a handler's
--- range ends right behind that call.
+-- The classes written are accepted again, unless in one of the methods given a local holds a copy of a held object while its constructor is
+-- called, and a handler's range ends right behind that call.
 use Rattle.std.specs.Prelude.{◌≡◌, ℕ, List, [], Option, Some, None}
 use Rattle.std.specs.List.{AllByRecursion}
 use Rattle.fm_code.specs.Spells.{HasSpelling}

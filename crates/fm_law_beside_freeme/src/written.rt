@@ -11,8 +11,8 @@ pub fn law_lengths()
     ensures { AcceptedHaveLengthsAlone }
 {}
 
-/// So are files that hold the classes written, where no local holds a copy of an object that is held while
-/// its constructor is called and a handler's range ends right behind that call.
+/// So are files that hold the classes written, unless in one of the methods given a local holds a copy of a
+/// held object while its constructor is called, and a handler's range ends right behind that call.
 pub fn law_written()
     ensures { WrittenHaveLengthsAlone }
 {

@@ -38,7 +38,7 @@ pub record CanRun (p : Program) : Type 0 where
   -- the class that was named is there
   pub main_class : p.outline.main_class < length p.outline.classes
   pub constants : TextsAreReferences p.outline
-  -- the texts, and what the start of main's class does, are so few that the numbers of births fit, as the types are
+  -- the texts and what the start of main's class does are few enough for births to have numbers, as the types are
   pub few_texts : length p.outline.texts ≤ 2 ^ 28
   pub few_starts : length (start_actions p.outline (opening_classes p.outline)) ≤ 2 ^ 30
 

@@ -1,6 +1,6 @@
 // Chains of objects in a store: how they are found, linked and freed.
 //
-// No program uses it yet. Laws to come hold by it what holders of sites in loops lead to.
+// It is for laws on holders of sites in loops, which no program has yet.
 #![tactic(auto)]
 
 mod laws;

@@ -26,12 +26,12 @@ use Rattle.fm_same.specs.Standing.{Stand}
 use Rattle.fm_same.specs.Targets.{AreCovered}
 use Rattle.fm_world.specs.Programs.{Program}
 
--- what linking makes sure of
+-- what linking makes sure of, and which classes are made
 pub record IsLinked (p : Program) (facts : Facts) : Type 0 where
   pub exact : AreFacts p facts
   pub resolved : IsResolved p
   pub cells : CellsAreResolved p
-  -- of a program that is narrowed: closed sets
+  -- where the program is narrowed, its classes are those of closed sets
   pub closed : HasClosedSets p
   pub without : IsWithoutFrees p facts.typing
 

@@ -161,7 +161,7 @@ pub record PlacesFit (p : Program) : Type 0 where
 
 -- what it makes sure of where methods are called
 pub record CallsFit (p : Program) : Type 0 where
-  -- a method is selected for each object that invokevirtual or invokeinterface may meet (JVMS 5.4.5)
+  -- a method is selected for each object that invokevirtual or invokeinterface may meet (JVMS 6.5.invokevirtual, 6.5.invokeinterface)
   pub virtual : (method index : ℕ) (m : MethodId) (t : TypeId) (named of : TypeRef) → IsNamed p method (insn.Virtual index) (resolved.OfMethod m t)
       → slice_get p.outline.types t.0 ≡ Some named → is_initializer p.outline m.0 ≡ false → IsMet p.outline of → fits_type p.outline.classes of named ≡ true → Selects p of m.0
   pub interface : (method index : ℕ) (m : MethodId) (t : TypeId) (named of : TypeRef) → IsNamed p method (insn.Interface index) (resolved.OfMethod m t)

@@ -46,17 +46,17 @@ RunsStayInReach =
 
 -- ---- programs that may be narrowed
 
--- Where a sound state is within the sets to which the program is narrowed, if it is, the method that a call leads to is among the targets;
+-- Where a sound state is within the sets to which the program is narrowed, if it is, the method that a call leads to is among the targets.
 abbrev pub ReachedStatesCover : Type 0
 ReachedStatesCover = (p : Program) → IsResolved p → (facts : Facts) (x : State) → IsSoundBy p facts.typing x → IsReached p x → Covers p facts x
 
--- each step stays so,
+-- A step of a sound state within these sets leads to one within them.
 abbrev pub ReachedStatesStep : Type 0
 ReachedStatesStep =
     (p : Program) (typings : Typings) → IsReady p → (choose : Choose) (x : State) → IsSoundBy p typings x → IsReached p x
     → IsReached p (step p choose x).state
 
--- and so is the opening.
+-- The opening is within them, where there are closed sets.
 abbrev pub OpeningsAreReached : Type 0
 OpeningsAreReached =
     (p : Program) → IsReady p → HasClosedSets p → (choose : Choose) (job : Job) (budget : ℕ) (limit : Option ℕ) (free : List (List ℕ))
@@ -64,15 +64,15 @@ OpeningsAreReached =
 
 -- ---- narrowed programs
 
--- The machine doesn't look at which classes are made: a narrowed program makes the same steps,
+-- The machine doesn't look at which classes are made: a step of a narrowed program is that of the program.
 abbrev pub NarrowedStepsAreSame : Type 0
 NarrowedStepsAreSame = (p : Program) (made : List Bool) (choose : Choose) (x : State) → step (narrowed p made) choose x ≡ step p choose x
 
--- which cost the same,
+-- A step of a narrowed program costs what it costs in the program.
 abbrev pub NarrowedCostsAreSame : Type 0
 NarrowedCostsAreSame = (p : Program) (made : List Bool) (x : State) → cost (narrowed p made) x ≡ cost p x
 
--- and so the same runs.
+-- The states of a run of a narrowed program are those of the program.
 abbrev pub NarrowedRunsAreSame : Type 0
 NarrowedRunsAreSame =
     (p : Program) (made : List Bool) (choose : Choose) (job : Job) (store : Store) (k : ℕ)

@@ -1,5 +1,5 @@
-// What a program reaches holds what its runs do: their methods are among those that are reached, and their
-// objects of classes that are made.
+// Runs stay within what a program reaches: their methods are among those that are reached, and their objects
+// are of classes that are made.
 //
 // The layer above uses it where the targets of calls are narrowed to what these classes select.
 #![tactic(auto)]

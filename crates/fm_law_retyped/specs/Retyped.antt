@@ -1,5 +1,5 @@
--- Which written classes are typed: those of typed classes, where no local holds a copy of an object that is held while its constructor is called
--- and a handler's range ends right behind that call.
+-- Which written classes are typed: those of typed classes, unless in one of the methods given a local holds a copy of a held object while its
+-- constructor is called, and a handler's range ends right behind that call.
 use Rattle.std.specs.Prelude.{◌≡◌, ◌≤◌, ◌+◌, ℕ, false, List, [], Option, Some, option_and_then, Contains}
 use Rattle.std.specs.List.{AllByRecursion}
 use Rattle.fm_code.specs.Edges.{insn_of}

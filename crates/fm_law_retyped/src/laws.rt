@@ -6,8 +6,8 @@ use fm_law_linked::{law_linking, law_steps};
 use fm_law_woven_flow::law_stands;
 use fm_world::law_class_types;
 
-/// Each method of classes with safe insertions is typed, where no local holds a copy of an object that is
-/// held while its constructor is called and a handler's range ends right behind that call.
+/// Each method of classes with safe insertions is typed, unless in one of the methods given a local holds a
+/// copy of a held object while its constructor is called, and a handler's range ends right behind that call.
 pub fn law_typed()
     ensures { SafeClassesAreTyped }
 {

@@ -99,7 +99,7 @@ pub fn law_step()
 
 /// The actions of each step of a sound state fit, so each step of a typed and linked program keeps a state
 /// sound, unless an object has more words than may live; so each state of its runs is sound, from the
-/// opening on, whatever is read or freed, while no object has so many; with no more words than `fmrun`
+/// opening on, whatever is read or freed, while no object has that many; with no more words than `fmrun`
 /// allows none has.
 pub fn law_sound()
     ensures steps { law.SoundStatesStep }

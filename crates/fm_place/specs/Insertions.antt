@@ -7,7 +7,7 @@ use Rattle.fm_place.specs.Places.{is_place}
 use Rattle.fm_place.specs.Sites.{held_sites, site_class}
 
 -- A new local that holds the last object of a site, by the item of the site and the class of its object. A looped one holds the site's objects in a
--- chain; so far there is none.
+-- chain; what freeme inserts has none.
 pub record Holder : Type 0 where
   pub site : ℕ
   pub class : ℕ

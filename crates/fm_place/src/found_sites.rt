@@ -123,7 +123,7 @@ pub struct JoinedMethod<'a> {
 }
 
 impl JoinedMethod<'_> {
-    // Puts the item after the last site, if it is one. Answers how many captured sites there are now.
+    // Puts the item after the last site, if it is one. Returns how many captured sites there are now.
     fn push_site(
         &self,
         alloc: Global,

@@ -1,4 +1,4 @@
--- What serves the proofs alone.
+-- What only serves the proofs.
 pub mod ClassParts
 pub mod Failures
 pub mod MemberRules

@@ -61,7 +61,7 @@ pub record BreaksRun (p : Program) (choose : Choose) (budget : ℕ) (x : State) 
   pub put : new ≡ with_pieces (pieces_of p choose x count) old
 
 -- what a run requires of the state from which it goes on: it is sound, and as many objects can be
--- numbered as steps may be done and texts have no literal yet
+-- numbered as steps may be done and literals aren't made yet
 pub record CanGo (p : Program) (budget : ℕ) (x : State) : Type 0 where
   pub sound : IsSound p x
   pub cells : HoldsCells p x

@@ -105,7 +105,7 @@ abbrev pub SetsEvenly : Point → ℕ → Source → Kind → Type 0
 SetsEvenly x home v (kind.Ref t) = ComesFrom x home (x.class Global) v × LeadsOn x v
 SetsEvenly x home v other = Unit {0}
 
--- what has content is a text, or is copied of an object of its class; nothing is freed or chained
+-- what has content is a text, or is copied of an object of its connectivity class; nothing is freed or chained
 abbrev pub ActsEvenly : Outline → Point → ℕ → Action → Type 0
 ActsEvenly o x home (Make t len content) = (content ≡ []) ⊎ (t ≡ text_type o)
 ActsEvenly o x home (MakeFixed t) = ⊥
@@ -193,7 +193,7 @@ HasNoEdge o t =
     (object : Object) (len : ℕ) (fixed : Bool) → object.class ≡ (requested o t len fixed).class
     → (place : ℕ) (u : TypeRef) → kind_in o object place ≡ Some (kind.Ref u) → ⊥
 
--- texts and streams have no place for references, a number is the constant of a field of numbers, and the first type is that of Object
+-- texts, class literals and streams have no place for references, a number is the constant of a field of numbers, and the first type is that of Object
 pub record HoldsNumbers (o : Outline) : Type 0 where
   pub texts : HasNoEdge o (text_type o)
   pub class_literals : HasNoEdge o (class_type o)

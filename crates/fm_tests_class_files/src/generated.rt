@@ -7,7 +7,7 @@ use fm_gen::made;
 use std::alloc::Global;
 use std::test::Fail;
 
-// Whether the made class of this number has so many entries and methods.
+// Whether the made class of this number has this number of entries, and of methods.
 fn has_counts(alloc: Global, n: u32, entries: usize, methods: usize) -> Result<bool, NoMemory>
     requires at_least { 1 ≤ n }
     requires at_most { n ≤ 100 }

@@ -64,7 +64,7 @@ fits_type classes a b = is_objects_within classes (depth_of a) b || ((a.dims == 
 
 -- ---- what locals and words of the stack hold
 
--- all fits Top; null fits each type of objects; and what isn't initialised fits itself alone
+-- all fits Top; null fits each type of objects; and what isn't initialised fits only itself
 unfoldable pub fits : Outline → Slot → Slot → Bool
 fits o a slot.Top = true
 fits o slot.Int slot.Int = true

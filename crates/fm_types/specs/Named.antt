@@ -29,7 +29,7 @@ abbrev pub object_slot : Outline → Slot
 object_slot o = slot.Ref (type_of_class (object_of o.classes))
 
 -- ---- uses: what follows from the type, the field or the method that is named, the two last with the type that the entry names; nothing where
--- the index stands for something else
+-- the index is resolved to something else
 
 -- what follows from a type
 abbrev pub on_type : Outline → Use → (TypeRef → Option TypeState) → Option TypeState

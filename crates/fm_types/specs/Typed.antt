@@ -25,11 +25,11 @@ use Rattle.fm_world.specs.declared.uses.Use.TheVariants as resolved
 
 -- ---- what an item of a method names
 
--- what an index of the method's class stands for
+-- what an index of the method's class is resolved to
 abbrev pub use_in : Program → ℕ → ℕ → Use
 use_in p method index = use_of p (class_of_method p.outline method) index
 
--- what the index that an instruction names stands for
+-- what the index that an instruction names is resolved to
 abbrev pub use_by : Program → ℕ → Insn → Use
 use_by p method i = of_index (pool_index i) where
   of_index : Option ℕ → Use

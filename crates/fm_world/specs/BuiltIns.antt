@@ -37,7 +37,7 @@ object_name = codes "java/lang/Object"
 abbrev pub string_name : List ℕ
 string_name = codes "java/lang/String"
 
--- the class of class literals (JVMS 4.9.1)
+-- the class of class literals (JVMS 6.5.ldc)
 abbrev pub class_literal_name : List ℕ
 class_literal_name = codes "java/lang/Class"
 

@@ -91,7 +91,7 @@ with_number make (Some number) = make number
 abbrev pub field_use : ℕ → ℕ → Use
 field_use type field = resolved.OfField (record { 0 = field }) (record { 0 = type })
 
--- an index that stands for a method, with the type that it names
+-- an index that is resolved to a method, with the type that it names
 abbrev pub method_use : ℕ → ℕ → Use
 method_use type method = resolved.OfMethod (record { 0 = method }) (record { 0 = type })
 
@@ -228,9 +228,9 @@ IsBaseIn classes b = Unit {0}
 abbrev pub IsTypeIn : List DeclaredClass → TypeRef → Type 0
 IsTypeIn classes t = IsBaseIn classes t.base
 
--- ---- what an index stands for
+-- ---- what an index is resolved to
 
--- what an index of a class's pool stands for
+-- what an index of a class's pool is resolved to
 abbrev pub use_of : Program → ℕ → ℕ → Use
 use_of p class index = slice_index_or (slice_index_or p.uses class []) index resolved.Unused
 

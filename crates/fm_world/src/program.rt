@@ -271,7 +271,7 @@ impl Program {
         &self.parts.fields.as_slice()[f.0 as usize]
     }
 
-    /// What an index of the class's pool stands for; `Unused` where the class doesn't use it. Takes no
+    /// What an index of the class's pool is resolved to; `Unused` where the class doesn't use it. Takes no
     /// memory.
     pub fn use_of(&self, c: ClassId, index: u16) -> Use
         ensures { result ≡ use_of self.now c.0 index }

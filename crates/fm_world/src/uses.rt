@@ -2,7 +2,7 @@
 
 use fm_base::{FieldId, MethodId, TypeId};
 
-/// What an index of a class's constant pool stands for, where the class uses it. The type beside a
+/// What an index of a class's constant pool is resolved to, where the class uses it. The type beside a
 /// field or a method is the one that the entry names, which may lie below the one that declares it.
 #[derive(Clone, Copy, Debug, PartialEq, Eq)]
 pub enum Use {
@@ -13,6 +13,6 @@ pub enum Use {
     OfLong(i64),
     /// The number of a text.
     OfText(u32),
-    /// Nothing uses the index, or what is there stands for no value and no name.
+    /// Nothing uses the index, or what is there is no value and no name.
     Unused,
 }

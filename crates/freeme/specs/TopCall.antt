@@ -50,9 +50,9 @@ pub record StaysWithin (job : FreemeJob) (old new : Disk) : Type 0 where
 
 -- ---- how a job comes out
 
--- By the facts by which the classes are rewritten no local holds a copy of an object that is held where its constructor is called and a
--- handler's range ends right behind the call (JVMS 4.10.2.4): what is inserted there is in the range too, and the handler would get the
--- copy both before it is initialised and after.
+-- In no method, by the facts by which the classes are rewritten, does a local hold a copy of a held object where its constructor is called
+-- and a handler's range ends right behind the call (JVMS 4.10.2.4): what is inserted there is in the range too, and the handler would get
+-- the copy both before it is initialised and after.
 abbrev pub AreLocalsReady : (given : List ClassDef) (main : List ℕ) (made : Rewritten) → AreRewritten given main made → Type 0
 AreLocalsReady given main made are = NoneUnready (program_of given main) are.full.facts (full_plans (program_of given main) are.full.facts)
 

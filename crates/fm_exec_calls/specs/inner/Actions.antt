@@ -38,7 +38,7 @@ HasWords o actions words = (x : Areas) (literals : List ℕ) → words_among o x
 
 -- ---- acting
 
--- how many texts have no literal yet
+-- how many literals aren't made yet
 abbrev pub unmade : List ℕ → ℕ
 unmade literals = count_by (λ cell. cell == 0) literals
 

@@ -50,7 +50,7 @@ pub record IsSeen (s : Seen) : Type 0 where
 abbrev pub count_of : Seen → ℕ
 count_of s = length s.method.code.now.items
 
--- the row has a bit for each of so many items, set exactly where the item passes the test
+-- the row has a bit for each of this number of items, set exactly where the item passes the test
 pub record IsRowOf (count : ℕ) (test : ℕ → Bool) (row : List Bool) : Type 0 where
   pub wide : length row ≡ count
   pub each : (j : ℕ) → j < count → has row j ≡ test j

@@ -26,7 +26,7 @@ pub(super) fn is_supported_name(name: &[u8]) -> bool
     !high
 }
 
-/// Whether a unit may come next; `high` tells whether the one before was the first one of a
+/// Whether a unit may come next; `high` is whether the one before was the first one of a
 /// surrogate pair.
 fn may_follow(high: bool, unit: u32) -> bool
     ensures { result ≡ may_follow high unit }

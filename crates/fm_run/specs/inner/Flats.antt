@@ -37,7 +37,7 @@ abbrev pub item_in : List Frame → ℕ
 item_in [] = 0
 item_in (f ∷ callers) = f.item
 
--- how many steps are done, if that will be the reach at the item 65,536 where no jump comes before it
+-- how many steps are done where this is the reach: the count at the item 65,536, if no jump comes before it
 abbrev pub done_by : (reach : ℕ) → List Frame → ℕ
 done_by reach frames = reach + item_in frames - 65536
 
