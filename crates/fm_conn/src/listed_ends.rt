@@ -18,7 +18,7 @@ fn numbered(
 ) -> Result<Vec<(u32, u32)>, NoMemory>
     ensures { IfOk result (λ found. found.items ≡ numbered entries.now ends.now) }
 {
-    let mut found = Vec::new(alloc);
+    let mut found = Vec::with_capacity(alloc, ends.len())?;
     for end in ends {
         if let Some(number) = end_number(entries, end.0) {
             found.push((number, end.1))?;
