@@ -10,7 +10,7 @@ use Rattle.fm_conn.specs.inner.ListedEnds.{first_with, link_pairs, numbered, pai
 
 -- ---- numbers of ends
 
-same_number-is : (a b : Option ℕ) → same_number a b ≡ true → (n : ℕ) × (a ≡ Some n) × (b ≡ Some n)
+pub same_number-is : (a b : Option ℕ) → same_number a b ≡ true → (n : ℕ) × (a ≡ Some n) × (b ≡ Some n)
 same_number-is (Some m) (Some n) same = (m, refl, ap Some (sym (eqb-true m n same)))
 same_number-is (Some m) None same = absurd (false≢true same)
 same_number-is None b same = absurd (false≢true same)

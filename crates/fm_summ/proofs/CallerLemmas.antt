@@ -1,12 +1,15 @@
 -- Which methods are listed as callers.
-use Rattle.std.proofs.Common.{◌≡◌, ◌≢◌, ℕ, zero, suc, ◌+◌, ◌<◌, ◌≤◌, List, [], ◌∷◌, ◌++◌, length, get_or, replicate, Contains, refl, ap, sym, ◌∙◌, subst, ⊎_elim, arith, length-set}
+use Rattle.std.proofs.Common.{◌≡◌, ◌≢◌, ℕ, zero, suc, ◌+◌, ◌-◌, ◌<◌, ◌≤◌, ◌⊎◌, true, false, cond, List, [], ◌∷◌, ◌++◌, length, get_or, replicate, Some, Contains, refl, ap, sym, ◌∙◌, subst, inl, ⊎_elim, arith, length-set}
 use Rattle.std.proofs.lemmas.Bool.{cases_eq, cases_lt}
 use Rattle.std.proofs.lemmas.List.{get_or-set_same, get_or-set_other, get_or_past, length-map, map-append}
+use Rattle.std.proofs.lemmas.Option.{get_or_from_slice_get, slice_get_within}
 use Rattle.std.specs.Global.{Vec}
+use Rattle.std.specs.List.{slice_get}
 use Rattle.fm_base.specs.declared.ids.MethodId.{MethodId}
 use Rattle.std.proofs.lemmas.List.Elements.{Contains-append_left, Contains-push, Contains-push_cases}
 use Rattle.fm_base.proofs.ContainsFacts.{Contains-cons_cases, Contains-none}
-use Rattle.fm_summ.specs.inner.Callers.{all_targets, lists_of, targets_at, with_all, with_caller, with_callers, with_calls, HasCallers}
+use Rattle.fm_conn.proofs.ListedEndLemmas.{same_number-is}
+use Rattle.fm_summ.specs.inner.Callers.{all_targets, ended_by, ends_with, lists_of, targets_at, with_all, with_caller, with_callers, with_calls, HasCallers}
 
 -- what a step keeps: the lists stay, all that is listed stays listed, and what is new lies below a bound
 record Grows (before after : List (List ℕ)) (bound : ℕ) : Type 0 where
@@ -27,22 +30,46 @@ grows_then a b c bound first second = record {
 
 -- ---- one caller more
 
+ended_kept : (xs : List ℕ) (n k : ℕ) → Contains xs k → Contains (ended_by xs n) k
+ended_kept xs n k found =
+    elim (ends_with xs n) as (λ b. Contains (cond b xs (xs ++ n ∷ [])) k) [
+      | true ↦ found
+      | false ↦ Contains-append_left xs (n ∷ []) k found
+    ]
+
+ended_cases : (xs : List ℕ) (n k : ℕ) → Contains (ended_by xs n) k → Contains xs k ⊎ (n ≡ k)
+ended_cases xs n k found =
+    (elim (ends_with xs n) as (λ b. Contains (cond b xs (xs ++ n ∷ [])) k → Contains xs k ⊎ (n ≡ k)) [
+      | true ↦ (λ there. inl there)
+      | false ↦ (λ there. Contains-push_cases xs n k there)
+    ]) found
+
+ended_has : (xs : List ℕ) (n : ℕ) → Contains (ended_by xs n) n
+ended_has xs n =
+    (elim (ends_with xs n) as (λ b. ends_with xs n ≡ b → Contains (cond b xs (xs ++ n ∷ [])) n) [
+      | true ↦ (λ is.
+          let same = same_number-is (slice_get xs (length xs - 1)) (Some n) is in
+          let last : slice_get xs (length xs - 1) ≡ Some n = same.1 ∙ sym same.2 in
+          (length xs - 1, slice_get_within xs (length xs - 1) n last, get_or_from_slice_get xs (length xs - 1) n n last))
+      | false ↦ (λ is. Contains-push xs n)
+    ]) refl
+
 at_target : (callers : List (List ℕ)) (target caller : ℕ) → target < length callers →
-    get_or (with_caller callers target caller) target [] ≡ get_or callers target [] ++ caller ∷ []
-at_target callers target caller inside = get_or-set_same callers target (get_or callers target [] ++ caller ∷ []) [] inside
+    get_or (with_caller callers target caller) target [] ≡ ended_by (get_or callers target []) caller
+at_target callers target caller inside = get_or-set_same callers target (ended_by (get_or callers target []) caller) [] inside
 
 elsewhere : (callers : List (List ℕ)) (target caller other : ℕ) → other ≢ target →
     get_or (with_caller callers target caller) other [] ≡ get_or callers other []
-elsewhere callers target caller other apart = get_or-set_other callers target other (get_or callers target [] ++ caller ∷ []) [] apart
+elsewhere callers target caller other apart = get_or-set_other callers target other (ended_by (get_or callers target []) caller) [] apart
 
 past_target : (callers : List (List ℕ)) (target caller other : ℕ) → length callers ≤ other → get_or (with_caller callers target caller) other [] ≡ []
 past_target callers target caller other past =
     get_or_past (with_caller callers target caller) other []
-    (let size = length-set callers target (get_or callers target [] ++ caller ∷ []) in omega arith)
+    (let size = length-set callers target (ended_by (get_or callers target []) caller) in omega arith)
 
 grows_one : (callers : List (List ℕ)) (target caller bound : ℕ) → caller < bound → Grows callers (with_caller callers target caller) bound
 grows_one callers target caller bound below = record {
-  one_each = length-set callers target (get_or callers target [] ++ caller ∷ []);
+  one_each = length-set callers target (ended_by (get_or callers target []) caller);
   kept = λ other k found.
       ⊎_elim
       (λ (same : other ≡ target).
@@ -50,7 +77,7 @@ grows_one callers target caller bound below = record {
       (λ (inside : target < length callers).
       subst (λ t. Contains (get_or (with_caller callers target caller) t []) k) (sym same)
       (subst (λ list. Contains list k) (sym (at_target callers target caller inside))
-      (Contains-append_left (get_or callers target []) (caller ∷ []) k (subst (λ t. Contains (get_or callers t []) k) same found))))
+      (ended_kept (get_or callers target []) caller k (subst (λ t. Contains (get_or callers t []) k) same found))))
       (λ (past : length callers ≤ target).
       absurd (Contains-none k (subst (λ list. Contains list k) (get_or_past callers target [] past) (subst (λ t. Contains (get_or callers t []) k) same found))))
       (cases_lt target (length callers)))
@@ -62,7 +89,7 @@ grows_one callers target caller bound below = record {
       ⊎_elim
       (λ (inside : target < length callers).
       ⊎_elim (λ before. all target k before) (λ (now : caller ≡ k). omega arith)
-      (Contains-push_cases (get_or callers target []) caller k
+      (ended_cases (get_or callers target []) caller k
       (subst (λ list. Contains list k) (at_target callers target caller inside)
       (subst (λ t. Contains (get_or (with_caller callers target caller) t []) k) same found))))
       (λ (past : length callers ≤ target).
@@ -74,7 +101,7 @@ grows_one callers target caller bound below = record {
 
 listed_one : (callers : List (List ℕ)) (target caller : ℕ) → target < length callers → Contains (get_or (with_caller callers target caller) target []) caller
 listed_one callers target caller inside =
-    subst (λ list. Contains list caller) (sym (at_target callers target caller inside)) (Contains-push (get_or callers target []) caller)
+    subst (λ list. Contains list caller) (sym (at_target callers target caller inside)) (ended_has (get_or callers target []) caller)
 
 -- ---- at each of the targets of a call, of calls, of all methods
 

@@ -5,7 +5,7 @@ use Rattle.std.proofs.lemmas.List.{get_or_append_left, get_or_default, get_or_re
 use Rattle.std.specs.Global.{Vec}
 use Rattle.fm_base.proofs.ContainsFacts.{Contains-flat_map}
 use Rattle.fm_base.specs.Graph.{AreNodes}
-use Rattle.fm_summ.specs.inner.Callers.{lists_of, with_caller}
+use Rattle.fm_summ.specs.inner.Callers.{ended_by, lists_of, with_caller}
 use Rattle.std.proofs.lemmas.List.Filters.{dedup_is}
 use Rattle.std.proofs.lemmas.List.Kept.{Contains-dedup_nat}
 use Rattle.std.proofs.lemmas.List.Sorted.{searched, Contains-permutation}
@@ -112,10 +112,10 @@ indices_more names pairs i before after a b inside so_far nodes first first_is s
 
 -- one of them has an element more
 pub pushed_at : (callers : List (Vec ℕ)) (target caller : ℕ) (was now : Vec ℕ) → target < length callers → was ≡ get_or callers target was →
-    now.items ≡ was.items ++ caller ∷ [] → lists_of (set callers target now) ≡ with_caller (lists_of callers) target caller
+    now.items ≡ ended_by was.items caller → lists_of (set callers target now) ≡ with_caller (lists_of callers) target caller
 pushed_at callers target caller was now inside is more =
     map-set (λ (x : Vec ℕ). x.items) callers target now
-    ∙ ap (set (lists_of callers) target) (more ∙ ap (λ list. list ++ caller ∷ []) (ap (λ (x : Vec ℕ). x.items) is ∙ sym (get_or-map (λ (x : Vec ℕ). x.items) callers target was [] inside)))
+    ∙ ap (set (lists_of callers) target) (more ∙ ap (λ list. ended_by list caller) (ap (λ (x : Vec ℕ). x.items) is ∙ sym (get_or-map (λ (x : Vec ℕ). x.items) callers target was [] inside)))
 
 -- ---- ends and shapes one by one
 

@@ -5,7 +5,7 @@ ghost use Rattle.fm_base.specs.declared.ids.MethodId.{MethodId};
 ghost use Rattle.fm_world.specs.Programs.{targets};
 ghost use Rattle.fm_conn.specs.declared.shapes.CallShape.{CallShape};
 ghost use Rattle.fm_conn.specs.declared.shapes.Shape.{Shape};
-ghost use Rattle.fm_summ.specs.inner.Callers.{all_targets, call_targets, lists_of, numbers_of, targets_at, with_all, with_caller, with_callers, with_calls, AreCallsIn, HasCallers};
+ghost use Rattle.fm_summ.specs.inner.Callers.{all_targets, call_targets, ended_by, ends_with, lists_of, numbers_of, targets_at, with_all, with_caller, with_callers, with_calls, AreCallsIn, HasCallers};
 ghost use Rattle.fm_conn.specs.inner.PairLists.{IsCallIn};
 
 use fm_base::{MethodId, NoMemory};
@@ -46,7 +46,7 @@ fn targets_of_calls(
     Ok(found)
 }
 
-/// For each method the methods that have a call which can lead to it, one for each such call.
+/// For each method the methods that have a call which can lead to it, each once.
 pub fn callers_of(alloc: Global, targets: &[Vec<Vec<MethodId>>]) -> Result<Vec<Vec<u32>>, NoMemory>
     requires { length targets.now < 2 ^ 32 }
     ensures { IfOk result (λ callers. HasCallers (all_targets targets.now) (lists_of callers.items)) }
@@ -108,7 +108,27 @@ fn push_caller(callers: &mut Vec<Vec<u32>>, target: MethodId, caller: u32) -> Re
 {
     let target = target.0 as usize;
     if target < callers.len() {
-        callers[target].push(caller)?;
+        push_once(&mut callers[target], caller)?;
     }
     Ok(())
+}
+
+// Puts the number after the last one, unless it is that one.
+fn push_once(list: &mut Vec<u32>, n: u32) -> Result<(), NoMemory>
+    ensures { OnOk result (list.new.items ≡ ended_by list.old.items n) }
+{
+    if !ends_with(list.as_slice(), n) {
+        list.push(n)?;
+    }
+    Ok(())
+}
+
+// Whether the list ends with this number.
+fn ends_with(list: &[u32], n: u32) -> bool
+    ensures { result ≡ ends_with list.now n }
+{
+    match list.last() {
+        Some(last) => *last == n,
+        None => false,
+    }
 }

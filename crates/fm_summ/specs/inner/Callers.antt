@@ -1,9 +1,10 @@
 -- The methods that calls can lead to, and those that make them, by numbers.
-use Rattle.std.specs.Prelude.{◌≡◌, ◌<◌, ◌+◌, ℕ, List, [], ◌∷◌, ◌++◌, length, map, Contains, slice_set}
-use Rattle.std.specs.List.{slice_index_or}
+use Rattle.std.specs.Prelude.{◌≡◌, ◌<◌, ◌+◌, ◌-◌, ℕ, Bool, List, [], ◌∷◌, ◌++◌, length, map, Some, Contains, slice_set, if◌then◌else◌}
+use Rattle.std.specs.List.{slice_get, slice_index_or}
 use Rattle.std.specs.Global.{Vec}
 use Rattle.fm_base.specs.declared.ids.MethodId.{MethodId}
 use Rattle.fm_world.specs.Programs.{targets, Outline, Program}
+use Rattle.fm_conn.specs.Summaries.{same_number}
 use Rattle.fm_conn.specs.declared.shapes.CallShape.{CallShape}
 use Rattle.fm_conn.specs.declared.shapes.Shape.{Shape}
 use Rattle.fm_conn.specs.inner.PairLists.{IsCallIn}
@@ -38,9 +39,17 @@ all_targets xs = map (λ (x : Vec (Vec MethodId)). targets_at x.items) xs
 
 -- ---- callers
 
--- a method more at a target, if that is there
+-- whether a list ends with a number
+abbrev pub ends_with : List ℕ → ℕ → Bool
+ends_with xs n = same_number (slice_get xs (length xs - 1)) (Some n)
+
+-- a number more, unless it is the last one
+abbrev pub ended_by : List ℕ → ℕ → List ℕ
+ended_by xs n = if ends_with xs n then xs else xs ++ n ∷ []
+
+-- a method more at a target, if that is there, unless it is the last one there
 abbrev pub with_caller : List (List ℕ) → ℕ → ℕ → List (List ℕ)
-with_caller callers target caller = slice_set callers target (slice_index_or callers target [] ++ caller ∷ [])
+with_caller callers target caller = slice_set callers target (ended_by (slice_index_or callers target []) caller)
 
 -- several targets have one more caller
 abbrev pub with_callers : List (List ℕ) → List ℕ → ℕ → List (List ℕ)
