@@ -6,13 +6,12 @@ ghost use Rattle.fm_summ.specs.inner.Orders.{AreListed, ListsEachOnce};
 use fm_base::{MethodId, NoMemory, mark};
 use std::alloc::Global;
 
-// What the walk over calls does with a method.
-#[derive(Drop)]
-enum Visit {
-    // goes into it, if it wasn't gone into before
-    Enter(u32),
-    // lists it, as all that it calls is listed
-    Leave(u32),
+// A method that the walk over calls went into, and which target of which of its calls comes next.
+#[derive(Clone, Copy)]
+struct Visit {
+    method: u32,
+    call: usize,
+    target: usize,
 }
 
 /// Methods by their numbers, of which there are `count`: each once, behind those that it calls, but where
@@ -67,28 +66,30 @@ fn is_unlisted(listed: &[bool], method: u32) -> bool
     }
 }
 
-// The methods in the order in which a walk over the calls leaves them.
+// The methods in the order in which a walk over the calls leaves them. Takes memory for the methods,
+// however many calls there are.
 fn walked(alloc: Global, count: u32, targets: &[Vec<Vec<MethodId>>]) -> Result<Vec<u32>, NoMemory> {
     let mut order = Vec::new(alloc);
     let mut entered = vec![in alloc; false; targets.len()]?;
     let mut visits = Vec::new(alloc);
+    let most = most_steps(targets);
     for method in 0..count {
-        visits.push(Visit::Enter(method))?;
-    }
-    for _ in 0..most_visits(targets) {
-        match visits.pop() {
-            Some(Visit::Enter(method)) => enter(targets, &mut entered, &mut visits, method)?,
-            Some(Visit::Leave(method)) => order.push(method)?,
-            None => break,
+        enter(&mut entered, &mut visits, method)?;
+        for _ in 0..most {
+            let Some(visit) = visits.pop() else {
+                break;
+            };
+            go_on(targets, &mut entered, &mut visits, &mut order, visit)?;
         }
     }
     Ok(order)
 }
 
-// No more visits are made: a method is entered from the start and from each call of it, and left once.
-fn most_visits(targets: &[Vec<Vec<MethodId>>]) -> usize {
-    let mut most = targets.len().saturating_mul(2);
+// No more steps are made: each method is left once, and each call and each target is gone over once.
+fn most_steps(targets: &[Vec<Vec<MethodId>>]) -> usize {
+    let mut most = targets.len();
     for calls in targets {
+        most = most.saturating_add(calls.len());
         for called in calls {
             most = most.saturating_add(called.len());
         }
@@ -96,23 +97,47 @@ fn most_visits(targets: &[Vec<Vec<MethodId>>]) -> usize {
     most
 }
 
-// Goes into a method that wasn't gone into before: what it calls is visited before it is left.
-fn enter(
+// Goes into a method that wasn't gone into before.
+fn enter(entered: &mut Vec<bool>, visits: &mut Vec<Visit>, method: u32) -> Result<(), NoMemory> {
+    let index = method as usize;
+    if index < entered.len() && !entered[index] {
+        entered[index] = true;
+        visits.push(Visit {
+            method,
+            call: 0,
+            target: 0,
+        })?;
+    }
+    Ok(())
+}
+
+// Goes into the next target of a visit, or on to its next call; behind the last one the method is
+// listed.
+fn go_on(
     targets: &[Vec<Vec<MethodId>>],
     entered: &mut Vec<bool>,
     visits: &mut Vec<Visit>,
-    method: u32,
+    order: &mut Vec<u32>,
+    visit: Visit,
 ) -> Result<(), NoMemory> {
-    let index = method as usize;
-    if index >= targets.len() || index >= entered.len() || entered[index] {
+    let index = visit.method as usize;
+    if index >= targets.len() || visit.call >= targets[index].len() {
+        order.push(visit.method)?;
         return Ok(());
     }
-    entered[index] = true;
-    visits.push(Visit::Leave(method))?;
-    for called in &targets[index] {
-        for target in called {
-            visits.push(Visit::Enter(target.0))?;
-        }
+    let called = targets[index][visit.call].as_slice();
+    if visit.target >= called.len() {
+        visits.push(Visit {
+            method: visit.method,
+            call: visit.call + 1,
+            target: 0,
+        })?;
+        return Ok(());
     }
-    Ok(())
+    visits.push(Visit {
+        method: visit.method,
+        call: visit.call,
+        target: visit.target + 1,
+    })?;
+    enter(entered, visits, called[visit.target].0)
 }
