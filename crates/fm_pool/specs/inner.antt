@@ -1,3 +1,4 @@
+pub mod EntryPlaces
 pub mod Failures
 pub mod FreePlaces
 pub mod Reading

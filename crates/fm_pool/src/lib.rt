@@ -9,13 +9,17 @@ mod error;
 mod free_entries;
 mod known_entries;
 mod known_pool;
+mod missing;
 mod put;
 mod reading;
 mod rules;
+mod sought;
 mod writing;
 
 pub use error::{AddFail, PoolFail};
-pub use free_entries::find_or_add_free;
+pub use free_entries::{FREE_CLASS, FREE_DESCRIPTOR, FreeIndices, FreePlaces, find_or_add_free};
 pub use known_pool::KnownPool;
+pub use missing::{MAX_INDICES, Missing};
 pub use reading::read_pool;
+pub use sought::MethodPlaces;
 pub use writing::write_pool;

@@ -25,8 +25,8 @@ returns-in_err-pool-clause-refused c =
     refused_short c.from_residual-in_err-pool.result (with_chains c.args.class.now.pool.entries) c.from_residual-in_err-pool.ensures.1
     (omega (arith, is, c.if-count-gt-MAX_INDICES.false))
 
-pub returns-in_err-append-clause-refused : goal.returns-in_err-append-clause-refused
-returns-in_err-append-clause-refused c =
+pub returns-in_err-append_to-clause-refused : goal.returns-in_err-append_to-clause-refused
+returns-in_err-append_to-clause-refused c =
     let is = counted c.args.class.now.pool.entries c.of-places.result c.len.result c.missing.result c.of-places.ensures c.len.ensures c.missing.ensures.is in
-    refused_short c.from_residual-in_err-append.result (with_chains c.args.class.now.pool.entries) c.from_residual-in_err-append.ensures.1
+    refused_short c.from_residual-in_err-append_to.result (with_chains c.args.class.now.pool.entries) c.from_residual-in_err-append_to.ensures.1
     (omega (arith, is, c.if-count-gt-MAX_INDICES.false))

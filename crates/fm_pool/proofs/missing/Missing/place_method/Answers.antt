@@ -1,5 +1,5 @@
-use Rattle.fm_chain.proofs.EntriesLemmas.{method_in_turn}
-use Rattle.fm_chain.proofs.entries.Missing.place_method.Goals as goal
+use Rattle.fm_pool.proofs.MissingLemmas.{method_in_turn}
+use Rattle.fm_pool.proofs.missing.Missing.place_method.Goals as goal
 
 pub returns-clause-placed : goal.returns-clause-placed
 returns-clause-placed c =
