@@ -10,7 +10,6 @@ use Rattle.fm_code.specs.SpellsCode.{ItemIsSpelled, targets_of, with_targets}
 use Rattle.fm_code.specs.declared.code_array.Code.{Code}
 use Rattle.fm_code.specs.declared.code_array.Item.{Item}
 use Rattle.fm_code.specs.declared.instructions.Insn.{Insn}
-use Rattle.fm_code.specs.declared.instructions.Insn.TheVariants as insn
 use Rattle.fm_layout.proofs.LayoutLemmas.{one_each}
 use Rattle.fm_layout.proofs.TablesLemmas.{length-firsts_from}
 use Rattle.fm_layout.specs.Conditions.{AreNewItems, AreOldItems, HasOrigin, IsSameButTargets}
