@@ -157,6 +157,7 @@ calls_of_class entries i = true
 
 -- the class that an instruction names, by itself or as the class of a member
 abbrev pub class_named : List Entry → Insn → Option (List ℕ)
+class_named entries (insn.LoadPool index) = class_name_at entries index
 class_named entries (insn.GetStatic index) = option_map (λ m. m.class) (field_ref_at entries index)
 class_named entries (insn.PutStatic index) = option_map (λ m. m.class) (field_ref_at entries index)
 class_named entries (insn.GetField index) = option_map (λ m. m.class) (field_ref_at entries index)

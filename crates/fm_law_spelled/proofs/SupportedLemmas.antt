@@ -4,13 +4,14 @@ use Rattle.std.specs.List.{AllByRecursion}
 use Rattle.std.specs.Option.{option_map}
 use Rattle.std.proofs.lemmas.Bool.{false≢true}
 use Rattle.std.proofs.lemmas.List.{length-map}
-use Rattle.fm_base.proofs.ListFacts.{AllByRecursion-weaker}
+use Rattle.fm_base.proofs.ListFacts.{AllByRecursion-get_or, AllByRecursion-weaker}
 use Rattle.fm_base.proofs.OptionFacts.{IsSome-from_some, Some-from_is_some, Some-from_some_and}
 use Rattle.fm_code.specs.AccessFlags.{is_interface}
-use Rattle.fm_code.specs.ConstantPool.{class_name_at, entry_at, field_ref_at, interface_method_ref_at, MemberName, method_ref_at}
+use Rattle.fm_code.specs.ConstantPool.{class_name_at, entry_at, EntryIsValid, field_ref_at, interface_method_ref_at, MemberName, method_ref_at, utf8_at}
 use Rattle.fm_code.specs.FreeEntries.{free_class, free_method, sought_free, with_free}
 use Rattle.fm_code.specs.Members.{code_of, MethodAttrIsValid, MethodIsValid}
 use Rattle.fm_code.specs.CodeRules.{CodeIsValid}
+use Rattle.fm_code.specs.Names.{IsClassName}
 use Rattle.fm_code.specs.Operands.{OperandIsValid}
 use Rattle.fm_code.specs.Profile.{calls_of_class, class_named, CodeIsWithin, FieldIsSupported, HeadIsSupported, is_left_out, is_supported_constant, IsFloatingArray, IsSupportedName, ItemIsSupported, loads_supported, MethodIsSupported, MethodIsWithin}
 use Rattle.fm_code.specs.declared.class_file.Member.{Member}
@@ -33,9 +34,10 @@ use Rattle.fm_place.specs.Insertions.{Insertions}
 use Rattle.fm_place.specs.Rewriting.{free_index, Plans, rewritten_attribute, rewritten_method, rewritten_methods}
 use Rattle.fm_place.specs.Woven.{anchors_of, woven, woven_code}
 use Rattle.fm_pool.proofs.FreeEntriesAdded.{free_named, free_supported}
-use Rattle.fm_pool.proofs.GrownPool.{and_kept, class_kept, entry_kept, text_kept, there_kept}
+use Rattle.fm_pool.proofs.GrownPool.{and_kept, class_from, class_kept, entry_kept, text_kept, there_kept}
 use Rattle.fm_read_limits.proofs.FloatingLemmas.{array_begins}
 use Rattle.fm_read_limits.proofs.LimitLemmas.{code_is, first_code}
+use Rattle.fm_read_limits.specs.inner.Declared.{PoolIsValid}
 use Rattle.fm_law_spelled.proofs.InsertedFits.{InsertedFits, woven_fits}
 use Rattle.fm_law_spelled.proofs.KeptNames.{field_kept, interface_method_kept, method_kept, such_kept}
 use Rattle.fm_law_spelled.proofs.LaidFits.{HoldsOfTargets, laid_hold}
@@ -88,7 +90,7 @@ inserted_supported free locals entries named starts firsts start i fits = absurd
 
 -- ---- more entries
 
-module _ (entries more : List Entry) where
+module _ (entries more : List Entry) (pool : PoolIsValid entries) where
   same_of : (i : List Entry → ℕ → Option MemberName) (index : ℕ) → ((m : MemberName) → i entries index ≡ Some m → i (entries ++ more) index ≡ Some m) → IsSome (i entries index)
       → option_map (λ (m : MemberName). m.class) (i (entries ++ more) index) ≡ option_map (λ (m : MemberName). m.class) (i entries index)
   same_of i index stays there = let v = Some-from_is_some (i entries index) there in ap (option_map (λ (m : MemberName). m.class)) (stays v.0 v.1 ∙ sym v.1)
@@ -96,25 +98,39 @@ module _ (entries more : List Entry) where
   class_same : (index : ℕ) → IsSome (class_name_at entries index) → class_name_at (entries ++ more) index ≡ class_name_at entries index
   class_same index there = let v = Some-from_is_some (class_name_at entries index) there in class_kept entries more index v.0 v.1 ∙ sym v.1
 
+  -- a class that is loaded is there too
+  loaded_same : (index : ℕ) → is_supported_constant (entry_at entries index) ≡ true → class_name_at (entries ++ more) index ≡ class_name_at entries index
+  loaded_same index supported = by (entry_at entries index) refl where
+    stays : entry_at (entries ++ more) index ≡ entry_at entries index
+    stays = entry_kept entries more index (entry_at entries index) refl (λ second. let none : is_supported_constant entry.Second ≡ true = ap is_supported_constant second ∙ supported in cc)
+    by : (e : Entry) → entry_at entries index ≡ e → class_name_at (entries ++ more) index ≡ class_name_at entries index
+    by (entry.Class name) is =
+        let valid = subst (EntryIsValid entries) is (AllByRecursion-get_or (EntryIsValid entries) entries entry.Second pool tt index) in
+        let text = Some-from_some_and (utf8_at entries name) IsClassName valid in
+        let there = class_from entries index name text.0 is text.1 in
+        class_kept entries more index text.0 there ∙ sym there
+    by e is = rw (stays ∙ is, is) refl
+
   -- an instruction names the same class
-  named_same : (offset : ℕ) (bytes : List ℕ) (i : Insn) → OperandIsValid entries (record { offset = offset; bytes = bytes; insn = i }) → calls_of_class entries i ≡ true
-      → class_named (entries ++ more) i ≡ class_named entries i
-  named_same offset bytes (insn.GetStatic index) valid called = same_of field_ref_at index (field_kept entries more index) valid
-  named_same offset bytes (insn.PutStatic index) valid called = same_of field_ref_at index (field_kept entries more index) valid
-  named_same offset bytes (insn.GetField index) valid called = same_of field_ref_at index (field_kept entries more index) valid
-  named_same offset bytes (insn.PutField index) valid called = same_of field_ref_at index (field_kept entries more index) valid
-  named_same offset bytes (insn.Virtual index) valid called = same_of method_ref_at index (method_kept entries more index) valid
-  named_same offset bytes (insn.Special index) valid called = same_of method_ref_at index (method_kept entries more index) called
-  named_same offset bytes (insn.Static index) valid called = same_of method_ref_at index (method_kept entries more index) called
-  named_same offset bytes (insn.Interface index) valid called =
+  named_same : (offset : ℕ) (bytes : List ℕ) (i : Insn) → OperandIsValid entries (record { offset = offset; bytes = bytes; insn = i }) → loads_supported entries i ≡ true
+      → calls_of_class entries i ≡ true → class_named (entries ++ more) i ≡ class_named entries i
+  named_same offset bytes (insn.LoadPool index) valid loaded called = loaded_same index loaded
+  named_same offset bytes (insn.GetStatic index) valid loaded called = same_of field_ref_at index (field_kept entries more index) valid
+  named_same offset bytes (insn.PutStatic index) valid loaded called = same_of field_ref_at index (field_kept entries more index) valid
+  named_same offset bytes (insn.GetField index) valid loaded called = same_of field_ref_at index (field_kept entries more index) valid
+  named_same offset bytes (insn.PutField index) valid loaded called = same_of field_ref_at index (field_kept entries more index) valid
+  named_same offset bytes (insn.Virtual index) valid loaded called = same_of method_ref_at index (method_kept entries more index) valid
+  named_same offset bytes (insn.Special index) valid loaded called = same_of method_ref_at index (method_kept entries more index) called
+  named_same offset bytes (insn.Static index) valid loaded called = same_of method_ref_at index (method_kept entries more index) called
+  named_same offset bytes (insn.Interface index) valid loaded called =
       let v = Some-from_some_and (interface_method_ref_at entries index) _ valid in
       same_of interface_method_ref_at index (interface_method_kept entries more index) (IsSome-from_some (interface_method_ref_at entries index) v.0 v.1)
-  named_same offset bytes (insn.New index) valid called = class_same index valid
-  named_same offset bytes (insn.NewRefs index) valid called = class_same index valid
-  named_same offset bytes (insn.Cast index) valid called = class_same index valid
-  named_same offset bytes (insn.IsA index) valid called = class_same index valid
-  named_same offset bytes (insn.MultiArray index dimensions) valid called = class_same index valid
-  named_same offset bytes i valid called = refl
+  named_same offset bytes (insn.New index) valid loaded called = class_same index valid
+  named_same offset bytes (insn.NewRefs index) valid loaded called = class_same index valid
+  named_same offset bytes (insn.Cast index) valid loaded called = class_same index valid
+  named_same offset bytes (insn.IsA index) valid loaded called = class_same index valid
+  named_same offset bytes (insn.MultiArray index dimensions) valid loaded called = class_same index valid
+  named_same offset bytes i valid loaded called = refl
 
   -- and may load what it loads
   loads_kept : (i : Insn) → loads_supported entries i ≡ true → loads_supported (entries ++ more) i ≡ true
@@ -134,7 +150,7 @@ module _ (entries more : List Entry) where
     supported.not_left_out,
     loads_kept item.insn supported.constant,
     calls_kept item.insn supported.of_class,
-    subst (λ (o : Option (List ℕ)). IfSome o (λ name. ¬ IsFloatingArray name)) (sym (named_same item.offset item.bytes item.insn valid supported.of_class)) supported.class,
+    subst (λ (o : Option (List ℕ)). IfSome o (λ name. ¬ IsFloatingArray name)) (sym (named_same item.offset item.bytes item.insn valid supported.constant supported.of_class)) supported.class,
   )
 
   items_kept : (items : List Item) → AllByRecursion (OperandIsValid entries) items → AllByRecursion (ItemIsSupported entries) items → AllByRecursion (HasSupportedInsn (entries ++ more)) items
@@ -167,7 +183,7 @@ first_can free plan (attribute.Constant name value ∷ attributes) code can is =
 first_can free plan (attribute.Coded name own ∷ attributes) code can is = let same : own ≡ code = cc in subst (λ (c : Code). CanWeave free c plan) same can.0
 first_can free plan (attribute.Other raw ∷ attributes) code can is = first_can free plan attributes code can.1 is
 
-module _ (entries more : List Entry) (free : ℕ) (named : method_ref_at (entries ++ more) free ≡ Some free_method) where
+module _ (entries more : List Entry) (pool : PoolIsValid entries) (free : ℕ) (named : method_ref_at (entries ++ more) free ≡ Some free_method) where
   code_supported : (code : Code) (plan : Insertions) → CanWeave free code plan → AllByRecursion (OperandIsValid entries) code.items → AllByRecursion (ItemIsSupported entries) code.items
       → AllByRecursion (ItemIsSupported (entries ++ more)) (woven_code free code plan).items
   unfolding laid_of
@@ -176,7 +192,7 @@ module _ (entries more : List Entry) (free : ℕ) (named : method_ref_at (entrie
       let rooms = widened_rooms (rooms_of code.items new_items) in
       are_supported (entries ++ more) (laid_of code.items new_items).items
       (laid_hold (HasSupportedInsn (entries ++ more)) (targeted_supported (entries ++ more)) free (code.max_locals + length plan.holders) code.items (kept_supported (entries ++ more))
-      (inserted_supported free (code.max_locals + length plan.holders) (entries ++ more) named) (items_kept entries more code.items valid supported)
+      (inserted_supported free (code.max_locals + length plan.holders) (entries ++ more) named) (items_kept entries more pool code.items valid supported)
       (starts_from 0 rooms) (firsts_from 0 rooms) 0 0 new_items rooms can.new_items.each (woven_fits free code plan can.suits))
 
   -- ---- methods
@@ -198,7 +214,7 @@ module _ (entries more : List Entry) (free : ℕ) (named : method_ref_at (entrie
     by None is own = tt
     by (Some code) is own =
         let code_valid = first_valid entries attributes code valid is in
-        are_supported (entries ++ more) code.items (items_kept entries more code.items code_valid.operands own)
+        are_supported (entries ++ more) code.items (items_kept entries more pool code.items code_valid.operands own)
 
   woven_items : (plan : Insertions) (attributes : List MemberAttr) → AllByRecursion (AttributeCan free plan) attributes → AllByRecursion (MethodAttrIsValid entries) attributes
       → ItemsIn entries (first_code attributes) → ItemsIn (entries ++ more) (option_map (λ code. woven_code free code plan) (first_code attributes))
@@ -276,7 +292,7 @@ changed_accepted plans first c (bytes, spells) profile can =
       supported = record {
         name = and_kept (class_name_at entries c.this_class) (class_name_at (with_free entries) c.this_class) IsSupportedName (class_kept entries more c.this_class) profile.supported.name;
         fields = AllByRecursion-weaker (FieldIsSupported entries) (FieldIsSupported (with_free entries)) (λ m own. such_kept entries more m.descriptor _ own) c.fields profile.supported.fields;
-        methods = methods_supported entries more (free_index c) named (is_interface c.flags) plans first c.methods can spells.methods profile.supported.methods;
+        methods = methods_supported entries more spells.pool.entries (free_index c) named (is_interface c.flags) plans first c.methods can spells.methods profile.supported.methods;
         pool = free_supported entries profile.supported.pool;
       };
     }

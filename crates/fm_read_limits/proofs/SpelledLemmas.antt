@@ -82,6 +82,7 @@ interface_class entries pool i e is name found = no_text name (rw is at found)
 
 -- the class that an instruction names has the name of a class
 pub class_named_is : (entries : List Entry) → PoolIsValid entries → (i : Insn) (name : List ℕ) → class_named entries i ≡ Some name → IsClassName name
+class_named_is entries pool (insn.LoadPool index) name found = (class_text entries pool index name found).class
 class_named_is entries pool (insn.GetStatic index) name found = field_class entries pool index (entry_at entries index) refl name found
 class_named_is entries pool (insn.PutStatic index) name found = field_class entries pool index (entry_at entries index) refl name found
 class_named_is entries pool (insn.GetField index) name found = field_class entries pool index (entry_at entries index) refl name found

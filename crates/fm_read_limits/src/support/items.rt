@@ -88,7 +88,8 @@ fn class_named<'a>(pool: &'a Pool, insn: &Insn) -> Option<&'a Name>
             Some(pool.method(*index)?.class)
         }
         Insn::Interface(index) => Some(pool.interface_method(*index)?.class),
-        Insn::New(index)
+        Insn::LoadPool(index)
+        | Insn::New(index)
         | Insn::NewRefs(index)
         | Insn::Cast(index)
         | Insn::IsA(index)

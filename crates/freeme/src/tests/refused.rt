@@ -58,7 +58,7 @@ const LOCALS: [Row; 2] = [
     ),
 ];
 
-const UNSUPPORTED: [Row; 19] = [
+const UNSUPPORTED: [Row; 20] = [
     (b"\x01\0\x01M", b"\x01\0\x02\xc0\x80", "class 0"), // its name has U+0000
     (b"\x01\0\x01M", b"\x01\0\x03\xed\xa0\x80", "class 0"), // its name has half of a surrogate pair
     (b"\x01\0\x01J", b"\x01\0\x01F", "y 0"), // a float field
@@ -71,6 +71,11 @@ const UNSUPPORTED: [Row; 19] = [
     (b"\x01\0\x04[LM;", b"\x01\0\x03[[D", "main 78"), // a cast to an array of doubles
     (b"\xc0\0\x20\x57", b"\xc0\0\x20\xc2", "main 81"), // a monitorenter
     (b"\x12\x17\x57", b"\xbc\x06\x57", "main 82"), // an array of floats
+    (
+        b"\x01\0\x02hi\x08\0\x16",
+        b"\x01\0\x02[F\x07\0\x16",
+        "main 82",
+    ), // ldc of the class of arrays of floats
     (b"\x2a\xb7\0\x1a", b"\x22\xb7\0\x1a", "<init> 0"), // fload_0
     (b"\x2a\xb7\0\x1a", b"\x2a\xb7\0\x0d", "<init> 1"), // a special call of an interface's method
     (b"\xb2\0\x11\x57", b"\xb8\0\x0d\x57", "main 59"), // a static one
