@@ -24,19 +24,14 @@ impl<M: Memory> Machine<M> {
     pub fn literal_at(&self, text: u32) -> Cell
         ensures { result.0 ≡ slice_index_or self.now.areas.literals text 0 }
     {
-        match self.literals.get(text as usize) {
-            Some(cell) => *cell,
-            None => Cell(0),
-        }
+        self.literal_in(text as usize)
     }
 
     /// Keeps the cell of the literal of a text, if there is that text. Takes no memory.
     pub fn set_literal(&mut self, text: u32, cell: Cell)
         ensures { self.new ≡ record self.old { areas = literal_made self.old.areas text cell.0 } }
     {
-        if (text as usize) < self.literals.len() {
-            self.literals[text as usize] = cell;
-        }
+        self.keep_literal(text as usize, cell);
     }
 
     // The cell of a literal by its place; null where it isn't made, or where there is no such literal.
