@@ -11,6 +11,7 @@ ghost use Rattle.fm_law_lockstep.specs.Together.{LockstepsKeepPace, TogetherCost
 use fm_law_held_objects::{law_clean, law_frees, law_held_steps, law_keeping, law_new_initialised};
 use fm_law_holders::{law_new_results, law_uninitialised};
 use fm_law_no_fault::{law_no_fault, law_rows};
+use fm_law_reached::law_narrowed_states;
 use fm_law_sound::law_sound;
 use fm_law_unwoven::{law_kept_steps, law_opened, law_reached};
 use fm_same::{law_calls, law_colours, law_effects, law_place_kinds, law_sites};
@@ -29,7 +30,7 @@ pub fn law_known()
     // By these laws.
     law_calls();
     law_place_kinds();
-    fm_law_reached::law_within();
+    law_narrowed_states();
     law_effects();
     law_colours();
     law_no_fault();
@@ -125,7 +126,7 @@ pub fn law_opens()
     law_clean();
     law_uninitialised();
     law_new_initialised();
-    fm_law_reached::law_within();
+    law_narrowed_states();
     law_opened();
     law_reached();
 }

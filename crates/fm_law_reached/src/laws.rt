@@ -10,7 +10,7 @@ pub fn law_covered()
 
 /// Runs of a typed and linked program stay within closed sets of methods and classes: each step does, and so
 /// does each state from the opening on.
-pub fn law_reached()
+pub fn law_stays_in_reach()
     ensures steps { StepsStayInReach }
     ensures runs { RunsStayInReach }
 {}
@@ -18,7 +18,7 @@ pub fn law_reached()
 /// The same of a program of which only its row of classes is known, if it has one: where a state is within
 /// closed sets of these classes, the method that a call leads to is among the targets; each step stays so,
 /// and so is the opening.
-pub fn law_within()
+pub fn law_narrowed_states()
     ensures covered { ReachedStatesCover }
     ensures steps { ReachedStatesStep }
     ensures openings { OpeningsAreReached }

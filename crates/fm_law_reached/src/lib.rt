@@ -6,4 +6,4 @@
 
 mod laws;
 
-pub use laws::{law_covered, law_narrowed, law_reached, law_within};
+pub use laws::{law_covered, law_narrowed, law_narrowed_states, law_stays_in_reach};

@@ -6,7 +6,7 @@ returns c =
     openings_together (record {
       sound = c.law_sound.ensures.runs;
       whole = c.law_no_fault.ensures.while_few;
-      reached = c.law_within.ensures.openings;
+      reached = c.law_narrowed_states.ensures.openings;
       numbers = c.law_calls.ensures.numbers;
       covered = c.law_calls.ensures.opening;
       colours = c.law_colours.ensures.opening;
