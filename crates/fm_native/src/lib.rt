@@ -4,21 +4,21 @@
 // then as the method's effect makes it, at the choices that the memory makes.
 #![tactic(auto)]
 
-pub mod asked;
-pub mod builders;
-pub mod classes;
-pub mod contents;
+mod asked;
+mod builders;
+mod classes;
+mod contents;
 mod copies;
-pub mod free_me;
-pub mod hidden;
+mod free_me;
+mod hidden;
 mod names;
 mod natives;
-pub mod objects;
-pub mod shown;
-pub mod spelling;
-pub mod streams;
-pub mod strings;
-pub mod throwables;
-pub mod units;
+mod objects;
+mod shown;
+mod spelling;
+mod streams;
+mod strings;
+mod throwables;
+mod units;
 
 pub use natives::{native, quiet};
