@@ -34,10 +34,9 @@ const GET_MESSAGE: u16 = THROWABLE_ROW + 2;
 
 const FREE_ME_LINK: u16 = FREE_ME_ROW + 1;
 
-// The rows of Object begin at 0.
-const GET_CLASS: u16 = 4;
+// The last two methods of Object.
+const GET_CLASS: u16 = STRING_ROW - 2;
 
-// The last method of Object.
 const CLONE: u16 = STRING_ROW - 1;
 
 /// The ends of a method without code. Those that a built-in method links have one number, and each

@@ -65,11 +65,11 @@ get_message_row = throwable_row + 2
 abbrev pub link_row : ℕ
 link_row = free_me_row + 1
 
--- getClass
+-- getClass, the last method of Object but one
 abbrev pub get_class_row : ℕ
-get_class_row = 4
+get_class_row = string_row - 2
 
--- clone, the last method of Object
+-- clone, the last one
 abbrev pub clone_row : ℕ
 clone_row = string_row - 1
 
