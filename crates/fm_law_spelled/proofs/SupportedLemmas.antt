@@ -103,6 +103,7 @@ module _ (entries more : List Entry) (pool : PoolIsValid entries) where
   loaded_same index supported = by (entry_at entries index) refl where
     stays : entry_at (entries ++ more) index ≡ entry_at entries index
     stays = entry_kept entries more index (entry_at entries index) refl (λ second. let none : is_supported_constant entry.Second ≡ true = ap is_supported_constant second ∙ supported in cc)
+
     by : (e : Entry) → entry_at entries index ≡ e → class_name_at (entries ++ more) index ≡ class_name_at entries index
     by (entry.Class name) is =
         let valid = subst (EntryIsValid entries) is (AllByRecursion-get_or (EntryIsValid entries) entries entry.Second pool tt index) in
