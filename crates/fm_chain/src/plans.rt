@@ -72,7 +72,7 @@ impl ChainPlan {
     }
 }
 
-/// For each of this many holders, whether its site is one of these and lies in a loop.
+// For each of this many holders, whether its site is one of these and lies in a loop.
 fn looped_row(
     alloc: Global,
     code: &Code,
@@ -91,7 +91,7 @@ fn looped_row(
     Ok(row)
 }
 
-/// Sets the bit of a holder, if the test holds.
+// Sets the bit of a holder, if the test holds.
 fn set_if(row: &mut Row, test: bool, holder: u16)
     requires { holder < length row.old }
     ensures { row.new ≡ (if test then slice_set row.old holder true else row.old) }
