@@ -40,7 +40,7 @@ module _ (links : SafeClassesLink) (can_run : ProgramsCanRun) (made : MadeIsMost
   pub the_same : ClassesDoTheSame
   unfolding safe_of
   the_same given main taken written marks full spelled supported =
-      let safe : Safe given main written marks = safe_of given main written marks full in
+      let safe : Safe given main written marks = safe_of (program_of given main) given written marks full in
       let both = alike given main taken written marks safe in
       record {
         same = both.same;

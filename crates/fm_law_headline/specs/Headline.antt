@@ -10,7 +10,7 @@ use Rattle.fm_conn.specs.Facts.{Facts}
 use Rattle.fm_world.specs.Programs.{Program, program_of}
 use Rattle.fm_frames.specs.Acts.{Choose}
 use Rattle.fm_frames.specs.Runs.{Job}
-use Rattle.fm_place.specs.Safe.{Full}
+use Rattle.fm_place.specs.Safe.{Full, FullOf}
 use Rattle.fm_law_cells_made.specs.MostHeld.{all_most_held, first_state, store_after}
 use Rattle.fm_law_lockstep.specs.Reaching.{ReachedIsRenamed}
 use Rattle.fm_law_same_runs.specs.Beside.{AreMatched, InAllRuns, IsGiven, IsWithoutFault, Marks, reuse_run, Same}
@@ -39,8 +39,9 @@ abbrev pub AreRenamedInRuns : (one other : Program) → Facts → Marks → Type
 AreRenamedInRuns one other facts marks = InAllRuns one other marks (λ b. (k l : ℕ) → AreMatched b k l → ReachedIsRenamed facts b k l)
 
 -- What the classes written do, beside those that were given. Where no cell is taken twice, and that is one of the ways in which memory may choose, each use
--- of a freed cell is a fault: so none is read, written or freed again on such memory.
-pub record DoesTheSame (given : List ClassDef) (main : List ℕ) (written : List ClassDef) (marks : Marks) (full : Full given main written marks) : Type 0 where
+-- of a freed cell is a fault: so none is read, written or freed again on such memory. The sites are those of the program `p`, the given one or that one
+-- narrowed; the runs are those of the given one.
+pub record DoesTheSame {p : Program} (given : List ClassDef) (main : List ℕ) (written : List ClassDef) (marks : Marks) (full : FullOf p given written marks) : Type 0 where
   -- step for matched step they print and read the same, no more words live, few inserted steps follow one another, and they end alike
   pub same : Same (program_of given main) (program_of written main) marks
   -- no freed cell is read, written or freed again
@@ -53,7 +54,7 @@ pub record DoesTheSame (given : List ClassDef) (main : List ℕ) (written : List
   -- at matched states the words that live, with those that were freed, are the words that live in the first run
   pub balanced : InAllRuns (program_of given main) (program_of written main) marks (λ b. (k l : ℕ) → AreMatched b k l → WordsAreBalanced b k l)
   -- holders of what isn't busy are null
-  pub cleared : HoldersStayClear (program_of given main) (program_of written main) full.facts marks
+  pub cleared : HoldersStayClear p (program_of written main) full.facts marks
   -- freed cells serve again
   pub most_held : MakesAsHeld (program_of written main)
   -- in whole runs over cells that serve again in both programs

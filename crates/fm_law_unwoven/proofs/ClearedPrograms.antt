@@ -18,7 +18,7 @@ use Rattle.fm_law_unwoven.specs.WovenFrom.{inserted_by, SafeProgramsAreWoven}
 use Rattle.fm_place.proofs.FullLemmas.{method-safe}
 use Rattle.fm_place.specs.Insertions.{full_insertions}
 use Rattle.fm_place.specs.Places.{is_busy}
-use Rattle.fm_place.specs.Safe.{Full, full_plans, Safe}
+use Rattle.fm_place.specs.Safe.{full_plans, FullOf, SafeOf}
 use Rattle.fm_place.specs.Woven.{local_of}
 use Rattle.fm_world.specs.Programs.{code_at, Program, program_of}
 use Rattle.fm_same.proofs.DeadRuns.{facts_type}
@@ -58,12 +58,12 @@ all_clear p facts marks [] all = tt
 all_clear p facts marks (f ∷ frames) all = (full_clear p facts marks f all.0, all_clear p facts marks frames all.1)
 
 -- they are safe, with these facts and plans
-unfoldable pub safe_of : (given : List ClassDef) (main : List ℕ) (written : List ClassDef) (marks : Marks) → Full given main written marks → Safe given main written marks
-safe_of given main written marks full = record {
+unfoldable pub safe_of : (p : Program) (given written : List ClassDef) (marks : Marks) → FullOf p given written marks → SafeOf p given written marks
+safe_of p given written marks full = record {
   facts = full.facts;
   exact = full.exact;
-  plans = full_plans (program_of given main) full.facts;
-  methods = method-safe (program_of given main) full.facts;
+  plans = full_plans p full.facts;
+  methods = method-safe p full.facts;
   written_is = full.written_is;
   marks_are = full.marks_are;
 }
@@ -72,4 +72,4 @@ pub full_cleared : SafeRunsAreCleared → HoldersAreCleared
 unfolding safe_of
 full_cleared runs given main taken written marks full job job_given choose words few free l going =
     all_clear (program_of given main) full.facts marks (reuse_run (program_of written main) choose job words free l).state.frames
-    ((runs given main taken written marks (safe_of given main written marks full) job job_given choose words few free).cleared l going)
+    ((runs given main taken written marks (safe_of (program_of given main) given written marks full) job job_given choose words few free).cleared l going)

@@ -11,7 +11,7 @@ use Rattle.fm_base.specs.declared.limits.TheConstants.{MAX_LOCAL_WORDS}
 use Rattle.fm_code.proofs.EdgesLemmas.{Contains-first, Contains-from_filter, Contains-from_map, Contains-later}
 use Rattle.fm_conn.specs.Facts.{Facts}
 use Rattle.fm_conn.specs.Nodes.{TypedMethod}
-use Rattle.fm_world.specs.Programs.{Program, program_of}
+use Rattle.fm_world.specs.Programs.{Program}
 use Rattle.fm_place.proofs.PathLemmas.{places_are_by_paths}
 use Rattle.fm_place.specs.Insertions.{all_holders, all_insertions, before_at, full_insertions, Holder, Insertions, numbers_of}
 use Rattle.fm_place.specs.Laws.{FullIsSafe}
@@ -232,11 +232,11 @@ method-safe p facts method plan found =
     (λ x is there. record { x = x; is = is; safe = full-safe facts x plan there })
 
 pub full_is_safe : FullIsSafe
-full_is_safe given main written marks full = record {
+full_is_safe p given written marks full = record {
   facts = full.facts;
   exact = full.exact;
-  plans = full_plans (program_of given main) full.facts;
-  methods = method-safe (program_of given main) full.facts;
+  plans = full_plans p full.facts;
+  methods = method-safe p full.facts;
   written_is = full.written_is;
   marks_are = full.marks_are;
 }

@@ -15,12 +15,13 @@ use Rattle.fm_layout.specs.Conditions.{AreNewItems, AreOldItems}
 use Rattle.fm_layout.specs.Laid.{laid_of}
 use Rattle.fm_layout.specs.Tables.{AreAnchors}
 use Rattle.fm_layout.specs.declared.laying.TheConstants.{MAX_NEW_ITEMS}
+use Rattle.fm_world.specs.Programs.{Program}
 use Rattle.fm_place.specs.FactsBy.{facts_by}
 use Rattle.fm_place.specs.Insertions.{all_holders, all_insertions, before_at, full_insertions, Insertions}
 use Rattle.fm_place.specs.Places.{is_busy, is_place, IsBusy, MayHold}
 use Rattle.fm_place.specs.PlansBy.{holders_in, IsPlanOf}
 use Rattle.fm_place.specs.Rewriting.{free_count}
-use Rattle.fm_place.specs.Safe.{Full, Safe}
+use Rattle.fm_place.specs.Safe.{FullOf, SafeOf}
 use Rattle.fm_place.specs.Sites.{sites_of}
 use Rattle.fm_place.specs.declared.plans.Plan.{Plan}
 use Rattle.fm_place.specs.Woven.{anchors_of, woven}
@@ -44,9 +45,7 @@ PlacesAreByPaths =
 
 -- all held sites and all places together are safe
 abbrev pub FullIsSafe : Type 0
-FullIsSafe =
-    (given : List ClassDef) (main : List ℕ) (written : List ClassDef) (marks : List (List (Option ℕ)))
-    → Full given main written marks → Safe given main written marks
+FullIsSafe = (p : Program) (given written : List ClassDef) (marks : List (List (Option ℕ))) → FullOf p given written marks → SafeOf p given written marks
 
 -- there is room for a plan's holders, and what it frees are its holders; and the index of FreeMe.free fits an instruction
 pub record Suits (free : ℕ) (code : Code) (plan : Insertions) : Type 0 where

@@ -1,5 +1,5 @@
--- Which insertions keep a program's meaning, and which of these is made.
-use Rattle.std.specs.Prelude.{◌≡◌, ◌+◌, ℕ, ◌<◌, ◌≤◌, true, false, List, length, map, Option, Some, option_and_then, option_map, Contains, nat_eq, slice_get}
+-- Which insertions keep a program's meaning, and which of these is made. The program may be narrowed: then it is said by which of its classes objects are made.
+use Rattle.std.specs.Prelude.{◌≡◌, ◌+◌, ℕ, ◌<◌, ◌≤◌, Bool, true, false, List, length, map, Option, Some, option_and_then, option_map, Contains, nat_eq, slice_get}
 use Rattle.std.specs.List.{AllByRecursion, IsDistinct}
 use Rattle.fm_base.specs.declared.limits.TheConstants.{MAX_LOCAL_WORDS}
 use Rattle.fm_code.specs.declared.class_file.ClassDef.{ClassDef}
@@ -11,6 +11,12 @@ use Rattle.fm_place.specs.Insertions.{before_at, full_insertions, Holder, Insert
 use Rattle.fm_place.specs.Places.{is_busy, MayHold}
 use Rattle.fm_place.specs.Rewriting.{marks_with, Plans, rewritten}
 use Rattle.fm_place.specs.Sites.{is_captured_site, site_class}
+
+-- ---- narrowed programs
+
+-- the program with these as the classes of which objects are made, or with all of its classes
+abbrev pub narrowed_to : Program → Option (List Bool) → Program
+narrowed_to p made = record p { made = made }
 
 -- ---- one method
 
@@ -55,15 +61,18 @@ pub record IsSafeMethod (p : Program) (facts : Facts) (method : ℕ) (plan : Ins
   pub is : method_in_facts p facts method ≡ Some x
   pub safe : AreSafe facts x plan
 
--- the classes written are those given with safe insertions, and the marks say which items are
--- inserted
-pub record Safe (given : List ClassDef) (main : List ℕ) (written : List ClassDef) (marks : List (List (Option ℕ))) : Type 0 where
+-- The classes written are those given with insertions that are safe in this program of the classes given, and the marks say which items are inserted.
+pub record SafeOf (p : Program) (given written : List ClassDef) (marks : List (List (Option ℕ))) : Type 0 where
   pub facts : Facts
-  pub exact : AreFacts (program_of given main) facts
+  pub exact : AreFacts p facts
   pub plans : Plans
-  pub methods : (method : ℕ) (plan : Insertions) → plans method ≡ Some plan → IsSafeMethod (program_of given main) facts method plan
+  pub methods : (method : ℕ) (plan : Insertions) → plans method ≡ Some plan → IsSafeMethod p facts method plan
   pub written_is : written ≡ rewritten plans given
   pub marks_are : marks ≡ marks_with plans given
+
+-- the same by the program that isn't narrowed
+abbrev pub Safe : (given : List ClassDef) (main : List ℕ) (written : List ClassDef) (marks : List (List (Option ℕ))) → Type 0
+Safe given main written marks = SafeOf (program_of given main) given written marks
 
 -- ---- all held sites and all places
 
@@ -71,9 +80,14 @@ pub record Safe (given : List ClassDef) (main : List ℕ) (written : List ClassD
 abbrev pub full_plans : Program → Facts → Plans
 full_plans p facts method = option_and_then (full_insertions facts) (method_in_facts p facts method)
 
--- exactly the held sites have holders, and each is freed exactly at its places: whatever the numbers of classes, one result
-pub record Full (given : List ClassDef) (main : List ℕ) (written : List ClassDef) (marks : List (List (Option ℕ))) : Type 0 where
+-- In this program of the classes given exactly the held sites have holders, and each is freed exactly at its places: whatever the numbers of classes, one
+-- result.
+pub record FullOf (p : Program) (given written : List ClassDef) (marks : List (List (Option ℕ))) : Type 0 where
   pub facts : Facts
-  pub exact : AreFacts (program_of given main) facts
-  pub written_is : written ≡ rewritten (full_plans (program_of given main) facts) given
-  pub marks_are : marks ≡ marks_with (full_plans (program_of given main) facts) given
+  pub exact : AreFacts p facts
+  pub written_is : written ≡ rewritten (full_plans p facts) given
+  pub marks_are : marks ≡ marks_with (full_plans p facts) given
+
+-- the same by the program that isn't narrowed
+abbrev pub Full : (given : List ClassDef) (main : List ℕ) (written : List ClassDef) (marks : List (List (Option ℕ))) → Type 0
+Full given main written marks = FullOf (program_of given main) given written marks
