@@ -30,7 +30,7 @@ module _ (links : SafeClassesLink) (can_run : ProgramsCanRun) (made : MadeIsMost
   written_can_run : (given : List ClassDef) (main : List ℕ) → AreTaken given main → (written : List ClassDef) (marks : Marks)
       → Safe given main written marks → AllByRecursion HasSpelling written → AllByRecursion IsSupported written → CanRun (program_of written main)
   written_can_run given main taken written marks safe spelled supported =
-      can_run written main spelled supported (links given main written marks taken.spelled taken.linked safe).links
+      can_run written main spelled supported (links given main (program_of given main) written marks taken.spelled taken.linked safe).links
       (subst (λ n. n ≤ MAX_CLASS_FILES)
       (sym (ap (λ (classes : List ClassDef). length classes) safe.written_is ∙ as_many safe.plans first_given given)) taken.few)
 

@@ -99,7 +99,7 @@ module _ (plans : Plans) where
 -- ---- safe insertions
 
 pub safe_link : SafeClassesLink
-safe_link given main written marks spelled none safe = record {
+safe_link given main p written marks spelled none safe = record {
   links = ap (λ files. refusals files main) safe.written_is ∙ refusals_same safe.plans given spelled main ∙ none;
   outline = ap (λ files. outline_of files main) safe.written_is ∙ outline_same safe.plans given main spelled;
 }

@@ -5,13 +5,13 @@ use Rattle.fm_code.specs.FreeEntries.{free_class, free_method}
 use Rattle.fm_code.specs.Spells.{HasSpelling}
 use Rattle.fm_code.specs.declared.class_file.ClassDef.{ClassDef}
 use Rattle.fm_place.specs.Rewriting.{free_index, Plans, rewritten}
-use Rattle.fm_place.specs.Safe.{Safe}
+use Rattle.fm_place.specs.Safe.{SafeOf}
 use Rattle.fm_world.specs.BuiltIns.{built_in}
 use Rattle.fm_world.specs.Descriptors.{class_number}
 use Rattle.fm_world.specs.Linking.{refusals}
 use Rattle.fm_world.specs.Lookups.{resolved_method}
 use Rattle.fm_world.specs.Numbers.{type_of_class}
-use Rattle.fm_world.specs.Programs.{method_use, Outline, outline_of, program_of, use_of}
+use Rattle.fm_world.specs.Programs.{method_use, Outline, outline_of, Program, program_of, use_of}
 use Rattle.fm_world.specs.declared.uses.Use.{Use}
 use Rattle.fm_world.specs.declared.uses.Use.TheVariants as resolved
 
@@ -55,8 +55,8 @@ pub record LinkAgain (given : List ClassDef) (main : List ℕ) (written : List C
   pub links : refusals written main ≡ []
   pub outline : outline_of written main ≡ outline_of given main
 
--- where the given ones link
+-- where the given ones link, whatever the program is in which the insertions are safe
 abbrev pub SafeClassesLink : Type 0
 SafeClassesLink =
-    (given : List ClassDef) (main : List ℕ) (written : List ClassDef) (marks : List (List (Option ℕ))) → AllByRecursion HasSpelling given
-    → refusals given main ≡ [] → Safe given main written marks → LinkAgain given main written
+    (given : List ClassDef) (main : List ℕ) (p : Program) (written : List ClassDef) (marks : List (List (Option ℕ))) → AllByRecursion HasSpelling given
+    → refusals given main ≡ [] → SafeOf p given written marks → LinkAgain given main written

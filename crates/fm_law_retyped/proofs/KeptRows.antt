@@ -9,7 +9,7 @@ use Rattle.fm_law_woven_flow.specs.Roles.{IsOpposite, IsRetargeted}
 use Rattle.fm_layout.specs.Spelling.{conditional, opposite}
 use Rattle.fm_layout.specs.declared.rooms.Condition.{Condition}
 use Rattle.fm_layout.specs.declared.rooms.Condition.TheVariants as condition
-use Rattle.fm_law_retyped.proofs.RoleStates.{made_by}
+use Rattle.fm_place.proofs.SameTypings.{made_by}
 use Rattle.fm_types.specs.Named.{object_slot}
 use Rattle.fm_types.specs.Rows.{row_after}
 use Rattle.fm_types.specs.States.{int_word, taken, TypeState, worked}

@@ -7,7 +7,6 @@ pub mod KeptRows
 pub mod SlotLists
 pub mod RoleRows
 pub mod Retypes
-pub mod SameTypings
 pub mod SiteStates
 pub mod WrittenMethods
 pub mod WrittenUses

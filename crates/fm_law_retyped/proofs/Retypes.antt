@@ -1,6 +1,6 @@
 -- Typed code with insertions is typed: the states written out, by what each item is for, are a
 -- typing of it.
-use Rattle.std.proofs.Common.{◌≡◌, refl, sym, ◌∙◌, ap, subst, ℕ, zero, suc, ◌+◌, ◌<◌, ◌≤◌, ◌==◌, ◌⊎◌, ◌↔◌, inl, inr, true, cond, List, [], ◌∷◌, ◌++◌, length, length-append, map, replicate, Option, Some, None, is_some, option_and_then, option_map, IsSomeAnd, Contains, ⊎_elim, arith}
+use Rattle.std.proofs.Common.{◌≡◌, refl, sym, ◌∙◌, ap, subst, ℕ, zero, suc, ◌+◌, ◌<◌, ◌≤◌, ◌⊎◌, ◌↔◌, inl, inr, true, List, [], ◌∷◌, ◌++◌, length, length-append, map, replicate, Option, Some, None, is_some, option_and_then, option_map, IsSomeAnd, Contains, ⊎_elim, arith}
 use Rattle.std.specs.Prelude.{slice_get}
 use Rattle.std.specs.List.{AllByRecursion}
 use Rattle.std.proofs.lemmas.Bool.{false≢true}
@@ -18,6 +18,7 @@ use Rattle.fm_law_relinked.specs.Rows.{slot_with}
 use Rattle.fm_check_walk.proofs.MergingLemmas.{fits-from, fits-parts, state-trans}
 use Rattle.fm_law_woven_flow.proofs.LaidItems.{falls-conditional}
 use Rattle.fm_law_woven_flow.specs.Roles.{DupAfter, FallsAt, Follows, FreeBefore, HasHolder, HasInsn, IsBranch, IsEntry, IsOwnerReached, JumpOf, Keep, LoadBefore, NullBefore, owner, Role, StartNull, StartStore, StoreAfter, StoreBefore}
+use Rattle.fm_place.proofs.SameTypings.{caught_same}
 use Rattle.fm_place.specs.Insertions.{after_at}
 use Rattle.fm_law_retyped.proofs.KeptRows.{branch_keeps, KeepsLocals}
 use Rattle.fm_law_retyped.proofs.RoleRows.{after_small, after_whole, dup_after, entered, entry_count, Fits, free_before, Goes, held_at, held_type, jump_of, keep, load_before, next_old, null_before, Old, old_at, old_state, start_null, start_store, state_after_is, store_after, store_before}
@@ -26,27 +27,15 @@ use Rattle.fm_law_retyped.proofs.SlotLists.{begun_count, begun_none, entry_more,
 use Rattle.fm_types.proofs.Order.{fits-refl}
 use Rattle.fm_types.proofs.StateOrder.{Fitting}
 use Rattle.fm_types.proofs.Zips.{zip-refl}
-use Rattle.fm_types.specs.Fits.{fits_type}
-use Rattle.fm_types.specs.Named.{throwable_type}
 use Rattle.fm_types.specs.Rows.{row_after}
 use Rattle.fm_types.specs.States.{is_whole, pushed, state_fits, TypeState}
-use Rattle.fm_types.specs.Typed.{after_item, caught_type, entry_state, FitsAt, FitsHandler, handler_state, IsTypingOf, made_at, MeetsItem, state_at, type_of_use, use_by, use_in}
+use Rattle.fm_types.specs.Typed.{after_item, caught_type, entry_state, FitsAt, FitsHandler, handler_state, IsTypingOf, made_at, MeetsItem, state_at, use_by}
 use Rattle.fm_types.specs.declared.slots.Slot.{Slot}
 use Rattle.fm_types.specs.declared.slots.Slot.TheVariants as slot
-use Rattle.fm_world.specs.Programs.{Outline, Program}
+use Rattle.fm_world.specs.Programs.{Outline}
 use Rattle.fm_link_supers.proofs.ParentRefusals.{past_none}
 
--- ---- what is caught
-
-abbrev below_throwable : Outline → TypeRef → Option TypeRef
-below_throwable o t = cond (fits_type o.classes t (throwable_type o)) (Some t) None
-
-pub caught_same : (p q : Program) (method : ℕ) (h other : Handler) → q.outline ≡ p.outline → other.catch_class ≡ h.catch_class
-    → use_in q method h.catch_class ≡ use_in p method h.catch_class → caught_type q method other ≡ caught_type p method h
-unfolding caught_type
-caught_same p q method h other outline class used =
-    ap (λ c. cond (c == 0) (Some (throwable_type q.outline)) (option_and_then (below_throwable q.outline) (type_of_use q.outline (use_in q method c)))) class
-    ∙ (λ k. cond (h.catch_class == 0) (Some (throwable_type (outline k))) (option_and_then (below_throwable (outline k)) (type_of_use (outline k) (used k))))
+-- ---- handlers
 
 each_moved : (P : Handler → Type 0) (moved : Handler → Handler) (handlers : List Handler) → ((h : Handler) → Contains handlers h → P (moved h))
     → AllByRecursion P (map moved handlers)

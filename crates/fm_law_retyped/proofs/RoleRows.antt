@@ -20,11 +20,12 @@ use Rattle.fm_law_relinked.proofs.RowSteps.{whole_with}
 use Rattle.fm_law_relinked.specs.Rows.{slot_with}
 use Rattle.fm_law_woven_flow.specs.Roles.{DupAfter, FallsAt, Follows, FreeBefore, GoesOn, GoesTo, HasInsn, IsOpposite, IsRetargeted, IsEntry, JumpOf, Keep, LoadBefore, NullBefore, Role, StartNull, StartStore, StoreAfter, StoreBefore}
 use Rattle.fm_check_walk.proofs.MergingLemmas.{built-refl, fits-from, fits-parts, state-refl, state-trans}
+use Rattle.fm_place.proofs.SameTypings.{made_by}
 use Rattle.fm_place.specs.Insertions.{after_at}
 use Rattle.fm_place.specs.Woven.{local_of}
 use Rattle.fm_law_retyped.proofs.HolderRows.{holder_loaded, holder_stored}
 use Rattle.fm_law_retyped.proofs.KeptRows.{IsSameRow, same_row}
-use Rattle.fm_law_retyped.proofs.RoleStates.{begun, CanRetype, held_slot, held_slots, IsHeld, kept_state, made_by, Retyping, role_state, start_state, state_after}
+use Rattle.fm_law_retyped.proofs.RoleStates.{begun, CanRetype, held_slot, held_slots, IsHeld, kept_state, Retyping, role_state, start_state, state_after}
 use Rattle.fm_law_retyped.proofs.SlotLists.{begun_all, begun_count, begun_more, begun_short, entry_same, held_count, held_is, held_nulled, held_ready, held_short, no_insn, trimmed_still}
 use Rattle.fm_law_retyped.proofs.Trims.{locals_at}
 use Rattle.fm_law_retyped.proofs.Trimmed.{trimmed}

@@ -1,5 +1,5 @@
 -- The state of each item of code with insertions, by what it is for, and what is known where such code is typed again.
-use Rattle.std.proofs.Common.{◌≡◌, ℕ, zero, suc, ◌+◌, ◌<◌, ◌≤◌, ◌⊎◌, List, [], ◌∷◌, ◌++◌, length, map, Option, Some, None, option_and_then, option_map, Contains}
+use Rattle.std.proofs.Common.{◌≡◌, ℕ, zero, suc, ◌+◌, ◌<◌, ◌≤◌, ◌⊎◌, List, [], ◌∷◌, ◌++◌, length, map, Option, Some, option_and_then, option_map, Contains}
 use Rattle.std.specs.Prelude.{slice_get}
 use Rattle.std.specs.List.{AllByRecursion}
 use Rattle.fm_base.specs.declared.kinds.TypeRef.{TypeRef}
@@ -12,12 +12,13 @@ use Rattle.fm_code.specs.declared.instructions.Insn.{Insn}
 use Rattle.fm_code.specs.declared.instructions.Insn.TheVariants as insn
 use Rattle.fm_law_relinked.specs.Rows.{state_with}
 use Rattle.fm_law_woven_flow.specs.Roles.{CanStand, DupAfter, FreeBefore, JumpOf, Keep, LoadBefore, NullBefore, Role, StandsFor, StartNull, StartStore, StoreAfter, StoreBefore}
+use Rattle.fm_place.proofs.SameTypings.{made_by}
 use Rattle.fm_place.specs.Insertions.{after_at, before_at, Insertions}
 use Rattle.fm_law_retyped.proofs.Trimmed.{trimmed}
 use Rattle.fm_types.specs.Fits.{AreTree}
 use Rattle.fm_types.specs.Rows.{row_after}
 use Rattle.fm_types.specs.States.{local_at, pushed, TypeState}
-use Rattle.fm_types.specs.Typed.{after_item, entry_state, IsTypingOf, state_at, type_of_use, use_by, use_in}
+use Rattle.fm_types.specs.Typed.{after_item, entry_state, IsTypingOf, state_at, use_by, use_in}
 use Rattle.fm_types.specs.declared.slots.Slot.{Slot}
 use Rattle.fm_types.specs.declared.slots.Slot.TheVariants as slot
 use Rattle.fm_world.specs.Programs.{Program}
@@ -86,11 +87,6 @@ abbrev pub role_states : Retyping → List (Option TypeState)
 role_states w = map (role_state w) w.roles
 
 -- ---- what is known
-
--- the type of which an instruction makes an object, if it is a `new`
-abbrev pub made_by : Program → ℕ → Insn → Option TypeRef
-made_by p method (insn.New index) = type_of_use p.outline (use_in p method index)
-made_by p method i = None
 
 -- each range of the exception table that holds the item holds the next one too
 abbrev pub AllGoOn : List Handler → ℕ → Type 0

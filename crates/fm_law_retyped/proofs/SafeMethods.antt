@@ -33,6 +33,7 @@ use Rattle.fm_conn.specs.Pairs.{depth_below}
 use Rattle.fm_law_woven_flow.specs.Laws.{CodesStand, HasRoles}
 use Rattle.fm_law_woven_flow.specs.Roles.{CanStand, FreeBefore, HasInsn, IsOpposite, IsRetargeted, Keep}
 use Rattle.fm_place.proofs.FullLemmas.{numbers-found}
+use Rattle.fm_place.proofs.SameTypings.{made_same, same_typing}
 use Rattle.fm_place.specs.Insertions.{after_at, before_at, Holder, Insertions}
 use Rattle.fm_place.specs.Rewriting.{free_index, Plans, rewritten, rewritten_class}
 use Rattle.fm_place.specs.Safe.{AreSafe, IsSafeHolder, method_in_facts}
@@ -44,7 +45,6 @@ use Rattle.fm_law_retyped.proofs.FreeRow.{free_row}
 use Rattle.fm_law_retyped.proofs.KeptRows.{same_row}
 use Rattle.fm_law_retyped.proofs.Retypes.{retyped}
 use Rattle.fm_law_retyped.proofs.RoleStates.{AllGoOn, CanRetype, Frees, held_slots, IsHeld, Retyping, role_states}
-use Rattle.fm_law_retyped.proofs.SameTypings.{made_same, same_typing}
 use Rattle.fm_law_retyped.proofs.SiteStates.{IsSameAt, leaves-if, LeavesObject, site-gives}
 use Rattle.fm_law_retyped.proofs.Trims.{all_trimmed, length_trimmed, locals_at, trimmed_at, trimmed_row, trimmed_twice, typings_trimmed}
 use Rattle.fm_law_retyped.proofs.WrittenMethods.{HasMember, IsWritten, written_method}

@@ -10,3 +10,4 @@ pub mod RowLemmas
 pub mod HoldingLemmas
 pub mod HolderLemmas
 pub mod PlanLemmas
+pub mod SameTypings

@@ -18,6 +18,10 @@ use Rattle.fm_place.specs.Sites.{is_captured_site, site_class}
 abbrev pub narrowed_to : Program → Option (List Bool) → Program
 narrowed_to p made = record p { made = made }
 
+-- the program is that of these class files with this main class, narrowed or not
+abbrev pub IsProgramOf : List ClassDef → List ℕ → Program → Type 0
+IsProgramOf given main p = p ≡ narrowed_to (program_of given main) p.made
+
 -- ---- one method
 
 -- a holder's site is captured, and its class is that of the site's object

@@ -40,7 +40,7 @@ pub again_taken : (given : List ClassDef) (main : List ℕ) (made : Rewritten) �
 again_taken given main made spelled linked are link retype lengths =
     let written = made.classes.items in
     record {
-      links = (link given main written are.marks spelled linked (own_safe given main made are)).links;
+      links = (link given main (program_of given main) written are.marks spelled linked (own_safe given main made are)).links;
       typed = λ ready method. typed_if_coded (program_of written main) method (retype given main written are.marks spelled linked (own_safe given main made are) ready method);
       files = λ ready. lengths given main written are.marks spelled linked (own_safe given main made are) ready;
     }

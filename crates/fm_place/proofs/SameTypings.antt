@@ -1,19 +1,43 @@
 -- A typing of code stays one in another program of the same outline, where names refer to the same.
-use Rattle.std.proofs.Common.{◌≡◌, refl, sym, ◌∙◌, subst, ℕ, List, [], ◌∷◌, Option, Some, None, option_and_then, IsSomeAnd, Contains, true}
+use Rattle.std.proofs.Common.{◌≡◌, refl, sym, ◌∙◌, ap, cond, subst, ℕ, List, [], ◌∷◌, Option, Some, None, option_and_then, IsSomeAnd, Contains, true, slice_index_or}
+use Rattle.std.specs.Prelude.{◌==◌}
 use Rattle.std.specs.List.{AllByRecursion}
 use Rattle.fm_base.proofs.OptionFacts.{IsSomeAnd-from_some, Some-from_some_and}
+use Rattle.fm_base.specs.declared.kinds.TypeRef.{TypeRef}
 use Rattle.fm_code.proofs.EdgesLemmas.{Contains-first, Contains-later}
 use Rattle.fm_code.specs.Edges.{insn_of, IsNormalEdge}
+use Rattle.fm_code.specs.Operands.{pool_index}
 use Rattle.fm_code.specs.declared.code_array.Code.{Code}
 use Rattle.fm_code.specs.declared.code_array.Handler.{Handler}
 use Rattle.fm_code.specs.declared.instructions.Insn.{Insn}
 use Rattle.fm_code.specs.declared.instructions.Insn.TheVariants as insn
-use Rattle.fm_law_retyped.proofs.Retypes.{caught_same}
-use Rattle.fm_law_retyped.proofs.RoleStates.{made_by}
+use Rattle.fm_types.specs.Fits.{fits_type}
+use Rattle.fm_types.specs.Named.{class_of_method, throwable_type}
 use Rattle.fm_types.specs.Rows.{row_after}
 use Rattle.fm_types.specs.States.{state_fits, TypeState}
 use Rattle.fm_types.specs.Typed.{after_item, caught_type, entry_state, FitsAt, FitsHandler, handler_state, IsTypingOf, made_at, MeetsItem, state_at, type_of_use, use_by, use_in}
 use Rattle.fm_world.specs.Programs.{Outline, Program}
+use Rattle.fm_world.specs.declared.uses.Use.{Use}
+use Rattle.fm_world.specs.declared.uses.Use.TheVariants as resolved
+
+-- ---- what is caught
+
+abbrev below_throwable : Outline → TypeRef → Option TypeRef
+below_throwable o t = cond (fits_type o.classes t (throwable_type o)) (Some t) None
+
+pub caught_same : (p q : Program) (method : ℕ) (h other : Handler) → q.outline ≡ p.outline → other.catch_class ≡ h.catch_class
+    → use_in q method h.catch_class ≡ use_in p method h.catch_class → caught_type q method other ≡ caught_type p method h
+unfolding caught_type
+caught_same p q method h other outline class used =
+    ap (λ c. cond (c == 0) (Some (throwable_type q.outline)) (option_and_then (below_throwable q.outline) (type_of_use q.outline (use_in q method c)))) class
+    ∙ (λ k. cond (h.catch_class == 0) (Some (throwable_type (outline k))) (option_and_then (below_throwable (outline k)) (type_of_use (outline k) (used k))))
+
+-- ---- what is made
+
+-- the type of which an instruction makes an object, if it is a `new`
+abbrev pub made_by : Program → ℕ → Insn → Option TypeRef
+made_by p method (insn.New index) = type_of_use p.outline (use_in p method index)
+made_by p method i = None
 
 -- what a `new` makes follows from what it names
 pub made_same : (p q : Program) (method : ℕ) → q.outline ≡ p.outline → (i : Insn) → use_by q method i ≡ use_by p method i
@@ -75,3 +99,26 @@ module _ (p q : Program) (method : ℕ) (code : Code) (outline : q.outline ≡ p
       first = typing.first ∙ (λ k. Some (entry_state (sym outline k) method code));
       items = λ j s at. meets_other j s (typing.items j s at);
     }
+
+-- ---- programs of the same outline and uses
+
+module _ (p q : Program) (outline : q.outline ≡ p.outline) (uses : q.uses ≡ p.uses) (method : ℕ) where
+  -- an index refers to the same
+  pub index_same : (index : ℕ) → use_in q method index ≡ use_in p method index
+  index_same index = λ k. slice_index_or (slice_index_or (uses k) (class_of_method (outline k) method) []) index resolved.Unused
+
+  abbrev used_at : Program → Option ℕ → Use
+  used_at r None = resolved.Unused
+  used_at r (Some index) = use_in r method index
+
+  -- and so does an instruction
+  pub used_same : (i : Insn) → use_by q method i ≡ use_by p method i
+  used_same i = by_index (pool_index i) where
+    by_index : (index : Option ℕ) → used_at q index ≡ used_at p index
+    by_index None = refl
+    by_index (Some index) = index_same index
+
+  -- a typing of the one is one of the other
+  pub other_typing : (code : Code) (states : List (Option TypeState)) → IsTypingOf p method code states → IsTypingOf q method code states
+  other_typing code states typing =
+      same_typing p q method code outline (λ j i there. used_same i) (λ h listed. index_same h.catch_class) states typing
