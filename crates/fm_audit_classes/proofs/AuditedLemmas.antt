@@ -93,25 +93,26 @@ module _ (p : Program) (done : List Planned) (may : AreAnalysable p) (old : HasO
 
 -- ---- the program
 
-module _ (given : List ClassDef) (main : List ℕ) (done : List Planned) (judged : AreJudged given (program_of given main))
-    (are : AreSafelyInserted (program_of given main) done) where
+module _ (given : List ClassDef) (p : Program) (done : List Planned) (judged : AreJudged given p) (are : AreSafelyInserted p done) where
   counted : length done ≡ first_given + method_count given
-  counted = are.one_each ∙ methods_counted given main
+  counted = are.one_each ∙ methods_counted given judged.main p judged.program_is
 
   all_inserted : AreAllInserted are.plans first_given (drop first_given done) given
   all_inserted =
-      let p = program_of given main in
       classes_each p are.plans done (inserted p done (judged_analysable given p judged) (judged_old given p judged) are) first_given given
-      (judged_spelled given p judged) (λ i inside. code_given given main i) (omega (arith, counted))
+      (judged_spelled given p judged) (λ i inside. code_given given judged.main p judged.program_is i) (omega (arith, counted))
 
   parts : AllByRecursion IsShort given
       → (length done ≡ first_given + method_count given) × (length (drop first_given done) ≡ method_count given) × MayBeComparedEach (drop first_given done) given
   parts short = (
     counted,
     let left = length-drop first_given done in omega (arith, left, counted),
-    may_be_compared_each are.plans first_given (drop first_given done) given (judged_spelled given (program_of given main) judged) short all_inserted,
+    may_be_compared_each are.plans first_given (drop first_given done) given (judged_spelled given p judged) short all_inserted,
   )
 
+-- the program that isn't narrowed
+module _ (given : List ClassDef) (main : List ℕ) (done : List Planned) (judged : AreJudged given (program_of given main))
+    (are : AreSafelyInserted (program_of given main) done) where
   written_safely : (written : List ClassDef) → first_call (program_of given main) ≡ None → written ≡ classes_by (drop first_given done) given
       → AreSafelyWritten given main written
   written_safely written no_call is = record {
@@ -122,7 +123,7 @@ module _ (given : List ClassDef) (main : List ℕ) (done : List Planned) (judged
       exact = are.exact;
       plans = are.plans;
       methods = are.methods;
-      written_is = is ∙ classes_are are.plans first_given (drop first_given done) given all_inserted;
+      written_is = is ∙ classes_are are.plans first_given (drop first_given done) given (all_inserted given (program_of given main) done judged are);
       marks_are = refl;
     };
     least = are.least;
@@ -139,8 +140,7 @@ pub record AreParts (given : List ClassDef) (done : List Planned) : Type 0 where
 pub parts_of : (given : List ClassDef) (p : Program) (done : List Planned) → AreJudged given p → AllByRecursion IsShort given → AreSafelyInserted p done
     → AreParts given done
 parts_of given p done judged short are =
-    let found = parts given judged.main done (subst (AreJudged given) judged.program_is judged) (subst (λ q. AreSafelyInserted q done) judged.program_is are) short in
-    record { all = found.0; own = found.1; compared = found.2 }
+    let found = parts given p done judged are short in record { all = found.0; own = found.1; compared = found.2 }
 
 pub audited : (given : List ClassDef) (p : Program) (done : List Planned) (written : List ClassDef) → AreJudged given p → AreSafelyInserted p done
     → first_call p ≡ None → written ≡ classes_by (drop first_given done) given → (main : List ℕ) → p ≡ program_of given main → AreSafelyWritten given main written

@@ -18,7 +18,7 @@ use Rattle.fm_code.specs.declared.code_array.TheConstants.{MAX_CODE_BYTES}
 use Rattle.fm_layout.specs.Laid.{laid_length, narrow_length, refused_length}
 use Rattle.fm_place.specs.Insertions.{Insertions}
 use Rattle.fm_place.specs.Rewriting.{changes, first_given, free_index, Plans}
-use Rattle.fm_place.specs.Safe.{full_plans}
+use Rattle.fm_place.specs.Safe.{full_plans, IsProgramOf}
 use Rattle.fm_place.specs.Woven.{woven}
 use Rattle.fm_rewrite.proofs.ProgramMeantLemmas.{code_given}
 use Rattle.fm_rewrite.specs.Rewritten.{first_cause, first_full, first_long, full_from, full_pool, long_among, long_code, long_from, long_method, max_pool_indices, method_too_long, pool_full}
@@ -27,7 +27,7 @@ use Rattle.fm_rewrite.specs.declared.error.RewriteFail.TheVariants as fail
 use Rattle.fm_law_beside_freeme.proofs.Calls.{call_there}
 use Rattle.fm_law_beside_freeme.specs.Told.{IsTooFull, IsTooLong, RefusalsNameWhatIsThere}
 use Rattle.fm_world.specs.BuiltIns.{built_in}
-use Rattle.fm_world.specs.Programs.{code_at, program_of}
+use Rattle.fm_world.specs.Programs.{code_at, Program}
 
 -- ---- what a refusal names
 
@@ -199,7 +199,7 @@ long_there plans first (c ∷ given) long is =
 
 -- ---- causes
 
-module _ (given : List ClassDef) (main : List ℕ) (plans : Plans) where
+module _ (given : List ClassDef) (main : List ℕ) (p : Program) (program_is : IsProgramOf given main p) (plans : Plans) where
   full_named : (class indices : ℕ) → first_full plans given ≡ Some (class, indices) → IsTooFull given class indices
   full_named class indices is =
       let file = full_there plans (length built_in) first_given given (class, indices) is in
@@ -212,13 +212,13 @@ module _ (given : List ClassDef) (main : List ℕ) (plans : Plans) where
         too_many = file.too_many;
       }
 
-  long_named : (method bytes : ℕ) → first_long plans given ≡ Some (method, bytes) → IsTooLong (program_of given main) method bytes
+  long_named : (method bytes : ℕ) → first_long plans given ≡ Some (method, bytes) → IsTooLong p method bytes
   long_named method bytes is =
       let long = long_there plans first_given given (method, bytes) is in
       let number : method ≡ first_given + long.place = long.method_is in
       record {
         code = long.code;
-        coded = ap (code_at (program_of given main)) number ∙ code_given given main long.place ∙ long.there;
+        coded = ap (code_at p) number ∙ code_given given main p program_is long.place ∙ long.there;
         too_many = long.too_many;
       }
 
@@ -240,27 +240,27 @@ module _ (given : List ClassDef) (main : List ℕ) (plans : Plans) where
 
   -- the cause is a method that is too long, and then it is the first one
   method_named : (method : MethodId) (bytes : ℕ) → first_cause plans given ≡ Some (fail.MethodTooLong method bytes)
-      → IsTooLong (program_of given main) method.0 bytes
+      → IsTooLong p method.0 bytes
   method_named method bytes is = by_full (first_full plans given) is where
     by_long : (l : Option (ℕ × ℕ)) → first_long plans given ≡ l → option_map method_too_long l ≡ Some (fail.MethodTooLong method bytes)
-        → IsTooLong (program_of given main) method.0 bytes
+        → IsTooLong p method.0 bytes
     by_long None none found = cc
     by_long (Some long) here found =
         let same : method_too_long long ≡ fail.MethodTooLong method bytes = cc in
         let number : long.0 ≡ method.0 = ap (λ e. method_in e) same in
         let count : long.1 ≡ bytes = ap (λ e. count_in e) same in
-        subst (λ n. IsTooLong (program_of given main) method.0 n) count
-        (subst (λ k. IsTooLong (program_of given main) k long.1) number (long_named long.0 long.1 here))
+        subst (λ n. IsTooLong p method.0 n) count
+        (subst (λ k. IsTooLong p k long.1) number (long_named long.0 long.1 here))
 
     by_full : (o : Option (ℕ × ℕ)) → option_or (option_map pool_full o) (option_map method_too_long (first_long plans given)) ≡ Some (fail.MethodTooLong method bytes)
-        → IsTooLong (program_of given main) method.0 bytes
+        → IsTooLong p method.0 bytes
     by_full None found = by_long (first_long plans given) refl found
     by_full (Some full) found = cc
 
 pub refusals_named : RefusalsNameWhatIsThere
-refusals_named given main (fail.CallsFree method offset) comes = call_there (program_of given main) (method.0, offset) comes
-refusals_named given main (fail.PoolFull class indices) comes =
-    pool_named given main (full_plans (program_of given main) comes.facts) class indices comes.first
-refusals_named given main (fail.MethodTooLong method bytes) comes =
-    method_named given main (full_plans (program_of given main) comes.facts) method bytes comes.first
-refusals_named given main fail.NoMemory comes = tt
+refusals_named given main p program_is (fail.CallsFree method offset) comes = call_there p (method.0, offset) comes
+refusals_named given main p program_is (fail.PoolFull class indices) comes =
+    pool_named given main p program_is (full_plans p comes.facts) class indices comes.first
+refusals_named given main p program_is (fail.MethodTooLong method bytes) comes =
+    method_named given main p program_is (full_plans p comes.facts) method bytes comes.first
+refusals_named given main p program_is fail.NoMemory comes = tt

@@ -19,7 +19,7 @@ all-typed p typed method coded = by (code_at p method) refl coded where
   by (Some code) there some = typed method code there
 
 pub written_lengths_alone : SafeClassesAreTyped → WrittenHaveLengthsAlone
-written_lengths_alone retyped given main written marks spelled links safe ready held files all old known =
-    let again = safe_link given main (program_of given main) written marks spelled links safe in
+written_lengths_alone retyped given main p program_is written marks spelled links safe ready held files all old known =
+    let again = safe_link given main p written marks spelled links safe in
     lengths_alone held (record { files = files; made = None; main = main }) written refl all again.links
-    (all-typed (program_of written main) (retyped given main written marks spelled links safe ready)) old known
+    (all-typed (program_of written main) (retyped given main p program_is written marks spelled links safe ready)) old known

@@ -5,12 +5,13 @@ use Rattle.fm_code.specs.declared.class_file.ClassDef.{ClassDef}
 use Rattle.fm_code.specs.declared.code_array.Code.{Code}
 use Rattle.fm_code.specs.declared.code_array.Item.{Item}
 use Rattle.fm_code.specs.declared.code_array.TheConstants.{MAX_CODE_BYTES}
+use Rattle.fm_place.specs.Safe.{IsProgramOf}
 use Rattle.fm_rewrite.specs.FreeCalls.{calls_free}
-use Rattle.fm_rewrite.specs.Rewritten.{ComesOfRewriting, max_pool_indices}
+use Rattle.fm_rewrite.specs.Rewritten.{ComesOfRewritingOf, max_pool_indices}
 use Rattle.fm_rewrite.specs.declared.error.RewriteFail.{RewriteFail}
 use Rattle.fm_rewrite.specs.declared.error.RewriteFail.TheVariants as fail
 use Rattle.fm_world.specs.BuiltIns.{built_in}
-use Rattle.fm_world.specs.Programs.{code_at, Program, program_of}
+use Rattle.fm_world.specs.Programs.{code_at, Program}
 
 -- the method has code, in which an item at the offset calls a method of FreeMe
 pub record CallsFreeAt (p : Program) (method offset : ℕ) : Type 0 where
@@ -39,13 +40,14 @@ pub record IsTooLong (p : Program) (method bytes : ℕ) : Type 0 where
   pub too_many : MAX_CODE_BYTES < bytes
 
 -- by what the refusal names; want of memory names nothing
-abbrev pub NamesWhatIsThere : List ClassDef → List ℕ → RewriteFail → Type 0
-NamesWhatIsThere given main (fail.CallsFree method offset) = CallsFreeAt (program_of given main) method.0 offset
-NamesWhatIsThere given main (fail.PoolFull class indices) = IsTooFull given class.0 indices
-NamesWhatIsThere given main (fail.MethodTooLong method bytes) = IsTooLong (program_of given main) method.0 bytes
-NamesWhatIsThere given main fail.NoMemory = Unit {0}
+abbrev pub NamesWhatIsThere : List ClassDef → Program → RewriteFail → Type 0
+NamesWhatIsThere given p (fail.CallsFree method offset) = CallsFreeAt p method.0 offset
+NamesWhatIsThere given p (fail.PoolFull class indices) = IsTooFull given class.0 indices
+NamesWhatIsThere given p (fail.MethodTooLong method bytes) = IsTooLong p method.0 bytes
+NamesWhatIsThere given p fail.NoMemory = Unit {0}
 
 -- whatever the refusal of rewriting
 abbrev pub RefusalsNameWhatIsThere : Type 0
 RefusalsNameWhatIsThere =
-    (given : List ClassDef) (main : List ℕ) (cause : RewriteFail) → ComesOfRewriting given main (Err cause) → NamesWhatIsThere given main cause
+    (given : List ClassDef) (main : List ℕ) (p : Program) → IsProgramOf given main p → (cause : RewriteFail) → ComesOfRewritingOf p given (Err cause)
+    → NamesWhatIsThere given p cause

@@ -33,10 +33,10 @@ use Rattle.fm_conn.specs.Pairs.{depth_below}
 use Rattle.fm_law_woven_flow.specs.Laws.{CodesStand, HasRoles}
 use Rattle.fm_law_woven_flow.specs.Roles.{CanStand, FreeBefore, HasInsn, IsOpposite, IsRetargeted, Keep}
 use Rattle.fm_place.proofs.FullLemmas.{numbers-found}
-use Rattle.fm_place.proofs.SameTypings.{made_same, same_typing}
+use Rattle.fm_place.proofs.SameTypings.{made_same, other_typing, same_typing, used_same}
 use Rattle.fm_place.specs.Insertions.{after_at, before_at, Holder, Insertions}
 use Rattle.fm_place.specs.Rewriting.{free_index, Plans, rewritten, rewritten_class}
-use Rattle.fm_place.specs.Safe.{AreSafe, IsSafeHolder, method_in_facts}
+use Rattle.fm_place.specs.Safe.{AreSafe, IsSafeHolder, method_in_facts, narrowed_to, SafeOf}
 use Rattle.fm_place.specs.Sites.{is_captured, kind_of_site, new_item_at, site_class, site_kind}
 use Rattle.fm_place.specs.Woven.{woven_code}
 use Rattle.fm_law_linked.proofs.CodedMethods.{contains_at}
@@ -49,7 +49,7 @@ use Rattle.fm_law_retyped.proofs.SiteStates.{IsSameAt, leaves-if, LeavesObject, 
 use Rattle.fm_law_retyped.proofs.Trims.{all_trimmed, length_trimmed, locals_at, trimmed_at, trimmed_row, trimmed_twice, typings_trimmed}
 use Rattle.fm_law_retyped.proofs.WrittenMethods.{HasMember, IsWritten, written_method}
 use Rattle.fm_law_retyped.proofs.WrittenUses.{free_use, freed_use, handler_use, insn_use, outlines_same, program_outline, used_by_item}
-use Rattle.fm_law_retyped.specs.Retyped.{AreNoCopies, AreReadyAtHeld, EndsBehind, receiver_new, SafeClassesAreTyped}
+use Rattle.fm_law_retyped.specs.Retyped.{AreNoCopies, AreReadyAtHeld, EndsBehind, NoneUnready, receiver_new, SafeClassesAreTyped}
 use Rattle.fm_law_retyped.proofs.Trimmed.{trimmed, trimmed_state}
 use Rattle.fm_types.specs.Fits.{AreTree}
 use Rattle.fm_types.specs.Rows.{row_after}
@@ -59,7 +59,7 @@ use Rattle.fm_types.specs.declared.slots.Slot.{Slot}
 use Rattle.fm_types.specs.declared.slots.Slot.TheVariants as slot
 use Rattle.fm_world.specs.Members.{method_at}
 use Rattle.fm_world.specs.Numbers.{type_of_class}
-use Rattle.fm_world.specs.Programs.{code_at, Outline, program_of}
+use Rattle.fm_world.specs.Programs.{code_at, Outline, Program, program_of}
 use Rattle.fm_code.specs.Operands.{pool_index}
 use Rattle.fm_world.specs.declared.uses.Use.TheVariants as resolved
 use Rattle.fm_same.proofs.SiteNodes.{sites-fall}
@@ -183,8 +183,13 @@ safe_can facts t plan safe = record {
 -- ---- a method
 
 module _ (numbered : ClassTypesAreNumbered) (stand : CodesStand) (given : List ClassDef) (main : List ℕ) (plans : Plans) (spelled : AllByRecursion HasSpelling given)
-    (linked : IsLinkedWell (program_of given main)) (steps : StepsAreLinked (program_of given main)) (facts : Facts) (exact : AreFacts (program_of given main) facts)
-    (method : ℕ) (code : Code) (code_is : code_at (program_of given main) method ≡ Some code) where
+    (linked : IsLinkedWell (program_of given main)) (steps : StepsAreLinked (program_of given main)) (made : Option (List Bool)) (facts : Facts)
+    (exact : AreFacts (narrowed_to (program_of given main) made) facts) (method : ℕ) (code : Code)
+    (code_is : code_at (program_of given main) method ≡ Some code) where
+  -- the program in which the insertions are safe
+  abbrev p : Program
+  p = narrowed_to (program_of given main) made
+
   x : IsWritten given main plans method code
   x = written_method given main plans method code code_is
 
@@ -192,7 +197,7 @@ module _ (numbered : ClassTypesAreNumbered) (stand : CodesStand) (given : List C
   outline = outlines_same given main plans spelled
 
   typing : IsTypingOf (program_of given main) method code (facts.typing method)
-  typing = (exact.methods method code code_is).typing
+  typing = other_typing p (program_of given main) refl refl method code (facts.typing method) (exact.methods method code code_is).typing
 
   -- its new code is among the methods of the written class
   member_of : (new : Code) → code_at (program_of (rewritten plans given) main) method ≡ Some new
@@ -214,10 +219,10 @@ module _ (numbered : ClassTypesAreNumbered) (stand : CodesStand) (given : List C
   -- ---- with a plan
 
   module _ (plan : Insertions) (planned : plans method ≡ Some plan)
-      (safe : AreSafe facts (typed_method (program_of given main) facts.typing method code) plan)
-      (ready : AreReadyAtHeld facts (typed_method (program_of given main) facts.typing method code) plan) where
+      (safe : AreSafe facts (typed_method (narrowed_to (program_of given main) made) facts.typing method code) plan)
+      (ready : AreReadyAtHeld facts (typed_method (narrowed_to (program_of given main) made) facts.typing method code) plan) where
     abbrev t : TypedMethod
-    t = typed_method (program_of given main) facts.typing method code
+    t = typed_method p facts.typing method code
 
     abbrev free : ℕ
     free = free_index x.own
@@ -280,7 +285,9 @@ module _ (numbered : ClassTypesAreNumbered) (stand : CodesStand) (given : List C
     gives j h holder s after at is =
         let site = site_at facts t j holder.some in
         let i = site.i in
-        let row = sym (ap (option_and_then (λ k.
+        let row = ap (λ u. row_after (program_of given main).outline method j (made_at (program_of given main) method code) u i s)
+        (used_same (program_of given main) p refl refl method i)
+        ∙ sym (ap (option_and_then (λ k.
         row_after (program_of given main).outline method j (made_at (program_of given main) method code) (use_by (program_of given main) method k) k s)) site.there) ∙ is in
         leaves-if (IsSameAt facts t j (made_at (program_of given main) method code) s after steps.constructors i) (OneEnds code.handlers j) s after
         (λ one kind.
@@ -413,28 +420,28 @@ module _ (numbered : ClassTypesAreNumbered) (stand : CodesStand) (given : List C
 
 -- ---- all methods
 
-pub safe_typed : ClassTypesAreNumbered → CodesStand → ProgramsAreLinkedWell → StepsOfProgramsAreLinked → SafeClassesAreTyped
-safe_typed numbered stand links linked_steps given main written marks spelled none safe ready method new new_is =
+-- where the insertions are safe in the program narrowed to some classes, or to none
+typed_in : ClassTypesAreNumbered → CodesStand → (given : List ClassDef) (main : List ℕ) → IsLinkedWell (program_of given main) → StepsAreLinked (program_of given main)
+    → (made : Option (List Bool)) (written : List ClassDef) (marks : List (List (Option ℕ))) → AllByRecursion HasSpelling given
+    → (safe : SafeOf (narrowed_to (program_of given main) made) given written marks) → NoneUnready (narrowed_to (program_of given main) made) safe.facts safe.plans
+    → (method : ℕ) (new : Code) → code_at (program_of written main) method ≡ Some new → Typed (program_of written main) method
+typed_in numbered stand given main linked steps made written marks spelled safe ready method new new_is =
     subst (λ files. Typed (program_of files main) method) (sym safe.written_is)
     (by_code (code_at (program_of given main) method) refl (subst (λ files. code_at (program_of files main) method ≡ Some new) safe.written_is new_is)) where
-      linked : IsLinkedWell (program_of given main)
-      linked = links given main spelled none
-
-      steps : StepsAreLinked (program_of given main)
-      steps = linked_steps given main spelled none
-
       by_plan : (code : Code) (is : code_at (program_of given main) method ≡ Some code) → (plan : Option Insertions) → safe.plans method ≡ plan
           → Typed (program_of (rewritten safe.plans given) main) method
       by_plan code is None so =
-          (safe.facts.typing method, unplanned numbered stand given main safe.plans spelled linked steps safe.facts safe.exact method code is so)
+          (safe.facts.typing method, unplanned numbered stand given main safe.plans spelled linked steps made safe.facts safe.exact method code is so)
       by_plan code is (Some plan) so =
+          let p = narrowed_to (program_of given main) made in
           let own = safe.methods method plan so in
-          let typed = typed_method (program_of given main) safe.facts.typing method code in
-          let there : method_in_facts (program_of given main) safe.facts method ≡ Some typed =
-          ap (option_map (typed_method (program_of given main) safe.facts.typing method)) is in
-          let same : own.x ≡ typed = same_value (method_in_facts (program_of given main) safe.facts method) own.x typed own.is there in
-          let good = subst (λ z. AreSafe safe.facts z plan) same own.safe in
-          (_, planned_typed numbered stand given main safe.plans spelled linked steps safe.facts safe.exact method code is plan so good (ready method plan typed so there))
+          let typed = typed_method p safe.facts.typing method code in
+          let there : method_in_facts p safe.facts method ≡ Some typed = ap (option_map (typed_method p safe.facts.typing method)) is in
+          let same : own.x ≡ typed = same_value (method_in_facts p safe.facts method) own.x typed own.is there in
+          let good = subst (λ z. AreSafe safe.facts z plan) same own.safe in (
+            _,
+            planned_typed numbered stand given main safe.plans spelled linked steps made safe.facts safe.exact method code is plan so good (ready method plan typed so there),
+          )
 
       by_code : (old : Option Code) → code_at (program_of given main) method ≡ old → code_at (program_of (rewritten safe.plans given) main) method ≡ Some new
           → Typed (program_of (rewritten safe.plans given) main) method
@@ -442,3 +449,10 @@ safe_typed numbered stand links linked_steps given main written marks spelled no
           let woven = codes_woven given main safe.plans method in
           absurd (none-some new (sym (woven.new_is ∙ ap (code_with woven.free (safe.plans method)) is ∙ no_code woven.free (safe.plans method)) ∙ there))
       by_code (Some code) is there = by_plan code is (safe.plans method) refl
+
+pub safe_typed : ClassTypesAreNumbered → CodesStand → ProgramsAreLinkedWell → StepsOfProgramsAreLinked → SafeClassesAreTyped
+safe_typed numbered stand links linked_steps given main p program_is written marks spelled none safe ready method new new_is =
+    subst (λ (z : Program). (safe : SafeOf z given written marks) → NoneUnready z safe.facts safe.plans → Typed (program_of written main) method) (sym program_is)
+    (λ own own_ready.
+    typed_in numbered stand given main (links given main spelled none) (linked_steps given main spelled none) p.made written marks spelled own own_ready method new
+    new_is) safe ready

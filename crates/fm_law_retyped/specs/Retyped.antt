@@ -14,7 +14,7 @@ use Rattle.fm_conn.specs.Pairs.{depth_below}
 use Rattle.fm_conn.specs.Summaries.{same_number}
 use Rattle.fm_place.specs.Insertions.{Holder, Insertions}
 use Rattle.fm_place.specs.Rewriting.{Plans}
-use Rattle.fm_place.specs.Safe.{method_in_facts, Safe}
+use Rattle.fm_place.specs.Safe.{IsProgramOf, method_in_facts, SafeOf}
 use Rattle.fm_place.specs.Sites.{Constructs, new_item, new_item_at, site_kind}
 use Rattle.fm_types.specs.States.{TypeState}
 use Rattle.fm_types.specs.Typed.{state_at, Typed}
@@ -45,9 +45,9 @@ abbrev pub NoneUnready : Program → Facts → Plans → Type 0
 NoneUnready p facts plans =
     (method : ℕ) (plan : Insertions) (x : TypedMethod) → plans method ≡ Some plan → method_in_facts p facts method ≡ Some x → AreReadyAtHeld facts x plan
 
--- then each method of the classes with safe insertions that has code is typed
+-- then each method of the classes with insertions that are safe in the program, narrowed or not, that has code is typed
 abbrev pub SafeClassesAreTyped : Type 0
 SafeClassesAreTyped =
-    (given : List ClassDef) (main : List ℕ) (written : List ClassDef) (marks : List (List (Option ℕ))) → AllByRecursion HasSpelling given
-    → refusals given main ≡ [] → (safe : Safe given main written marks) → NoneUnready (program_of given main) safe.facts safe.plans
+    (given : List ClassDef) (main : List ℕ) (p : Program) → IsProgramOf given main p → (written : List ClassDef) (marks : List (List (Option ℕ)))
+    → AllByRecursion HasSpelling given → refusals given main ≡ [] → (safe : SafeOf p given written marks) → NoneUnready p safe.facts safe.plans
     → (method : ℕ) (code : Code) → code_at (program_of written main) method ≡ Some code → Typed (program_of written main) method

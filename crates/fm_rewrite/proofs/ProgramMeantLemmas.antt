@@ -11,7 +11,7 @@ use Rattle.fm_code.specs.declared.class_file.Member.{Member}
 use Rattle.fm_code.specs.declared.code_array.Code.{Code}
 use Rattle.fm_conn.specs.Facts.{Facts}
 use Rattle.fm_place.specs.Rewriting.{first_given}
-use Rattle.fm_place.specs.Safe.{full_plans}
+use Rattle.fm_place.specs.Safe.{full_plans, IsProgramOf}
 use Rattle.fm_link_records.proofs.CodeLaws.{AreCodes-all}
 use Rattle.fm_rewrite.proofs.AlikeLemmas.{members_meant}
 use Rattle.fm_rewrite.specs.Alike.{ArePlannedFrom}
@@ -74,36 +74,43 @@ codes_counted (c ∷ given) =
     ∙ (λ k. length-map c.methods code_of k + codes_counted given k)
 
 -- a program has the methods of the built-in classes and those of the given ones
-pub methods_counted : (given : List ClassDef) (main : List ℕ) → length (methods_of (program_of given main).outline.classes) ≡ first_given + method_count given
+all_counted : (given : List ClassDef) (main : List ℕ) → length (methods_of (program_of given main).outline.classes) ≡ first_given + method_count given
 unfolding program_of outline_of codes_of
-methods_counted given main =
+all_counted given main =
     let count = (AreCodes-all given).count in
     let both = length-append (replicate (length (methods_of built_in)) None) (flat_map (λ (c : ClassDef). map code_of c.methods) given) in
     let none : length (replicate {A = Option Code} (length (methods_of built_in)) None) ≡ length (methods_of built_in) =
     length-replicate (length (methods_of built_in)) None in
     sym count ∙ both ∙ (λ k. none k + codes_counted given k)
 
-pub code_given : (given : List ClassDef) (main : List ℕ) (i : ℕ)
+code_of_given : (given : List ClassDef) (main : List ℕ) (i : ℕ)
     → code_at (program_of given main) (first_given + i) ≡ get_or (flat_map (λ (c : ClassDef). map code_of c.methods) given) i None
 unfolding program_of codes_of
-code_given given main i =
+code_of_given given main i =
     let none : length (replicate {A = Option Code} (length (methods_of built_in)) None) ≡ length (methods_of built_in) =
     length-replicate (length (methods_of built_in)) None in
     let front : List (Option Code) = replicate (length (methods_of built_in)) None in
     let all = flat_map (λ (c : ClassDef). map code_of c.methods) given in
     ap (λ n. get_or (front ++ all) (n + i) None) (sym none) ∙ get_or-append-add front all i None
 
-module _ (given : List ClassDef) (main : List ℕ) (done : List Planned) (are : ArePlanned (program_of given main) done) where
-  counted : length done ≡ first_given + method_count given
-  counted = are.one_each ∙ methods_counted given main
+-- the same where the program may be narrowed
+module _ (given : List ClassDef) (main : List ℕ) (p : Program) (program_is : IsProgramOf given main p) where
+  pub methods_counted : length (methods_of p.outline.classes) ≡ first_given + method_count given
+  methods_counted = ap (λ (z : Program). length (methods_of z.outline.classes)) program_is ∙ all_counted given main
 
-  -- there is one plan for each method of the given classes
-  pub given_counted : length (drop first_given done) ≡ method_count given
-  given_counted = let left = length-drop first_given done in omega (arith, left, counted)
+  pub code_given : (i : ℕ) → code_at p (first_given + i) ≡ get_or (flat_map (λ (c : ClassDef). map code_of c.methods) given) i None
+  code_given i = ap (λ (z : Program). code_at z (first_given + i)) program_is ∙ code_of_given given main i
 
-  pub all_planned : AreAllPlanned (program_of given main) are.facts first_given (drop first_given done) given
-  all_planned =
-      told_classes (program_of given main) are.facts done are.coded are.others first_given given (λ i inside. code_given given main i) (omega (arith, counted))
+  module _ (done : List Planned) (are : ArePlanned p done) where
+    counted : length done ≡ first_given + method_count given
+    counted = are.one_each ∙ methods_counted
+
+    -- there is one plan for each method of the given classes
+    pub given_counted : length (drop first_given done) ≡ method_count given
+    given_counted = let left = length-drop first_given done in omega (arith, left, counted)
+
+    pub all_planned : AreAllPlanned p are.facts first_given (drop first_given done) given
+    all_planned = told_classes p are.facts done are.coded are.others first_given given (λ i inside. code_given i) (omega (arith, counted))
 
 -- what is planned for the methods of class files is what the definitions insert
 pub all_meant : (p : Program) (facts : Facts) (first : ℕ) (done : List Planned) (classes : List ClassDef) → AllByRecursion HasSpelling classes

@@ -14,7 +14,7 @@ use Rattle.fm_conn.specs.Facts.{AreFacts, Facts}
 use Rattle.fm_layout.specs.Laid.{laid_length, refused_length}
 use Rattle.fm_place.specs.Insertions.{Insertions}
 use Rattle.fm_place.specs.Rewriting.{changes, first_given, free_index, frees_in, Plans, sites_in}
-use Rattle.fm_place.specs.Safe.{Full, full_plans}
+use Rattle.fm_place.specs.Safe.{full_plans, FullOf, IsProgramOf}
 use Rattle.fm_place.specs.Woven.{woven}
 use Rattle.fm_rewrite.specs.FreeCalls.{first_call}
 use Rattle.fm_rewrite.specs.declared.counts.Count.{Count}
@@ -28,10 +28,11 @@ use Rattle.fm_world.specs.Programs.{Program, program_of}
 
 -- ---- what is required
 
--- the program is that of these class files, which are accepted and make one, and its methods are typed: what reading, linking and checking make sure of
+-- the program is that of these class files, narrowed or not; they are accepted and make one, and its methods are typed: what reading, linking and
+-- checking make sure of
 pub record AreJudged (given : List ClassDef) (p : Program) : Type 0 where
   pub main : List ℕ
-  pub program_is : p ≡ program_of given main
+  pub program_is : IsProgramOf given main p
   pub accepted : AllByRecursion IsAccepted given
   pub linked : refusals given main ≡ []
   pub typed : AreTyped (program_of given main)
@@ -111,28 +112,42 @@ first_cause plans given = option_or (option_map pool_full (first_full plans give
 
 -- ---- what becomes of the classes
 
--- the program doesn't call FreeMe, and they are written with all held sites and all places, with
+-- the program of the given classes doesn't call FreeMe, and they are written with all held sites and all places, with
 -- the counts of each, by facts over least typings; and by these there is no cause against it
-pub record AreRewritten (given : List ClassDef) (main : List ℕ) (made : Rewritten) : Type 0 where
-  pub no_call : first_call (program_of given main) ≡ None
+pub record AreRewrittenOf (p : Program) (given : List ClassDef) (made : Rewritten) : Type 0 where
+  pub no_call : first_call p ≡ None
   pub marks : List (List (Option ℕ))
-  pub full : Full given main made.classes.items marks
-  pub least : AreLeastTypings (program_of given main) full.facts.typing
-  pub no_cause : first_cause (full_plans (program_of given main) full.facts) given ≡ None
-  pub counts_are : made.counts.items ≡ counts_of (full_plans (program_of given main) full.facts) given
+  pub full : FullOf p given made.classes.items marks
+  pub least : AreLeastTypings p full.facts.typing
+  pub no_cause : first_cause (full_plans p full.facts) given ≡ None
+  pub counts_are : made.counts.items ≡ counts_of (full_plans p full.facts) given
 
 -- the program doesn't call FreeMe, and by exact facts, over least typings, this is the first cause
-pub record AreNotRewritten (given : List ClassDef) (main : List ℕ) (cause : RewriteFail) : Type 0 where
-  pub no_call : first_call (program_of given main) ≡ None
+pub record AreNotRewrittenOf (p : Program) (given : List ClassDef) (cause : RewriteFail) : Type 0 where
+  pub no_call : first_call p ≡ None
   pub facts : Facts
-  pub exact : AreFacts (program_of given main) facts
-  pub least : AreLeastTypings (program_of given main) facts.typing
-  pub first : first_cause (full_plans (program_of given main) facts) given ≡ Some cause
+  pub exact : AreFacts p facts
+  pub least : AreLeastTypings p facts.typing
+  pub first : first_cause (full_plans p facts) given ≡ Some cause
 
 -- one of the two, or the first call of FreeMe; want of memory says nothing
+abbrev pub ComesOfRewritingOf : Program → List ClassDef → Result Rewritten RewriteFail → Type 0
+ComesOfRewritingOf p given (Ok made) = AreRewrittenOf p given made
+ComesOfRewritingOf p given (Err (fail.CallsFree method offset)) = first_call p ≡ Some (method.0, offset)
+ComesOfRewritingOf p given (Err (fail.PoolFull class indices)) = AreNotRewrittenOf p given (fail.PoolFull class indices)
+ComesOfRewritingOf p given (Err (fail.MethodTooLong method bytes)) = AreNotRewrittenOf p given (fail.MethodTooLong method bytes)
+ComesOfRewritingOf p given (Err fail.NoMemory) = Unit {0}
+
+-- ---- the same by the program that isn't narrowed
+
+-- the classes are written
+abbrev pub AreRewritten : (given : List ClassDef) (main : List ℕ) (made : Rewritten) → Type 0
+AreRewritten given main made = AreRewrittenOf (program_of given main) given made
+
+-- there is a first cause against it
+abbrev pub AreNotRewritten : (given : List ClassDef) (main : List ℕ) (cause : RewriteFail) → Type 0
+AreNotRewritten given main cause = AreNotRewrittenOf (program_of given main) given cause
+
+-- what comes of it
 abbrev pub ComesOfRewriting : List ClassDef → List ℕ → Result Rewritten RewriteFail → Type 0
-ComesOfRewriting given main (Ok made) = AreRewritten given main made
-ComesOfRewriting given main (Err (fail.CallsFree method offset)) = first_call (program_of given main) ≡ Some (method.0, offset)
-ComesOfRewriting given main (Err (fail.PoolFull class indices)) = AreNotRewritten given main (fail.PoolFull class indices)
-ComesOfRewriting given main (Err (fail.MethodTooLong method bytes)) = AreNotRewritten given main (fail.MethodTooLong method bytes)
-ComesOfRewriting given main (Err fail.NoMemory) = Unit {0}
+ComesOfRewriting given main result = ComesOfRewritingOf (program_of given main) given result

@@ -1,13 +1,12 @@
 // The classes of a program, written again.
 
-ghost use Rattle.std.specs.Prelude.{◌≡◌, ℕ, List, drop, length};
+ghost use Rattle.std.specs.Prelude.{◌≡◌, drop, length};
 ghost use Rattle.fm_code.specs.Fits.{FitsTwo};
 ghost use Rattle.fm_place.specs.Rewriting.{first_given};
 ghost use Rattle.fm_rewrite.specs.Plans.{ArePlanned};
-ghost use Rattle.fm_rewrite.specs.Rewritten.{AreJudged, ComesOfRewriting};
+ghost use Rattle.fm_rewrite.specs.Rewritten.{AreJudged, ComesOfRewritingOf};
 ghost use Rattle.fm_rewrite.specs.inner.ByPlans.{ComesBy};
 ghost use Rattle.fm_world.specs.BuiltIns.{built_in};
-ghost use Rattle.fm_world.specs.Programs.{program_of};
 
 use crate::counts::{Count, counts_of};
 use crate::error::RewriteFail;
@@ -32,8 +31,8 @@ pub struct Rewritten {
     pub counts: Vec<Count>,
 }
 
-/// The classes of a program, each held site with a holder that is freed at all its places. A
-/// method without a held site stays as it is, and so does a class without such a method. A refusal
+/// The classes of a program, which may be narrowed, each held site with a holder that is freed at all its
+/// places. A method without a held site stays as it is, and so does a class without such a method. A refusal
 /// names the first cause: a call of FreeMe, else a pool that is full, else a method that is too long.
 /// Takes memory for the classes and for the plans of all methods.
 pub fn rewrite(
@@ -42,8 +41,7 @@ pub fn rewrite(
     classes: &[ClassDef],
 ) -> Result<Rewritten, RewriteFail>
     requires { AreJudged classes.now program.now }
-    ensures { (main : List ℕ) → program.now ≡ program_of classes.now main
-        → ComesOfRewriting classes.now main result }
+    ensures { ComesOfRewritingOf program.now classes.now result }
 {
     if let Some((method, offset)) = first_free_call(program) {
         return Err(calls_free(method, offset));

@@ -223,7 +223,7 @@ rewrites_once alike main classes s t = by (first_call (program_of classes main))
   by : (call : Option (ℕ × ℕ)) → BecomesAs s classes main call → BecomesAs t classes main call → s ≡ t
   by (Some call) a b = sym a ∙ b
   by None a b =
-      let same = alike classes main a.facts b.facts (record { exact = a.exact; least = a.least }) (record { exact = b.exact; least = b.least }) in
+      let same = alike classes (program_of classes main) a.facts b.facts (record { exact = a.exact; least = a.least }) (record { exact = b.exact; least = b.least }) in
       sym a.status_is ∙ ap cause_status same.cause ∙ b.status_is
 
 -- by facts, where there is no call of FreeMe

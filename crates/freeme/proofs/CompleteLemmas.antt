@@ -103,7 +103,7 @@ module _ {words : List Bytes} {old new : Disk} {before after report report' : Ou
 
     files : map (written_name job.folder) made ≡ map (written_name job.folder) given
     files =
-        sym (files_named job.folder made) ∙ ap (map (file_name job.folder)) (names_same given (main_name job) unwritten.made spelled unwritten.freed.rewritten)
+        sym (files_named job.folder made) ∙ ap (map (file_name job.folder)) (names_same given unwritten.made spelled unwritten.freed.rewritten)
         ∙ files_named job.folder given
 
     there : slice_get (map (written_name job.folder) made) unwritten.fails.count ≡ Some (written_name job.folder unwritten.fails.class)

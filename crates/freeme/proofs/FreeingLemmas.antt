@@ -8,11 +8,11 @@ use Rattle.fm_base.specs.declared.ids.MethodId.{MethodId}
 use Rattle.fm_code.specs.declared.class_file.ClassDef.{ClassDef}
 use Rattle.fm_code.specs.declared.class_file.Member.{Member}
 use Rattle.fm_place.specs.Rewriting.{first_given, free_index, Plans}
-use Rattle.fm_place.specs.Safe.{full_plans}
+use Rattle.fm_place.specs.Safe.{full_plans, IsProgramOf}
 use Rattle.fm_rewrite.proofs.JudgedLemmas.{classes_counted}
 use Rattle.fm_rewrite.proofs.ProgramMeantLemmas.{methods_counted}
 use Rattle.fm_rewrite.specs.FreeCalls.{call_among, call_in_method, first_call}
-use Rattle.fm_rewrite.specs.Rewritten.{AreNotRewritten, ComesOfRewriting, first_cause, first_full, first_long, full_from, full_pool, long_among, long_from, long_method, method_too_long, pool_full}
+use Rattle.fm_rewrite.specs.Rewritten.{AreNotRewrittenOf, ComesOfRewriting, ComesOfRewritingOf, first_cause, first_full, first_long, full_from, full_pool, long_among, long_from, long_method, method_too_long, pool_full}
 use Rattle.fm_rewrite.specs.declared.error.RewriteFail.{RewriteFail}
 use Rattle.fm_rewrite.specs.declared.error.RewriteFail.TheVariants as fail
 use Rattle.fm_rewrite.specs.inner.ByPlans.{method_count}
@@ -116,27 +116,25 @@ method_inside plans given method bytes e = by (first_full plans given) refl (fir
 
 -- ---- numbers of a program
 
-pool_there : (given : List ClassDef) (main : List ℕ) (class : ClassId) (indices : ℕ) → AreNotRewritten given main (fail.PoolFull class indices)
-    → class.0 < length (program_of given main).outline.classes
-pool_there given main class indices refused =
-    let inside = pool_inside (full_plans (program_of given main) refused.facts) given class indices refused.first in
-    let count = classes_counted given main in
-    omega (arith, inside, count)
+module _ (given : List ClassDef) (main : List ℕ) (p : Program) (program_is : IsProgramOf given main p) where
+  pool_there : (class : ClassId) (indices : ℕ) → AreNotRewrittenOf p given (fail.PoolFull class indices) → class.0 < length p.outline.classes
+  pool_there class indices refused =
+      let inside = pool_inside (full_plans p refused.facts) given class indices refused.first in
+      let count = classes_counted given main p program_is in
+      omega (arith, inside, count)
 
-method_there : (given : List ClassDef) (main : List ℕ) (method : MethodId) (bytes : ℕ) → AreNotRewritten given main (fail.MethodTooLong method bytes)
-    → method.0 < length (methods_of (program_of given main).outline.classes)
-method_there given main method bytes refused =
-    let inside = method_inside (full_plans (program_of given main) refused.facts) given method bytes refused.first in
-    let count = methods_counted given main in
-    omega (arith, inside, count)
+  method_there : (method : MethodId) (bytes : ℕ) → AreNotRewrittenOf p given (fail.MethodTooLong method bytes) → method.0 < length (methods_of p.outline.classes)
+  method_there method bytes refused =
+      let inside = method_inside (full_plans p refused.facts) given method bytes refused.first in
+      let count = methods_counted given main p program_is in
+      omega (arith, inside, count)
 
--- what a cause names is there
-pub cause_there : (given : List ClassDef) (main : List ℕ) (cause : RewriteFail) → ComesOfRewriting given main (Err cause)
-    → IsThere (program_of given main).outline cause
-cause_there given main (fail.CallsFree method offset) comes = call_inside (program_of given main) (method.0, offset) comes
-cause_there given main (fail.PoolFull class indices) comes = pool_there given main class indices comes
-cause_there given main (fail.MethodTooLong method bytes) comes = method_there given main method bytes comes
-cause_there given main fail.NoMemory comes = tt
+  -- what a cause names is there
+  pub cause_there : (cause : RewriteFail) → ComesOfRewritingOf p given (Err cause) → IsThere p.outline cause
+  cause_there (fail.CallsFree method offset) comes = call_inside p (method.0, offset) comes
+  cause_there (fail.PoolFull class indices) comes = pool_there class indices comes
+  cause_there (fail.MethodTooLong method bytes) comes = method_there method bytes comes
+  cause_there fail.NoMemory comes = tt
 
 -- and is reported by its name
 pub cause_reported : (given : List ClassDef) (main : List ℕ) (cause : RewriteFail) (name : List ℕ) → ComesOfRewriting given main (Err cause)

@@ -24,6 +24,7 @@ use Rattle.fm_link_refusals.specs.Refused.{refusal_of}
 use Rattle.fm_law_headline.specs.Headline.{ClassesDoTheSame, DoesTheSame}
 use Rattle.fm_law_headline.specs.Taken.{CheckedAreTaken}
 use Rattle.fm_law_retyped.specs.Retyped.{SafeClassesAreTyped}
+use Rattle.fm_place.specs.Safe.{IsProgramOf}
 use Rattle.fm_rewrite.proofs.JudgedLemmas.{judged_spelled}
 use Rattle.fm_rewrite.specs.Rewritten.{AreJudged, AreRewritten}
 use Rattle.fm_rewrite.specs.declared.counts.Count.{Count}
@@ -214,7 +215,7 @@ module _ (job : FreemeJob) (old between new : Disk) (all : ReadsAll job.files ol
         faultless = faultless_then old between new faultless now.faultless;
         writes = writes_behind (class_writes job.folder made.classes.items) now.writes;
       };
-      unheld = are_still freed.classes (main_name job) made job.folder job.files old.contents new.contents freed.checked.linked.source.read (made_classes job.made)
+      unheld = are_still freed.classes made job.folder job.files old.contents new.contents freed.checked.linked.source.read (made_classes job.made)
           freed.checked.linked.source.taken.taken freed.checked.linked.source.classes_are freed.rewritten
           (written made.classes.items made.classes.items now.written).hold;
       lines_are = is;
@@ -310,7 +311,7 @@ module _ {request : FreemeRequest} {names : List (Bor Bytes)} {classes : List Cl
   pub are_judged : {program : Program} → IsLinked classes (main_name (job_of request)) (Ok program) × AreTyped (program_of classes (main_name (job_of request))) → AreJudged classes program
   are_judged (linked, typed) = record {
     main = main_name (job_of request);
-    program_is = linked.1;
+    program_is = subst (IsProgramOf classes (main_name (job_of request))) (sym linked.1) refl;
     accepted = accepted_classes reads.source;
     linked = linked.0;
     typed = typed;
@@ -336,7 +337,7 @@ module _ {request : FreemeRequest} {names : List (Bor Bytes)} {classes : List Cl
     made_spelled : AllByRecursion ClassIsSpelled made.classes.items
     made_spelled =
         are_spelled_so made.classes.items
-        (written_spelled classes (main_name (job_of request)) made judged (given_short reads.source) rewritten)
+        (written_spelled classes (program_of classes (main_name (job_of request))) made judged (given_short reads.source) rewritten)
 
     taken_again : SafeClassesLink → SafeClassesAreTyped → WrittenHaveLengthsAlone → AreTakenAgain classes (main_name (job_of request)) made rewritten
     taken_again link retype lengths =
@@ -345,7 +346,7 @@ module _ {request : FreemeRequest} {names : List (Bor Bytes)} {classes : List Cl
 
     made_profiles : AllByRecursion Profile made.classes.items
     made_profiles =
-        written_accepted classes (main_name (job_of request)) made judged (given_accepted reads.source) rewritten
+        written_accepted classes (program_of classes (main_name (job_of request))) made judged (given_accepted reads.source) rewritten
 
     does_the_same : CheckedAreTaken → ClassesDoTheSame → DoesTheSame classes (main_name (job_of request)) made.classes.items rewritten.marks rewritten.full
     does_the_same taken same =
@@ -374,10 +375,10 @@ module _ {request : FreemeRequest} {names : List (Bor Bytes)} {classes : List Cl
       lent_named = have_names written lent_spelled
 
       pub lent_apart : AreApart written
-      lent_apart = subst AreApart (sym lent) (apart_of made.classes.items (written_apart classes (main_name (job_of request)) made judged rewritten))
+      lent_apart = subst AreApart (sym lent) (apart_of made.classes.items (written_apart classes (program_of classes (main_name (job_of request))) made judged rewritten))
 
       pub lent_counted : {counts : List Count} → counts ≡ made.counts.items → length counts ≡ length written
-      lent_counted reported = ap length reported ∙ one_count_each classes (main_name (job_of request)) made rewritten ∙ ap length (sym lent)
+      lent_counted reported = ap length reported ∙ one_count_each classes made rewritten ∙ ap length (sym lent)
 
   -- they are written, or a write didn't come off
   module _ {new : Disk} (keeps : KeepsReads between new) (written : List ClassDef) where

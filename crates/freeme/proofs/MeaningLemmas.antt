@@ -14,7 +14,6 @@ use Rattle.fm_load.specs.Given.{made_classes}
 use Rattle.fm_load.specs.Taking.{ClassIsSpelled}
 use Rattle.freeme.proofs.WrittenLemmas.{names_same}
 use Rattle.freeme.specs.Causes.{IsForDone, SaysDone}
-use Rattle.freeme.specs.Jobs.{main_name}
 use Rattle.freeme.specs.Meaning.{HasKeptMeaning, HasRunsAlike, KeepsMeaning, RunsAlike}
 use Rattle.freeme.specs.TopCall.{IsDone}
 
@@ -54,7 +53,7 @@ done_alike job lines old new none done =
       reads = done.reads;
       made = done.made.classes.items;
       names =
-          names_same given (main_name job) done.made
+          names_same given done.made
           (AllByRecursion-weaker ClassIsSpelled HasSpelling (λ c spells. (class_bytes c, spells)) given (given_spelled source)) done.freed.rewritten;
       spelled_too = done.freed.spelled;
       written = done.written;

@@ -22,7 +22,7 @@ use Rattle.fm_rewrite.specs.declared.error.RewriteFail.TheVariants as fail
 use Rattle.freeme.proofs.ReportedLemmas.{outcome_line}
 use Rattle.freeme.proofs.WrittenLemmas.{names_same, one_count_each}
 use Rattle.freeme.specs.Causes.{PutsOnce}
-use Rattle.freeme.specs.Jobs.{given_of, main_name}
+use Rattle.freeme.specs.Jobs.{given_of}
 use Rattle.freeme.specs.Refusal.{refusal_line, refusal_status}
 use Rattle.freeme.specs.TopCall.{ComesOf, IsDone, IsReported, Outcome}
 use Rattle.freeme.specs.Writing.{class_line, class_lines, class_text}
@@ -72,8 +72,8 @@ done_some words job old new lines asked done =
     let given = done.freed.classes in
     let source = done.freed.checked.linked.source in
     let spelled = AllByRecursion-weaker ClassIsSpelled HasSpelling (λ c spells. (class_bytes c, spells)) given (given_spelled source) in
-    let names = ap length (names_same given (main_name job) done.made spelled done.freed.rewritten) in
-    let counted = one_count_each given (main_name job) done.made done.freed.rewritten in
+    let names = ap length (names_same given done.made spelled done.freed.rewritten) in
+    let counted = one_count_each given done.made done.freed.rewritten in
     let some = given_some words job asked old.contents given source in
     let is = ap length done.lines_are in
     let own = lines_some done.made.classes.items done.made.counts.items counted (omega (arith, length-map done.made.classes.items printed_name, length-map given printed_name)) in

@@ -8,9 +8,9 @@ use Rattle.fm_code.specs.Spells.{HasSpelling}
 use Rattle.fm_code.specs.declared.class_file.ClassDef.{ClassDef}
 use Rattle.fm_code.specs.declared.code_array.Code.{Code}
 use Rattle.fm_place.proofs.FullLemmas.{method-safe}
-use Rattle.fm_place.specs.Safe.{full_plans, Safe}
+use Rattle.fm_place.specs.Safe.{full_plans, SafeOf}
 use Rattle.fm_law_retyped.specs.Retyped.{SafeClassesAreTyped}
-use Rattle.fm_rewrite.specs.Rewritten.{AreRewritten}
+use Rattle.fm_rewrite.specs.Rewritten.{AreRewritten, AreRewrittenOf}
 use Rattle.fm_rewrite.specs.declared.rewriting.Rewritten.{Rewritten}
 use Rattle.fm_types.specs.Typed.{Typed}
 use Rattle.fm_world.specs.Linking.{refusals}
@@ -25,12 +25,12 @@ typed_if_coded p method with_code some = by (code_at p method) refl some where
   by (Some code) is some = with_code code is
 
 -- what is inserted by the facts by which the classes are rewritten is safe
-abbrev own_safe : (given : List ClassDef) (main : List ℕ) (made : Rewritten) (are : AreRewritten given main made) → Safe given main made.classes.items are.marks
-own_safe given main made are = record {
+abbrev own_safe : (p : Program) (given : List ClassDef) (made : Rewritten) (are : AreRewrittenOf p given made) → SafeOf p given made.classes.items are.marks
+own_safe p given made are = record {
   facts = are.full.facts;
   exact = are.full.exact;
-  plans = full_plans (program_of given main) are.full.facts;
-  methods = method-safe (program_of given main) are.full.facts;
+  plans = full_plans p are.full.facts;
+  methods = method-safe p are.full.facts;
   written_is = are.full.written_is;
   marks_are = are.full.marks_are;
 }
@@ -39,8 +39,10 @@ pub again_taken : (given : List ClassDef) (main : List ℕ) (made : Rewritten) �
     → (are : AreRewritten given main made) → SafeClassesLink → SafeClassesAreTyped → WrittenHaveLengthsAlone → AreTakenAgain given main made are
 again_taken given main made spelled linked are link retype lengths =
     let written = made.classes.items in
+    let p = program_of given main in
+    let safe = own_safe p given made are in
     record {
-      links = (link given main (program_of given main) written are.marks spelled linked (own_safe given main made are)).links;
-      typed = λ ready method. typed_if_coded (program_of written main) method (retype given main written are.marks spelled linked (own_safe given main made are) ready method);
-      files = λ ready. lengths given main written are.marks spelled linked (own_safe given main made are) ready;
+      links = (link given main p written are.marks spelled linked safe).links;
+      typed = λ ready method. typed_if_coded (program_of written main) method (retype given main p refl written are.marks spelled linked safe ready method);
+      files = λ ready. lengths given main p refl written are.marks spelled linked safe ready;
     }

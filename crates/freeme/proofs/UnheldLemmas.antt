@@ -14,10 +14,10 @@ use Rattle.fm_place.specs.Insertions.{all_holders, full_insertions, Insertions}
 use Rattle.fm_place.specs.Rewriting.{first_given, Plans, rewritten_class, rewritten_from, site_count, sites_in}
 use Rattle.fm_place.specs.Safe.{full_plans, method_in_facts}
 use Rattle.fm_rewrite.proofs.FullPlanLemmas.{holders_counted}
-use Rattle.fm_rewrite.specs.Rewritten.{AreRewritten, counts_from}
+use Rattle.fm_rewrite.specs.Rewritten.{AreRewrittenOf, counts_from}
 use Rattle.fm_rewrite.specs.declared.counts.Count.{Count}
 use Rattle.fm_rewrite.specs.declared.rewriting.Rewritten.{Rewritten}
-use Rattle.fm_world.specs.Programs.{Program, program_of}
+use Rattle.fm_world.specs.Programs.{Program}
 use Rattle.fm_place_weave.proofs.ClassLawLemmas.{by_change, rewritten-is}
 use Rattle.freeme.proofs.WrittenLemmas.{is_all}
 use Rattle.freeme.specs.TopCall.{AreStill, HoldsStill}
@@ -82,11 +82,10 @@ module _ (plans : Plans) (hold : (method : ℕ) → is_some (plans method) ≡ t
   files_still first (file ∷ files) [] more taken written = absurd taken
 
 -- the classes of which no site is held are written byte for byte as they were read
-pub are_still : (given : List ClassDef) (main : List ℕ) (made : Rewritten) (folder : Bytes) (files : List Bytes) (old new : Contents) (read more : List ClassDef)
-    → AreTaken old files read → given ≡ read ++ more → AreRewritten given main made → AllByRecursion (λ (c : ClassDef). Holds new (written_name folder c) (class_bytes c)) made.classes.items
+pub are_still : (given : List ClassDef) {p : Program} (made : Rewritten) (folder : Bytes) (files : List Bytes) (old new : Contents) (read more : List ClassDef)
+    → AreTaken old files read → given ≡ read ++ more → AreRewrittenOf p given made → AllByRecursion (λ (c : ClassDef). Holds new (written_name folder c) (class_bytes c)) made.classes.items
     → AreStill folder files made.classes.items made.counts.items old new
-are_still given main made folder files old new read more taken given_is are written =
-    let p = program_of given main in
+are_still given {p} made folder files old new read more taken given_is are written =
     let plans = full_plans p are.full.facts in
     let P : List ClassDef → Type 0 = AllByRecursion (λ (c : ClassDef). Holds new (written_name folder c) (class_bytes c)) in
     let now = subst P (are.full.written_is ∙ ap (rewritten_from plans first_given) given_is) written in

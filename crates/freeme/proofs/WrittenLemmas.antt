@@ -43,13 +43,13 @@ use Rattle.fm_rewrite.proofs.MeantLemmas.{codes_own}
 use Rattle.fm_rewrite.proofs.ProgramMeantLemmas.{code_given}
 use Rattle.fm_rewrite.specs.Alike.{IsOwnCode}
 use Rattle.fm_rewrite.specs.Plans.{HasOldItems}
-use Rattle.fm_rewrite.specs.Rewritten.{AreJudged, AreRewritten, counts_from, first_full, first_long, full_from, full_pool, long_among, long_code, long_from, long_method, method_too_long, pool_full}
+use Rattle.fm_rewrite.specs.Rewritten.{AreJudged, AreRewrittenOf, counts_from, first_full, first_long, full_from, full_pool, long_among, long_code, long_from, long_method, method_too_long, pool_full}
 use Rattle.fm_rewrite.specs.inner.ByPlans.{method_count}
 use Rattle.fm_rewrite.specs.declared.rewriting.Rewritten.{Rewritten}
 use Rattle.fm_cli.specs.Printed.{printed}
 use Rattle.fm_world.specs.BuiltIns.{built_in}
 use Rattle.fm_world.specs.Causes.{own_name}
-use Rattle.fm_world.specs.Programs.{code_at, Program, program_of}
+use Rattle.fm_world.specs.Programs.{code_at, Program}
 use Rattle.fm_place_weave.proofs.ClassLawLemmas.{by_change, rewritten-is}
 use Rattle.fm_law_spelled.proofs.ApartLemmas.{names_apart, printed_name}
 use Rattle.fm_law_spelled.proofs.ClassSpelled.{changed_spelled}
@@ -246,30 +246,28 @@ accepted_from plans first (c ∷ classes) spelled profiles can =
 
 -- ---- all classes
 
-all_can : (given : List ClassDef) (main : List ℕ) (made : Rewritten) → AreJudged given (program_of given main) → (are : AreRewritten given main made)
-    → CanChangeAll (full_plans (program_of given main) are.full.facts) first_given given
-all_can given main made judged are =
-    let p = program_of given main in
+all_can : (given : List ClassDef) (p : Program) (made : Rewritten) → AreJudged given p → (are : AreRewrittenOf p given made)
+    → CanChangeAll (full_plans p are.full.facts) first_given given
+all_can given p made judged are =
     let plans = full_plans p are.full.facts in
     let parts = or_first (option_map pool_full (first_full plans given)) (option_map method_too_long (first_long plans given)) are.no_cause in
     classes_can p are.full.facts (judged_analysable given p judged) (judged_old given p judged) (length built_in) first_given given (judged_spelled given p judged)
-    (λ i inside. code_given given main i) (map_none pool_full (first_full plans given) parts.0) (map_none method_too_long (first_long plans given) parts.1)
+    (λ i inside. code_given given judged.main p judged.program_is i) (map_none pool_full (first_full plans given) parts.0)
+    (map_none method_too_long (first_long plans given) parts.1)
 
 -- they have spellings, as those that were read are no longer than a file may be
-pub written_spelled : (given : List ClassDef) (main : List ℕ) (made : Rewritten) → AreJudged given (program_of given main) → AllByRecursion IsShort given
-    → AreRewritten given main made → AllByRecursion HasSpelling made.classes.items
-written_spelled given main made judged small are =
+pub written_spelled : (given : List ClassDef) (p : Program) (made : Rewritten) → AreJudged given p → AllByRecursion IsShort given
+    → AreRewrittenOf p given made → AllByRecursion HasSpelling made.classes.items
+written_spelled given p made judged small are =
     subst (AllByRecursion HasSpelling) (sym are.full.written_is)
-    (spelled_from (full_plans (program_of given main) are.full.facts) first_given given (judged_spelled given (program_of given main) judged) small
-    (all_can given main made judged are))
+    (spelled_from (full_plans p are.full.facts) first_given given (judged_spelled given p judged) small (all_can given p made judged are))
 
 -- and they are accepted again
-pub written_accepted : (given : List ClassDef) (main : List ℕ) (made : Rewritten) → AreJudged given (program_of given main) → AllByRecursion Profile given
-    → AreRewritten given main made → AllByRecursion Profile made.classes.items
-written_accepted given main made judged profiles are =
+pub written_accepted : (given : List ClassDef) (p : Program) (made : Rewritten) → AreJudged given p → AllByRecursion Profile given
+    → AreRewrittenOf p given made → AllByRecursion Profile made.classes.items
+written_accepted given p made judged profiles are =
     subst (AllByRecursion Profile) (sym are.full.written_is)
-    (accepted_from (full_plans (program_of given main) are.full.facts) first_given given (judged_spelled given (program_of given main) judged) profiles
-    (all_can given main made judged are))
+    (accepted_from (full_plans p are.full.facts) first_given given (judged_spelled given p judged) profiles (all_can given p made judged are))
 
 -- ---- names
 
@@ -291,17 +289,17 @@ names_kept plans first (c ∷ classes) spelled =
     λ k. printed (name_kept plans first c spelled.0 k) ∷ names_kept plans (first + length c.methods) classes spelled.1 k
 
 -- so do all
-pub names_same : (given : List ClassDef) (main : List ℕ) (made : Rewritten) → AllByRecursion HasSpelling given → AreRewritten given main made
+pub names_same : (given : List ClassDef) {p : Program} (made : Rewritten) → AllByRecursion HasSpelling given → AreRewrittenOf p given made
     → map printed_name made.classes.items ≡ map printed_name given
-names_same given main made spelled are =
-    ap (map printed_name) are.full.written_is ∙ names_kept (full_plans (program_of given main) are.full.facts) first_given given spelled
+names_same given {p} made spelled are =
+    ap (map printed_name) are.full.written_is ∙ names_kept (full_plans p are.full.facts) first_given given spelled
 
-pub written_apart : (given : List ClassDef) (main : List ℕ) (made : Rewritten) → AreJudged given (program_of given main) → AreRewritten given main made
+pub written_apart : (given : List ClassDef) (p : Program) (made : Rewritten) → AreJudged given p → AreRewrittenOf p given made
     → AreNew (map printed_name made.classes.items)
-written_apart given main made judged are =
-    let spelled = judged_spelled given (program_of given main) judged in
+written_apart given p made judged are =
+    let spelled = judged_spelled given p judged in
     let supported = AllByRecursion-weaker IsAccepted NameIsSupported (λ c is. is.supported.name) given judged.accepted in
-    subst AreNew (sym (names_same given main made spelled are)) (names_apart given judged.main spelled supported judged.linked)
+    subst AreNew (sym (names_same given made spelled are)) (names_apart given judged.main spelled supported judged.linked)
 
 -- ---- counts
 
@@ -310,6 +308,6 @@ counts_counted plans first [] = refl
 counts_counted plans first (c ∷ classes) = ap suc (counts_counted plans (first + length c.methods) classes)
 
 -- there is one count for each class that is written
-pub one_count_each : (given : List ClassDef) (main : List ℕ) (made : Rewritten) → AreRewritten given main made → length made.counts.items ≡ length made.classes.items
-one_count_each given main made are =
-    ap length are.counts_are ∙ counts_counted (full_plans (program_of given main) are.full.facts) first_given given ∙ ap length (sym are.full.written_is)
+pub one_count_each : (given : List ClassDef) {p : Program} (made : Rewritten) → AreRewrittenOf p given made → length made.counts.items ≡ length made.classes.items
+one_count_each given {p} made are =
+    ap length are.counts_are ∙ counts_counted (full_plans p are.full.facts) first_given given ∙ ap length (sym are.full.written_is)

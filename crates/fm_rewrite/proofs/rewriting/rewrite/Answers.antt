@@ -1,10 +1,9 @@
-use Rattle.std.proofs.Common.{rules, ◌≡◌, ◌∙◌, sym, ap, subst, ℕ, None, Some}
+use Rattle.std.proofs.Common.{rules, ◌≡◌, sym, subst, ℕ, None, Some}
 use Rattle.fm_rewrite.proofs.CallOffsetLemmas.{call_offset}
 use Rattle.fm_rewrite.proofs.JudgedLemmas.{judged_analysable, judged_old, judged_spelled}
 use Rattle.fm_rewrite.proofs.OutcomeLemmas.{comes_of}
 use Rattle.fm_rewrite.specs.FreeCalls.{first_call}
 use Rattle.fm_rewrite.specs.Plans.{ArePlanned}
-use Rattle.fm_world.specs.Programs.{Program}
 use Rattle.fm_rewrite.proofs.rewriting.rewrite.Goals as goal
 
 pub first_free_call-requires : goal.first_free_call-requires
@@ -25,8 +24,6 @@ planned_methods-requires-clause-old c = judged_old c.args.classes.now c.args.pro
 pub returns : goal.returns
 returns c =
     let none : first_call c.args.program.now ≡ None = search rules in
-    λ main is.
-    comes_of c.args.classes.now main c.as_slice.result.now (judged_spelled c.args.classes.now c.args.program.now c.requires)
-    (subst (λ (p : Program). ArePlanned p c.as_slice.result.now) is
-    (subst (ArePlanned c.args.program.now) (sym c.as_slice.ensures.value) c.in_ok-planned.ensures))
-    (ap first_call (sym is) ∙ none) c.rewritten_by.result c.rewritten_by.ensures
+    comes_of c.args.classes.now c.requires.main c.args.program.now c.requires.program_is c.as_slice.result.now
+    (judged_spelled c.args.classes.now c.args.program.now c.requires)
+    (subst (ArePlanned c.args.program.now) (sym c.as_slice.ensures.value) c.in_ok-planned.ensures) none c.rewritten_by.result c.rewritten_by.ensures
