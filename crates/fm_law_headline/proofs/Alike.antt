@@ -1,8 +1,9 @@
 -- Classes with safe insertions do alike, by the lockstep of their programs.
-use Rattle.std.proofs.Common.{ℕ, List}
+use Rattle.std.proofs.Common.{ℕ, List, sym, subst}
 use Rattle.fm_code.specs.declared.class_file.ClassDef.{ClassDef}
 use Rattle.fm_conn.specs.Facts.{AreFacts, Facts}
 use Rattle.fm_law_headline.proofs.InStep.{do_alike}
+use Rattle.fm_law_headline.proofs.NarrowedCells.{cells_narrowed}
 use Rattle.fm_law_headline.specs.Alike.{SafeClassesDoAlike}
 use Rattle.fm_law_headline.specs.InStep.{AreInStep, DoAlike}
 use Rattle.fm_law_linked.specs.Cells.{CellsOfProgramsAreResolved}
@@ -17,11 +18,17 @@ use Rattle.fm_law_lockstep.specs.Opening.{OpeningsAreTogether}
 use Rattle.fm_law_lockstep.specs.Together.{GoTogetherIn, TogetherCostsSame}
 use Rattle.fm_law_same_runs.specs.Beside.{Beside, FewAreInserted, InAllRuns, Marks, runs_of}
 use Rattle.fm_law_same_runs.specs.Programs.{AreTaken}
+use Rattle.fm_law_no_fault.specs.CellsResolved.{CellsAreResolved}
+use Rattle.fm_law_sound.specs.Sound.{AreTyped}
+use Rattle.fm_law_two_memories.specs.Runs.{IsWithoutFrees}
+use Rattle.fm_law_unwoven.proofs.NarrowedLinks.{resolved_narrowed, typed_whole, without_narrowed}
 use Rattle.fm_law_unwoven.specs.Runs.{FewAreInsertedInRuns}
 use Rattle.fm_law_unwoven.specs.WovenFrom.{IsWovenFrom, SafeProgramsAreWoven}
 use Rattle.fm_place.specs.Rewriting.{Plans}
+use Rattle.fm_place.specs.Safe.{IsProgramOf}
 use Rattle.fm_world.specs.Programs.{Program, program_of}
 use Rattle.fm_same.proofs.DeadRuns.{facts_type}
+use Rattle.fm_same.specs.Resolved.{IsResolved}
 
 -- ---- two programs
 
@@ -65,23 +72,29 @@ woven_alike steps openings costs one other facts plans marks woven linked few =
 
 -- ---- classes
 
--- no program of class files is narrowed
-whole_sets : (given : List ClassDef) (main : List ℕ) → HasClosedSets (program_of given main)
-unfolding program_of
-whole_sets given main = tt
+-- the typings of facts, of the program that isn't narrowed
+pub typed_of : (given : List ClassDef) (main : List ℕ) (p : Program) → IsProgramOf given main p → (facts : Facts) → AreFacts p facts
+    → AreTyped (program_of given main) facts.typing
+typed_of given main p is facts exact =
+    typed_whole (program_of given main) p.made facts.typing (subst (λ (r : Program). AreTyped r facts.typing) is (facts_type p facts exact))
 
 module _ (resolved : ProgramsAreResolved) (cells : CellsOfProgramsAreResolved) (without : LinkedIsWithoutFrees) where
-  pub are_linked : (given : List ClassDef) (main : List ℕ) → AreTaken given main → (facts : Facts) → AreFacts (program_of given main) facts
-      → IsLinked (program_of given main) facts
-  are_linked given main taken facts exact = record {
-    exact = exact;
-    resolved = resolved given main taken.spelled taken.linked taken.few;
-    cells = cells given main taken.spelled taken.supported taken.linked taken.few;
-    closed = whole_sets given main;
-    without = without given main taken.spelled taken.supported taken.linked taken.few facts.typing (facts_type (program_of given main) facts exact) taken.no_free;
-  }
+  pub are_linked : (given : List ClassDef) (main : List ℕ) → AreTaken given main → (p : Program) → IsProgramOf given main p → HasClosedSets p → (facts : Facts)
+      → AreFacts p facts → IsLinked p facts
+  are_linked given main taken p is closed facts exact =
+      let whole : Program = program_of given main in
+      record {
+        exact = exact;
+        resolved = subst IsResolved (sym is) (resolved_narrowed whole p.made (resolved given main taken.spelled taken.linked taken.few));
+        cells = subst CellsAreResolved (sym is) (cells_narrowed whole p.made (cells given main taken.spelled taken.supported taken.linked taken.few));
+        closed = closed;
+        without =
+            subst (λ (r : Program). IsWithoutFrees r facts.typing) (sym is)
+            (without_narrowed whole p.made facts.typing
+            (without given main taken.spelled taken.supported taken.linked taken.few facts.typing (typed_of given main p is facts exact) taken.no_free));
+      }
 
   pub classes_alike : SafeProgramsAreWoven → FewAreInsertedInRuns → WovenProgramsDoAlike → SafeClassesDoAlike
-  classes_alike woven few alike given main taken written marks safe =
-      alike (program_of given main) (program_of written main) safe.facts safe.plans marks (woven given main taken written marks safe)
-      (are_linked given main taken safe.facts safe.exact) (few given main taken written marks safe)
+  classes_alike woven few alike given main taken p is closed written marks safe =
+      alike p (program_of written main) safe.facts safe.plans marks (woven given main taken p is written marks safe)
+      (are_linked given main taken p is closed safe.facts safe.exact) (few given main taken p is written marks safe)

@@ -6,6 +6,8 @@ pub mod DeepCosts
 pub mod WholeRuns
 pub mod TwoPrograms
 pub mod InStep
+pub mod NarrowedCells
 pub mod Alike
+pub mod BesideNarrowed
 pub mod Parts
 pub mod Renamed

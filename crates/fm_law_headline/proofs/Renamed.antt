@@ -2,7 +2,7 @@
 use Rattle.fm_cells.specs.Choices.{lawful, never_choice}
 use Rattle.fm_law_headline.proofs.Alike.{are_linked, both_of, woven_in_step}
 use Rattle.fm_law_headline.proofs.InStep.{step_matched}
-use Rattle.fm_law_headline.specs.Renamed.{SafeClassesAreRenamed}
+use Rattle.fm_law_headline.specs.Renamed.{ObjectsAreRenamed, SafeClassesAreRenamed}
 use Rattle.fm_law_linked.specs.Cells.{CellsOfProgramsAreResolved}
 use Rattle.fm_law_linked.specs.Laws.{ProgramsAreResolved}
 use Rattle.fm_law_linked.specs.TwoMemories.{LinkedIsWithoutFrees}
@@ -14,7 +14,6 @@ use Rattle.fm_law_lockstep.specs.Renamed.{MatchedAreRenamed, TogetherIsRenamed}
 use Rattle.fm_law_lockstep.specs.Together.{GoTogetherIn, TogetherCostsSame}
 use Rattle.fm_law_same_runs.proofs.Openings.{runs_go}
 use Rattle.fm_law_same_runs.specs.Beside.{Beside, FewAreInserted, InAllRuns, Marks, runs_of}
-use Rattle.fm_law_same_runs.specs.Programs.{ObjectsAreRenamed}
 use Rattle.fm_law_unwoven.specs.Runs.{FewAreInsertedInRuns}
 use Rattle.fm_law_unwoven.specs.WovenFrom.{IsWovenFrom, SafeProgramsAreWoven}
 use Rattle.fm_world.specs.Programs.{Program, program_of}
@@ -40,14 +39,13 @@ woven_renamed steps openings costs renamed one other facts plans marks woven lin
 
 pub classes_renamed : ProgramsAreResolved → CellsOfProgramsAreResolved → LinkedIsWithoutFrees → SafeProgramsAreWoven → FewAreInsertedInRuns
     → WovenProgramsAreRenamed → SafeClassesAreRenamed
-classes_renamed resolved cells without woven few renamed given main taken written marks safe =
-    renamed (program_of given main) (program_of written main) safe.facts safe.plans marks (woven given main taken written marks safe)
-    (are_linked resolved cells without given main taken safe.facts safe.exact) (few given main taken written marks safe)
+classes_renamed resolved cells without woven few renamed given main taken p is closed written marks safe =
+    renamed p (program_of written main) safe.facts safe.plans marks (woven given main taken p is written marks safe)
+    (are_linked resolved cells without given main taken p is closed safe.facts safe.exact) (few given main taken p is written marks safe)
 
 -- what isn't retired is the same, too
 pub objects_renamed : ProgramsAreResolved → CellsOfProgramsAreResolved → LinkedIsWithoutFrees → SafeProgramsAreWoven → MatchedAreRenamed → ObjectsAreRenamed
-objects_renamed resolved cells without woven matched given main taken written marks safe job fits count words other_words within other_within choose free has_words =
-    let one = program_of given main in
+objects_renamed resolved cells without woven matched given main taken p is closed written marks safe job fits count words other_words within other_within choose free has_words =
     let other = program_of written main in
-    matched (both_of one other safe.facts safe.plans marks (runs_of one other marks count words other_words job choose free)) (woven given main taken written marks safe)
-    (are_linked resolved cells without given main taken safe.facts safe.exact) within other_within count job choose free fits.arguments has_words
+    matched (both_of p other safe.facts safe.plans marks (runs_of p other marks count words other_words job choose free))
+    (woven given main taken p is written marks safe) (are_linked resolved cells without given main taken p is closed safe.facts safe.exact) within other_within count job choose free fits.arguments has_words

@@ -1,6 +1,6 @@
 -- What the classes that are written do, as one record: with all held sites and all places, on memory that reuses cells in any way, they do
 -- what the classes read do (JVMS 2.6, 2.10, 2.11).
-use Rattle.std.specs.Prelude.{◌≡◌, ℕ, ◌≤◌, List, None, Option}
+use Rattle.std.specs.Prelude.{◌≡◌, ℕ, ◌≤◌, Bool, List, None, Option}
 use Rattle.std.specs.List.{AllByRecursion}
 use Rattle.fm_base.specs.declared.limits.TheConstants.{MAX_LIVE_WORDS}
 use Rattle.fm_code.specs.Profile.{IsSupported}
@@ -16,6 +16,7 @@ use Rattle.fm_law_lockstep.specs.Reaching.{ReachedIsRenamed}
 use Rattle.fm_law_same_runs.specs.Beside.{AreMatched, InAllRuns, IsGiven, IsWithoutFault, Marks, reuse_run, Same}
 use Rattle.fm_law_same_runs.specs.Programs.{AreTaken, AreWholeRuns, IsAsFar, IsClear, WholeRuns, WordsAreBalanced}
 use Rattle.fm_law_same_runs.specs.Renaming.{StatesAreRenamed}
+use Rattle.fm_rapid.specs.Reach.{IsClosed, narrowed}
 
 -- in each run of the second program, in all frames, each holder whose class isn't busy is null
 abbrev pub HoldersStayClear : (one other : Program) → Facts → Marks → Type 0
@@ -66,3 +67,10 @@ ClassesDoTheSame =
     (given : List ClassDef) (main : List ℕ) → AreTaken given main → (written : List ClassDef) (marks : Marks)
     → (full : Full given main written marks) → AllByRecursion HasSpelling written → AllByRecursion IsSupported written
     → DoesTheSame given main written marks full
+
+-- So do they where the program is narrowed to the classes of closed sets: its sites are more, as its virtual calls lead to fewer methods.
+abbrev pub NarrowedClassesDoTheSame : Type 0
+NarrowedClassesDoTheSame =
+    (given : List ClassDef) (main : List ℕ) → AreTaken given main → (methods made : List Bool) → IsClosed (program_of given main) methods made
+    → (written : List ClassDef) (marks : Marks) → (full : FullOf (narrowed (program_of given main) made) given written marks)
+    → AllByRecursion HasSpelling written → AllByRecursion IsSupported written → DoesTheSame given main written marks full

@@ -1,12 +1,11 @@
 // Laws of the definitions, each as the contract of a function that does nothing.
 
 ghost use Rattle.fm_law_headline.specs.Alike.{SafeClassesDoAlike};
-ghost use Rattle.fm_law_headline.specs.Headline.{ClassesDoTheSame};
+ghost use Rattle.fm_law_headline.specs.Headline.{ClassesDoTheSame, NarrowedClassesDoTheSame};
 ghost use Rattle.fm_law_headline.specs.InStep.{RunsInStepDoAlike};
-ghost use Rattle.fm_law_headline.specs.Renamed.{SafeClassesAreRenamed};
+ghost use Rattle.fm_law_headline.specs.Renamed.{ObjectsAreRenamed, SafeClassesAreRenamed};
 ghost use Rattle.fm_law_headline.specs.Taken.{CheckedAreTaken, FirstCallIsFound};
 ghost use Rattle.fm_law_headline.specs.WholeRuns.{MatchedStepsGiveEnds, SameProgramsEndTheSame};
-ghost use Rattle.fm_law_same_runs.specs.Programs.{ObjectsAreRenamed};
 
 use fm_law_cells_made::law_most_held;
 use fm_law_linked::{
@@ -98,6 +97,22 @@ pub fn law_objects_renamed()
 /// holders of what isn't busy are null, cells serve again, and whole runs end the same.
 pub fn law_headline()
     ensures { ClassesDoTheSame }
+{
+    // By these laws.
+    law_alike();
+    law_cells_renamed();
+    law_objects_renamed();
+    law_cleared();
+    law_links();
+    law_can_run();
+    law_most_held();
+    law_two_programs();
+}
+
+/// So it is where the program is narrowed to classes that hold all of which what is reached makes objects: its
+/// calls lead to fewer methods, so that more sites are held, and its runs are those of the classes given.
+pub fn law_rapid()
+    ensures { NarrowedClassesDoTheSame }
 {
     // By these laws.
     law_alike();

@@ -5,6 +5,6 @@
 mod laws;
 
 pub use laws::{
-    law_alike, law_cells_renamed, law_headline, law_in_step, law_objects_renamed, law_taken,
-    law_two_programs,
+    law_alike, law_cells_renamed, law_headline, law_in_step, law_objects_renamed, law_rapid,
+    law_taken, law_two_programs,
 };

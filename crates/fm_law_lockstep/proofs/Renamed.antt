@@ -155,7 +155,7 @@ module _ (o : Outline) (facts : Facts) (x y : State) (R S : ℕ → Type 0)
     };
   }
 
-  renamed_weaker : AreRenamed o facts R x y → AreRenamed o facts S x y
+  pub renamed_weaker : AreRenamed o facts R x y → AreRenamed o facts S x y
   renamed_weaker renamed = record {
     objects = λ cell object held.
         ⊎_elim (λ lost. inl (weaker cell object held lost)) (λ name. inr (name_weaker object name)) (renamed.objects cell object held);

@@ -5,5 +5,6 @@ mod Rows
 mod Goes
 mod Steps
 mod Openings
-mod Narrowed
+pub mod Narrowed
 mod Within
+pub mod Closed

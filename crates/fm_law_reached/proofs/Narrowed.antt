@@ -2,7 +2,6 @@
 use Rattle.std.proofs.Common.{◌≡◌, ℕ, zero, suc, ◌+◌, ◌-◌, ◌++◌, cond, drop, max, not, Bool, List, [], ◌∷◌, length, replicate, reverse, take, Option, Some, None, option_and_then, refl, sym, ◌∙◌, ap, slice_get, slice_index_or}
 use Rattle.fm_base.specs.declared.kinds.TypeRef.{TypeRef}
 use Rattle.fm_cells.specs.Stores.{live_words, Store}
-use Rattle.fm_code.specs.Operands.{pool_index}
 use Rattle.fm_code.specs.declared.code_array.Code.{Code}
 use Rattle.fm_code.specs.declared.code_array.Handler.{Handler}
 use Rattle.fm_code.specs.declared.instructions.Insn.{Insn}
@@ -14,18 +13,17 @@ use Rattle.fm_frames.specs.Runs.{after, after_action, first_areas, framed, Job, 
 use Rattle.fm_frames.specs.Sights.{sights}
 use Rattle.fm_frames.specs.Starts.{start_actions, start_methods, to_start, with_start}
 use Rattle.fm_frames.specs.States.{Frame, Moved, ref, State, word_at}
-use Rattle.fm_frames.specs.Steps.{attempted, caught, Caught, caught_in, catches, cost, effect_at, effect_by, fault_of, finished, halted, handler_among, handler_of, input_after, is_deep, is_done, is_over, locals_of, new_frame, next_effect, next_insn, objects_made, offset_at, printed_by, returned, stack_of, start_frames, step, stopped, target_at, thrown_by, type_at, words_made}
+use Rattle.fm_frames.specs.Steps.{attempted, caught, Caught, caught_in, catches, cost, effect_at, effect_by, fault_of, finished, halted, handler_among, handler_of, input_after, is_deep, is_done, is_over, locals_of, max_locals_of, new_frame, next_effect, next_insn, objects_made, offset_at, printed_by, returned, stack_of, start_frames, step, stopped, target_at, thrown_by, type_at, words_made}
 use Rattle.fm_frames.specs.Steps as steps
 use Rattle.fm_frames.specs.declared.ends.Ended.{Ended}
 use Rattle.fm_frames.specs.declared.ends.Ended.TheVariants as end
 use Rattle.fm_frames.specs.declared.values.Value.{Value}
 use Rattle.fm_frames.specs.declared.values.Value.TheVariants as value
 use Rattle.fm_law_reached.specs.Laws.{NarrowedCostsAreSame, NarrowedRunsAreSame, NarrowedStepsAreSame}
-use Rattle.fm_law_sound.proofs.CallCases.{used_at}
 use Rattle.fm_law_sound.proofs.Following.{continued_is, followed}
 use Rattle.fm_law_sound.proofs.FramesStand.{target_in}
-use Rattle.fm_rapid.specs.Reach.{narrowed}
-use Rattle.fm_types.specs.Typed.{use_by}
+use Rattle.fm_place.proofs.SameTypings.{used_same}
+use Rattle.fm_place.specs.Safe.{narrowed_to}
 use Rattle.fm_world.specs.Programs.{code_at, Program}
 
 -- how many locals a method has, by its code
@@ -38,22 +36,16 @@ abbrev fault_in : Program → State → Value → List Frame → Ended
 fault_in p x v [] = end.Fault (record { 0 = 0 }) 0 (cell_of v)
 fault_in p x v (f ∷ callers) = end.Fault (record { 0 = f.method }) (offset_at p f) (cell_of v)
 
-module _ (p : Program) (made : List Bool) where
+module _ (p : Program) (made : Option (List Bool)) where
   abbrev q : Program
-  q = narrowed p made
+  q = narrowed_to p made
 
   -- ---- the next effect
-
-  used_same : (method : ℕ) (i : Insn) → use_by q method i ≡ use_by p method i
-  used_same method i = by_index (pool_index i) where
-    by_index : (index : Option ℕ) → used_at q method index ≡ used_at p method index
-    by_index None = refl
-    by_index (Some index) = refl
 
   effect_same : (x : State) (f : Frame) (found : Option Insn) → effect_by q x f found ≡ effect_by p x f found
   effect_same x f None = refl
   effect_same x f (Some i) =
-      ap (λ u. effect_of p.outline f.method u i (slice_get x.input 0) (sights p.outline x.areas.store f.stack)) (used_same f.method i)
+      ap (λ u. effect_of p.outline f.method u i (slice_get x.input 0) (sights p.outline x.areas.store f.stack)) (used_same p q refl refl f.method i)
 
   topmost_same : (y : State) (frames : List Frame) → effect_at q (record y { frames = frames }) ≡ effect_at p (record y { frames = frames })
   topmost_same y [] = refl
@@ -91,8 +83,14 @@ module _ (p : Program) (made : List Bool) where
 
   -- ---- frames
 
+  pub locals_same : (method : ℕ) → max_locals_of q method ≡ max_locals_of p method
+  locals_same method = by_code (code_at p method) where
+    by_code : (found : Option Code) → locals_in q method found ≡ locals_in p method found
+    by_code None = refl
+    by_code (Some code) = refl
+
   frame_same : (method : ℕ) (arguments : List Value) → new_frame q method arguments ≡ new_frame p method arguments
-  frame_same method arguments = ap made_of (count_same (code_at p method)) where
+  frame_same method arguments = ap made_of (locals_same method) where
     made_of : ℕ → Frame
     made_of count = record {
       method = method;
@@ -100,10 +98,6 @@ module _ (p : Program) (made : List Bool) where
       locals = arguments ++ replicate (count - length arguments) value.Top;
       stack = [];
     }
-
-    count_same : (found : Option Code) → locals_in q method found ≡ locals_in p method found
-    count_same None = refl
-    count_same (Some code) = refl
 
   starts_same : (methods : List ℕ) → start_frames q methods ≡ start_frames p methods
   starts_same [] = refl
@@ -234,4 +228,4 @@ costs_same p made x = ap (λ (e : Effect). max 1 (objects_made e.actions)) (next
 
 pub runs_same : NarrowedRunsAreSame
 runs_same p made choose job store k =
-    ap (after (narrowed p made) choose k) (opening_same p made choose job store) ∙ after_same p made choose k (opening p choose job store)
+    ap (after (narrowed_to p made) choose k) (opening_same p made choose job store) ∙ after_same p made choose k (opening p choose job store)

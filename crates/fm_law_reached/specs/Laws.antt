@@ -12,6 +12,7 @@ use Rattle.fm_law_sound.specs.Laws.{MakesFewBefore}
 use Rattle.fm_law_sound.specs.Making.{ArgumentsFit, MakesAreResolved}
 use Rattle.fm_law_sound.specs.Resolved.{MainIsReady, StepsAreResolved}
 use Rattle.fm_law_sound.specs.Sound.{AreTyped, IsSoundBy, Typings}
+use Rattle.fm_place.specs.Safe.{narrowed_to}
 use Rattle.fm_rapid.specs.Reach.{IsClosed, narrowed}
 use Rattle.fm_same.specs.Resolved.{IsResolved}
 use Rattle.fm_same.specs.Targets.{Covers}
@@ -66,14 +67,14 @@ OpeningsAreReached =
 
 -- The machine doesn't look at which classes are made: a step of a narrowed program is that of the program.
 abbrev pub NarrowedStepsAreSame : Type 0
-NarrowedStepsAreSame = (p : Program) (made : List Bool) (choose : Choose) (x : State) → step (narrowed p made) choose x ≡ step p choose x
+NarrowedStepsAreSame = (p : Program) (made : Option (List Bool)) (choose : Choose) (x : State) → step (narrowed_to p made) choose x ≡ step p choose x
 
 -- A step of a narrowed program costs what it costs in the program.
 abbrev pub NarrowedCostsAreSame : Type 0
-NarrowedCostsAreSame = (p : Program) (made : List Bool) (x : State) → cost (narrowed p made) x ≡ cost p x
+NarrowedCostsAreSame = (p : Program) (made : Option (List Bool)) (x : State) → cost (narrowed_to p made) x ≡ cost p x
 
 -- The states of a run of a narrowed program are those of the program.
 abbrev pub NarrowedRunsAreSame : Type 0
 NarrowedRunsAreSame =
-    (p : Program) (made : List Bool) (choose : Choose) (job : Job) (store : Store) (k : ℕ)
-    → after (narrowed p made) choose k (opening (narrowed p made) choose job store) ≡ after p choose k (opening p choose job store)
+    (p : Program) (made : Option (List Bool)) (choose : Choose) (job : Job) (store : Store) (k : ℕ)
+    → after (narrowed_to p made) choose k (opening (narrowed_to p made) choose job store) ≡ after p choose k (opening p choose job store)

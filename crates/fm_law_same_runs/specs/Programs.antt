@@ -19,11 +19,10 @@ use Rattle.fm_frames.specs.declared.ends.Ended.TheVariants as end
 use Rattle.fm_law_two_memories.specs.Runs.{IsPrefix, LacksWords}
 use Rattle.fm_place.specs.Insertions.{full_insertions, Holder, Insertions}
 use Rattle.fm_place.specs.Places.{is_busy}
-use Rattle.fm_place.specs.Safe.{Full, method_in_facts, Safe}
+use Rattle.fm_place.specs.Safe.{FullOf, IsProgramOf, method_in_facts, Safe}
 use Rattle.fm_place.specs.Woven.{local_of}
 use Rattle.fm_same.specs.Resolved.{CallsNoFreeMe}
-use Rattle.fm_law_same_runs.specs.Beside.{AreMatched, Beside, InAllRuns, IsGiven, kept_item, Marks, reuse_run, Same, steps_allowed}
-use Rattle.fm_law_same_runs.specs.Renaming.{StatesAreRenamed}
+use Rattle.fm_law_same_runs.specs.Beside.{Beside, IsGiven, kept_item, Marks, reuse_run, Same, steps_allowed}
 
 -- class files that are accepted and link, and whose program calls no FreeMe
 pub record AreTaken (given : List ClassDef) (main : List ℕ) : Type 0 where
@@ -40,14 +39,6 @@ abbrev pub StepsAreMatched : Type 0
 StepsAreMatched =
     (given : List ClassDef) (main : List ℕ) → AreTaken given main → (written : List ClassDef) (marks : Marks) → Safe given main written marks
     → Same (program_of given main) (program_of written main) marks
-
--- ---- the renaming
-
--- in matched states what isn't retired by the facts of the insertions is the same under other cells
-abbrev pub ObjectsAreRenamed : Type 0
-ObjectsAreRenamed =
-    (given : List ClassDef) (main : List ℕ) → AreTaken given main → (written : List ClassDef) (marks : Marks) → (safe : Safe given main written marks)
-    → InAllRuns (program_of given main) (program_of written main) marks (λ b. (k l : ℕ) → AreMatched b k l → StatesAreRenamed safe.facts b k l)
 
 -- ---- two programs
 
@@ -122,10 +113,11 @@ IsClear p facts marks f =
 -- that wait for a call to return.
 abbrev pub HoldersAreCleared : Type 0
 HoldersAreCleared =
-    (given : List ClassDef) (main : List ℕ) → AreTaken given main → (written : List ClassDef) (marks : Marks) → (full : Full given main written marks)
+    (given : List ClassDef) (main : List ℕ) → AreTaken given main → (p : Program) → IsProgramOf given main p
+    → (written : List ClassDef) (marks : Marks) → (full : FullOf p given written marks)
     → (job : Job) → IsGiven job → (choose : Choose) (words : ℕ) → words ≤ MAX_LIVE_WORDS → (free : List (List ℕ)) (l : ℕ)
     → (reuse_run (program_of written main) choose job words free l).state.ended ≡ None
-    → AllByRecursion (IsClear (program_of given main) full.facts marks) (reuse_run (program_of written main) choose job words free l).state.frames
+    → AllByRecursion (IsClear p full.facts marks) (reuse_run (program_of written main) choose job words free l).state.frames
 
 -- the words that live, with those that were freed, are the words that live in the first run
 abbrev pub WordsAreBalanced : Beside → (k l : ℕ) → Type 0

@@ -1,5 +1,5 @@
 -- Classes with safe insertions, and with all of them, have runs in which holders are cleared and few inserted steps follow one another.
-use Rattle.std.proofs.Common.{◌≡◌, ℕ, false, List, [], ◌∷◌, Option, Some, None, option_map, option_and_then, refl, sym, ap, subst, ◌∙◌}
+use Rattle.std.proofs.Common.{◌≡◌, false, List, [], ◌∷◌, Option, Some, None, option_map, option_and_then, refl, sym, ap, subst, ◌∙◌}
 use Rattle.std.specs.Prelude.{slice_get}
 use Rattle.std.specs.List.{AllByRecursion}
 use Rattle.std.proofs.lemmas.Option.{none-some, same_Some}
@@ -13,6 +13,9 @@ use Rattle.fm_law_linked.specs.Laws.{MainOfProgramsIsReady, StepsOfProgramsAreRe
 use Rattle.fm_law_linked.specs.Makes.{MakesOfProgramsAreResolved}
 use Rattle.fm_law_same_runs.specs.Beside.{Marks, reuse_run}
 use Rattle.fm_law_same_runs.specs.Programs.{AreClear, HoldersAreCleared, IsClear}
+use Rattle.fm_law_sound.specs.Making.{MakesAreResolved}
+use Rattle.fm_law_sound.specs.Resolved.{MainIsReady, StepsAreResolved}
+use Rattle.fm_law_unwoven.proofs.NarrowedLinks.{main_narrowed, makes_narrowed, steps_narrowed}
 use Rattle.fm_law_unwoven.specs.Runs.{AllRunsAreCleared, AreCleared, FewAreInsertedInRuns, IsCleared, SafeRunsAreCleared}
 use Rattle.fm_law_unwoven.specs.WovenFrom.{inserted_by, SafeProgramsAreWoven}
 use Rattle.fm_place.proofs.FullLemmas.{method-safe}
@@ -24,15 +27,17 @@ use Rattle.fm_world.specs.Programs.{code_at, Program, program_of}
 use Rattle.fm_same.proofs.DeadRuns.{facts_type}
 
 pub safe_cleared : AllRunsAreCleared → SafeProgramsAreWoven → StepsOfProgramsAreResolved → MakesOfProgramsAreResolved → MainOfProgramsIsReady → SafeRunsAreCleared
-safe_cleared runs woven steps makes main given entry taken written marks safe job job_given choose words few free =
-    runs (program_of given entry) (program_of written entry) safe.facts safe.plans marks (woven given entry taken written marks safe)
-    (facts_type (program_of given entry) safe.facts safe.exact) (steps given entry taken.spelled taken.supported taken.linked taken.few)
-    (makes given entry taken.spelled taken.linked taken.few) (main given entry taken.spelled taken.supported taken.linked)
+safe_cleared runs woven steps makes main given entry taken p is written marks safe job job_given choose words few free =
+    let whole : Program = program_of given entry in
+    runs p (program_of written entry) safe.facts safe.plans marks (woven given entry taken p is written marks safe) (facts_type p safe.facts safe.exact)
+    (subst StepsAreResolved (sym is) (steps_narrowed whole p.made (steps given entry taken.spelled taken.supported taken.linked taken.few)))
+    (subst MakesAreResolved (sym is) (makes_narrowed whole p.made (makes given entry taken.spelled taken.linked taken.few)))
+    (subst MainIsReady (sym is) (main_narrowed whole p.made (main given entry taken.spelled taken.supported taken.linked)))
     choose job job_given.arguments words few free
 
 pub few_inserted : SafeRunsAreCleared → FewAreInsertedInRuns
-few_inserted runs given main taken written marks safe job job_given steps words other_words first few choose free has =
-    (runs given main taken written marks safe job job_given choose other_words few free).few
+few_inserted runs given main taken p is written marks safe job job_given steps words other_words first few choose free has =
+    (runs given main taken p is written marks safe job job_given choose other_words few free).few
 
 -- ---- all insertions
 
@@ -70,6 +75,6 @@ safe_of p given written marks full = record {
 
 pub full_cleared : SafeRunsAreCleared → HoldersAreCleared
 unfolding safe_of
-full_cleared runs given main taken written marks full job job_given choose words few free l going =
-    all_clear (program_of given main) full.facts marks (reuse_run (program_of written main) choose job words free l).state.frames
-    ((runs given main taken written marks (safe_of (program_of given main) given written marks full) job job_given choose words few free).cleared l going)
+full_cleared runs given main taken p is written marks full job job_given choose words few free l going =
+    all_clear p full.facts marks (reuse_run (program_of written main) choose job words free l).state.frames
+    ((runs given main taken p is written marks (safe_of p given written marks full) job job_given choose words few free).cleared l going)

@@ -6,6 +6,7 @@ pub mod LaidTodos
 pub mod LaidSame
 pub mod InsertedSteps
 pub mod TodosDone
+pub mod NarrowedLinks
 pub mod WovenPrograms
 pub mod OldFrames
 pub mod KeptEdges

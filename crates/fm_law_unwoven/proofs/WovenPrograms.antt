@@ -1,5 +1,5 @@
 -- The program of classes with safe insertions is that of the given ones with what these insert.
-use Rattle.std.proofs.Common.{◌≡◌, ℕ, zero, suc, ◌+◌, ◌<◌, ◌⊎◌, inl, inr, List, [], length, map, Option, Some, None, Contains, option_and_then, option_map, refl, sym, ap, subst, ◌∙◌, arith}
+use Rattle.std.proofs.Common.{◌≡◌, ℕ, zero, suc, ◌+◌, ◌<◌, ◌⊎◌, inl, inr, Bool, List, [], length, map, Option, Some, None, Contains, option_and_then, option_map, refl, sym, ap, subst, ◌∙◌, arith}
 use Rattle.std.specs.Prelude.{slice_get}
 use Rattle.std.specs.List.{AllByRecursion, range_with_len, slice_index_or}
 use Rattle.std.proofs.lemmas.Option.{none-some, same_Some}
@@ -35,9 +35,10 @@ use Rattle.fm_law_unwoven.specs.WovenFrom.{CallsFree, HasInserted, inserted_by, 
 use Rattle.fm_law_woven_flow.specs.Roles.{CanStand, IsOpposite, IsRetargeted}
 use Rattle.fm_layout.specs.Spelling.{conditional, opposite}
 use Rattle.fm_link_supers.proofs.ParentRefusals.{spelled_at}
+use Rattle.fm_place.proofs.SameTypings.{used_same}
 use Rattle.fm_place.specs.Insertions.{Insertions}
 use Rattle.fm_place.specs.Rewriting.{free_index, marks_in, marks_with, Plans, rewritten, rewritten_class}
-use Rattle.fm_place.specs.Safe.{AreSafe, method_in_facts, Safe}
+use Rattle.fm_place.specs.Safe.{AreSafe, method_in_facts, narrowed_to, SafeOf}
 use Rattle.fm_place.specs.Woven.{woven_code, woven_marks}
 use Rattle.fm_same.specs.Resolved.{IsResolved}
 use Rattle.fm_types.specs.Typed.{use_by, use_in}
@@ -93,7 +94,8 @@ kept_once (suc n) k (suc at) j is =
     (omega (arith, less), omega (arith, place))
 
 module _ (numbered : ClassTypesAreNumbered) (given : List ClassDef) (main : List ℕ) (plans : Plans) (spelled : AllByRecursion HasSpelling given)
-    (resolved : IsResolved (program_of given main)) (facts : Facts) (method : ℕ) (code : Code) (code_is : code_at (program_of given main) method ≡ Some code) where
+    (resolved : IsResolved (program_of given main)) (analysed : Program) (facts : Facts) (method : ℕ) (code : Code)
+    (code_is : code_at (program_of given main) method ≡ Some code) where
   abbrev p : Program
   p = program_of given main
 
@@ -152,7 +154,7 @@ module _ (numbered : ClassTypesAreNumbered) (given : List ClassDef) (main : List
 
   -- ---- with a plan
 
-  module _ (plan : Insertions) (planned : plans method ≡ Some plan) (safe : AreSafe facts (typed_method (program_of given main) facts.typing method code) plan) where
+  module _ (plan : Insertions) (planned : plans method ≡ Some plan) (safe : AreSafe facts (typed_method analysed facts.typing method code) plan) where
     abbrev new : Code
     new = woven_code free code plan
 
@@ -160,7 +162,7 @@ module _ (numbered : ClassTypesAreNumbered) (given : List ClassDef) (main : List
     new_is = x.new_is ∙ ap (λ o. code_with free o (Some code)) planned
 
     can : CanStand code plan
-    can = safe_can facts (typed_method p facts.typing method code) plan safe
+    can = safe_can facts (typed_method analysed facts.typing method code) plan safe
 
     own : IsLaid free code plan new (woven_marks free code plan)
     own = laid free code plan rules can
@@ -205,12 +207,12 @@ module _ (numbered : ClassTypesAreNumbered) (given : List ClassDef) (main : List
   -- ---- by the plan
 
   pub method_named : (plan : Option Insertions) → plans method ≡ plan
-      → ((own : Insertions) → plan ≡ Some own → AreSafe facts (typed_method (program_of given main) facts.typing method code) own) → NamesTheSame p q method code
+      → ((own : Insertions) → plan ≡ Some own → AreSafe facts (typed_method analysed facts.typing method code) own) → NamesTheSame p q method code
   method_named None is safe = same_names is
   method_named (Some plan) is safe = names plan is (safe plan refl)
 
   pub method_woven : (plan : Option Insertions) → plans method ≡ plan
-      → ((own : Insertions) → plan ≡ Some own → AreSafe facts (typed_method (program_of given main) facts.typing method code) own)
+      → ((own : Insertions) → plan ≡ Some own → AreSafe facts (typed_method analysed facts.typing method code) own)
       → HasInserted q (marks_with plans given) method code (inserted_by plan)
   method_woven None is safe = unchanged is
   method_woven (Some plan) is safe = woven plan is (safe plan refl)
@@ -218,9 +220,13 @@ module _ (numbered : ClassTypesAreNumbered) (given : List ClassDef) (main : List
 -- ---- all methods
 
 module _ (numbered : ClassTypesAreNumbered) (given : List ClassDef) (main : List ℕ) (spelled : AllByRecursion HasSpelling given)
-    (resolved : IsResolved (program_of given main)) (written : List ClassDef) (marks : Marks) (safe : Safe given main written marks) where
+    (resolved : IsResolved (program_of given main)) (made : Option (List Bool)) (written : List ClassDef) (marks : Marks)
+    (safe : SafeOf (narrowed_to (program_of given main) made) given written marks) where
+  abbrev whole : Program
+  whole = program_of given main
+
   abbrev first : Program
-  first = program_of given main
+  first = narrowed_to whole made
 
   abbrev second : Program
   second = program_of (rewritten safe.plans given) main
@@ -238,15 +244,23 @@ module _ (numbered : ClassTypesAreNumbered) (given : List ClassDef) (main : List
       let there : method_in_facts first safe.facts method ≡ Some typed = ap (option_map (typed_method first safe.facts.typing method)) is in
       subst (λ z. AreSafe safe.facts z plan) (same_value (method_in_facts first safe.facts method) own.x typed own.is there) own.safe
 
+  -- the narrowed program names the same
+  narrowed_names : (method : ℕ) (code : Code) → NamesTheSame whole second method code → NamesTheSame first second method code
+  narrowed_names method code names = record {
+    insns = λ j i there. names.insns j i there ∙ sym (used_same whole first refl refl method i);
+    handlers = names.handlers;
+  }
+
   all_woven : IsWovenFrom first second safe.facts safe.plans (marks_with safe.plans given)
   all_woven = record {
     outline = outlines_same given main safe.plans spelled;
     bare = no_code_written;
-    rules = λ method code is. rules numbered given main safe.plans spelled resolved safe.facts method code is;
+    rules = λ method code is. rules numbered given main safe.plans spelled resolved first safe.facts method code is;
     named = λ method code is.
-        method_named numbered given main safe.plans spelled resolved safe.facts method code is (safe.plans method) refl (safe_at method code is);
+        narrowed_names method code
+        (method_named numbered given main safe.plans spelled resolved first safe.facts method code is (safe.plans method) refl (safe_at method code is));
     methods = λ method code is.
-        method_woven numbered given main safe.plans spelled resolved safe.facts method code is (safe.plans method) refl (safe_at method code is);
+        method_woven numbered given main safe.plans spelled resolved first safe.facts method code is (safe.plans method) refl (safe_at method code is);
     safe = λ method code plan is so. safe_at method code is plan so;
   }
 
@@ -256,5 +270,6 @@ module _ (numbered : ClassTypesAreNumbered) (given : List ClassDef) (main : List
       (subst (λ m. IsWovenFrom first second safe.facts safe.plans m) (sym safe.marks_are) all_woven)
 
 pub programs_woven : ClassTypesAreNumbered → ProgramsAreResolved → SafeProgramsAreWoven
-programs_woven numbered resolve given main taken written marks safe =
-    written_woven numbered given main taken.spelled (resolve given main taken.spelled taken.linked taken.few) written marks safe
+programs_woven numbered resolve given main taken p is written marks =
+    subst (λ r. (safe : SafeOf r given written marks) → IsWovenFrom r (program_of written main) safe.facts safe.plans marks) (sym is)
+    (written_woven numbered given main taken.spelled (resolve given main taken.spelled taken.linked taken.few) p.made written marks)

@@ -23,7 +23,7 @@ use Rattle.fm_law_unwoven.specs.WovenFrom.{inserted_by, IsWovenFrom}
 use Rattle.fm_place.specs.Insertions.{Holder}
 use Rattle.fm_place.specs.Places.{is_busy}
 use Rattle.fm_place.specs.Rewriting.{Plans}
-use Rattle.fm_place.specs.Safe.{Safe}
+use Rattle.fm_place.specs.Safe.{IsProgramOf, SafeOf}
 use Rattle.fm_place.specs.Woven.{local_of}
 use Rattle.fm_world.specs.Programs.{code_at, Program, program_of}
 
@@ -81,17 +81,18 @@ AllRunsAreCleared =
     → (choose : Choose) (job : Job) → ArgumentsFit job.arguments → (words : ℕ) → words ≤ MAX_LIVE_WORDS → (free : List (List ℕ))
     → RunsAreCleared p q facts plans marks (reuse_run q choose job words free)
 
--- ---- classes with safe insertions
+-- ---- classes with safe insertions, by the program of the classes given, narrowed or not
 
 -- each run of the classes written is such a run
 abbrev pub SafeRunsAreCleared : Type 0
 SafeRunsAreCleared =
-    (given : List ClassDef) (main : List ℕ) → AreTaken given main → (written : List ClassDef) (marks : Marks) (safe : Safe given main written marks)
+    (given : List ClassDef) (main : List ℕ) → AreTaken given main → (p : Program) → IsProgramOf given main p
+    → (written : List ClassDef) (marks : Marks) (safe : SafeOf p given written marks)
     → (job : Job) → IsGiven job → (choose : Choose) (words : ℕ) → words ≤ MAX_LIVE_WORDS → (free : List (List ℕ))
-    → RunsAreCleared (program_of given main) (program_of written main) safe.facts safe.plans marks (reuse_run (program_of written main) choose job words free)
+    → RunsAreCleared p (program_of written main) safe.facts safe.plans marks (reuse_run (program_of written main) choose job words free)
 
 -- so few inserted steps follow one another where it runs beside the classes that were given
 abbrev pub FewAreInsertedInRuns : Type 0
 FewAreInsertedInRuns =
-    (given : List ClassDef) (main : List ℕ) → AreTaken given main → (written : List ClassDef) (marks : Marks) → Safe given main written marks
-    → InAllRuns (program_of given main) (program_of written main) marks FewAreInserted
+    (given : List ClassDef) (main : List ℕ) → AreTaken given main → (p : Program) → IsProgramOf given main p
+    → (written : List ClassDef) (marks : Marks) → SafeOf p given written marks → InAllRuns p (program_of written main) marks FewAreInserted

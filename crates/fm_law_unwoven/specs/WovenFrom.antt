@@ -20,7 +20,7 @@ use Rattle.fm_law_same_runs.specs.Programs.{AreTaken}
 use Rattle.fm_law_unwoven.specs.Laid.{IsLaid, mark_at}
 use Rattle.fm_place.specs.Insertions.{Insertions}
 use Rattle.fm_place.specs.Rewriting.{Plans}
-use Rattle.fm_place.specs.Safe.{AreSafe, Safe}
+use Rattle.fm_place.specs.Safe.{AreSafe, IsProgramOf, SafeOf}
 use Rattle.fm_types.specs.Named.{class_of_method}
 use Rattle.fm_types.specs.Typed.{use_by, use_in}
 use Rattle.fm_world.specs.Programs.{code_at, Outline, Program, program_of}
@@ -77,8 +77,9 @@ pub record IsWovenFrom (p q : Program) (facts : Facts) (plans : Plans) (marks : 
   pub safe : (method : ℕ) (code : Code) (plan : Insertions) → code_at p method ≡ Some code → plans method ≡ Some plan
       → AreSafe facts (typed_method p facts.typing method code) plan
 
--- so do classes with safe insertions and the classes that were given
+-- so do classes with safe insertions and the classes that were given, whose program may be narrowed
 abbrev pub SafeProgramsAreWoven : Type 0
 SafeProgramsAreWoven =
-    (given : List ClassDef) (main : List ℕ) → AreTaken given main → (written : List ClassDef) (marks : Marks) (safe : Safe given main written marks)
-    → IsWovenFrom (program_of given main) (program_of written main) safe.facts safe.plans marks
+    (given : List ClassDef) (main : List ℕ) → AreTaken given main → (p : Program) → IsProgramOf given main p
+    → (written : List ClassDef) (marks : Marks) (safe : SafeOf p given written marks)
+    → IsWovenFrom p (program_of written main) safe.facts safe.plans marks
