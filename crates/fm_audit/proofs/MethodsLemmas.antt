@@ -1,9 +1,8 @@
 -- What is to be done with one method after the other, and what follows for the program.
-use Rattle.std.proofs.Common.{◌≡◌, refl, sym, ◌∙◌, ap, subst, ℕ, ◌+◌, ◌<◌, ◌≤◌, ⊎_elim, List, [], ◌∷◌, ◌++◌, length, get_or, Result, Ok, Err, IfOk, IfSome, Option, Some, None, Global, arith}
+use Rattle.std.proofs.Common.{◌≡◌, refl, sym, ◌∙◌, ap, subst, ℕ, ◌+◌, ◌<◌, ◌≤◌, ⊎_elim, List, [], ◌∷◌, ◌++◌, length, get_or, Result, Ok, Err, IfOk, Option, Some, None, arith}
 use Rattle.std.proofs.lemmas.Bool.{cases_lt}
 use Rattle.std.proofs.lemmas.List.{get_or_append_left, get_or_past, get_or_push, length_push}
 use Rattle.std.proofs.lemmas.Option.{none-some}
-use Rattle.std.specs.declared.vec.Vec.{Vec}
 use Rattle.fm_code.specs.declared.code_array.Code.{Code}
 use Rattle.fm_conn.specs.Links.{Typings}
 use Rattle.fm_conn.specs.declared.summaries.Summaries.{Summaries}
@@ -15,16 +14,18 @@ use Rattle.fm_summ_shapes.proofs.ShapesLemmas.{code_facts}
 use Rattle.fm_summ_shapes.specs.Analysed.{AreAnalysable, AreLeastTypings}
 use Rattle.fm_world.specs.Programs.{code_at, Program}
 use Rattle.fm_audit.proofs.ProgramFactsLemmas.{are_facts, are_listed, facts, insertions_in, least_typings, plans, safe_methods}
+use Rattle.fm_audit.specs.Parts.{planned_of}
 use Rattle.fm_audit.specs.SafeMethods.{AreSafelyInserted, AreSafelyPlanned, IsSafelyPlannedAt, IsSafelyPlannedIn}
 use Rattle.fm_audit.specs.SafePlans.{IsSafelyPlanned}
+use Rattle.fm_audit.specs.declared.methods.JudgedMethods.{JudgedMethods}
+use Rattle.fm_audit.specs.declared.plans.Judged.{Judged}
 
 -- ---- one method
 
 pub safe_with_code : {E : Type 0} (p : Program) (s : Summaries) (method : ℕ) (code : Code) → code_at p method ≡ Some code
-    → (r : Result (Option Planned) E) → IfOk r (λ done. IfSome done (IsSafelyPlanned p s method code)) → IfOk r (λ done. IfSome done (IsSafelyPlannedAt p s method))
-safe_with_code p s method code is (Ok None) found = tt
-safe_with_code p s method code is (Ok (Some done)) found = subst (λ o. IsSafelyPlannedIn p s method o done) (sym is) found
-safe_with_code p s method code is (Err e) found = tt
+    → (r : Result Judged E) → IfOk r (λ found. IsSafelyPlanned p s method code (planned_of found)) → IfOk r (λ found. IsSafelyPlannedAt p s method (planned_of found))
+safe_with_code p s method code is (Ok found) are = subst (λ o. IsSafelyPlannedIn p s method o (planned_of found)) (sym is) are
+safe_with_code p s method code is (Err e) are = tt
 
 pub safe_without_code : (p : Program) (s : Summaries) (method : ℕ) → code_at p method ≡ None → IsSafelyPlannedAt p s method planned.Same
 safe_without_code p s method none = subst (λ o. IsSafelyPlannedIn p s method o planned.Same) (sym none) refl
@@ -85,8 +86,7 @@ module _ (p : Program) (s : Summaries) (done : List Planned) (may : AreAnalysabl
 
 -- the same of what the code returns
 pub inserted_answers : {E : Type 0} (p : Program) (s : Summaries) → AreAnalysable p → (typings : Typings) → AreLeastTypings p typings → AreExact p typings s
-    → (r : Result (Option (Vec Planned Global)) E) → IfOk r (λ planned. IfSome planned (λ (done : Vec Planned Global). AreSafelyPlanned p s done.items))
-    → IfOk r (λ planned. IfSome planned (λ (done : Vec Planned Global). AreSafelyInserted p done.items))
-inserted_answers p s may typings least exact (Ok None) is = tt
-inserted_answers p s may typings least exact (Ok (Some done)) is = are_inserted p s done.items may is typings least exact
+    → (r : Result JudgedMethods E) → IfOk r (λ (found : JudgedMethods). AreSafelyPlanned p s found.planned.items)
+    → IfOk r (λ (found : JudgedMethods). AreSafelyInserted p found.planned.items)
+inserted_answers p s may typings least exact (Ok found) is = are_inserted p s found.planned.items may is typings least exact
 inserted_answers p s may typings least exact (Err e) is = tt

@@ -1,5 +1,5 @@
 -- A plan with pairs that were checked is safe, by all facts that agree with what is known of the method.
-use Rattle.std.proofs.Common.{◌≡◌, IfOk, IfSome, Result, Ok, Err, List, Option, Some, None, sym, ◌∙◌, refl}
+use Rattle.std.proofs.Common.{◌≡◌, IfOk, Result, Ok, Err, List, Some, None, sym, ◌∙◌, refl}
 use Rattle.fm_check.specs.Checking.{IsLeastTyping}
 use Rattle.fm_conn.specs.Classes.{AreClassesOf}
 use Rattle.fm_conn.specs.Summaries.{linked_by}
@@ -17,8 +17,10 @@ use Rattle.fm_place_weave.specs.declared.planned.Planned.TheVariants as planned
 use Rattle.fm_types.specs.Typings.{states_of}
 use Rattle.fm_audit.proofs.SafeLemmas.{are_safe, held_all}
 use Rattle.fm_audit.proofs.WholeLemmas.{insertions_by, whole}
+use Rattle.fm_audit.specs.Parts.{planned_of}
 use Rattle.fm_audit.specs.SafePlans.{IsSafelyPlanned}
-use Rattle.fm_audit.specs.inner.Checked.{IsCheckedDone, IsCheckedPlan, pairs_of}
+use Rattle.fm_audit.specs.declared.plans.Judged.{Judged}
+use Rattle.fm_audit.specs.inner.Checked.{IsCheckedDone, IsCheckedPlan, IsJudgedDone, pairs_of}
 
 module _ (s : Seen) (summaries : Summaries) (sites : List Site)
     (least : IsLeastTyping s.method.program.now s.method.number.0 (states_of s.method.typing.now))
@@ -59,8 +61,7 @@ module _ (s : Seen) (summaries : Summaries) (sites : List Site)
   safe_done (planned.TooLong bytes) is = absurd is
 
   -- the same of what the code returns
-  pub safe_answers : {E : Type 0} (answer : Result (Option Planned) E) → IfOk answer (λ done. IfSome done (IsCheckedDone s sites))
-      → IfOk answer (λ done. IfSome done (IsSafelyPlanned s.method.program.now summaries s.method.number.0 s.method.code.now))
-  safe_answers (Ok None) is = tt
-  safe_answers (Ok (Some done)) is = safe_done done is
+  pub safe_answers : {E : Type 0} (answer : Result Judged E) → IfOk answer (IsJudgedDone s sites)
+      → IfOk answer (λ found. IsSafelyPlanned s.method.program.now summaries s.method.number.0 s.method.code.now (planned_of found))
+  safe_answers (Ok found) is = safe_done (planned_of found) is
   safe_answers (Err e) is = tt

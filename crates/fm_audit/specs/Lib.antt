@@ -1,6 +1,8 @@
 pub mod Reading
 pub mod ReadBy
 pub mod Example
+pub mod Kept
+pub mod Parts
 pub mod SafePlans
 pub mod SafeMethods
 pub mod inner

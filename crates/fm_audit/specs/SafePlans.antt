@@ -23,6 +23,8 @@ use Rattle.fm_rewrite.specs.Plans.{LinkAlike}
 use Rattle.fm_types.specs.States.{TypeState}
 use Rattle.fm_world.specs.Programs.{Program}
 use Rattle.fm_audit.specs.Reading.{Read, read}
+use Rattle.fm_audit.specs.declared.plans.Judged.{Judged}
+use Rattle.fm_audit.specs.declared.plans.Judged.TheVariants as judged
 
 -- what the pairs of a plan are read from: as many holders are null at the start, in the order of their numbers
 abbrev pub read_of : Plan → Read
@@ -33,6 +35,11 @@ abbrev pub IsReadAs : (free : ℕ) → Code → (new : List Item) → Planned �
 IsReadAs free code new planned.Same = IsSomeAnd (read free code.max_locals code.items new) (λ found. found.starts ≡ [])
 IsReadAs free code new (planned.Woven plan) = read free code.max_locals code.items new ≡ Some (read_of plan)
 IsReadAs free code new (planned.TooLong bytes) = ⊥
+
+-- the same of what they are found to be; where they fail a part, that says nothing of how they are read
+abbrev pub IsReadIn : (free : ℕ) → Code → (new : List Item) → Judged → Type 0
+IsReadIn free code new (judged.Safe done) = IsReadAs free code new done
+IsReadIn free code new (judged.Fails part) = ⊤
 
 -- nothing is inserted and the method stays as it is, or it is woven by the plan that lists these insertions
 abbrev pub IsListedIn : Code → Option Insertions → Planned → Type 0

@@ -52,6 +52,37 @@ fn is_safe_at(
     are_freed_there(classes, busy, holding, item, pairs)
 }
 
+/// Whether before each of as many items no holder is freed twice.
+pub(crate) fn are_once(items: u32, pairs: &[(u32, u16)]) -> bool {
+    let mut rest = pairs;
+    for item in 0..items {
+        if !is_once(here(rest, item as usize)) {
+            return false;
+        }
+        rest = later(rest, item as usize);
+    }
+    true
+}
+
+/// Whether before each item only holders are freed whose class isn't busy.
+pub(crate) fn are_all_quiet(
+    classes: &[u32],
+    busy: &[Row],
+    holding: &Holding,
+    pairs: &[(u32, u16)],
+) -> bool
+    requires { AreFreedRows classes.now busy.now holding.now }
+{
+    let mut rest = pairs;
+    for item in 0..holding.freed.bits() {
+        if !are_quiet(classes, busy, holding, item, here(rest, item as usize)) {
+            return false;
+        }
+        rest = later(rest, item as usize);
+    }
+    true
+}
+
 /// Whether no holder is in two of these pairs.
 fn is_once(pairs: &[(u32, u16)]) -> bool
     ensures { result ≡ is_once pairs.now }

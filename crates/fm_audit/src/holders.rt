@@ -6,6 +6,7 @@ ghost use Rattle.std.specs.Option.{option_map};
 ghost use Rattle.fm_audit.specs.inner.Holders.{are_own_items, captured_class, class_at, counts_up, held_by, held_by_all, is_own_item, item_of};
 
 use fm_base::NoMemory;
+use fm_base::limits::MAX_LOCAL_WORDS;
 use fm_place::Site;
 use std::alloc::Global;
 
@@ -105,4 +106,29 @@ fn is_own_item(held: &[(u32, u32)], pair: &(u32, u16)) -> bool
         Some(site) => site.0 == pair.0,
         None => false,
     }
+}
+
+/// Whether each of these holders has a local that there may be, where the first one has this local.
+pub(crate) fn are_locals(first: u16, holders: &[u16]) -> bool {
+    for holder in holders {
+        if !is_local(first, *holder) {
+            return false;
+        }
+    }
+    true
+}
+
+/// The same of the holders of pairs.
+pub(crate) fn have_locals(first: u16, pairs: &[(u32, u16)]) -> bool {
+    for pair in pairs {
+        if !is_local(first, pair.1) {
+            return false;
+        }
+    }
+    true
+}
+
+/// Whether a holder has a local that there may be, where the first one has this local.
+fn is_local(first: u16, holder: u16) -> bool {
+    u32::from(first) + u32::from(holder) < u32::from(MAX_LOCAL_WORDS)
 }

@@ -7,12 +7,15 @@
 mod checking;
 mod frees;
 mod holders;
+mod kept;
 mod laws;
 mod methods;
+mod parts;
 mod plans;
 mod reading;
 
 pub use laws::law_example;
-pub use methods::{NewCode, safe_insertions};
-pub use plans::safely_planned;
+pub use methods::{JudgedMethods, NewCode, judged_methods};
+pub use parts::Part;
+pub use plans::{Judged, judged_code};
 pub use reading::{Found, Inserted, read};

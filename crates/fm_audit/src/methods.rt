@@ -1,12 +1,14 @@
 // What is to be done with all methods of a program so that they get new code, whoever wrote it.
 
-ghost use Rattle.std.specs.Prelude.{◌<◌, IfOk, IfSome, length};
+ghost use Rattle.std.specs.Prelude.{◌<◌, IfOk, length};
 ghost use Rattle.fm_conn.specs.Summaries.{AreSummariesOf};
 ghost use Rattle.fm_summ_shapes.specs.Analysed.{AreAnalysable};
 ghost use Rattle.fm_world.specs.Members.{methods_of};
+ghost use Rattle.fm_audit.specs.Parts.{planned_of};
 ghost use Rattle.fm_audit.specs.SafeMethods.{AreSafelyInserted, AreSafelyPlanned, IsSafelyPlannedAt};
 
-use crate::plans::safely_planned;
+use crate::parts::Part;
+use crate::plans::{Judged, judged_code};
 use fm_base::{MethodId, NoMemory};
 use fm_code::Item;
 use fm_conn::Summaries;
@@ -24,47 +26,71 @@ pub struct NewCode<'a> {
     pub items: &'a [Item],
 }
 
-/// What is to be done with each method of a program, so that those of class files get their new code;
-/// None where one of them can't be read, or isn't safe. There is new code for each method of the class
-/// files, which come last. Takes memory for the shapes of all methods and the links of their ends, and
-/// for the plans.
-pub fn safe_insertions(
+/// What the methods of a program are found to be, which get new code.
+#[derive(Debug, Drop)]
+pub struct JudgedMethods {
+    /// What is to be done with each; nothing with one that fails a part.
+    pub planned: Vec<Planned>,
+    /// The first one that fails one of the parts 2 to 5, and the least one that it fails.
+    pub failing: Option<(MethodId, Part)>,
+}
+
+/// What is to be done with each method of a program, so that those of class files get their new code, and
+/// the first one whose new code can't be read, or isn't safe. There is new code for each method of the
+/// class files, which come last. Takes memory for the shapes of all methods and the links of their ends,
+/// and for the plans.
+pub fn judged_methods(
     alloc: Global,
     program: &Program,
     new: &[NewCode<'_>],
-) -> Result<Option<Vec<Planned>>, NoMemory>
+) -> Result<JudgedMethods, NoMemory>
     requires { AreAnalysable program.now }
-    ensures { IfOk result
-        (λ planned. IfSome planned (λ done. AreSafelyInserted program.now done.items)) }
+    ensures { IfOk result (λ found. AreSafelyInserted program.now found.planned.items) }
 {
     let shapes = shapes_of(alloc, program)?;
     let summaries = summaries(alloc, program, shapes.as_slice())?;
-    all_planned(alloc, program, &summaries, new)
+    all_judged(alloc, program, &summaries, new)
 }
 
 /// The same as the summaries link the ends of methods.
-fn all_planned(
+fn all_judged(
     alloc: Global,
     program: &Program,
     summaries: &Summaries,
     new: &[NewCode<'_>],
-) -> Result<Option<Vec<Planned>>, NoMemory>
+) -> Result<JudgedMethods, NoMemory>
     requires analysable { AreAnalysable program.now }
     requires summaries { AreSummariesOf program.now.outline summaries.now }
     ensures { IfOk result
-        (λ planned. IfSome planned (λ done. AreSafelyPlanned program.now summaries.now done.items)) }
+        (λ found. AreSafelyPlanned program.now summaries.now found.planned.items) }
 {
     let mut planned = Vec::new(alloc);
+    let mut failing = None;
     let methods = program.methods();
     let first = (methods as usize).saturating_sub(new.len());
     for number in 0..methods {
         let own = new_code_at(new, first, number as usize);
-        let Some(made) = planned_method(alloc, program, summaries, MethodId(number), own)? else {
-            return Ok(None);
-        };
+        let found = judged_method(alloc, program, summaries, MethodId(number), own)?;
+        failing = first_failing(failing, MethodId(number), &found);
+        let made = found.planned();
         planned.push(made)?;
     }
-    Ok(Some(planned))
+    Ok(JudgedMethods { planned, failing })
+}
+
+/// The first method that fails a part, with the part, by the earlier ones and this one.
+fn first_failing(
+    earlier: Option<(MethodId, Part)>,
+    method: MethodId,
+    found: &Judged,
+) -> Option<(MethodId, Part)> {
+    if earlier.is_some() {
+        return earlier;
+    }
+    match found {
+        Judged::Safe(_) => None,
+        Judged::Fails(part) => Some((method, *part)),
+    }
 }
 
 /// The new code of a method, where the first one that has new code has this number; else no items.
@@ -80,24 +106,24 @@ fn new_code_at<'a>(new: &[NewCode<'a>], first: usize, number: usize) -> NewCode<
     }
 }
 
-/// What is to be done with one method, that has this new code: without code it stays as it is.
-fn planned_method(
+/// What one method, that has this new code, is found to be: without code it stays as it is.
+fn judged_method(
     alloc: Global,
     program: &Program,
     summaries: &Summaries,
     method: MethodId,
     new: NewCode<'_>,
-) -> Result<Option<Planned>, NoMemory>
+) -> Result<Judged, NoMemory>
     requires analysable { AreAnalysable program.now }
     requires summaries { AreSummariesOf program.now.outline summaries.now }
     requires inside { method.0 < length (methods_of program.now.outline.classes) }
     ensures { IfOk result
-        (λ done. IfSome done (IsSafelyPlannedAt program.now summaries.now method.0)) }
+        (λ found. IsSafelyPlannedAt program.now summaries.now method.0 (planned_of found)) }
 {
     match &program.method(method).body {
-        Body::Coded(code) => safely_planned(
+        Body::Coded(code) => judged_code(
             alloc, program, summaries, method, code, new.free, new.items,
         ),
-        _ => Ok(Some(Planned::Same)),
+        _ => Ok(Judged::Safe(Planned::Same)),
     }
 }

@@ -1,15 +1,20 @@
 // The plans by which the methods of a program are changed safely, whoever wrote their new items.
 
-ghost use Rattle.std.specs.Prelude.{◌≡◌, ◌<◌, ◌^◌, IfOk, IfSome, Some, length};
+ghost use Rattle.std.specs.Prelude.{◌≡◌, ◌<◌, ◌^◌, IfOk, Some, length};
 ghost use Rattle.fm_conn.specs.Summaries.{AreSummariesOf};
 ghost use Rattle.fm_place.specs.inner.PlanRows.{IsSeen};
 ghost use Rattle.fm_summ_shapes.specs.Analysed.{AreAnalysable};
 ghost use Rattle.fm_world.specs.Programs.{code_at};
-ghost use Rattle.fm_audit.specs.SafePlans.{IsReadAs, IsSafelyPlanned};
-ghost use Rattle.fm_audit.specs.inner.Checked.{IsCheckedDone};
+ghost use Rattle.fm_audit.specs.Parts.{planned_of};
+ghost use Rattle.fm_audit.specs.SafePlans.{IsReadIn, IsSafelyPlanned};
+ghost use Rattle.fm_audit.specs.inner.Checked.{IsJudgedDone};
 
-use crate::checking::checked;
-use crate::reading::read;
+use crate::checking::{Outcome, checked};
+use crate::frees::are_once;
+use crate::holders::{are_locals, have_locals};
+use crate::kept::are_kept;
+use crate::parts::Part;
+use crate::reading::{Found, read};
 use fm_base::{MethodId, NoMemory};
 use fm_code::{Code, Item};
 use fm_conn::{AnalysedMethod, Summaries, classes};
@@ -20,11 +25,32 @@ use fm_summ_shapes::Typed;
 use fm_world::Program;
 use std::alloc::Global;
 
+/// What the new items of a method are found to be.
+#[derive(Debug, Drop)]
+pub enum Judged {
+    /// What they insert is safe, and this is to be done with the method.
+    Safe(Planned),
+    /// This is the least of the parts 2 to 5 that the method fails.
+    Fails(Part),
+}
+
+impl Judged {
+    /// What is to be done with the method; nothing where it fails a part.
+    pub fn planned(self) -> Planned
+        ensures { result ≡ planned_of self }
+    {
+        match self {
+            Judged::Safe(planned) => planned,
+            Judged::Fails(_) => Planned::Same,
+        }
+    }
+}
+
 /// What is to be done with a method that has this code, so that it gets these new items, whoever wrote
-/// them: nothing where no holder is read in them, or it is woven by the plan that they are read as; none
-/// where they can't be read, or that plan isn't safe. `free` is the index of FreeMe.free. Takes memory
-/// for the plan, and for what the analysis returns for the method.
-pub fn safely_planned(
+/// them: nothing where no holder is read in them, or it is woven by the plan that they are read as; or
+/// the part that it fails, where they can't be read, or that plan isn't safe. `free` is the index of
+/// FreeMe.free. Takes memory for the plan, and for what the analysis returns for the method.
+pub fn judged_code(
     alloc: Global,
     program: &Program,
     summaries: &Summaries,
@@ -32,13 +58,13 @@ pub fn safely_planned(
     code: &Code,
     free: u16,
     new: &[Item],
-) -> Result<Option<Planned>, NoMemory>
+) -> Result<Judged, NoMemory>
     requires analysable { AreAnalysable program.now }
     requires summaries { AreSummariesOf program.now.outline summaries.now }
     requires code { code_at program.now method.0 ≡ Some code.now }
-    ensures safe { IfOk result
-        (λ done. IfSome done (IsSafelyPlanned program.now summaries.now method.0 code.now)) }
-    ensures read { IfOk result (λ done. IfSome done (IsReadAs free code.now new.now)) }
+    ensures safe { IfOk result (λ found.
+        IsSafelyPlanned program.now summaries.now method.0 code.now (planned_of found)) }
+    ensures read { IfOk result (IsReadIn free code.now new.now) }
 {
     let typed = Typed::of(alloc, program, method, code)?;
     let rows = live(alloc, code, &typed.flow)?;
@@ -57,7 +83,7 @@ pub fn safely_planned(
         code,
         typing: &typed.typing,
     };
-    planned_in(
+    judged_in(
         alloc,
         &Seen {
             method,
@@ -71,33 +97,52 @@ pub fn safely_planned(
     )
 }
 
-/// The same of what is known of the method.
-fn planned_in(
+/// The same by what is known of the method.
+fn judged_in(
     alloc: Global,
     seen: &Seen<'_>,
     sites: &[Site],
     free: u16,
     new: &[Item],
-) -> Result<Option<Planned>, NoMemory>
+) -> Result<Judged, NoMemory>
     requires seen { IsSeen seen.now }
     requires few { length seen.now.method.code.now.items < 2 ^ 32 }
-    ensures safe { IfOk result (λ done. IfSome done (IsCheckedDone seen.now sites.now)) }
-    ensures read { IfOk result
-        (λ done. IfSome done (IsReadAs free seen.now.method.code.now new.now)) }
+    ensures safe { IfOk result (IsJudgedDone seen.now sites.now) }
+    ensures read { IfOk result (IsReadIn free seen.now.method.code.now new.now) }
 {
     let code = seen.method.code;
     let Some(found) = read(alloc, free, code.max_locals, &code.items, new)? else {
-        return Ok(None);
+        return Ok(Judged::Fails(Part::Items));
     };
-    if found.starts.is_empty() {
-        return Ok(Some(Planned::Same));
+    if !are_kept(free, code.max_locals, &code.items, new) {
+        return Ok(Judged::Fails(Part::Items));
     }
-    match checked(alloc, seen, sites, &found)? {
-        Some(holders) => Ok(Some(Planned::Woven(Plan {
+    if !are_insertable(code, &found) {
+        return Ok(Judged::Fails(Part::Items));
+    }
+    if found.starts.is_empty() {
+        return Ok(Judged::Safe(Planned::Same));
+    }
+    let outcome = checked(alloc, seen, sites, &found)?;
+    match outcome {
+        Outcome::Safe(holders) => Ok(Judged::Safe(Planned::Woven(Plan {
             holders,
             after: found.inserted.after,
             before: found.inserted.before,
         }))),
-        None => Ok(None),
+        Outcome::Fails(part) => Ok(Judged::Fails(part)),
     }
+}
+
+/// Whether what is found may be inserted: each holder has a local that there may be, and none is freed
+/// twice before one item.
+fn are_insertable(code: &Code, found: &Found) -> bool
+    requires { length code.now.items < 2 ^ 32 }
+{
+    let first = code.max_locals;
+    let before = found.inserted.before.as_slice();
+    are_locals(first, found.starts.as_slice())
+        && have_locals(first, before)
+        && have_locals(first, found.inserted.after.as_slice())
+        && are_once(code.items.len() as u32, before)
 }

@@ -95,7 +95,7 @@ fn nulls(alloc: Global, first: u16, items: &[Item]) -> Result<Vec<u16>, NoMemory
 
 /// The items after those.
 #[tactic(auto, using(crate::proofs::ReadingLemmas::nulls_none))]
-fn after_nulls(first: u16, items: &[Item]) -> &[Item]
+pub(crate) fn after_nulls(first: u16, items: &[Item]) -> &[Item]
     ensures { result.now ≡ after_nulls first items.now }
 {
     let mut rest = items;
@@ -127,8 +127,20 @@ fn put_frees<'a>(
     Ok(rest)
 }
 
+/// The items after those that free holders.
+#[tactic(auto, using(crate::proofs::ReadingLemmas::frees_none))]
+pub(crate) fn after_frees(free: u16, first: u16, items: &[Item]) -> &[Item]
+    ensures { result.now ≡ after_frees free first items.now }
+{
+    let mut rest = items;
+    while freed(free, first, rest).is_some() {
+        rest = &rest[4..];
+    }
+    rest
+}
+
 /// The items after those that keep an old one, which are two where its branch is widened.
-fn after_kept<'a>(item: &Item, items: &'a [Item]) -> &'a [Item]
+pub(crate) fn after_kept<'a>(item: &Item, items: &'a [Item]) -> &'a [Item]
     requires { length items.now ≢ 0 }
     ensures { result.now ≡ drop (kept_count item.now items.now) items.now }
 {
@@ -159,8 +171,18 @@ fn put_taken<'a>(
     Ok(&items[2..])
 }
 
+/// The items after those by which a holder takes an object.
+pub(crate) fn after_taken(first: u16, items: &[Item]) -> &[Item]
+    ensures { result.now ≡ after_taken (taken first items.now) items.now }
+{
+    match taken(first, items) {
+        Some(_) => &items[2..],
+        None => items,
+    }
+}
+
 /// Whether an old branch is widened: the first two items are the opposite test and a goto.
-fn is_widened(item: &Item, items: &[Item]) -> bool
+pub(crate) fn is_widened(item: &Item, items: &[Item]) -> bool
     ensures widened { result ≡ is_widened item.now items.now }
     ensures two { IsTrue result → 2 ≤ length items.now }
 {
@@ -177,7 +199,7 @@ fn is_widened(item: &Item, items: &[Item]) -> bool
 }
 
 /// The first byte of an item.
-fn opcode_of(item: &Item) -> u8
+pub(crate) fn opcode_of(item: &Item) -> u8
     ensures { result ≡ opcode_of item.now }
 {
     match item.bytes.as_slice().first() {
@@ -263,7 +285,7 @@ fn is_dup(insn: &Insn) -> bool
 }
 
 /// Whether it is a goto or a goto_w.
-fn is_goto(insn: &Insn) -> bool
+pub(crate) fn is_goto(insn: &Insn) -> bool
     ensures { result ≡ is_goto insn.now }
 {
     matches!(insn, Insn::Goto(_))

@@ -1,12 +1,11 @@
 -- What is to be done with the methods of a program by insertions that are safe, and what follows for its classes.
-use Rattle.std.proofs.Common.{◌≡◌, refl, sym, ◌∙◌, ap, subst, ℕ, ◌+◌, ◌<◌, ◌≤◌, ⊎_elim, Bool, List, [], length, drop, Contains, Option, Some, None, Result, Ok, Err, IfOk, IsTrue, arith}
+use Rattle.std.proofs.Common.{◌≡◌, refl, sym, ◌∙◌, ap, subst, ℕ, ◌+◌, ◌<◌, ◌≤◌, ⊎_elim, Bool, List, [], length, drop, Contains, Option, Some, None, arith}
 use Rattle.std.specs.List.{AllByRecursion}
 use Rattle.std.specs.Option.{option_map}
 use Rattle.std.proofs.lemmas.Bool.{cases_lt}
 use Rattle.std.proofs.lemmas.List.{get_or_past, length-drop}
 use Rattle.std.proofs.lemmas.Option.{same_Some, slice_get_within}
 use Rattle.fm_base.proofs.ContainsFacts.{Contains-none}
-use Rattle.fm_base.specs.declared.error.NoMemory.{NoMemory}
 use Rattle.fm_code.specs.Members.{code_of, MethodIsValid}
 use Rattle.fm_code.specs.declared.class_file.ClassDef.{ClassDef}
 use Rattle.fm_code.specs.declared.class_file.Member.{Member}
@@ -147,10 +146,3 @@ pub audited : (given : List ClassDef) (p : Program) (done : List Planned) (writt
 audited given p done written judged are no_call is main program_is =
     written_safely given main done (subst (AreJudged given) program_is judged) (subst (λ q. AreSafelyInserted q done) program_is are) written
     (sym (ap first_call program_is) ∙ no_call) is
-
--- the same of what is returned
-pub audited_all : (given : List ClassDef) (p : Program) (done : List Planned) (written : List ClassDef) → AreJudged given p → AreSafelyInserted p done
-    → first_call p ≡ None → (r : Result Bool NoMemory) → IfOk r (λ same. IsTrue same → written ≡ classes_by (drop first_given done) given)
-    → IfOk r (λ safe. IsTrue safe → (main : List ℕ) → p ≡ program_of given main → AreSafelyWritten given main written)
-audited_all given p done written judged are no_call (Ok same) is = λ true. audited given p done written judged are no_call (is true)
-audited_all given p done written judged are no_call (Err e) is = tt

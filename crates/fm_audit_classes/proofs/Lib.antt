@@ -3,4 +3,5 @@ pub mod InsertedLemmas
 pub mod WovenClassLemmas
 pub mod NumberedLemmas
 pub mod AuditedLemmas
+pub mod FoundLemmas
 pub mod StepLemmas

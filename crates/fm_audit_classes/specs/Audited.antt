@@ -1,10 +1,15 @@
--- Class files that were written, by whoever, for those of a program: they are these with safe insertions.
-use Rattle.std.specs.Prelude.{◌≡◌, ℕ, List, Option, None}
+-- What becomes of an audit of class files that were written, by whoever, for those of a program: they are these with safe insertions, or
+-- there is a cause for which they aren't.
+use Rattle.std.specs.Prelude.{◌≡◌, ◌<◌, ℕ, List, length, Option, Some, None, IfSome, Result, Ok, Err}
+use Rattle.fm_base.specs.declared.ids.MethodId.{MethodId}
 use Rattle.fm_code.specs.declared.class_file.ClassDef.{ClassDef}
 use Rattle.fm_place.specs.Safe.{Safe}
 use Rattle.fm_rewrite.specs.FreeCalls.{first_call}
 use Rattle.fm_summ_shapes.specs.Analysed.{AreLeastTypings}
+use Rattle.fm_world.specs.Members.{methods_of}
 use Rattle.fm_world.specs.Programs.{program_of}
+use Rattle.fm_audit_classes.specs.declared.error.AuditFail.{AuditFail}
+use Rattle.fm_audit_classes.specs.declared.error.AuditFail.TheVariants as fail
 
 -- the program doesn't call FreeMe, and the classes written are those given with insertions that are safe by exact facts over least typings
 pub record AreSafelyWritten (given : List ClassDef) (main : List ℕ) (written : List ClassDef) : Type 0 where
@@ -12,3 +17,16 @@ pub record AreSafelyWritten (given : List ClassDef) (main : List ℕ) (written :
   pub marks : List (List (Option ℕ))
   pub safe : Safe given main written marks
   pub least : AreLeastTypings (program_of given main) safe.facts.typing
+
+-- the program doesn't call FreeMe, and what is named is one of its classes, and one of its methods or none
+pub record AreNotSafelyWritten (given : List ClassDef) (main : List ℕ) (class : ℕ) (method : Option MethodId) : Type 0 where
+  pub no_call : first_call (program_of given main) ≡ None
+  pub class_inside : class < length (program_of given main).outline.classes
+  pub method_inside : IfSome method (λ m. m.0 < length (methods_of (program_of given main).outline.classes))
+
+-- one of the two, or the first call of FreeMe; want of memory says nothing
+abbrev pub ComesOfAudit : List ClassDef → (main : List ℕ) → (written : List ClassDef) → Result Unit AuditFail → Type 0
+ComesOfAudit given main written (Ok done) = AreSafelyWritten given main written
+ComesOfAudit given main written (Err (fail.CallsFree method offset)) = first_call (program_of given main) ≡ Some (method.0, offset)
+ComesOfAudit given main written (Err (fail.NotSafe class method part)) = AreNotSafelyWritten given main class.0 method
+ComesOfAudit given main written (Err fail.NoMemory) = Unit {0}

@@ -1,3 +1,4 @@
 pub mod Low
 pub mod Inserted
 pub mod Compared
+pub mod Found

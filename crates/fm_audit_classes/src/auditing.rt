@@ -1,80 +1,105 @@
 // Whether written class files are given ones with safe insertions.
 
-ghost use Rattle.std.specs.Prelude.{◌≡◌, ℕ, IfOk, IsTrue, List, drop};
+ghost use Rattle.std.specs.Prelude.{◌≡◌, ◌+◌, ℕ, IfErr, List, OnOk, drop, length};
 ghost use Rattle.std.specs.List.{AllByRecursion};
 ghost use Rattle.fm_audit.specs.SafeMethods.{AreSafelyInserted};
-ghost use Rattle.fm_audit_classes.specs.Audited.{AreSafelyWritten};
+ghost use Rattle.fm_audit_classes.specs.Audited.{ComesOfAudit};
+ghost use Rattle.fm_audit_classes.specs.inner.Found.{ComesOfJudged, IsFound};
+ghost use Rattle.fm_code.specs.Fits.{FitsTwo};
 ghost use Rattle.fm_code.specs.Spells.{HasSpelling};
 ghost use Rattle.fm_law_spelled.specs.Changed.{IsShort};
 ghost use Rattle.fm_place.specs.Rewriting.{first_given};
 ghost use Rattle.fm_rewrite.specs.Rewritten.{AreJudged};
 ghost use Rattle.fm_rewrite.specs.inner.ByPlans.{classes_by, method_count};
+ghost use Rattle.fm_world.specs.Members.{methods_of};
 ghost use Rattle.fm_world.specs.Programs.{program_of};
 
 use crate::comparing::are_written;
+use crate::error::AuditFail;
 use crate::new_codes::new_codes;
-use fm_audit::safe_insertions;
-use fm_base::NoMemory;
+use fm_audit::{JudgedMethods, judged_methods};
+use fm_base::MethodId;
 use fm_code::ClassDef;
-use fm_place_weave::Planned;
 use fm_rewrite::first_free_call;
 use fm_world::Program;
 use std::alloc::Global;
 
-/// Whether these class files, whoever wrote them, are those of the program with safe insertions: the
-/// program doesn't call FreeMe, each method's new items are read as a plan that is safe by exact facts
-/// of the program, and each class is the given one woven by these plans. Takes memory for the shapes of
-/// all methods and the links of their ends, for the plans, and for one woven class and its bytes.
+/// Whether these class files, whoever wrote them, are those of the program with safe insertions, one
+/// written class for each: each method's new items are read as a plan that is safe by exact facts of the
+/// program, and each class is the given one woven by these plans. A refusal names the first cause: a call
+/// of FreeMe in the program; else the first class that isn't the given one, codes aside; else the first
+/// method that isn't safe, with the least part that it fails. Takes memory for the shapes of all methods
+/// and the links of their ends, for the plans, and for one woven class and its bytes.
 pub fn audit(
     alloc: Global,
     program: &Program,
     classes: &[ClassDef],
     written: &[ClassDef],
-) -> Result<bool, NoMemory>
+) -> Result<(), AuditFail>
     requires judged { AreJudged classes.now program.now }
     requires short { AllByRecursion IsShort classes.now }
     requires spelled { AllByRecursion HasSpelling written.now }
-    ensures { IfOk result (λ safe. IsTrue safe → (main : List ℕ)
-        → program.now ≡ program_of classes.now main
-        → AreSafelyWritten classes.now main written.now) }
+    requires one_each { length written.now ≡ length classes.now }
+    ensures { (main : List ℕ) → program.now ≡ program_of classes.now main
+        → ComesOfAudit classes.now main written.now result }
 {
-    if first_free_call(program).is_some() {
-        return Ok(false);
+    if let Some((method, offset)) = first_free_call(program) {
+        return Err(calls_free(method, offset));
     }
-    let Some(codes) = new_codes(alloc, classes, written)? else {
-        return Ok(false);
-    };
-    let Some(planned) = safe_insertions(alloc, program, codes.as_slice())? else {
-        return Ok(false);
-    };
-    are_written_by(
-        alloc,
-        program,
-        classes,
-        written,
-        codes.len(),
-        planned.as_slice(),
-    )
+    audited(alloc, program, classes, written)
 }
 
-/// Whether the written classes are those of the program by what is to be done with all its methods, of
-/// which these many are of class files, and come last.
+/// The same of a program that doesn't call FreeMe.
+fn audited(
+    alloc: Global,
+    program: &Program,
+    classes: &[ClassDef],
+    written: &[ClassDef],
+) -> Result<(), AuditFail>
+    requires judged { AreJudged classes.now program.now }
+    requires short { AllByRecursion IsShort classes.now }
+    requires spelled { AllByRecursion HasSpelling written.now }
+    requires one_each { length written.now ≡ length classes.now }
+    ensures { ComesOfJudged program.now classes.now written.now result }
+{
+    let first = program.classes() - classes.len() as u32;
+    let codes = new_codes(alloc, first, classes, written)?;
+    let found = judged_methods(alloc, program, codes.as_slice())?;
+    are_written_by(alloc, program, classes, written, codes.len(), &found)
+}
+
+/// The refusal of a program whose method calls FreeMe at an offset.
+fn calls_free(method: MethodId, offset: u32) -> AuditFail
+    requires { FitsTwo offset }
+    ensures { result ≡ AuditFail.CallsFree method offset }
+{
+    AuditFail::CallsFree(method, offset as u16)
+}
+
+/// Whether the written classes are those of the program by what its methods are found to be, of which
+/// these many are of class files, and come last.
 fn are_written_by(
     alloc: Global,
     program: &Program,
     classes: &[ClassDef],
     written: &[ClassDef],
     count: usize,
-    planned: &[Planned],
-) -> Result<bool, NoMemory>
+    found: &JudgedMethods,
+) -> Result<(), AuditFail>
     requires judged { AreJudged classes.now program.now }
     requires short { AllByRecursion IsShort classes.now }
     requires spelled { AllByRecursion HasSpelling written.now }
+    requires one_each { length written.now ≡ length classes.now }
     requires count { count ≡ method_count classes.now }
-    requires planned { AreSafelyInserted program.now planned.now }
-    ensures { IfOk result (λ same. IsTrue same
-        → written.now ≡ classes_by (drop first_given planned.now) classes.now) }
+    requires planned { AreSafelyInserted program.now found.now.planned.items }
+    ensures same { OnOk result
+        (written.now ≡ classes_by (drop first_given found.now.planned.items) classes.now) }
+    ensures found { IfErr result (IsFound (length program.now.outline.classes)
+        (length (methods_of program.now.outline.classes))) }
 {
-    let (_, own) = planned.split_at(planned.len() - count);
-    are_written(alloc, classes, written, own)
+    let first_class = program.classes() - classes.len() as u32;
+    let first_method = program.methods() - count as u32;
+    let (_, own) = found.planned.as_slice().split_at(first_method as usize);
+    let numbers = (first_class, first_method);
+    are_written(alloc, numbers, classes, written, own, found.failing)
 }

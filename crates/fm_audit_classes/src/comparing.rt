@@ -1,46 +1,59 @@
 // Whether written classes are the given ones, each by what is to be done with its methods.
 
-ghost use Rattle.std.specs.Prelude.{◌≡◌, IfOk, IsTrue, length};
+ghost use Rattle.std.specs.Prelude.{◌≡◌, ◌+◌, ◌<◌, ◌^◌, IfErr, IfOk, IsTrue, OnOk, length};
 ghost use Rattle.std.specs.List.{AllByRecursion};
+ghost use Rattle.fm_audit_classes.specs.inner.Found.{IsFound};
 ghost use Rattle.fm_audit_classes.specs.inner.Compared.{MayBeCompared, MayBeComparedEach};
 ghost use Rattle.fm_code.specs.Spells.{HasSpelling};
 ghost use Rattle.fm_rewrite.specs.inner.ByPlans.{changes_by, classes_by, is_changed, method_count, rewritten_by};
 
+use crate::error::AuditFail;
 use crate::low::are_low;
-use fm_base::NoMemory;
+use crate::others::{first_other, not_safe};
+use fm_audit::Part;
+use fm_base::{MethodId, NoMemory};
 use fm_code::ClassDef;
 use fm_place_weave::{FreePool, Planned, WeaveFail, woven_class};
 use fm_pool::AddFail;
 use fm_write::write_class;
 use std::alloc::Global;
 
-/// Whether the written classes are these, each by what is to be done with its methods. Takes memory for
-/// one class at a time, and twice for its bytes.
+/// Whether the written classes are these, each by what is to be done with its methods. The numbers are
+/// those of the first class and of its first method. A refusal names the first method that isn't as it
+/// has to be; one is known to fail a part that is none of the layout. Takes memory for one class at a
+/// time, and twice for its bytes.
 pub(crate) fn are_written(
     alloc: Global,
+    numbers: (u32, u32),
     classes: &[ClassDef],
     written: &[ClassDef],
     planned: &[Planned],
-) -> Result<bool, NoMemory>
+    failing: Option<(MethodId, Part)>,
+) -> Result<(), AuditFail>
     requires one_each { length planned.now ≡ method_count classes.now }
     requires classes { MayBeComparedEach planned.now classes.now }
     requires written { AllByRecursion HasSpelling written.now }
-    ensures { IfOk result
-        (λ same. IsTrue same → written.now ≡ classes_by planned.now classes.now) }
+    requires lengths { length written.now ≡ length classes.now }
+    requires class_numbers { numbers.0 + length classes.now < 2 ^ 32 }
+    requires method_numbers { numbers.1 + method_count classes.now < 2 ^ 32 }
+    ensures same { OnOk result (written.now ≡ classes_by planned.now classes.now) }
+    ensures found { IfErr result
+        (IsFound (numbers.0 + length classes.now) (numbers.1 + method_count classes.now)) }
 {
-    if classes.len() != written.len() {
-        return Ok(false);
-    }
     let mut rest = planned;
     for place in 0..classes.len() {
         let class = &classes[place];
+        let new = &written[place];
         let (own, later) = rest.split_at(class.methods.len());
-        if !is_written(alloc, class, &written[place], own)? {
-            return Ok(false);
+        let same = is_written(alloc, class, new, own)?;
+        if !same {
+            let other = first_other(alloc, class, new, own)?;
+            let first = numbers.1 + (planned.len() - rest.len()) as u32;
+            return Err(not_safe(numbers.0 + place as u32, first, other, own, failing));
         }
         rest = later;
     }
-    Ok(true)
+    Ok(())
 }
 
 /// Whether the written class is this one, by what is to be done with its methods. A class that can't be
@@ -75,7 +88,7 @@ fn is_written(
 }
 
 /// Whether one of the methods doesn't stay as it is.
-fn changes(planned: &[Planned]) -> bool
+pub(crate) fn changes(planned: &[Planned]) -> bool
     ensures { result ≡ changes_by planned.now }
 {
     for method in planned {

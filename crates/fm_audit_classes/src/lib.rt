@@ -6,7 +6,12 @@
 
 mod auditing;
 mod comparing;
+mod error;
+mod heads;
 mod low;
 mod new_codes;
+mod others;
 
 pub use auditing::audit;
+pub use error::AuditFail;
+pub use fm_audit::Part;

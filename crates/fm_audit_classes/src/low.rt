@@ -25,7 +25,7 @@ pub(crate) fn are_low(planned: &[Planned], methods: &[Member]) -> bool
 }
 
 /// The same of one method.
-fn is_low(planned: &Planned, method: &Member) -> bool
+pub(crate) fn is_low(planned: &Planned, method: &Member) -> bool
     ensures { result ≡ is_low planned.now method.now }
 {
     match planned {

@@ -1,42 +1,52 @@
 // The new code of methods, by class files that somebody wrote.
 
-ghost use Rattle.std.specs.Prelude.{◌≡◌, ◌+◌, IfOk, IfSome, OnOk, length};
+ghost use Rattle.std.specs.Prelude.{◌≡◌, ◌+◌, ◌<◌, ◌^◌, IfErr, IfOk, OnOk, length};
 ghost use Rattle.std.specs.List.{AllByRecursion};
+ghost use Rattle.fm_audit_classes.specs.inner.Found.{IsOtherClass};
 ghost use Rattle.fm_code.specs.Spells.{HasSpelling};
 ghost use Rattle.fm_rewrite.specs.inner.ByPlans.{method_count};
 
-use fm_audit::NewCode;
-use fm_base::NoMemory;
+use crate::error::AuditFail;
+use crate::heads::is_class_of;
+use fm_audit::{NewCode, Part};
+use fm_base::{ClassId, NoMemory};
 use fm_code::{ClassDef, Member};
 use fm_place_weave::FreePool;
 use fm_pool::AddFail;
 use std::alloc::Global;
 
-/// The new code of each method of these classes, in their order; none where there are not as many
-/// written classes, or not as many methods in one of them. Takes a few words for each method.
+/// The new code of each method of these classes, in their order, of which the first one has this number.
+/// A refusal names the first class whose written one isn't it, the codes of its methods aside. Takes a few
+/// words for each method, and the pool of one class at a time.
 pub(crate) fn new_codes<'a>(
     alloc: Global,
+    first: u32,
     classes: &[ClassDef],
     written: &'a [ClassDef],
-) -> Result<Option<Vec<NewCode<'a>>>, NoMemory>
-    requires { AllByRecursion HasSpelling classes.now }
-    ensures { IfOk result
-        (λ codes. IfSome codes (λ found. length found.items ≡ method_count classes.now)) }
+) -> Result<Vec<NewCode<'a>>, AuditFail>
+    requires spelled { AllByRecursion HasSpelling classes.now }
+    requires lengths { length written.now ≡ length classes.now }
+    requires numbers { first + length classes.now < 2 ^ 32 }
+    ensures one_each { IfOk result (λ codes. length codes.items ≡ method_count classes.now) }
+    ensures other { IfErr result (IsOtherClass (first + length classes.now)) }
 {
-    if classes.len() != written.len() {
-        return Ok(None);
-    }
     let mut codes = Vec::new(alloc);
     for place in 0..classes.len() {
         let class = &classes[place];
-        let methods = written[place].methods.as_slice();
+        let new = &written[place];
+        let methods = new.methods.as_slice();
+        let number = ClassId(first + place as u32);
         if class.methods.len() != methods.len() {
-            return Ok(None);
+            return Err(AuditFail::NotSafe(number, None, Part::Classes));
+        }
+        let same = is_class_of(alloc, class, new)?;
+        if !same {
+            return Err(AuditFail::NotSafe(number, None, Part::Classes));
         }
         let free = free_of(alloc, class)?;
         push_codes(&mut codes, free, methods)?;
     }
-    Ok(Some(codes))
+    Ok(codes)
 }
 
 /// The index of FreeMe.free in the pool of a class when it has its entries; 0 where that pool is full.

@@ -9,7 +9,13 @@ use Rattle.fm_place.specs.declared.plans.Plan.{Plan}
 use Rattle.fm_place_weave.specs.declared.planned.Planned.{Planned}
 use Rattle.fm_place_weave.specs.declared.planned.Planned.TheVariants as planned
 use Rattle.fm_place.specs.inner.PlanRows.{count_of, is_busy_at, may_hold_at}
+use Rattle.fm_audit.specs.Parts.{planned_of}
 use Rattle.fm_audit.specs.Reading.{Pairs, Read}
+use Rattle.fm_audit.specs.declared.checking.Outcome.{Outcome}
+use Rattle.fm_audit.specs.declared.checking.Outcome.TheVariants as outcome
+use Rattle.fm_audit.specs.declared.checking.Freeing.{Freeing}
+use Rattle.fm_audit.specs.declared.checking.Freeing.TheVariants as freeing
+use Rattle.fm_audit.specs.declared.plans.Judged.{Judged}
 use Rattle.fm_audit.specs.inner.Listed.{AreListed}
 use Rattle.fm_audit.specs.inner.Holders.{are_own_items, held_by_all}
 
@@ -53,3 +59,19 @@ abbrev pub IsCheckedDone : Seen → List Site → Planned → Type 0
 IsCheckedDone s sites planned.Same = ⊤
 IsCheckedDone s sites (planned.Woven plan) = IsCheckedPlan s sites plan
 IsCheckedDone s sites (planned.TooLong bytes) = ⊥
+
+-- ---- as the code finds it
+
+-- what is freed is safe, or a part is failed by it
+abbrev pub AreFreesJudged : Seen → (held before : List (ℕ × ℕ)) → Freeing → Type 0
+AreFreesJudged s held before freeing.Safe = AreSafeFrees s held before
+AreFreesJudged s held before (freeing.Fails part) = ⊤
+
+-- what was read is checked for these holders, or fails a part
+abbrev pub IsChecking : Seen → List Site → Read → Outcome → Type 0
+IsChecking s sites found (outcome.Safe holders) = IsCheckedFor s sites found holders
+IsChecking s sites found (outcome.Fails part) = ⊤
+
+-- what is to be done with the method is checked
+abbrev pub IsJudgedDone : Seen → List Site → Judged → Type 0
+IsJudgedDone s sites j = IsCheckedDone s sites (planned_of j)

@@ -1,32 +1,82 @@
-use Rattle.std.proofs.Common.{◌≡◌, ◌-◌, sym, ◌∙◌, ap, subst, List, drop, length, arith, IfOk, IsTrue}
+use Rattle.std.proofs.Common.{◌≡◌, ◌-◌, ◌+◌, sym, ◌∙◌, ap, subst, List, drop, length, arith, OnOk}
 use Rattle.fm_audit_classes.proofs.AuditedLemmas.{parts_of}
+use Rattle.fm_audit_classes.proofs.FoundLemmas.{classes_judged, found_within_err, methods_judged}
 use Rattle.fm_audit_classes.specs.inner.Compared.{MayBeComparedEach}
 use Rattle.fm_place.specs.Rewriting.{first_given}
 use Rattle.fm_place_weave.specs.declared.planned.Planned.{Planned}
-use Rattle.fm_rewrite.specs.inner.ByPlans.{classes_by}
+use Rattle.fm_rewrite.specs.inner.ByPlans.{classes_by, method_count}
+use Rattle.fm_world.specs.Members.{methods_of}
 use Rattle.fm_audit_classes.proofs.auditing.are_written_by.Goals as goal
 
-pub overflow_sub-planned : goal.overflow_sub-planned
-overflow_sub-planned c =
-    let parts = parts_of c.args.classes.now c.args.program.now c.args.planned.now c.requires.judged c.requires.short c.requires.planned in
-    omega (arith, parts.all, c.requires.count)
+pub overflow_cast-first_class : goal.overflow_cast-first_class
+overflow_cast-first_class c =
+    let all = classes_judged c.args.classes.now c.args.program.now c.requires.judged in
+    omega (arith, all, c.classes.ensures, c.classes.type_inv)
+
+pub overflow_sub-first_class : goal.overflow_sub-first_class
+overflow_sub-first_class c =
+    let all = classes_judged c.args.classes.now c.args.program.now c.requires.judged in
+    omega (arith, all, c.classes.ensures)
+
+pub overflow_cast-first_method : goal.overflow_cast-first_method
+overflow_cast-first_method c =
+    let all = methods_judged c.args.classes.now c.args.program.now c.requires.judged in
+    omega (arith, all, c.methods.ensures, c.methods.type_inv, c.requires.count)
+
+pub overflow_sub-first_method : goal.overflow_sub-first_method
+overflow_sub-first_method c =
+    let all = methods_judged c.args.classes.now c.args.program.now c.requires.judged in
+    omega (arith, all, c.methods.ensures, c.requires.count)
+
+pub split_at-requires : goal.split_at-requires
+split_at-requires c =
+    let parts = parts_of c.args.classes.now c.args.program.now c.args.found.now.planned.items c.requires.judged c.requires.short c.requires.planned in
+    let all = methods_judged c.args.classes.now c.args.program.now c.requires.judged in
+    let counted = parts.all in
+    let lent = ap length c.as_slice.ensures.value in
+    omega (arith, all, counted, lent, c.methods.ensures, c.requires.count)
 
 pub are_written-requires-clause-one_each : goal.are_written-requires-clause-one_each
 are_written-requires-clause-one_each c =
-    let parts = parts_of c.args.classes.now c.args.program.now c.args.planned.now c.requires.judged c.requires.short c.requires.planned in
-    let first : length c.args.planned.now - c.args.count ≡ first_given = omega (arith, parts.all, c.requires.count) in
-    ap length c.split_at.ensures.back ∙ ap (λ n. length (drop n c.args.planned.now)) first ∙ parts.own
+    let done = c.args.found.now.planned.items in
+    let parts = parts_of c.args.classes.now c.args.program.now done c.requires.judged c.requires.short c.requires.planned in
+    let all = methods_judged c.args.classes.now c.args.program.now c.requires.judged in
+    let first : c.methods.result - c.args.count ≡ first_given = omega (arith, all, c.methods.ensures, c.requires.count) in
+    ap length c.split_at.ensures.back ∙ (λ k. length (drop (first k) (c.as_slice.ensures.value k))) ∙ parts.own
 
 pub are_written-requires-clause-classes : goal.are_written-requires-clause-classes
 are_written-requires-clause-classes c =
-    let parts = parts_of c.args.classes.now c.args.program.now c.args.planned.now c.requires.judged c.requires.short c.requires.planned in
-    let first : length c.args.planned.now - c.args.count ≡ first_given = omega (arith, parts.all, c.requires.count) in
+    let done = c.args.found.now.planned.items in
+    let parts = parts_of c.args.classes.now c.args.program.now done c.requires.judged c.requires.short c.requires.planned in
+    let all = methods_judged c.args.classes.now c.args.program.now c.requires.judged in
+    let first : c.methods.result - c.args.count ≡ first_given = omega (arith, all, c.methods.ensures, c.requires.count) in
     subst (λ (ds : List Planned). MayBeComparedEach ds c.args.classes.now)
-    (sym (c.split_at.ensures.back ∙ ap (λ n. drop n c.args.planned.now) first)) parts.compared
+    (sym (c.split_at.ensures.back ∙ (λ k. drop (first k) (c.as_slice.ensures.value k)))) parts.compared
 
-pub returns : goal.returns
-returns c =
-    let parts = parts_of c.args.classes.now c.args.program.now c.args.planned.now c.requires.judged c.requires.short c.requires.planned in
-    let first : length c.args.planned.now - c.args.count ≡ first_given = omega (arith, parts.all, c.requires.count) in
-    subst (λ (ds : List Planned). IfOk c.are_written.result (λ same. IsTrue same → c.args.written.now ≡ classes_by ds c.args.classes.now))
-    (c.split_at.ensures.back ∙ ap (λ n. drop n c.args.planned.now) first) c.are_written.ensures
+pub are_written-requires-clause-class_numbers : goal.are_written-requires-clause-class_numbers
+are_written-requires-clause-class_numbers c =
+    let all = classes_judged c.args.classes.now c.args.program.now c.requires.judged in
+    omega (arith, all, c.classes.ensures, c.classes.type_inv)
+
+pub are_written-requires-clause-method_numbers : goal.are_written-requires-clause-method_numbers
+are_written-requires-clause-method_numbers c =
+    let all = methods_judged c.args.classes.now c.args.program.now c.requires.judged in
+    omega (arith, all, c.methods.ensures, c.methods.type_inv, c.requires.count)
+
+pub returns-clause-same : goal.returns-clause-same
+returns-clause-same c =
+    let done = c.args.found.now.planned.items in
+    let parts = parts_of c.args.classes.now c.args.program.now done c.requires.judged c.requires.short c.requires.planned in
+    let all = methods_judged c.args.classes.now c.args.program.now c.requires.judged in
+    let first : c.methods.result - c.args.count ≡ first_given = omega (arith, all, c.methods.ensures, c.requires.count) in
+    subst (λ (ds : List Planned). OnOk c.are_written.result (c.args.written.now ≡ classes_by ds c.args.classes.now))
+    (c.split_at.ensures.back ∙ (λ k. drop (first k) (c.as_slice.ensures.value k))) c.are_written.ensures.same
+
+pub returns-clause-found : goal.returns-clause-found
+returns-clause-found c =
+    let p = c.args.program.now in
+    let classes = classes_judged c.args.classes.now p c.requires.judged in
+    let methods = methods_judged c.args.classes.now p c.requires.judged in
+    found_within_err (c.classes.result - length c.args.classes.now + length c.args.classes.now) (length p.outline.classes)
+    (c.methods.result - c.args.count + method_count c.args.classes.now) (length (methods_of p.outline.classes)) c.are_written.result
+    (omega (arith, classes, c.classes.ensures)) (omega (arith, methods, c.methods.ensures, c.requires.count)) c.are_written.ensures.found

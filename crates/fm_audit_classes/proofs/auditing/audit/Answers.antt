@@ -1,21 +1,20 @@
-use Rattle.std.proofs.Common.{rules, ◌≡◌, None}
-use Rattle.fm_audit.specs.SafeMethods.{AreSafelyInserted}
-use Rattle.fm_audit_classes.proofs.AuditedLemmas.{audited_all}
-use Rattle.fm_rewrite.proofs.JudgedLemmas.{judged_analysable, judged_spelled}
+use Rattle.std.proofs.Common.{rules, ◌≡◌, ℕ, sym, None, Some}
+use Rattle.fm_audit_classes.proofs.FoundLemmas.{comes_of_audit}
+use Rattle.fm_rewrite.proofs.CallOffsetLemmas.{call_offset}
+use Rattle.fm_rewrite.proofs.JudgedLemmas.{judged_analysable}
 use Rattle.fm_rewrite.specs.FreeCalls.{first_call}
 use Rattle.fm_audit_classes.proofs.auditing.audit.Goals as goal
 
 pub first_free_call-requires : goal.first_free_call-requires
 first_free_call-requires c = (judged_analysable c.args.classes.now c.args.program.now c.requires.judged).uses
 
-pub new_codes-requires : goal.new_codes-requires
-new_codes-requires c = judged_spelled c.args.classes.now c.args.program.now c.requires.judged
-
-pub safe_insertions-requires : goal.safe_insertions-requires
-safe_insertions-requires c = judged_analysable c.args.classes.now c.args.program.now c.requires.judged
+pub calls_free-requires : goal.calls_free-requires
+calls_free-requires c =
+    let call : ℕ × ℕ = (c.in-Some.method.0, c.in-Some.offset) in
+    let found : first_call c.args.program.now ≡ Some call = sym c.in-Some.ensures in
+    call_offset c.args.program.now call (judged_analysable c.args.classes.now c.args.program.now c.requires.judged) found
 
 pub returns : goal.returns
 returns c =
     let none : first_call c.args.program.now ≡ None = search rules in
-    let are : AreSafelyInserted c.args.program.now c.as_slice-2.result.now = search rules in
-    audited_all c.args.classes.now c.args.program.now c.as_slice-2.result.now c.args.written.now c.requires.judged are none c.are_written_by.result c.are_written_by.ensures
+    comes_of_audit c.args.program.now c.args.classes.now c.args.written.now c.audited.result none c.audited.ensures

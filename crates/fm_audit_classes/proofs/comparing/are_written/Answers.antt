@@ -1,4 +1,6 @@
-use Rattle.std.proofs.Common.{◌≡◌, ◌∙◌, sym, ap, subst, ◌+◌, ◌<◌, List, drop, take, length, refl, arith}
+use Rattle.std.proofs.Common.{◌≡◌, ◌∙◌, sym, ap, subst, ◌+◌, ◌-◌, ◌<◌, List, drop, take, length, length-take, refl, arith}
+use Rattle.std.proofs.lemmas.List.{length-drop}
+use Rattle.fm_audit_classes.proofs.FoundLemmas.{found_within}
 use Rattle.fm_audit_classes.proofs.StepLemmas.{spelled_more, written_more}
 use Rattle.fm_audit_classes.specs.inner.Compared.{MayBeCompared, MayBeComparedEach}
 use Rattle.fm_code.specs.declared.class_file.ClassDef.{ClassDef}
@@ -30,8 +32,40 @@ is_written-requires-clause-class c =
 pub is_written-requires-clause-written : goal.is_written-requires-clause-written
 is_written-requires-clause-written c =
     (spelled_more c.args.written.now c.loop-place.place c.index-written-place.result
-    (let within : c.loop-place.place < length c.args.written.now = omega (arith, c.loop-place-test.true, c.if-classes-written.false) in within)
+    (let within : c.loop-place.place < length c.args.written.now = omega (arith, c.loop-place-test.true, c.requires.lengths) in within)
     c.index-written-place.is c.loop-place.invariant.spelled).0
+
+pub first_other-requires : goal.first_other-requires
+first_other-requires c =
+    let here = c.loop-place in
+    let classes = c.args.classes.now in
+    let class = c.index-classes-place.result in
+    let may = (left classes here.place class c.loop-place-test.true c.index-classes-place.is (λ (cs : List ClassDef). MayBeComparedEach here.rest.now cs)
+    here.invariant.may).0 in
+    let front = c.split_at.ensures.front ∙ ap (λ n. take n here.rest.now) c.len.ensures in
+    subst (λ (ds : List Planned). MayBeCompared ds class) (sym front) may
+
+pub not_safe-requires : goal.not_safe-requires
+not_safe-requires c =
+    let here = c.loop-place in
+    let own = ap length c.split_at.ensures.front in
+    let taken = length-take c.len.result here.rest.now in
+    let room = c.requires.method_numbers in
+    let all = c.requires.one_each in
+    let shorter = here.invariant.shorter in
+    omega (arith, own, taken, room, all, shorter)
+
+pub returns-then-not-same-clause-found : goal.returns-then-not-same-clause-found
+returns-then-not-same-clause-found c =
+    let here = c.loop-place in
+    let own = ap length c.split_at.ensures.front in
+    let taken = length-take c.len.result here.rest.now in
+    let all = c.requires.one_each in
+    let shorter = here.invariant.shorter in
+    let first = c.args.numbers.1 + (length c.args.planned.now - length here.rest.now) in
+    found_within (c.args.numbers.0 + here.place + 1) (c.args.numbers.0 + length c.args.classes.now) (first + length c.split_at.result.0.now)
+    (c.args.numbers.1 + method_count c.args.classes.now) c.not_safe.result (omega (arith, c.loop-place-test.true))
+    (omega (arith, own, taken, all, shorter)) c.not_safe.ensures
 
 pub loop-place-preserved : goal.loop-place-preserved
 loop-place-preserved c =
@@ -43,12 +77,17 @@ loop-place-preserved c =
     let new = c.index-written-place.result in
     let within = c.loop-place-test.true in
     let is = c.index-classes-place.is in
-    let inside : place < length written = omega (arith, within, c.if-classes-written.false) in
+    let inside : place < length written = omega (arith, within, c.requires.lengths) in
     let done = here.rest.now in
     let front = c.split_at.ensures.front ∙ ap (λ n. take n done) c.len.ensures in
     let after : c.split_at.result.1.now ≡ others class done = c.split_at.ensures.back ∙ ap (λ n. drop n done) c.len.ensures in
     let rest = drop (place + 1) classes in
     record {
+      shorter =
+          let before = here.invariant.shorter in
+          let dropped = length-drop (length class.methods) done in
+          let now = ap length after in
+          omega (arith, before, dropped, now);
       one_each = ap length after ∙ others_counted classes place class within is done here.invariant.one_each;
       may =
           subst (λ (d : List Planned). MayBeComparedEach d rest) (sym after)
@@ -56,7 +95,7 @@ loop-place-preserved c =
       spelled = (spelled_more written place new inside c.index-written-place.is here.invariant.spelled).1;
       same = λ same_rest.
           let here_same : new ≡ rewritten_by (own class done) class =
-          c.in_ok-is_written.ensures c.if-not-branch.false ∙ ap (λ d. rewritten_by d class) front in
+          c.in_ok-same.ensures c.if-not-same.false ∙ ap (λ d. rewritten_by d class) front in
           here.invariant.same (written_more classes written place class new done within inside is c.index-written-place.is here_same
           (same_rest ∙ ap (λ d. classes_by d rest) after));
     }

@@ -1,4 +1,4 @@
-use Rattle.std.proofs.Common.{◌≡◌, drop, length}
+use Rattle.std.proofs.Common.{◌≡◌, ◌≤◌, drop, length}
 use Rattle.std.specs.List.{AllByRecursion}
 use Rattle.fm_code.specs.Spells.{HasSpelling}
 use Rattle.fm_rewrite.specs.inner.ByPlans.{classes_by, method_count}
@@ -7,6 +7,7 @@ use Rattle.fm_audit_classes.proofs.comparing.are_written.Given as goal
 
 abbrev pub invariant-loop-place : goal.invariant-loop-place
 invariant-loop-place l = record {
+  shorter : length l.rest ≤ length l.planned;
   one_each : length l.rest ≡ method_count (drop l.place l.classes);
   may : MayBeComparedEach l.rest (drop l.place l.classes);
   spelled : AllByRecursion HasSpelling (drop l.place l.written);

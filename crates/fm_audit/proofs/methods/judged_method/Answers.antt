@@ -3,16 +3,16 @@ use Rattle.fm_conn.proofs.CodedLemmas.{coded_at}
 use Rattle.fm_summ_shapes.proofs.ShapesLemmas.{no_code}
 use Rattle.fm_audit.proofs.MethodsLemmas.{safe_with_code, safe_without_code}
 use Rattle.fm_world.specs.declared.records.MethodInfo.{MethodInfo}
-use Rattle.fm_audit.proofs.methods.planned_method.Goals as goal
+use Rattle.fm_audit.proofs.methods.judged_method.Goals as goal
 
-pub safely_planned-requires-clause-code : goal.safely_planned-requires-clause-code
-safely_planned-requires-clause-code c =
+pub judged_code-requires-clause-code : goal.judged_code-requires-clause-code
+judged_code-requires-clause-code c =
     coded_at c.args.program.now c.args.method.0 c.in-Coded.code (ap (λ (m : MethodInfo). m.body) (sym c.method.ensures) ∙ c.in-Coded.is)
 
 pub returns-in-Coded : goal.returns-in-Coded
 returns-in-Coded c =
     let code_is = coded_at c.args.program.now c.args.method.0 c.in-Coded.code (ap (λ (m : MethodInfo). m.body) (sym c.method.ensures) ∙ c.in-Coded.is) in
-    safe_with_code c.args.program.now c.args.summaries.now c.args.method.0 c.in-Coded.code code_is c.safely_planned.result c.safely_planned.ensures.safe
+    safe_with_code c.args.program.now c.args.summaries.now c.args.method.0 c.in-Coded.code code_is c.judged_code.result c.judged_code.ensures.safe
 
 pub returns-in_default : goal.returns-in_default
 returns-in_default c =

@@ -1,10 +1,10 @@
 use Rattle.std.proofs.Common.{sym, subst}
 use Rattle.fm_audit.proofs.MethodsLemmas.{inserted_answers}
 use Rattle.fm_summ.specs.Exact.{AreShapesOf}
-use Rattle.fm_audit.proofs.methods.safe_insertions.Goals as goal
+use Rattle.fm_audit.proofs.methods.judged_methods.Goals as goal
 
-pub all_planned-requires-clause-summaries : goal.all_planned-requires-clause-summaries
-all_planned-requires-clause-summaries c =
+pub all_judged-requires-clause-summaries : goal.all_judged-requires-clause-summaries
+all_judged-requires-clause-summaries c =
     let shapes = c.in_ok-shapes.ensures in
     let exact = c.in_ok-summaries.ensures shapes.typings
     (subst (AreShapesOf c.args.program.now shapes.typings) (sym c.as_slice.ensures.value) shapes.are) in
@@ -15,4 +15,4 @@ returns c =
     let shapes = c.in_ok-shapes.ensures in
     let exact = c.in_ok-summaries.ensures shapes.typings
     (subst (AreShapesOf c.args.program.now shapes.typings) (sym c.as_slice.ensures.value) shapes.are) in
-    inserted_answers c.args.program.now c.in_ok-summaries.summaries c.requires shapes.typings shapes.least exact c.all_planned.result c.all_planned.ensures
+    inserted_answers c.args.program.now c.in_ok-summaries.summaries c.requires shapes.typings shapes.least exact c.all_judged.result c.all_judged.ensures

@@ -4,14 +4,22 @@ use Rattle.fm_place.specs.inner.PlanRows.{AreRowsIn, count_of, is_busy_at}
 use Rattle.fm_audit.proofs.SafeItemLemmas.{frees_are_safe}
 use Rattle.fm_audit.specs.inner.Checked.{AreSafeFrees}
 use Rattle.fm_audit.specs.inner.Frees.{are_safe_from}
-use Rattle.fm_audit.proofs.checking.are_safe_frees.Goals as goal
+use Rattle.fm_audit.proofs.checking.judged_frees.Goals as goal
 
 pub are_safe-requires : goal.are_safe-requires
 are_safe-requires c =
     let s = c.args.seen.now in
     let g = c.in_ok-groups.groups in
     let busy : AreRowsIn g (count_of s) (is_busy_at s) c.in_ok-busy.busy.items = subst (λ n. AreRowsIn g n (is_busy_at s) c.in_ok-busy.busy.items) (search rules) c.in_ok-busy.ensures in
-    rw (c.as_slice-2.ensures.value, c.as_slice-3.ensures.value)
+    rw (c.as_slice-classes.ensures.value, c.as_slice-rows.ensures.value)
+    (freed_rows s g c.in_ok-busy.busy.items c.in_ok-holding.holding c.in_ok-groups.ensures.0 busy c.in_ok-holding.ensures)
+
+pub failing-requires : goal.failing-requires
+failing-requires c =
+    let s = c.args.seen.now in
+    let g = c.in_ok-groups.groups in
+    let busy : AreRowsIn g (count_of s) (is_busy_at s) c.in_ok-busy.busy.items = subst (λ n. AreRowsIn g n (is_busy_at s) c.in_ok-busy.busy.items) (search rules) c.in_ok-busy.ensures in
+    rw (c.as_slice-classes.ensures.value, c.as_slice-rows.ensures.value)
     (freed_rows s g c.in_ok-busy.busy.items c.in_ok-holding.holding c.in_ok-groups.ensures.0 busy c.in_ok-holding.ensures)
 
 pub returns : goal.returns
@@ -19,11 +27,11 @@ returns c =
     let s = c.args.seen.now in
     let g = c.in_ok-groups.groups in
     let holding = c.in_ok-holding.holding in
-    let classes = c.as_slice-2.ensures.value in
-    let rows = c.as_slice-3.ensures.value in
+    let classes = c.as_slice-classes.ensures.value in
+    let rows = c.as_slice-rows.ensures.value in
     let busy : AreRowsIn g (count_of s) (is_busy_at s) c.in_ok-busy.busy.items = subst (λ n. AreRowsIn g n (is_busy_at s) c.in_ok-busy.busy.items) (search rules) c.in_ok-busy.ensures in
-    λ safe.
     let is : are_safe_from g.of_holders.items c.in_ok-busy.busy.items holding.rows.items 0 (length holding.freed) c.args.before.now ≡ true =
-    sym (λ k. are_safe_from (classes k) (rows k) holding.rows.items 0 (length holding.freed) c.args.before.now) ∙ sym c.are_safe.ensures ∙ safe in
+    sym (λ k. are_safe_from (classes k) (rows k) holding.rows.items 0 (length holding.freed) c.args.before.now) ∙ sym c.are_safe.ensures
+    ∙ c.if-not-are_safe.false in
     subst (λ (held : List (ℕ × ℕ)). AreSafeFrees s held c.args.before.now) c.in_ok-groups.ensures.1
     (frees_are_safe s g c.in_ok-busy.busy.items holding c.in_ok-groups.ensures.0 busy c.in_ok-holding.ensures c.args.before.now is)

@@ -6,10 +6,10 @@ use Rattle.fm_types.specs.Typed.{IsTypingOf}
 use Rattle.fm_types.specs.Typings.{states_of}
 use Rattle.fm_world.specs.Programs.{code_at}
 use Rattle.fm_audit.proofs.SafePlanLemmas.{safe_answers}
-use Rattle.fm_audit.proofs.plans.safely_planned.Goals as goal
+use Rattle.fm_audit.proofs.plans.judged_code.Goals as goal
 
-pub planned_in-requires-clause-seen : goal.planned_in-requires-clause-seen
-planned_in-requires-clause-seen c =
+pub judged_in-requires-clause-seen : goal.judged_in-requires-clause-seen
+judged_in-requires-clause-seen c =
     let p = c.args.program.now in
     let m = c.args.method.0 in
     let are = c.in_ok-classes.ensures c.args.code.now c.requires.code in
@@ -21,8 +21,8 @@ planned_in-requires-clause-seen c =
       nodes = record { locals = are.locals; slots = are.slots };
     }
 
-pub planned_in-requires-clause-few : goal.planned_in-requires-clause-few
-planned_in-requires-clause-few c =
+pub judged_in-requires-clause-few : goal.judged_in-requires-clause-few
+judged_in-requires-clause-few c =
     let own = code_facts c.args.program.now c.args.method.0 c.args.code.now c.requires.analysable c.requires.code in
     let few = (items_counted c.args.code.now own.0.spelled).1 in
     omega (arith, few)
@@ -31,4 +31,4 @@ pub returns-clause-safe : goal.returns-clause-safe
 returns-clause-safe c =
     safe_answers _ c.args.summaries.now c.as_slice.result.now c.in_ok-typed.ensures.typing c.in_ok-rows.ensures
     (c.in_ok-classes.ensures c.args.code.now c.requires.code) (c.as_slice.ensures.value ∙ c.in_ok-sites.ensures c.args.code.now c.requires.code)
-    c.planned_in.result c.planned_in.ensures.safe
+    c.judged_in.result c.judged_in.ensures.safe

@@ -1,7 +1,7 @@
 use Rattle.std.proofs.Common.{◌≡◌, ℕ, ◌<◌, length}
 use Rattle.fm_rewrite.specs.Plans.{planned_at}
 use Rattle.fm_audit.specs.SafeMethods.{IsSafelyPlannedAt}
-use Rattle.fm_audit.proofs.methods.all_planned.Given as goal
+use Rattle.fm_audit.proofs.methods.all_judged.Given as goal
 
 abbrev pub invariant-loop-number : goal.invariant-loop-number
 invariant-loop-number l =

@@ -1,0 +1,139 @@
+// Whether written classes are given ones, the codes of their methods aside.
+
+ghost use Rattle.fm_code.specs.Spells.{HasSpelling};
+
+use fm_base::NoMemory;
+use fm_code::{ClassDef, Member, MemberAttr};
+use fm_place_weave::FreePool;
+use fm_pool::AddFail;
+use std::alloc::Global;
+
+/// The version of a changed class.
+const REWRITTEN_MAJOR: u16 = 49;
+
+/// Whether the written class is this one, the codes of its methods aside: as it is where no code differs,
+/// else with version 49.0 and the entries of FreeMe.free. Takes memory for the pool.
+pub(crate) fn is_class_of(
+    alloc: Global,
+    class: &ClassDef,
+    written: &ClassDef,
+) -> Result<bool, NoMemory>
+    requires { HasSpelling class.now }
+{
+    if have_same_codes(&class.methods, &written.methods) {
+        return Ok(class == written);
+    }
+    if !has_members_of(class, written) {
+        return Ok(false);
+    }
+    if written.minor != 0 {
+        return Ok(false);
+    }
+    if written.major != REWRITTEN_MAJOR {
+        return Ok(false);
+    }
+    has_pool_of(alloc, class, written)
+}
+
+/// Whether the written class has the pool of this one with the entries of FreeMe.free.
+fn has_pool_of(alloc: Global, class: &ClassDef, written: &ClassDef) -> Result<bool, NoMemory>
+    requires { HasSpelling class.now }
+{
+    match FreePool::of(alloc, class) {
+        Ok(made) => Ok(made.pool == written.pool),
+        Err(AddFail::Full(_)) => Ok(false),
+        Err(AddFail::NoMemory) => Err(NoMemory),
+    }
+}
+
+/// Whether the written class has all of this one but its version, its pool and the codes of its methods.
+fn has_members_of(class: &ClassDef, written: &ClassDef) -> bool {
+    if class.flags != written.flags {
+        return false;
+    }
+    if class.this_class != written.this_class {
+        return false;
+    }
+    if class.super_class != written.super_class {
+        return false;
+    }
+    class.interfaces == written.interfaces
+        && class.fields == written.fields
+        && class.attributes == written.attributes
+        && are_same_members(&class.methods, &written.methods)
+}
+
+/// Whether methods have the same codes, one after the other.
+fn have_same_codes(old: &[Member], new: &[Member]) -> bool {
+    if old.len() != new.len() {
+        return false;
+    }
+    for place in 0..old.len() {
+        if !has_same_code(&old[place], &new[place]) {
+            return false;
+        }
+    }
+    true
+}
+
+/// Whether two methods have the same code, or both have none.
+fn has_same_code(old: &Member, new: &Member) -> bool {
+    match old.code() {
+        Some(code) => match new.code() {
+            Some(other) => code == other,
+            None => false,
+        },
+        None => new.code().is_none(),
+    }
+}
+
+/// Whether methods are the same ones, their codes aside.
+fn are_same_members(old: &[Member], new: &[Member]) -> bool {
+    if old.len() != new.len() {
+        return false;
+    }
+    for place in 0..old.len() {
+        if !is_same_member(&old[place], &new[place]) {
+            return false;
+        }
+    }
+    true
+}
+
+/// Whether two methods are one, their codes aside.
+fn is_same_member(old: &Member, new: &Member) -> bool {
+    if old.flags != new.flags {
+        return false;
+    }
+    if old.name != new.name {
+        return false;
+    }
+    if old.descriptor != new.descriptor {
+        return false;
+    }
+    are_same_attributes(&old.attributes, &new.attributes)
+}
+
+/// Whether attributes of a method are the same ones, a code aside.
+fn are_same_attributes(old: &[MemberAttr], new: &[MemberAttr]) -> bool {
+    if old.len() != new.len() {
+        return false;
+    }
+    for place in 0..old.len() {
+        if !is_same_attribute(&old[place], &new[place]) {
+            return false;
+        }
+    }
+    true
+}
+
+/// Whether two attributes of a method are one; of two codes only the names are compared.
+fn is_same_attribute(old: &MemberAttr, new: &MemberAttr) -> bool {
+    match old {
+        MemberAttr::Coded(name, _) => match new {
+            MemberAttr::Coded(other, _) => *name == *other,
+            _ => false,
+        },
+        _ => old == new,
+    }
+}
