@@ -377,12 +377,21 @@ def other_constant(file, old, new, found):
             yield lambda code, place=place: replaced(code, place, Item(8 if code.items[place].opcode != 8 else 7)), ITEMS
 
 
+def other_spelling(file, old, new, found):
+    """A load of one byte is spelled with two."""
+    for place in own_items(new, found):
+        if 26 <= new.items[place].opcode < 46:
+            kind, local = divmod(new.items[place].opcode - 26, 4)
+            yield lambda code, place=place, item=(21 + kind, local): replaced(code, place, Item(item[0], bytes([item[1]]))), LAYOUT
+            break
+
+
 def other_target(file, old, new, found):
     """A branch leads to where its target itself is, past what is inserted before it."""
     for place, item in enumerate(new.items):
         for free, at in found.frees:
             if item.targets and new.items[at] in item.targets:
-                yield lambda code, place=place, at=at: retarget(code, place, at, at + FREE_ITEMS), LAYOUT
+                yield lambda code, place=place, at=at: retarget(code, place, at, at + FREE_ITEMS), ITEMS
 
 
 def other_numbers(file, old, new, found):
@@ -401,7 +410,7 @@ def other_tables(file, old, new, found):
 
 
 CHANGES = (dropped, doubled, uncleared, moved, shared, untaken, taken_elsewhere, unstarted, restarted, skipped, other_constant, other_target)
-CHANGES += (other_numbers, other_tables)
+CHANGES += (other_spelling, other_numbers, other_tables)
 
 
 def copies(items):

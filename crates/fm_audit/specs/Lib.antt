@@ -1,7 +1,6 @@
 pub mod Reading
 pub mod ReadBy
 pub mod Example
-pub mod Kept
 pub mod Parts
 pub mod SafePlans
 pub mod SafeMethods

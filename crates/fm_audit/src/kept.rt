@@ -1,76 +1,126 @@
-// Whether a method's new items keep its old ones. Where a branch or a switch leads follows from what is
-// inserted, and is a matter of the layout.
+// Whether a method's new items keep its old ones, each with the targets that it has to have.
 
-ghost use Rattle.std.specs.Prelude.{◌≡◌, ◌≢◌, IsTrue, length};
-ghost use Rattle.fm_audit.specs.Kept.{are_kept, has_targets, is_kept, keeps};
+ghost use Rattle.std.specs.Prelude.{◌≢◌, ◌≤◌, IfOk, IsTrue, length};
 
-use crate::reading::{
-    after_frees, after_kept, after_nulls, after_taken, is_goto, is_widened, opcode_of,
-};
+use crate::reading::{after_frees, after_kept, after_nulls, after_taken, is_widened};
+use fm_base::NoMemory;
 use fm_code::{Insn, Item};
+use std::alloc::Global;
 
-/// Whether new items keep these old ones, in their order.
-pub(crate) fn are_kept(free: u16, first: u16, old: &[Item], new: &[Item]) -> bool
-    ensures { result ≡ are_kept free first old.now new.now }
-{
+/// The most items of a code: each has a byte at least.
+const MAX_ITEMS: usize = 65_535;
+
+/// Whether new items keep these old ones, in their order. A target is the first item that is inserted
+/// before that old one, or it itself. Takes memory for a number for each old item, and for the targets of
+/// switches.
+pub(crate) fn are_kept(
+    alloc: Global,
+    free: u16,
+    first: u16,
+    old: &[Item],
+    new: &[Item],
+) -> Result<bool, NoMemory> {
+    if new.len() > MAX_ITEMS {
+        return Ok(false);
+    }
+    let anchors = anchors_read(alloc, free, first, old, new)?;
     let mut rest = after_nulls(first, new);
     for item in old {
         let here = after_frees(free, first, rest);
-        if !is_kept(item, here) {
-            return false;
+        let number = number_of(new, here);
+        let kept = is_kept(alloc, anchors.as_slice(), number, item, here)?;
+        if !kept {
+            return Ok(false);
         }
         rest = after_taken(first, after_kept(item, here));
     }
-    true
+    Ok(true)
 }
 
-/// Whether the first of these items keep an old one, as it was or widened.
-fn is_kept(item: &Item, items: &[Item]) -> bool
-    ensures kept { result ≡ is_kept item.now items.now }
-    ensures some { IsTrue result → length items.now ≢ 0 }
+/// The number of the first of these new items, which come last.
+fn number_of(new: &[Item], rest: &[Item]) -> u32
+    requires { length new.now ≤ 65535 }
+    ensures { result ≤ 65535 }
+{
+    new.len().saturating_sub(rest.len()) as u32
+}
+
+/// For each old item the number of the first new one that is inserted before it, or of it itself, as long
+/// as there are new items; and at the end that of what follows.
+fn anchors_read(
+    alloc: Global,
+    free: u16,
+    first: u16,
+    old: &[Item],
+    new: &[Item],
+) -> Result<Vec<u32>, NoMemory>
+    requires { length new.now ≤ 65535 }
+{
+    let mut anchors = Vec::new(alloc);
+    let mut rest = after_nulls(first, new);
+    for item in old {
+        anchors.push(number_of(new, rest))?;
+        let here = after_frees(free, first, rest);
+        if here.is_empty() {
+            return Ok(anchors);
+        }
+        rest = after_taken(first, after_kept(item, here));
+    }
+    anchors.push(number_of(new, rest))?;
+    Ok(anchors)
+}
+
+/// Whether the first of these items, which has this number, keep an old one: they are its branch, widened,
+/// or the first has its instruction.
+fn is_kept(
+    alloc: Global,
+    anchors: &[u32],
+    number: u32,
+    item: &Item,
+    items: &[Item],
+) -> Result<bool, NoMemory>
+    requires { number ≤ 65535 }
+    ensures { IfOk result (λ kept. IsTrue kept → length items.now ≢ 0) }
+{
+    if items.is_empty() {
+        return Ok(false);
+    }
+    let meant = item.insn.with_targets(alloc, anchors)?;
+    if is_widened(item, items) {
+        return Ok(is_widened_to(number, &meant, items));
+    }
+    Ok(items[0].insn == meant)
+}
+
+/// Whether a widened branch leads where it is meant to: its goto there, and its test, which has this
+/// number, past the goto. Where no item follows the test names the goto, since the end is no item.
+fn is_widened_to(number: u32, meant: &Insn, items: &[Item]) -> bool
+    requires { number ≤ 65535 }
 {
     match items {
-        [first, ..] => {
-            if is_widened(item, items) {
-                true
+        [test, goto, rest @ ..] => {
+            let past = if rest.is_empty() {
+                number + 1
             } else {
-                keeps(item, first)
+                number + 2
+            };
+            if target_of(&test.insn) != Some(past) {
+                return false;
             }
+            target_of(&goto.insn) == target_of(meant)
         }
         _ => false,
     }
 }
 
-/// Whether an item keeps an old one: a branch or a switch has its opcode, or is a goto as it is; any other
-/// item has its bytes.
-fn keeps(old: &Item, new: &Item) -> bool
-    ensures { result ≡ keeps old.now new.now }
-{
-    if !has_targets(&old.insn) {
-        return old.bytes.as_slice() == new.bytes.as_slice();
+/// The target of a branch.
+fn target_of(insn: &Insn) -> Option<u32> {
+    match insn {
+        Insn::IfInt(_, target)
+        | Insn::IfPair(_, target)
+        | Insn::IfSame(_, target)
+        | Insn::IfNull(_, target)
+        | Insn::Goto(target) => Some(*target),
+        _ => None,
     }
-    if opcode_of(old) == opcode_of(new) {
-        return true;
-    }
-    if is_goto(&old.insn) {
-        is_goto(&new.insn)
-    } else {
-        false
-    }
-}
-
-/// Whether it is a branch or a switch.
-fn has_targets(insn: &Insn) -> bool
-    ensures { result ≡ has_targets insn.now }
-{
-    matches!(
-        insn,
-        Insn::IfInt(..)
-            | Insn::IfPair(..)
-            | Insn::IfSame(..)
-            | Insn::IfNull(..)
-            | Insn::Goto(_)
-            | Insn::Table(..)
-            | Insn::Lookup(..)
-    )
 }

@@ -114,7 +114,8 @@ fn judged_in(
     let Some(found) = read(alloc, free, code.max_locals, &code.items, new)? else {
         return Ok(Judged::Fails(Part::Items));
     };
-    if !are_kept(free, code.max_locals, &code.items, new) {
+    let kept = are_kept(alloc, free, code.max_locals, &code.items, new)?;
+    if !kept {
         return Ok(Judged::Fails(Part::Items));
     }
     if !are_insertable(code, &found) {

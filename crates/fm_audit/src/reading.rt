@@ -199,7 +199,7 @@ pub(crate) fn is_widened(item: &Item, items: &[Item]) -> bool
 }
 
 /// The first byte of an item.
-pub(crate) fn opcode_of(item: &Item) -> u8
+fn opcode_of(item: &Item) -> u8
     ensures { result ≡ opcode_of item.now }
 {
     match item.bytes.as_slice().first() {
@@ -285,7 +285,7 @@ fn is_dup(insn: &Insn) -> bool
 }
 
 /// Whether it is a goto or a goto_w.
-pub(crate) fn is_goto(insn: &Insn) -> bool
+fn is_goto(insn: &Insn) -> bool
     ensures { result ≡ is_goto insn.now }
 {
     matches!(insn, Insn::Goto(_))
