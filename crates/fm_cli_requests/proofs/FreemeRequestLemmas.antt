@@ -10,6 +10,7 @@ use Rattle.clap.specs.declared.parser.matches.ArgMatches.{ArgMatches}
 use Rattle.fm_cli_requests.specs.Values.{command_with}
 use Rattle.clap.proofs.OnLiterals.{clap_on_literals}
 use Rattle.fm_base.proofs.OptionFacts.{same_value}
+use Rattle.fm_base.proofs.TestFacts.{same_test}
 use Rattle.fm_cli_requests.proofs.ClassFilesLemmas.{named_once}
 use Rattle.fm_cli_requests.proofs.CommandLemmas.{faults_by, found_fault, is_fault, matched_by}
 use Rattle.fm_cli_requests.proofs.ProgramTextLemmas.{one_of_two}
@@ -92,4 +93,5 @@ pub asks_one : (words : List (List ℕ)) (a b : FreemeJob) → Asks words a → 
 asks_one words a b p q =
     let folder = same_value (first_of (codes "out") (matched_in words)) a.folder b.folder p.values.folder q.values.folder in
     let classes = named_once (codes "main") (matched_in words) a.main b.main a.files b.files a.made b.made p.values.classes q.values.classes in
-    λ i. record { folder = folder i; main = classes.main_is i; files = classes.files_are i; made = classes.made_is i }
+    let rapid = same_test a.rapid b.rapid (λ given. q.values.rapid.1 (p.values.rapid.0 given)) (λ given. p.values.rapid.1 (q.values.rapid.0 given)) in
+    λ i. record { folder = folder i; main = classes.main_is i; files = classes.files_are i; made = classes.made_is i; rapid = rapid i }

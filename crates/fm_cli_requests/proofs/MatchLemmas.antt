@@ -2,11 +2,14 @@
 use Rattle.std.proofs.Common.{◌≡◌, ◌↔◌, ◌∙◌, ◌<◌, ℕ, Bool, true, false, IsTrue, Option, Some, None, List, [], ◌∷◌, is_some, length, map, option_map, refl, sym, ap, subst, arith, eqb}
 use Rattle.std.specs.Prelude.{not}
 use Rattle.std.proofs.lemmas.Bool.{eqb-true, false≢true}
+use Rattle.std.proofs.lemmas.Slice.Eq.{bytes_eq-Decides}
 use Rattle.std.specs.List.{AllByRecursion}
 use Rattle.std.specs.Borrow.{Bor}
+use Rattle.std.specs.Str.{bytes_eq}
 use Rattle.clap.specs.Words.{all_of, first_of, first_value, matched_of, raw_values, rows_of}
 use Rattle.clap.specs.declared.parser.matches.Found.{Found}
 use Rattle.clap.proofs.WalkLemmas.{first_value-rows, raw_values-rows}
+use Rattle.fm_base.proofs.OptionFacts.{same_value}
 
 -- the texts behind references
 abbrev pub texts_of : List (Bor (List ℕ)) → List (List ℕ)
@@ -79,3 +82,18 @@ lacks_all f id None true got is = (λ t. sym (raw_values-rows f id) ∙ sym got,
 lacks_all f id None false got is = absurd (false≢true is)
 lacks_all f id (Some texts) true got is = absurd (false≢true (sym is))
 lacks_all f id (Some texts) false got is = (λ t. absurd (false≢true t), λ none. absurd (let some = sym (raw_values-rows f id) ∙ sym got in cc))
+
+-- whether the first value of an id is this text, as a comparison finds it
+pub first_tested : (f : Found) (id text : List ℕ) (answer : Option (Bor (List ℕ))) (found : Bor (List ℕ)) (r : Bool) → option_map (λ s. s.now) answer ≡ first_value f id
+    → answer ≡ Some found → r ≡ bytes_eq found.now text → IsTrue r ↔ (first_of id (rows_of f) ≡ Some text)
+first_tested f id text answer found r got is tested =
+    let there = first_found f id answer found got is in
+    let decides = bytes_eq-Decides found.now text in (
+      λ same. there ∙ ap (λ t. Some t) (decides.0 (sym tested ∙ same)),
+      λ value. tested ∙ decides.1 (same_value (first_of id (rows_of f)) found.now text there value),
+    )
+
+-- where there is none it isn't
+pub none_tested : (f : Found) (id text : List ℕ) (answer : Option (Bor (List ℕ))) → option_map (λ s. s.now) answer ≡ first_value f id → answer ≡ None
+    → IsTrue false ↔ (first_of id (rows_of f) ≡ Some text)
+none_tested f id text answer got is = (λ same. absurd (false≢true same), λ value. absurd (first_missing f id answer text got is value))

@@ -1,24 +1,27 @@
 -- What the words of the command line ask freeme for.
-use Rattle.std.specs.Prelude.{◌≡◌, ℕ, List, [], ◌∷◌, Option, Some, map, codes}
+use Rattle.std.specs.Prelude.{◌≡◌, ◌↔◌, ℕ, Bool, List, [], ◌∷◌, Option, Some, None, IsTrue, map, codes}
 use Rattle.clap.specs.Words.{App, Kinds, Row, Rule, fault_of, first_of, matches_of}
 use Rattle.fm_cli_requests.specs.ClassFiles.{NameClasses}
 use Rattle.fm_cli_requests.specs.ProgramText.{AskForNoText, AskForText}
-use Rattle.fm_cli_requests.specs.Values.{IsValue, command_with, files_rule, option_rule}
+use Rattle.fm_cli_requests.specs.Values.{IsGiven, IsValue, command_with, files_rule, flag_rule, option_rule}
 use Rattle.fm_cli_requests.specs.declared.program_text.ProgramText.{ProgramText}
 use Rattle.fm_cli_requests.specs.declared.freeme_request.FreemeRequest.{FreemeRequest}
 
--- the folder to write into, the main class, the files to read in order, and the number of the class that is made, if one is
+-- the folder to write into, the main class, the files to read in order, the number of the class that is made, if one is, and whether targets are
+-- looked for only in classes of which reachable code makes objects
 pub record FreemeJob : Type 0 where
   pub folder : List ℕ
   pub main : List ℕ
   pub files : List (List ℕ)
   pub made : Option ℕ
+  pub rapid : Bool
 
--- what may be among the words: three options and the files
+-- what may be among the words: three options, a flag and the files
 abbrev pub freeme_rules : List Rule
-freeme_rules = option_rule (codes "out") ∷ option_rule (codes "main") ∷ option_rule (codes "make") ∷ files_rule ∷ []
+freeme_rules =
+    option_rule (codes "out") ∷ option_rule (codes "main") ∷ option_rule (codes "make") ∷ flag_rule (codes "rapid") ∷ files_rule ∷ []
 
--- the command `freeme [--out DIR] [--main CLASS] [--make N] [FILE...]`, as clap reads it: which of them go together is not its matter
+-- the command `freeme [--out DIR] [--main CLASS] [--make N] [--rapid] [FILE...]`, as clap reads it: which of them go together is not its matter
 unfoldable pub freeme_command : App
 freeme_command = command_with (codes "freeme") freeme_rules
 
@@ -30,11 +33,14 @@ faults_in words = fault_of freeme_command words
 unfoldable pub matched_in : List (List ℕ) → List Row
 matched_in words = matches_of freeme_command words
 
--- what clap matched is the job: the folder, and the class files or the class that is made
+-- what clap matched is the job: the folder, the class files or the class that is made, and whether `--rapid` is given, which no class is made
+-- beside
 pub record HasValuesOf (matches : List Row) (job : FreemeJob) : Type 0 where
   pub folder : first_of (codes "out") matches ≡ Some job.folder
   pub folder_is_value : IsValue job.folder
   pub classes : NameClasses (codes "main") matches job.main job.files job.made
+  pub rapid : IsTrue job.rapid ↔ IsGiven (codes "rapid") matches
+  pub of_files : IsTrue job.rapid → job.made ≡ None
 
 -- what clap matched is no job
 abbrev pub HasNoValues : List Row → Type 0
@@ -62,4 +68,10 @@ pub record AskNothing (words : List (List ℕ)) : Type 0 where
 
 -- the job of a request
 abbrev pub job_of : FreemeRequest → FreemeJob
-job_of r = record { folder = r.folder.now; main = r.main.now; files = map (λ file. file.now) r.files.items; made = r.made }
+job_of r = record {
+  folder = r.folder.now;
+  main = r.main.now;
+  files = map (λ file. file.now) r.files.items;
+  made = r.made;
+  rapid = r.rapid;
+}

@@ -2,8 +2,9 @@
 use Rattle.std.specs.Prelude.{◌≡◌, ℕ, ◌<◌, ◌≤◌, List, [], Some, true, length, codes}
 use Rattle.std.specs.Str.Parse.{AllDigits, digits_value}
 use Rattle.clap.specs.Lexer.{usize_max}
-use Rattle.clap.specs.Words.{App, Rule, new_rule}
+use Rattle.clap.specs.Words.{App, Row, Rule, first_of, new_rule}
 use Rattle.clap.specs.Simple.{new_shape}
+use Rattle.clap.specs.declared.builder.action.ArgAction.TheVariants.{SetTrue}
 use Rattle.fm_base.specs.declared.limits.TheConstants.{MAX_COMMAND_LINE_VALUE_BYTES}
 
 -- a value has a character, and isn't too long
@@ -22,6 +23,14 @@ pub record IsNumber (width : ℕ) (digits : List ℕ) (least most n : ℕ) : Typ
 -- an option with a value, which may be given once, as `--steps N`
 abbrev pub option_rule : List ℕ → Rule
 option_rule name = record (new_rule name) { long = Some name }
+
+-- a flag, which may be given once, as `--rapid`
+abbrev pub flag_rule : List ℕ → Rule
+flag_rule name = record (new_rule name) { long = Some name; action = Some SetTrue }
+
+-- the flag of this name is given: clap matches it as true
+abbrev pub IsGiven : List ℕ → List Row → Type 0
+IsGiven name matches = first_of name matches ≡ Some (codes "true")
 
 -- the files, of which there may be many: what is among the words without an option before it
 abbrev pub files_rule : Rule

@@ -6,13 +6,13 @@ ghost use Rattle.fm_cli.specs.Words.{texts};
 ghost use Rattle.fm_cli_requests.specs.FreemeRequest.{Asks, AskNoJob, HasValuesOf, HasNoValues, freeme_command, job_of};
 
 use crate::class_files::{NamedClasses, classes_in};
-use crate::values::{command, files, is_value, option};
+use crate::values::{command, files, flag, is_given, is_value, option};
 use clap::error::ErrorKind;
 use clap::{ArgMatches, Command};
 use fm_base::NoMemory;
 use std::alloc::Global;
 
-/// What the words `--out DIR --main CLASS FILE...` or `--out DIR --make N` name.
+/// What the words `--out DIR --main CLASS [--rapid] FILE...` or `--out DIR --make N` name.
 #[derive(Drop)]
 pub struct FreemeRequest<'a> {
     /// The folder to write into.
@@ -23,6 +23,8 @@ pub struct FreemeRequest<'a> {
     pub files: Vec<&'a str>,
     /// The number of the class that is made.
     pub made: Option<u32>,
+    /// Whether targets are looked for only in classes of which reachable code makes objects.
+    pub rapid: bool,
 }
 
 /// What the words ask for, or None where they aren't of that form.
@@ -48,11 +50,13 @@ fn freeme_command<'a>(alloc: Global) -> Result<Command<'a>, NoMemory>
         .arg(option(alloc, "out"))?
         .arg(option(alloc, "main"))?
         .arg(option(alloc, "make"))?
+        .arg(flag(alloc, "rapid"))?
         .arg(files(alloc))?;
     Ok(command)
 }
 
-// The request that was matched, or None where a value is missing, empty or too long.
+// The request that was matched, or None where a value is missing, empty or too long, or a class is made
+// beside `--rapid`.
 fn request_in<'a>(
     alloc: Global,
     matches: &ArgMatches<'a>,
@@ -71,10 +75,15 @@ fn request_in<'a>(
         return Ok(None);
     };
     let NamedClasses { main, files, made } = named;
+    let rapid = is_given(matches, "rapid");
+    if rapid && made.is_some() {
+        return Ok(None);
+    }
     Ok(Some(FreemeRequest {
         folder,
         main,
         files,
         made,
+        rapid,
     }))
 }

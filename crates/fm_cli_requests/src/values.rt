@@ -2,11 +2,11 @@
 
 ghost use Rattle.std.specs.Prelude.{◌≡◌, ◌↔◌, false, [], IsTrue, MatchOption};
 ghost use Rattle.std.specs.List.{AllByRecursion};
-ghost use Rattle.clap.specs.Words.{app_of, rule_of};
-ghost use Rattle.fm_cli_requests.specs.Values.{IsNumber, IsValue, command_with, files_rule, option_rule};
+ghost use Rattle.clap.specs.Words.{app_of, found_of, rows_of, rule_of};
+ghost use Rattle.fm_cli_requests.specs.Values.{IsGiven, IsNumber, IsValue, command_with, files_rule, flag_rule, option_rule};
 ghost use Rattle.fm_cli_requests.specs.inner.Values.{IsNoNumber};
 
-use clap::{Arg, Command};
+use clap::{Arg, ArgAction, ArgMatches, Command};
 use fm_base::limits::MAX_COMMAND_LINE_VALUE_BYTES;
 use std::alloc::Global;
 
@@ -27,6 +27,24 @@ pub fn option<'a>(alloc: Global, name: &'a str) -> Arg<'a>
     ensures local { result.global ≡ false }
 {
     Arg::new(alloc, name).long(name)
+}
+
+/// A flag that may be given.
+pub fn flag<'a>(alloc: Global, name: &'a str) -> Arg<'a>
+    ensures rule { rule_of result ≡ flag_rule name.entry.now }
+    ensures local { result.global ≡ false }
+{
+    Arg::new(alloc, name).long(name).action(ArgAction::SetTrue)
+}
+
+/// Whether the flag of this name was given. Takes no memory.
+pub fn is_given(matches: &ArgMatches<'_>, name: &str) -> bool
+    ensures { IsTrue result ↔ IsGiven name.now (rows_of (found_of matches.now)) }
+{
+    match matches.get_str(name) {
+        Some(text) => text == "true",
+        None => false,
+    }
 }
 
 /// The files, of which there may be many.

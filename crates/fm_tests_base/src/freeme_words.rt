@@ -7,7 +7,7 @@ use std::alloc::Global;
 use std::test::Fail;
 
 // The words, a `|` between each two, and the values of the job that they ask for, or nothing.
-const CASES: [(&str, &str); 34] = [
+const CASES: [(&str, &str); 44] = [
     ("--out|d|--main|M|M.class", "d M M.class"),
     ("--main|M|--out|d|M.class", "d M M.class"),
     ("M.class|--main|M|--out|d", "d M M.class"),
@@ -45,9 +45,22 @@ const CASES: [(&str, &str); 34] = [
     ("--out|d|--make|1|--make|1", ""),
     ("--out|d|--make|1|--main|G", ""),
     ("--out|d|--make|1|G.class", ""),
+    ("--out|d|--main|M|--rapid|M.class", "d M M.class rapid"),
+    ("--rapid|--out|d|M.class|--main|M", "d M M.class rapid"),
+    (
+        "A.class|--out|d|--main|M|B.class|--rapid",
+        "d M A.class B.class rapid",
+    ),
+    ("--out|d|--main|M|--|--rapid", "d M --rapid"),
+    ("--out|d|--main=--rapid|M.class", "d --rapid M.class"),
+    ("--out|d|--main|M|--rapid|--rapid|M.class", ""),
+    ("--out|d|--main|M|--rapid=true|M.class", ""),
+    ("--out|d|--main|M|--rapid", ""),
+    ("--out|d|--make|1|--rapid", ""),
+    ("--rapid", ""),
 ];
 
-// The values of a request, a space between each two, and the number of the class that is made.
+// The values of a request, a space between each two, the number of the class that is made, and its flag.
 fn values(alloc: Global, request: &FreemeRequest<'_>) -> Result<String, NoMemory> {
     let mut text = format!(in alloc; "{} {}", request.folder, request.main)?;
     for file in request.files.iter() {
@@ -57,6 +70,9 @@ fn values(alloc: Global, request: &FreemeRequest<'_>) -> Result<String, NoMemory
     if let Some(number) = request.made {
         let made = format!(in alloc; " #{number}")?;
         text.push_str(made.as_str())?;
+    }
+    if request.rapid {
+        text.push_str(" rapid")?;
     }
     Ok(text)
 }

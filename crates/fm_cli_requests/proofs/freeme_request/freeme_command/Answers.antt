@@ -1,6 +1,6 @@
 use Rattle.std.proofs.Common.{[], ◌∷◌, codes}
 use Rattle.clap.specs.Words.{app_of}
-use Rattle.fm_cli_requests.specs.Values.{files_rule, option_rule}
+use Rattle.fm_cli_requests.specs.Values.{files_rule, flag_rule, option_rule}
 use Rattle.fm_cli_requests.proofs.CommandLemmas.{with_one_more}
 use Rattle.fm_cli_requests.proofs.FreemeRequestLemmas.{is_command}
 use Rattle.fm_cli_requests.proofs.freeme_request.freeme_command.Goals as goal
@@ -14,5 +14,7 @@ returns c =
     let one = with_one_more name [] out c.command.ensures c.in_ok-arg.ensures c.option.ensures.rule c.option.ensures.local in
     let two = with_one_more name (out ∷ []) main one c.in_ok-arg-2.ensures c.option-2.ensures.rule c.option-2.ensures.local in
     let three = with_one_more name (out ∷ main ∷ []) make two c.in_ok-arg-3.ensures c.option-3.ensures.rule c.option-3.ensures.local in
-    let four = with_one_more name (out ∷ main ∷ make ∷ []) files_rule three c.in_ok-command.ensures c.files.ensures.rule c.files.ensures.local in
-    is_command (app_of c.in_ok-command.command) four
+    let rapid = flag_rule (codes "rapid") in
+    let four = with_one_more name (out ∷ main ∷ make ∷ []) rapid three c.in_ok-arg-4.ensures c.flag.ensures.rule c.flag.ensures.local in
+    let five = with_one_more name (out ∷ main ∷ make ∷ rapid ∷ []) files_rule four c.in_ok-command.ensures c.files.ensures.rule c.files.ensures.local in
+    is_command (app_of c.in_ok-command.command) five
