@@ -37,7 +37,7 @@ const VIRTUAL_ESCAPE_WRITTEN: ClassFile<'static> = ClassFile {
     },
 };
 
-const VIRTUAL_ESCAPE_A: ClassFile<'static> = ClassFile {
+pub(crate) const VIRTUAL_ESCAPE_A: ClassFile<'static> = ClassFile {
     name: "A.class",
     bytes: Repeated {
         start: b"\
@@ -50,7 +50,7 @@ const VIRTUAL_ESCAPE_A: ClassFile<'static> = ClassFile {
     },
 };
 
-const VIRTUAL_ESCAPE_B: ClassFile<'static> = ClassFile {
+pub(crate) const VIRTUAL_ESCAPE_B: ClassFile<'static> = ClassFile {
     name: "B.class",
     bytes: Repeated {
         start: b"\

@@ -16,15 +16,12 @@ use Rattle.fm_cli.specs.declared.status.TheConstants.{DONE, WORDS, READ, MALFORM
 use Rattle.fm_code.specs.declared.class_file.ClassDef.{ClassDef}
 use Rattle.fm_law_beside_freeme.specs.Exact.{LeastFactsServeAlike}
 use Rattle.fm_link_refusals.specs.Refused.{refusal_of}
-use Rattle.fm_rewrite.specs.FreeCalls.{first_call}
-use Rattle.fm_rewrite.specs.Rewritten.{AreNotRewritten}
 use Rattle.fm_rewrite.specs.declared.error.RewriteFail.{RewriteFail}
 use Rattle.fm_rewrite.specs.declared.error.RewriteFail.TheVariants as fail
 use Rattle.fm_world.specs.Causes.{Refusal}
 use Rattle.fm_world.specs.Linking.{refusals}
-use Rattle.fm_world.specs.Programs.{program_of}
 use Rattle.fm_load.specs.Given.{AreGiven, AreMany, IsUntouched, AreNotLinked, IsNotLinked, given_program}
-use Rattle.freeme.specs.Causes.{AskFor, AskForGiven, BecomesAs, BecomesByFacts, IsKnownAs, IsKnownStatus, cause_status, SaysWords, SaysRead, SaysRefused, SaysLimit, SaysLink, SaysCheck, SaysNotFreed, SaysDone, SaysUnwritten, SaysWrite, SaysMemory, LacksLine, IsForWords, IsForRead, IsForBytes, IsForLimit, IsForLink, IsForCheck, IsForReturned, IsForRewrite, IsForDone, IsForText, IsForWrite, IsForMemory, IsFaultless, IsSilent, KeepsContents, ChangesOnly, before_writes}
+use Rattle.freeme.specs.Causes.{AskFor, AskForGiven, IsKnownAs, IsKnownStatus, SaysWords, SaysRead, SaysRefused, SaysLimit, SaysLink, SaysCheck, SaysNotFreed, SaysDone, SaysUnwritten, SaysWrite, SaysMemory, LacksLine, IsForWords, IsForRead, IsForBytes, IsForLimit, IsForLink, IsForCheck, IsForReturned, IsForRewrite, IsForDone, IsForText, IsForWrite, IsForMemory, IsFaultless, IsSilent, KeepsContents, ChangesOnly, before_writes}
 use Rattle.fm_load.specs.Causes.{FailsARead, FailsAWrite, IsMissing, HasTooMany, IsKnownLong, IsKnownRefused, IsKnownUnlinked, IsKnownUntyped}
 use Rattle.fm_load.specs.LinkRefusal.{cause_line}
 use Rattle.fm_load.specs.Returned.{ReadsFirst, ReadsFrom, with_contents}
@@ -32,13 +29,14 @@ use Rattle.fm_cli_requests.specs.FreemeRequest.{FreemeJob, Asks, AskNoJob, AskNo
 use Rattle.fm_cli_requests.specs.ProgramText.{AskForNoText}
 use Rattle.freeme.specs.Jobs.{given_of, main_name}
 use Rattle.fm_load.specs.Taking.{total_bytes, IsTooLong, IsRefused}
-use Rattle.freeme.specs.TopCall.{IsFirstCause, StaysWithin, IsBroken, ComesTo, ComesOfJob, ComesOf, IsReported, Outcome}
+use Rattle.freeme.specs.TopCall.{StaysWithin, IsBroken, ComesTo, ComesOfJob, ComesOf, IsReported, Outcome}
 use Rattle.freeme.specs.Refusal.{rewrite_status}
 use Rattle.freeme.specs.declared.refusal.FreeRefusal.TheVariants as free_refusal
 use Rattle.freeme.specs.declared.status.TheConstants.{CALLS_FREE, POOL_FULL, METHOD_TOO_LONG}
 use Rattle.fm_load.specs.declared.refusal.JobRefusal.TheVariants as job_refusal
 use Rattle.fm_load.specs.Refusal.{IsRefusedBy, many_line}
 use Rattle.fm_cli.specs.CommandRefusal.{memory_line}
+use Rattle.freeme.proofs.AnalysedLemmas.{cause_becomes, done_becomes, Rewrites, rewrites_once}
 use Rattle.freeme.proofs.JobLemmas.{reads_within}
 use Rattle.freeme.proofs.ReportedLemmas.{IsLinePut, both_kept, line_faultless, line_put, outcome_line, outcome_status, own_sink, own_reports, put_failed, reported_silent, is_unreported}
 use Rattle.fm_load.proofs.ReadLemmas.{reads_none}
@@ -47,7 +45,7 @@ use Rattle.fm_load.proofs.GivenLemmas.{Behind, behind_once, given_passes}
 use Rattle.fm_load.proofs.KnownLemmas.{bytes_stop, long_stops, missing_stops, not_empty, not_typed}
 use Rattle.fm_load.proofs.RefusalLemmas.{class_status}
 use Rattle.fm_load.proofs.ReturnedLemmas.{IsSeen, known_seen, not_unread, reads_first, returned_seen}
-use Rattle.fm_load.proofs.VerdictLemmas.{Ends, EndsOnce, Links, links_once, Verdict, one_verdict}
+use Rattle.fm_load.proofs.VerdictLemmas.{EndsOnce, Links, links_once, Verdict, one_verdict}
 
 -- ---- what a status says
 
@@ -213,48 +211,16 @@ keeps words old new o (inr (inr lacking)) done write memory = unchanged_where_sa
 
 -- ---- verdicts, where contents are known
 
--- this status comes of classes that are linked and typed
-abbrev Rewrites : List ℕ → Ends
-Rewrites main classes status = BecomesAs status classes main (first_call (program_of classes main))
-
--- one does, as exact facts over least typings serve alike
-rewrites_once : LeastFactsServeAlike → (main : List ℕ) → EndsOnce (Rewrites main)
-rewrites_once alike main classes s t = by (first_call (program_of classes main)) where
-  by : (call : Option (ℕ × ℕ)) → BecomesAs s classes main call → BecomesAs t classes main call → s ≡ t
-  by (Some call) a b = sym a ∙ b
-  by None a b =
-      let same = alike classes (program_of classes main) a.facts b.facts (record { exact = a.exact; least = a.least }) (record { exact = b.exact; least = b.least }) in
-      sym a.status_is ∙ ap cause_status same.cause ∙ b.status_is
-
--- by facts, where there is no call of FreeMe
-becomes_by : (main : List ℕ) (classes : List ClassDef) (status : ℕ) → first_call (program_of classes main) ≡ None → BecomesByFacts status classes main → Rewrites main classes status
-becomes_by main classes status none by = let P : Option (ℕ × ℕ) → Type 0 = BecomesAs status classes main in subst P (sym none) by
-
-by_facts : (main : List ℕ) (classes : List ClassDef) (cause : RewriteFail) → AreNotRewritten classes main cause → Rewrites main classes (rewrite_status cause)
-by_facts main classes cause refused = becomes_by main classes (rewrite_status cause) refused.no_call (record {
-  facts = refused.facts;
-  exact = refused.exact;
-  least = refused.least;
-  status_is = ap cause_status refused.first;
-})
-
--- the first cause gives its status
-cause_becomes : (main : List ℕ) (classes : List ClassDef) (cause : RewriteFail) → IsFirstCause classes main cause → Rewrites main classes (rewrite_status cause)
-cause_becomes main classes (fail.CallsFree method offset) first = let P : Option (ℕ × ℕ) → Type 0 = BecomesAs CALLS_FREE classes main in subst P (sym first) refl
-cause_becomes main classes (fail.PoolFull class indices) first = by_facts main classes (fail.PoolFull class indices) first
-cause_becomes main classes (fail.MethodTooLong method bytes) first = by_facts main classes (fail.MethodTooLong method bytes) first
-cause_becomes main classes fail.NoMemory first = absurd first
-
 -- the verdict on the files of a job
 abbrev JobVerdict : (Bytes → Option Bytes) → FreemeJob → ℕ → Type 0
-JobVerdict held job status = Verdict (Behind job.made (Links (Rewrites (main_name job)) (main_name job))) held job.files status
+JobVerdict held job status = Verdict (Behind job.made (Links (Rewrites job) (main_name job))) held job.files status
 
 module _ (job : FreemeJob) (old new : Disk) (held : Bytes → Option Bytes) (seen : IsSeen (given_of job) held old new) where
   -- classes that are given, with their outcome
   given_known : {classes : List ClassDef} → AreGiven (given_of job) old.contents classes → ReadsFirst job.files classes old new → (status : ℕ)
-      → Links (Rewrites (main_name job)) (main_name job) classes status → JobVerdict held job status
+      → Links (Rewrites job) (main_name job) classes status → JobVerdict held job status
   given_known {classes} are reads status last =
-      inr (inr (given_passes (Links (Rewrites (main_name job)) (main_name job)) held refl (seen.given classes are reads) status last))
+      inr (inr (given_passes (Links (Rewrites job) (main_name job)) held refl (seen.given classes are reads) status last))
 
   -- the verdict of an outcome, unless it is for a fault or for memory
   abbrev Comes : ℕ → Type 0
@@ -263,17 +229,11 @@ module _ (job : FreemeJob) (old new : Disk) (held : Bytes → Option Bytes) (see
   verdict_of : (o : Outcome) → ComesTo job old new o → Comes (outcome_status o)
   verdict_of (Ok lines) comes =
       let freed = comes.freed in
-      let made = freed.rewritten in
       inl (given_known freed.checked.linked.source (reads_first job.files freed.classes old new comes.reads) DONE (inr (
         freed.checked.linked.linked,
         inr (
           freed.checked.typed,
-          becomes_by (main_name job) freed.classes DONE made.no_call (record {
-            facts = made.full.facts;
-            exact = made.full.exact;
-            least = made.least;
-            status_is = ap cause_status made.no_cause;
-          }),
+          done_becomes job freed.classes freed.program freed.analysed comes.made freed.rewritten,
         ),
       )))
   verdict_of (Err (free_refusal.Job (job_refusal.Shared refusal.Words))) comes = absurd comes
@@ -281,7 +241,7 @@ module _ (job : FreemeJob) (old new : Disk) (held : Bytes → Option Bytes) (see
   verdict_of (Err (free_refusal.Job (job_refusal.Shared (refusal.Read file)))) comes = inr (inl refl)
   verdict_of (Err (free_refusal.Rewrite cause name)) comes =
       inl (given_known comes.checked.linked.source (reads_first job.files comes.classes old new comes.reads) (rewrite_status cause)
-      (inr (comes.checked.linked.linked, inr (comes.checked.typed, cause_becomes (main_name job) comes.classes cause comes.refused))))
+      (inr (comes.checked.linked.linked, inr (comes.checked.typed, cause_becomes job comes.classes comes.program comes.analysed cause comes.refused))))
   verdict_of (Err (free_refusal.Job (job_refusal.Shared refusal.OutOfMemory))) comes = inr (inr (inr refl))
   verdict_of (Err (free_refusal.Job (job_refusal.TooManyFiles count))) comes = let count = comes.count_is in let many = comes.many in inl (inl (omega arith, refl))
   verdict_of (Err (free_refusal.Job (job_refusal.TooLong file))) comes = inl (inr (inl (seen.long file.now comes)))
@@ -297,12 +257,12 @@ module _ (job : FreemeJob) (old new : Disk) (held : Bytes → Option Bytes) (see
   -- files of this verdict have its status, unless there was a fault or memory was lacking
   status_of : LeastFactsServeAlike → (status : ℕ) (o : Outcome) → JobVerdict held job status → ComesTo job old new o → Contains (status ∷ instead_for_file) (outcome_status o)
   status_of alike status o verdict comes = go (verdict_of o comes) where
-    once : EndsOnce (Behind job.made (Links (Rewrites (main_name job)) (main_name job)))
-    once = behind_once job.made (Links (Rewrites (main_name job)) (main_name job)) (links_once (Rewrites (main_name job)) (main_name job) (rewrites_once alike (main_name job)))
+    once : EndsOnce (Behind job.made (Links (Rewrites job) (main_name job)))
+    once = behind_once job.made (Links (Rewrites job) (main_name job)) (links_once (Rewrites job) (main_name job) (rewrites_once alike job))
 
     go : Comes (outcome_status o) → Contains (status ∷ instead_for_file) (outcome_status o)
     go (inl own) =
-        (0, omega arith, one_verdict (Behind job.made (Links (Rewrites (main_name job)) (main_name job))) once held job.files status (outcome_status o) verdict own)
+        (0, omega arith, one_verdict (Behind job.made (Links (Rewrites job) (main_name job))) once held job.files status (outcome_status o) verdict own)
     go (inr (inl e)) = (1, omega arith, sym e)
     go (inr (inr (inl e))) = (2, omega arith, sym e)
     go (inr (inr (inr e))) = (3, omega arith, sym e)
@@ -321,16 +281,16 @@ module _ (job : FreemeJob) (disk : Disk) (held : Bytes → Option Bytes) (known 
 
   unlinked_verdict : IsKnownUnlinked disk (given_of job) → JobVerdict held job LINK
   unlinked_verdict cause =
-      inr (inr (given_passes (Links (Rewrites (main_name job)) (main_name job)) held known cause.source LINK (inl (cause.refused, refl))))
+      inr (inr (given_passes (Links (Rewrites job) (main_name job)) held known cause.source LINK (inl (cause.refused, refl))))
 
   untyped_verdict : IsKnownUntyped disk (given_of job) → JobVerdict held job CHECK
   untyped_verdict cause =
-      inr (inr (given_passes (Links (Rewrites (main_name job)) (main_name job)) held known cause.linked.source CHECK
+      inr (inr (given_passes (Links (Rewrites job) (main_name job)) held known cause.linked.source CHECK
       (inr (cause.linked.linked, inl (cause.untyped, refl)))))
 
   rewriting_verdict : (status : ℕ) → IsKnownAs status disk job → JobVerdict held job status
   rewriting_verdict status cause =
-      inr (inr (given_passes (Links (Rewrites (main_name job)) (main_name job)) held known cause.checked.linked.source status
+      inr (inr (given_passes (Links (Rewrites job) (main_name job)) held known cause.checked.linked.source status
       (inr (cause.checked.linked.linked, inr (cause.checked.typed, cause.becomes)))))
 
   known_verdict : (status : ℕ) → IsKnownStatus status disk job → JobVerdict held job status

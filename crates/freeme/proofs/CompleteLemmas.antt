@@ -24,7 +24,7 @@ use Rattle.freeme.proofs.CauseLemmas.{without_read}
 use Rattle.freeme.proofs.WrittenLemmas.{names_same}
 use Rattle.freeme.specs.Causes.{AskFor, BecomesAs, IsForDone, IsForRead, IsForWrite, IsKnownAs, SaysRead, SaysWrite, cause_status}
 use Rattle.freeme.specs.Complete.{CanBeDone, IsComplete, NothingFails}
-use Rattle.freeme.specs.Jobs.{given_of, main_name}
+use Rattle.freeme.specs.Jobs.{given_of}
 use Rattle.freeme.specs.TopCall.{IsUnreported, IsUnwritten, Outcome}
 use Rattle.freeme.specs.Writing.{IsFileOf, class_text, file_name, written_name}
 
@@ -76,8 +76,15 @@ module _ {words : List Bytes} {old new : Disk} {before after report report' : Ou
   -- it is known to be done
   known_as_done : AskFor words (IsKnownAs DONE old)
   known_as_done =
-      let P : Option (ℕ × ℕ) → Type 0 = BecomesAs DONE classes (main_name job) in
-      let free = subst P (sym can.no_call) (record { facts = can.facts; exact = can.exact; least = can.least; status_is = ap cause_status can.no_cause }) in
+      let P : Option (ℕ × ℕ) → Type 0 = BecomesAs DONE job classes in
+      let free = subst P (sym can.no_call) (record {
+        program = can.program;
+        analysed = can.analysed;
+        facts = can.facts;
+        exact = can.exact;
+        least = can.least;
+        status_is = ap cause_status can.no_cause;
+      }) in
       (job, (asked, record { known = can.known; classes = classes; checked = can.checked; becomes = free }))
 
   not_read : ¬ SaysRead words old new before after report report'

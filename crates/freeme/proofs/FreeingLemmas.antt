@@ -12,13 +12,13 @@ use Rattle.fm_place.specs.Safe.{full_plans, IsProgramOf}
 use Rattle.fm_rewrite.proofs.JudgedLemmas.{classes_counted}
 use Rattle.fm_rewrite.proofs.ProgramMeantLemmas.{methods_counted}
 use Rattle.fm_rewrite.specs.FreeCalls.{call_among, call_in_method, first_call}
-use Rattle.fm_rewrite.specs.Rewritten.{AreNotRewrittenOf, ComesOfRewriting, ComesOfRewritingOf, first_cause, first_full, first_long, full_from, full_pool, long_among, long_from, long_method, method_too_long, pool_full}
+use Rattle.fm_rewrite.specs.Rewritten.{AreNotRewrittenOf, ComesOfRewritingOf, first_cause, first_full, first_long, full_from, full_pool, long_among, long_from, long_method, method_too_long, pool_full}
 use Rattle.fm_rewrite.specs.declared.error.RewriteFail.{RewriteFail}
 use Rattle.fm_rewrite.specs.declared.error.RewriteFail.TheVariants as fail
 use Rattle.fm_rewrite.specs.inner.ByPlans.{method_count}
 use Rattle.fm_world.specs.BuiltIns.{built_in}
 use Rattle.fm_world.specs.Members.{methods_of}
-use Rattle.fm_world.specs.Programs.{Program, program_of}
+use Rattle.fm_world.specs.Programs.{Program}
 use Rattle.freeme.specs.inner.Freeing.{ComesOfFreeing, IsNamed, IsThere}
 use Rattle.freeme.specs.declared.refusal.FreeRefusal.TheVariants as free_refusal
 
@@ -137,9 +137,9 @@ module _ (given : List ClassDef) (main : List ℕ) (p : Program) (program_is : I
   cause_there fail.NoMemory comes = tt
 
 -- and is reported by its name
-pub cause_reported : (given : List ClassDef) (main : List ℕ) (cause : RewriteFail) (name : List ℕ) → ComesOfRewriting given main (Err cause)
-    → IsNamed (program_of given main).outline cause name → ComesOfFreeing given main (Err (free_refusal.Rewrite cause name))
-cause_reported given main (fail.CallsFree method offset) name comes named = (comes, named)
-cause_reported given main (fail.PoolFull class indices) name comes named = (comes, named)
-cause_reported given main (fail.MethodTooLong method bytes) name comes named = (comes, named)
-cause_reported given main fail.NoMemory name comes named = absurd named
+pub cause_reported : (given : List ClassDef) (p : Program) (cause : RewriteFail) (name : List ℕ) → ComesOfRewritingOf p given (Err cause)
+    → IsNamed p.outline cause name → ComesOfFreeing p given (Err (free_refusal.Rewrite cause name))
+cause_reported given p (fail.CallsFree method offset) name comes named = (comes, named)
+cause_reported given p (fail.PoolFull class indices) name comes named = (comes, named)
+cause_reported given p (fail.MethodTooLong method bytes) name comes named = (comes, named)
+cause_reported given p fail.NoMemory name comes named = absurd named

@@ -1,11 +1,11 @@
 -- What a job leaves after its files are read, and after its classes are written.
-use Rattle.std.proofs.Common.{◌≡◌, ◌≢◌, ◌≤◌, ℕ, ◌+◌, inl, inr, ⊎_elim, List, [], ◌∷◌, ◌++◌, length, map, take, Contains, Option, Some, None, IfSome, IsSomeAnd, Bor, Result, Ok, Err, string_bytes, refl, sym, ap, ◌∙◌, subst, arith}
+use Rattle.std.proofs.Common.{false, ◌≡◌, ◌≢◌, ◌≤◌, ℕ, ◌+◌, inl, inr, ⊎_elim, List, [], ◌∷◌, ◌++◌, length, map, take, Contains, Option, Some, None, IfSome, IsSomeAnd, Bor, Result, Ok, Err, string_bytes, refl, sym, ap, ◌∙◌, subst, arith}
 use Rattle.std.specs.List.{AllByRecursion, slice_get}
 use Rattle.std.proofs.lemmas.List.{take-map}
 use Rattle.std.proofs.lemmas.List.Elements.{All-contains, All-from_recursion}
 use Rattle.std.proofs.lemmas.Option.{slice_get-map}
 use Rattle.std.specs.Option.{option_map}
-use Rattle.fm_summ_shapes.specs.Analysed.{IsAccepted}
+use Rattle.fm_summ_shapes.specs.Analysed.{AreAnalysable, IsAccepted}
 use Rattle.fm_law_beside_freeme.specs.Written.{WrittenHaveLengthsAlone}
 use Rattle.fm_law_relinked.specs.Again.{SafeClassesLink}
 use Rattle.fm_base.proofs.ListFacts.{AllByRecursion-both, AllByRecursion-weaker}
@@ -21,18 +21,21 @@ use Rattle.fm_cli.specs.Outside.{HasNoFileFault, HasWriteFault}
 use Rattle.fm_cli.specs.declared.command_refusal.CommandRefusal.TheVariants as refusal
 use Rattle.fm_check_program.specs.Untyped.{AreTyped}
 use Rattle.fm_link_refusals.specs.Refused.{refusal_of}
-use Rattle.fm_law_headline.specs.Headline.{ClassesDoTheSame, DoesTheSame}
+use Rattle.fm_law_headline.specs.Headline.{ClassesDoTheSame, DoesTheSame, NarrowedClassesDoTheSame}
 use Rattle.fm_law_headline.specs.Taken.{CheckedAreTaken}
 use Rattle.fm_law_retyped.specs.Retyped.{SafeClassesAreTyped}
 use Rattle.fm_place.specs.Safe.{IsProgramOf}
-use Rattle.fm_rewrite.proofs.JudgedLemmas.{judged_spelled}
-use Rattle.fm_rewrite.specs.Rewritten.{AreJudged, AreRewritten}
+use Rattle.fm_rapid.specs.Opening.{HasOpening}
+use Rattle.fm_rewrite.proofs.FreeCallsLemmas.{first_call_is}
+use Rattle.fm_rewrite.proofs.JudgedLemmas.{judged_analysable, judged_spelled}
+use Rattle.fm_rewrite.specs.Rewritten.{AreJudged, AreRewrittenOf}
 use Rattle.fm_rewrite.specs.declared.counts.Count.{Count}
 use Rattle.fm_rewrite.specs.declared.error.RewriteFail.{RewriteFail}
 use Rattle.fm_rewrite.specs.declared.rewriting.Rewritten.{Rewritten}
 use Rattle.fm_world.specs.Causes.{Refusal}
 use Rattle.fm_world.specs.Linking.{refusals, IsLinked}
 use Rattle.fm_world.specs.Programs.{Program, program_of}
+use Rattle.freeme.proofs.AnalysedLemmas.{does_analysed, is_program, opens}
 use Rattle.freeme.proofs.WrittenLemmas.{one_count_each, written_accepted, written_apart, written_spelled}
 use Rattle.freeme.proofs.TakenAgain.{again_taken}
 use Rattle.freeme.proofs.UnheldLemmas.{are_still}
@@ -40,7 +43,7 @@ use Rattle.fm_law_spelled.specs.Names.{AreNew}
 use Rattle.fm_load.specs.Given.{AreGiven, Given, IsFirstUntypedName, IsMadeAlone, IsUntouched, IsNotLinked, IsNotTyped, AreChecked, given_program, made_classes}
 use Rattle.fm_load.specs.Changes.{RisesOnlyAt, ChangesOnlyAt}
 use Rattle.fm_cli_requests.specs.FreemeRequest.{FreemeJob, job_of}
-use Rattle.freeme.specs.Jobs.{given_of, main_name}
+use Rattle.freeme.specs.Jobs.{given_of, IsAnalysed, IsJobProgram, main_name}
 use Rattle.fm_load.specs.Taking.{AllTaken, ClassIsSpelled}
 use Rattle.freeme.specs.TopCall.{AreFreed, AreTakenAgain, IsFirstCause, IsNotFreed, StaysWithin, IsDone, ComesTo, cause_name}
 use Rattle.freeme.specs.Writing.{HasName, class_text, written_name, class_lines, IsClassFileIn, IsFileOf, AreWritten, AllWritten, class_writes}
@@ -68,7 +71,7 @@ have_names classes spelled = AllByRecursion-weaker ClassIsSpelled HasName named 
   named c spells = let found = Some-from_some_and (class_name_at c.pool.entries c.this_class) _ spells.this_class in IsSome-from_some (class_name_at c.pool.entries c.this_class) found.0 found.1
 
 -- they are accepted
-accepted_classes : {given : Given} {contents : Contents} {classes : List ClassDef} → AreGiven given contents classes → AllByRecursion IsAccepted classes
+pub accepted_classes : {given : Given} {contents : Contents} {classes : List ClassDef} → AreGiven given contents classes → AllByRecursion IsAccepted classes
 accepted_classes {given} {contents} {classes} are =
     AllByRecursion-weaker (λ c. ClassIsSpelled c × Profile c) IsAccepted
     (λ c both. record { spelled = (class_bytes c, both.0); within = both.1.limits; supported = both.1.supported }) classes
@@ -117,12 +120,14 @@ module _ (job : FreemeJob) (old new : Disk) (classes : List ClassDef) (source : 
   }
 
   -- there is a cause not to rewrite it
-  pub is_not_freed : (cause : RewriteFail) (name : Bytes) → AreChecked (given_of job) old.contents classes → IsFirstCause classes (main_name job) cause
-      → name ≡ cause_name (given_program (given_of job) classes).outline cause → IsNotFreed job cause name old new
-  is_not_freed cause name checked refused is = record {
+  pub is_not_freed : (p : Program) → IsJobProgram job classes p → (cause : RewriteFail) (name : Bytes) → AreChecked (given_of job) old.contents classes
+      → IsFirstCause p classes cause → name ≡ cause_name (given_program (given_of job) classes).outline cause → IsNotFreed job cause name old new
+  is_not_freed p analysed cause name checked refused is = record {
     classes = classes;
     checked = checked;
     reads = calls;
+    program = p;
+    analysed = analysed;
     refused = refused;
     name_is = is;
     untouched = read_untouched;
@@ -311,59 +316,90 @@ module _ {request : FreemeRequest} {names : List (Bor Bytes)} {classes : List Cl
   pub are_judged : {program : Program} → IsLinked classes (main_name (job_of request)) (Ok program) × AreTyped (program_of classes (main_name (job_of request))) → AreJudged classes program
   are_judged (linked, typed) = record {
     main = main_name (job_of request);
-    program_is = subst (IsProgramOf classes (main_name (job_of request))) (sym linked.1) refl;
+    program_is = is_program false classes (main_name (job_of request)) _ linked.1;
     accepted = accepted_classes reads.source;
     linked = linked.0;
     typed = typed;
   }
 
+  -- the walk over what it reaches may begin
+  pub may_be_analysed : {program : Program} → IsLinked classes (main_name (job_of request)) (Ok program) × AreTyped (program_of classes (main_name (job_of request))) → AreAnalysable program
+  may_be_analysed {program} judged = judged_analysable classes program (are_judged judged)
+
+  pub may_open : {program : Program} → IsLinked classes (main_name (job_of request)) (Ok program) × AreTyped (program_of classes (main_name (job_of request))) → HasOpening program.outline
+  may_open (linked, typed) =
+      let main = main_name (job_of request) in
+      let may = subst AreAnalysable linked.1 (may_be_analysed (linked, typed)) in
+      subst (λ (p : Program). HasOpening p.outline) (sym linked.1) (opens classes main (accepted_classes reads.source) linked.0 may)
+
+  -- the program that is analysed is that of the job
+  pub is_analysed : {program : Program} (p : Program) → IsLinked classes (main_name (job_of request)) (Ok program) × AreTyped (program_of classes (main_name (job_of request)))
+      → IsAnalysed request.rapid program p → IsJobProgram (job_of request) classes p
+  is_analysed p (linked, typed) is = subst (λ (whole : Program). IsAnalysed request.rapid whole p) linked.1 is
+
+  -- it is that of judged class files
+  abbrev of_given : (p : Program) → IsJobProgram (job_of request) classes p → IsProgramOf classes (main_name (job_of request)) p
+  of_given p analysed = is_program request.rapid classes (main_name (job_of request)) p analysed
+
+  abbrev pub judged : (p : Program) → AreChecked (given_of (job_of request)) old.contents classes → IsJobProgram (job_of request) classes p → AreJudged classes p
+  judged p checked analysed = record {
+    main = main_name (job_of request);
+    program_is = of_given p analysed;
+    accepted = accepted_classes reads.source;
+    linked = checked.linked.linked;
+    typed = checked.typed;
+  }
+
   -- a program that isn't rewritten
-  pub ends_not_freed : AreChecked (given_of (job_of request)) old.contents classes → (r : FreeRefusal) → ComesOfFreeing classes (main_name (job_of request)) (Err r) → ComesTo (job_of request) old between (Err r)
-  ends_not_freed checked (free_refusal.Rewrite cause name) now = is_not_freed (job_of request) old between classes reads.source reads.faultless reads.calls reads.all cause name checked now.0 now.1
-  ends_not_freed checked (free_refusal.Job (job_refusal.Shared refusal.OutOfMemory)) now = inl (read_untouched (job_of request) old between classes reads.source reads.faultless reads.calls reads.all)
-  ends_not_freed checked r now = absurd now
+  pub ends_not_freed : (p : Program) → AreChecked (given_of (job_of request)) old.contents classes → IsJobProgram (job_of request) classes p → (r : FreeRefusal)
+      → ComesOfFreeing p classes (Err r) → ComesTo (job_of request) old between (Err r)
+  ends_not_freed p checked analysed (free_refusal.Rewrite cause name) now =
+      is_not_freed (job_of request) old between classes reads.source reads.faultless reads.calls reads.all p analysed cause name checked now.0
+      (now.1 ∙ ap (λ (q : Program). cause_name q.outline cause) (of_given p analysed))
+  ends_not_freed p checked analysed (free_refusal.Job (job_refusal.Shared refusal.OutOfMemory)) now = ends_out_of_memory
+  ends_not_freed p checked analysed r now = absurd now
 
   -- the classes that are rewritten, with what is reported of them
-  module _ (checked : AreChecked (given_of (job_of request)) old.contents classes) (made : Rewritten) (rewritten : AreRewritten classes (main_name (job_of request)) made) where
-    judged : AreJudged classes (program_of classes (main_name (job_of request)))
-    judged = record {
-      main = main_name (job_of request);
-      program_is = refl;
-      accepted = accepted_classes reads.source;
-      linked = checked.linked.linked;
-      typed = checked.typed;
-    }
+  module _ (checked : AreChecked (given_of (job_of request)) old.contents classes) {p : Program} (analysed : IsJobProgram (job_of request) classes p) (made : Rewritten) (rewritten : AreRewrittenOf p classes made) where
+    abbrev own_judged : AreJudged classes p
+    own_judged = judged p checked analysed
 
     made_spelled : AllByRecursion ClassIsSpelled made.classes.items
     made_spelled =
         are_spelled_so made.classes.items
-        (written_spelled classes (program_of classes (main_name (job_of request))) made judged (given_short reads.source) rewritten)
+        (written_spelled classes p made own_judged (given_short reads.source) rewritten)
 
-    taken_again : SafeClassesLink → SafeClassesAreTyped → WrittenHaveLengthsAlone → AreTakenAgain classes (main_name (job_of request)) made rewritten
+    taken_again : SafeClassesLink → SafeClassesAreTyped → WrittenHaveLengthsAlone → AreTakenAgain p classes (main_name (job_of request)) made rewritten
     taken_again link retype lengths =
-        again_taken classes (main_name (job_of request)) made (judged_spelled classes (program_of classes (main_name (job_of request))) judged) checked.linked.linked rewritten
-        link retype lengths
+        again_taken classes (main_name (job_of request)) p (of_given p analysed) made (judged_spelled classes p own_judged) checked.linked.linked rewritten link
+        retype lengths
 
     made_profiles : AllByRecursion Profile made.classes.items
     made_profiles =
-        written_accepted classes (program_of classes (main_name (job_of request))) made judged (given_accepted reads.source) rewritten
+        written_accepted classes p made own_judged (given_accepted reads.source) rewritten
 
-    does_the_same : CheckedAreTaken → ClassesDoTheSame → DoesTheSame classes (main_name (job_of request)) made.classes.items rewritten.marks rewritten.full
-    does_the_same taken same =
-        same classes (main_name (job_of request)) (taken (given_of (job_of request)) old.contents classes checked rewritten.no_call)
+    does_the_same : CheckedAreTaken → ClassesDoTheSame → NarrowedClassesDoTheSame
+        → DoesTheSame classes (main_name (job_of request)) made.classes.items rewritten.marks rewritten.full
+    does_the_same taken same narrow =
+        let main = main_name (job_of request) in
+        let no_call = sym (first_call_is classes main p (of_given p analysed)) ∙ rewritten.no_call in
+        does_analysed request.rapid classes main p analysed same narrow (taken (given_of (job_of request)) old.contents classes checked no_call)
         made.classes.items rewritten.marks rewritten.full
         (AllByRecursion-weaker ClassIsSpelled HasSpelling (λ c spells. (class_bytes c, spells)) made.classes.items made_spelled)
         (AllByRecursion-weaker Profile IsSupported (λ c profile. profile.supported) made.classes.items made_profiles)
 
-    abbrev freed : SafeClassesLink → SafeClassesAreTyped → WrittenHaveLengthsAlone → CheckedAreTaken → ClassesDoTheSame → AreFreed (job_of request) old.contents made
-    freed link retype lengths taken same = record {
+    abbrev freed : SafeClassesLink → SafeClassesAreTyped → WrittenHaveLengthsAlone → CheckedAreTaken → ClassesDoTheSame → NarrowedClassesDoTheSame
+        → AreFreed (job_of request) old.contents made
+    freed link retype lengths taken same narrow = record {
       classes = classes;
       checked = checked;
+      program = p;
+      analysed = analysed;
       rewritten = rewritten;
       spelled = made_spelled;
       profile = made_profiles;
       again = taken_again link retype lengths;
-      does = does_the_same taken same;
+      does = does_the_same taken same narrow;
     }
 
     -- and by slices of both
@@ -375,7 +411,7 @@ module _ {request : FreemeRequest} {names : List (Bor Bytes)} {classes : List Cl
       lent_named = have_names written lent_spelled
 
       pub lent_apart : AreApart written
-      lent_apart = subst AreApart (sym lent) (apart_of made.classes.items (written_apart classes (program_of classes (main_name (job_of request))) made judged rewritten))
+      lent_apart = subst AreApart (sym lent) (apart_of made.classes.items (written_apart classes p made own_judged rewritten))
 
       pub lent_counted : {counts : List Count} → counts ≡ made.counts.items → length counts ≡ length written
       lent_counted reported = ap length reported ∙ one_count_each classes made rewritten ∙ ap length (sym lent)
@@ -385,15 +421,15 @@ module _ {request : FreemeRequest} {names : List (Bor Bytes)} {classes : List Cl
     pub ends_within : (r : Result Unit JobRefusal) → ComesOfClasses request.folder.now written between new r → StaysWithin (job_of request) old new
     ends_within r comes = writes_within (job_of request) old between new reads.all keeps (writes_in request.folder.now written between new r comes)
 
-  module _ {new : Disk} (keeps : KeepsReads between new) (link : SafeClassesLink) (retype : SafeClassesAreTyped) (lengths : WrittenHaveLengthsAlone) (taken : CheckedAreTaken) (same : ClassesDoTheSame) (checked : AreChecked (given_of (job_of request)) old.contents classes) (made : Rewritten) (rewritten : AreRewritten classes (main_name (job_of request)) made) {written : List ClassDef} (lent : written ≡ made.classes.items) where
+  module _ {new : Disk} (keeps : KeepsReads between new) (link : SafeClassesLink) (retype : SafeClassesAreTyped) (lengths : WrittenHaveLengthsAlone) (taken : CheckedAreTaken) (same : ClassesDoTheSame) (narrow : NarrowedClassesDoTheSame) (checked : AreChecked (given_of (job_of request)) old.contents classes) {p : Program} (analysed : IsJobProgram (job_of request) classes p) (made : Rewritten) (rewritten : AreRewrittenOf p classes made) {written : List ClassDef} (lent : written ≡ made.classes.items) where
     pub ends_done : {counts : List Count} (lines : List ℕ) → counts ≡ made.counts.items → lines ≡ class_lines written counts → AllWritten request.folder.now written between new
         → IsDone (job_of request) lines old new
     ends_done lines reported is now =
         let P : List ClassDef → Type 0 = λ cs. AllWritten request.folder.now cs between new in
-        is_done (job_of request) old between new reads.all keeps made reads.faultless (freed checked made rewritten link retype lengths taken same) reads.calls lines
+        is_done (job_of request) old between new reads.all keeps made reads.faultless (freed checked analysed made rewritten link retype lengths taken same narrow) reads.calls lines
         (is ∙ ap (class_lines written) reported ∙ ap (λ (cs : List ClassDef). class_lines cs made.counts.items) lent) (subst P lent now)
 
     pub ends_unwritten : (r : JobRefusal) → ComesOfClasses request.folder.now written between new (Err r) → ComesTo (job_of request) old new (Err (free_refusal.Job r))
     ends_unwritten r now =
         let P : List ClassDef → Type 0 = λ cs. ComesOfClasses request.folder.now cs between new (Err r) in
-        write_ended (job_of request) old between new reads.all keeps made reads.faultless (freed checked made rewritten link retype lengths taken same) reads.calls r (subst P lent now)
+        write_ended (job_of request) old between new reads.all keeps made reads.faultless (freed checked analysed made rewritten link retype lengths taken same narrow) reads.calls r (subst P lent now)

@@ -1,3 +1,4 @@
+pub mod AnalysedLemmas
 pub mod CauseLemmas
 pub mod CompleteLemmas
 pub mod FreeingLemmas

@@ -8,9 +8,9 @@ use Rattle.fm_code.specs.Spells.{HasSpelling}
 use Rattle.fm_code.specs.declared.class_file.ClassDef.{ClassDef}
 use Rattle.fm_code.specs.declared.code_array.Code.{Code}
 use Rattle.fm_place.proofs.FullLemmas.{method-safe}
-use Rattle.fm_place.specs.Safe.{full_plans, SafeOf}
+use Rattle.fm_place.specs.Safe.{full_plans, IsProgramOf, SafeOf}
 use Rattle.fm_law_retyped.specs.Retyped.{SafeClassesAreTyped}
-use Rattle.fm_rewrite.specs.Rewritten.{AreRewritten, AreRewrittenOf}
+use Rattle.fm_rewrite.specs.Rewritten.{AreRewrittenOf}
 use Rattle.fm_rewrite.specs.declared.rewriting.Rewritten.{Rewritten}
 use Rattle.fm_types.specs.Typed.{Typed}
 use Rattle.fm_world.specs.Linking.{refusals}
@@ -35,14 +35,14 @@ own_safe p given made are = record {
   marks_are = are.full.marks_are;
 }
 
-pub again_taken : (given : List ClassDef) (main : List ℕ) (made : Rewritten) → AllByRecursion HasSpelling given → refusals given main ≡ []
-    → (are : AreRewritten given main made) → SafeClassesLink → SafeClassesAreTyped → WrittenHaveLengthsAlone → AreTakenAgain given main made are
-again_taken given main made spelled linked are link retype lengths =
+pub again_taken : (given : List ClassDef) (main : List ℕ) (p : Program) → IsProgramOf given main p → (made : Rewritten) → AllByRecursion HasSpelling given
+    → refusals given main ≡ [] → (are : AreRewrittenOf p given made) → SafeClassesLink → SafeClassesAreTyped → WrittenHaveLengthsAlone
+    → AreTakenAgain p given main made are
+again_taken given main p is made spelled linked are link retype lengths =
     let written = made.classes.items in
-    let p = program_of given main in
     let safe = own_safe p given made are in
     record {
       links = (link given main p written are.marks spelled linked safe).links;
-      typed = λ ready method. typed_if_coded (program_of written main) method (retype given main p refl written are.marks spelled linked safe ready method);
-      files = λ ready. lengths given main p refl written are.marks spelled linked safe ready;
+      typed = λ ready method. typed_if_coded (program_of written main) method (retype given main p is written are.marks spelled linked safe ready method);
+      files = λ ready. lengths given main p is written are.marks spelled linked safe ready;
     }

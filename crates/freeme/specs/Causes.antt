@@ -14,7 +14,7 @@ use Rattle.fm_rewrite.specs.FreeCalls.{first_call}
 use Rattle.fm_rewrite.specs.Rewritten.{first_cause}
 use Rattle.fm_rewrite.specs.declared.error.RewriteFail.{RewriteFail}
 use Rattle.fm_world.specs.Causes.{Refusal}
-use Rattle.fm_world.specs.Programs.{program_of}
+use Rattle.fm_world.specs.Programs.{Program}
 use Rattle.fm_load.specs.ClassRefusal.{class_refusal_line, class_refusal_status}
 use Rattle.fm_load.specs.LinkRefusal.{link_line}
 use Rattle.fm_load.specs.Refusal.{IsRefusedBy, check_line, many_line, long_line, write_line}
@@ -22,7 +22,7 @@ use Rattle.freeme.specs.Refusal.{rewrite_line, rewrite_status}
 use Rattle.fm_cli_requests.specs.FreemeRequest.{FreemeJob, Asks, AskNoJob, AskNothing, AskOnlyForText}
 use Rattle.fm_cli_requests.specs.ProgramText.{AskForText}
 use Rattle.fm_cli_requests.specs.declared.program_text.ProgramText.{ProgramText}
-use Rattle.freeme.specs.Jobs.{given_of, main_name}
+use Rattle.freeme.specs.Jobs.{given_of, IsJobProgram}
 use Rattle.freeme.specs.TopCall.{StaysWithin, IsDone, IsUnwritten, IsBroken, IsNotFreed, IsTextPut, IsUnreported, Outcome, ComesOf}
 use Rattle.freeme.specs.declared.status.TheConstants.{CALLS_FREE, POOL_FULL, METHOD_TOO_LONG}
 use Rattle.fm_load.specs.Causes.{FailsARead, FailsAWrite, HasTooMany, IsMissing, IsKnownLong, IsKnownRefused, IsKnownUnlinked, IsKnownUntyped}
@@ -175,18 +175,20 @@ abbrev pub cause_status : Option RewriteFail → ℕ
 cause_status None = DONE
 cause_status (Some cause) = rewrite_status cause
 
--- by some exact facts of their program, with least typings, this is the status of classes with a main class; which facts are taken
--- makes no difference
-pub record BecomesByFacts (status : ℕ) (classes : List ClassDef) (main : List ℕ) : Type 0 where
+-- by some exact facts of the program of the job, with least typings, this is the status of its classes; which facts are taken makes no
+-- difference
+pub record BecomesByFacts (status : ℕ) (job : FreemeJob) (classes : List ClassDef) : Type 0 where
+  pub program : Program
+  pub analysed : IsJobProgram job classes program
   pub facts : Facts
-  pub exact : AreFacts (program_of classes main) facts
-  pub least : AreLeastTypings (program_of classes main) facts.typing
-  pub status_is : cause_status (first_cause (full_plans (program_of classes main) facts) classes) ≡ status
+  pub exact : AreFacts program facts
+  pub least : AreLeastTypings program facts.typing
+  pub status_is : cause_status (first_cause (full_plans program facts) classes) ≡ status
 
 -- this status comes of them: as their program calls FreeMe, or else by facts
-abbrev pub BecomesAs : ℕ → List ClassDef → List ℕ → Option (ℕ × ℕ) → Type 0
-BecomesAs status classes main (Some call) = CALLS_FREE ≡ status
-BecomesAs status classes main None = BecomesByFacts status classes main
+abbrev pub BecomesAs : ℕ → FreemeJob → List ClassDef → Option (ℕ × ℕ) → Type 0
+BecomesAs status job classes (Some call) = CALLS_FREE ≡ status
+BecomesAs status job classes None = BecomesByFacts status job classes
 
 -- contents are known, all files of the job are taken, their classes make a program, its methods are
 -- typed, and this is its status
@@ -194,7 +196,7 @@ pub record IsKnownAs (status : ℕ) (old : Disk) (job : FreemeJob) : Type 0 wher
   pub known : IsSome old.contents
   pub classes : List ClassDef
   pub checked : AreChecked (given_of job) old.contents classes
-  pub becomes : BecomesAs status classes (main_name job) (first_call (given_program (given_of job) classes))
+  pub becomes : BecomesAs status job classes (first_call (given_program (given_of job) classes))
 
 -- this status comes exactly there, unless a read or the put fails or memory can't be had
 abbrev pub IsForRewrite : ℕ → List Bytes → Disk → Disk → Output → Output → Output → Output → ℕ → Type 0

@@ -11,22 +11,25 @@ use Rattle.fm_place.specs.Safe.{full_plans}
 use Rattle.fm_rewrite.specs.FreeCalls.{first_call}
 use Rattle.fm_rewrite.specs.Rewritten.{first_cause}
 use Rattle.fm_summ_shapes.specs.Analysed.{AreLeastTypings}
-use Rattle.fm_world.specs.Programs.{program_of}
-use Rattle.freeme.specs.Jobs.{given_of, main_name}
+use Rattle.fm_world.specs.Programs.{Program, program_of}
+use Rattle.freeme.specs.Jobs.{given_of, IsJobProgram, main_name}
 use Rattle.freeme.specs.Writing.{IsFileOf}
 
 -- Contents are known, and nothing is against the job in them: its files hold these classes, each with
 -- a spelling, of the profile and within the limits, as are the files in number and length (JVMS 4);
 -- they link (JVMS 5) and their methods are typed (JVMS 4.10); none calls FreeMe; and by some exact
--- facts with least typings, of which one serves as another, no pool is full and no method too long.
+-- facts of the job's program with least typings, of which one serves as another, no pool is full and no
+-- method too long.
 pub record CanBeDone (job : FreemeJob) (contents : Contents) (classes : List ClassDef) : Type 0 where
   pub known : IsSome contents
   pub checked : AreChecked (given_of job) contents classes
   pub no_call : first_call (program_of classes (main_name job)) ≡ None
+  pub program : Program
+  pub analysed : IsJobProgram job classes program
   pub facts : Facts
-  pub exact : AreFacts (program_of classes (main_name job)) facts
-  pub least : AreLeastTypings (program_of classes (main_name job)) facts.typing
-  pub no_cause : first_cause (full_plans (program_of classes (main_name job)) facts) classes ≡ None
+  pub exact : AreFacts program facts
+  pub least : AreLeastTypings program facts.typing
+  pub no_cause : first_cause (full_plans program facts) classes ≡ None
 
 -- In this call no read of a file of the job failed, no write of the file of one of these classes, and no put of the lines or of a refusal's.
 -- Over `SureFiles` and `SureSink` of `fm_files` this always holds: their counts are 0.

@@ -10,10 +10,10 @@ use Rattle.fm_law_same_runs.specs.Beside.{InAllRuns, IsWithoutFault, Marks, Same
 use Rattle.fm_load.specs.Given.{AreChecked}
 use Rattle.fm_load.specs.Returned.{ReadsAs}
 use Rattle.fm_load.specs.Taking.{ClassIsSpelled}
-use Rattle.fm_rewrite.specs.Rewritten.{AreRewritten}
+use Rattle.fm_rewrite.specs.Rewritten.{AreRewrittenOf}
 use Rattle.fm_rewrite.specs.declared.rewriting.Rewritten.{Rewritten}
 use Rattle.fm_world.specs.Programs.{Program, program_of}
-use Rattle.freeme.specs.Jobs.{given_of, main_name}
+use Rattle.freeme.specs.Jobs.{given_of, IsJobProgram, main_name}
 use Rattle.freeme.specs.Writing.{AllWritten, class_text}
 
 -- The classes whose bytes the reads of this call returned, and those whose bytes it wrote for them, which do the same (JVMS 2.6, 2.10, 2.11): step for matched step on
@@ -24,8 +24,10 @@ pub record HasKeptMeaning (words : List Bytes) (old new : Disk) : Type 0 where
   pub classes : List ClassDef
   pub checked : AreChecked (given_of job) old.contents classes
   pub reads : ReadsAs job.files classes old new
+  pub program : Program
+  pub analysed : IsJobProgram job classes program
   pub made : Rewritten
-  pub rewritten : AreRewritten classes (main_name job) made
+  pub rewritten : AreRewrittenOf program classes made
   pub written : AllWritten job.folder made.classes.items old new
   pub does : DoesTheSame classes (main_name job) made.classes.items rewritten.marks rewritten.full
 

@@ -11,7 +11,7 @@ use Rattle.fm_link_refusals.specs.Refused.{refusal_of}
 use Rattle.fm_law_beside_freeme.specs.Lengths.{AreHeld, HasLengthsAlone}
 use Rattle.fm_law_headline.specs.Headline.{DoesTheSame}
 use Rattle.fm_law_retyped.specs.Retyped.{NoneUnready}
-use Rattle.fm_rewrite.specs.Rewritten.{AreRewritten, ComesOfRewriting}
+use Rattle.fm_rewrite.specs.Rewritten.{AreRewrittenOf, ComesOfRewritingOf}
 use Rattle.fm_rewrite.specs.declared.counts.Count.{Count}
 use Rattle.fm_rewrite.specs.declared.error.RewriteFail.{RewriteFail}
 use Rattle.fm_rewrite.specs.declared.error.RewriteFail.TheVariants as fail
@@ -22,7 +22,7 @@ use Rattle.fm_cli.specs.declared.status.TheConstants.{DONE}
 use Rattle.fm_check_program.specs.Untyped.{AreTyped}
 use Rattle.fm_world.specs.Causes.{declared_name, method_text}
 use Rattle.fm_world.specs.Linking.{refusals}
-use Rattle.fm_world.specs.Programs.{class_info, Outline, program_of}
+use Rattle.fm_world.specs.Programs.{class_info, Outline, Program, program_of}
 use Rattle.fm_load.specs.Given.{given_program, IsUntouched, AreMany, IsUnread, IsLong, IsRefusedFile, IsNotLinked, IsNotTyped, AreChecked}
 use Rattle.fm_load.specs.Returned.{ReadsAs, ReadsInOrder}
 use Rattle.fm_load.specs.Taking.{ClassIsSpelled}
@@ -32,7 +32,7 @@ use Rattle.fm_cli_requests.specs.FreemeRequest.{FreemeJob, Asks, AskNoJob}
 use Rattle.fm_cli_requests.specs.ProgramText.{AskForNoText, AskForText}
 use Rattle.fm_cli_requests.specs.declared.program_text.ProgramText.{ProgramText}
 use Rattle.fm_cli_requests.specs.declared.program_text.ProgramText.TheVariants as text
-use Rattle.freeme.specs.Jobs.{given_of, main_name}
+use Rattle.freeme.specs.Jobs.{given_of, IsJobProgram, main_name}
 use Rattle.freeme.specs.Writing.{IsClassFileIn, written_name, class_lines, AllWritten, SomeWritten, FailsToWrite}
 use Rattle.freeme.specs.declared.program_text.TheConstants.{HELP, VERSION_LINE}
 use Rattle.freeme.specs.declared.refusal.FreeRefusal.{FreeRefusal}
@@ -53,8 +53,8 @@ pub record StaysWithin (job : FreemeJob) (old new : Disk) : Type 0 where
 -- In no method, by the facts by which the classes are rewritten, does a local hold a copy of a held object where its constructor is called
 -- and a handler's range ends right behind the call (JVMS 4.10.2.4): what is inserted there is in the range too, and the handler would get
 -- the copy both before it is initialised and after.
-abbrev pub AreLocalsReady : (given : List ClassDef) (main : List ℕ) (made : Rewritten) → AreRewritten given main made → Type 0
-AreLocalsReady given main made are = NoneUnready (program_of given main) are.full.facts (full_plans (program_of given main) are.full.facts)
+abbrev pub AreLocalsReady : (p : Program) (given : List ClassDef) (made : Rewritten) → AreRewrittenOf p given made → Type 0
+AreLocalsReady p given made are = NoneUnready p are.full.facts (full_plans p are.full.facts)
 
 -- files that hold the classes that are written aren't refused with the same main class, but for their number or their lengths, as far
 -- as contents decide
@@ -65,22 +65,25 @@ AreFilesTaken main made =
 
 -- The classes that are written are taken again: they link, and where locals are ready their methods that have code are typed, and files
 -- that hold them are taken.
-pub record AreTakenAgain (given : List ClassDef) (main : List ℕ) (made : Rewritten) (are : AreRewritten given main made) : Type 0 where
+pub record AreTakenAgain (p : Program) (given : List ClassDef) (main : List ℕ) (made : Rewritten) (are : AreRewrittenOf p given made) : Type 0 where
   pub links : refusals made.classes.items main ≡ []
-  pub typed : AreLocalsReady given main made are → AreTyped (program_of made.classes.items main)
-  pub files : AreLocalsReady given main made are → AreFilesTaken main made
+  pub typed : AreLocalsReady p given made are → AreTyped (program_of made.classes.items main)
+  pub files : AreLocalsReady p given made are → AreFilesTaken main made
 
 -- Its class files make a program of typed methods that calls no FreeMe, and these are its classes
 -- with a holder for each held site that is freed at all its places, where it may hold something and
--- its class isn't busy, with the counts of each; no pool of them is full, and no method too long.
+-- its class isn't busy, with the counts of each; no pool of them is full, and no method too long. What
+-- is held is found by their program, narrowed where the job says so.
 -- The bytes of each class spell it, it is of the profile, and all of them are taken again. They do what the classes read do.
 pub record AreFreed (job : FreemeJob) (contents : Contents) (made : Rewritten) : Type 0 where
   pub classes : List ClassDef
   pub checked : AreChecked (given_of job) contents classes
-  pub rewritten : AreRewritten classes (main_name job) made
+  pub program : Program
+  pub analysed : IsJobProgram job classes program
+  pub rewritten : AreRewrittenOf program classes made
   pub spelled : AllByRecursion ClassIsSpelled made.classes.items
   pub profile : AllByRecursion Profile made.classes.items
-  pub again : AreTakenAgain classes (main_name job) made rewritten
+  pub again : AreTakenAgain program classes (main_name job) made rewritten
   pub does : DoesTheSame classes (main_name job) made.classes.items rewritten.marks rewritten.full
 
 -- where contents are known, the name holds now what the file held before
@@ -125,10 +128,10 @@ cause_name o (fail.PoolFull class indices) = (class_info o class.0).name
 cause_name o (fail.MethodTooLong method bytes) = method_text (declared_name o.classes method.0)
 cause_name o fail.NoMemory = []
 
--- class files with this main class aren't rewritten for this cause, which is the first one
-abbrev pub IsFirstCause : List ClassDef → List ℕ → RewriteFail → Type 0
-IsFirstCause classes main fail.NoMemory = ⊥
-IsFirstCause classes main cause = ComesOfRewriting classes main (Err cause)
+-- class files aren't rewritten by this program for this cause, which is the first one
+abbrev pub IsFirstCause : Program → List ClassDef → RewriteFail → Type 0
+IsFirstCause p classes fail.NoMemory = ⊥
+IsFirstCause p classes cause = ComesOfRewritingOf p classes (Err cause)
 
 -- its class files make a program of typed methods, and this is the first cause for which it isn't rewritten: a method calls
 -- FreeMe, or else the pool of a class with a held site is full, or else a method is too long
@@ -136,7 +139,9 @@ pub record IsNotFreed (job : FreemeJob) (cause : RewriteFail) (name : Bytes) (ol
   pub classes : List ClassDef
   pub checked : AreChecked (given_of job) old.contents classes
   pub reads : ReadsAs job.files classes old new
-  pub refused : IsFirstCause classes (main_name job) cause
+  pub program : Program
+  pub analysed : IsJobProgram job classes program
+  pub refused : IsFirstCause program classes cause
   pub name_is : name ≡ cause_name (given_program (given_of job) classes).outline cause
   pub untouched : IsUntouched old new
 

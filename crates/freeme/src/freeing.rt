@@ -1,9 +1,9 @@
 // The classes of a program with what frees their dead objects, and the lines that report them.
 
-ghost use Rattle.std.specs.Prelude.{◌≡◌, ◌<◌, ℕ, List, IfOk, length, string_bytes};
+ghost use Rattle.std.specs.Prelude.{◌≡◌, ◌<◌, IfOk, length, string_bytes};
 ghost use Rattle.std.specs.List.{AllByRecursion};
 ghost use Rattle.fm_rewrite.specs.Rewritten.{AreJudged};
-ghost use Rattle.fm_world.specs.Programs.{class_info, program_of};
+ghost use Rattle.fm_world.specs.Programs.{class_info};
 ghost use Rattle.freeme.specs.Writing.{HasName, class_line, class_lines};
 ghost use Rattle.freeme.specs.inner.Freeing.{ComesOfFreeing, IsNamed, IsThere};
 
@@ -25,8 +25,7 @@ pub fn freed_classes<'a>(
     classes: &[ClassDef],
 ) -> Result<Rewritten, FreeRefusal<'a>>
     requires { AreJudged classes.now program.now }
-    ensures { (main : List ℕ) → program.now ≡ program_of classes.now main
-        → ComesOfFreeing classes.now main result }
+    ensures { ComesOfFreeing program.now classes.now result }
 {
     match rewrite(alloc, program, classes) {
         Ok(made) => Ok(made),

@@ -1,34 +1,26 @@
-// The program of a job, which has found the targets of its calls.
+// The program by which the dead objects of classes are found.
 
-ghost use Rattle.std.specs.List.{AllByRecursion};
-ghost use Rattle.fm_code.specs.Profile.{IsWithinLimits};
-ghost use Rattle.fm_cli.specs.Encoding.{modified};
-ghost use Rattle.fm_load.specs.Judging.{ComesOfProgram};
-ghost use Rattle.fm_load.specs.Taking.{ClassIsSpelled};
+ghost use Rattle.std.specs.Prelude.{IfOk};
+ghost use Rattle.fm_rapid.specs.Opening.{HasOpening};
+ghost use Rattle.fm_summ_shapes.specs.Analysed.{AreAnalysable};
+ghost use Rattle.freeme.specs.Jobs.{IsAnalysed};
 
 use fm_base::NoMemory;
-use fm_cli::CommandRefusal;
-use fm_code::ClassDef;
-use fm_load::JobRefusal;
+use fm_rapid::reach;
 use fm_world::Program;
 use std::alloc::Global;
 
-/// The program of classes with a main class of this name, as fm_load judges it. Its calls share the
-/// targets that they have in common.
-pub fn judge_program<'a>(
-    alloc: Global,
-    classes: &[ClassDef],
-    main: &str,
-) -> Result<Program, JobRefusal<'a>>
-    requires spelled { AllByRecursion ClassIsSpelled classes.now }
-    requires within { AllByRecursion IsWithinLimits classes.now }
-    ensures { ComesOfProgram classes.now (modified main.now) result }
+/// The program as it is analysed: with `rapid` it is narrowed to the classes of which reachable code makes
+/// objects, so that its virtual calls lead only to what these select. Its calls share the targets that they
+/// have in common.
+pub fn analysed(alloc: Global, program: Program, rapid: bool) -> Result<Program, NoMemory>
+    requires analysable { AreAnalysable program }
+    requires opening { HasOpening program.outline }
+    ensures { IfOk result (IsAnalysed rapid program) }
 {
-    match fm_load::judge_program(alloc, classes, main) {
-        Ok(program) => match program.with_targets(alloc) {
-            Ok(known) => Ok(known),
-            Err(NoMemory) => Err(JobRefusal::Shared(CommandRefusal::OutOfMemory)),
-        },
-        Err(refusal) => Err(refusal),
+    if !rapid {
+        return program.with_targets(alloc);
     }
+    let reached = reach(alloc, &program)?;
+    program.narrowed(reached.into_made()).with_targets(alloc)
 }

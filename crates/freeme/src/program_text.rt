@@ -14,12 +14,13 @@ use std::alloc::Global;
 pub const HELP: &str = "\
 freeme writes the class files of a program again, with calls that free what dies young.
 
-usage: freeme --out DIR --main CLASS FILE...
+usage: freeme --out DIR --main CLASS [--rapid] FILE...
        freeme --out DIR --make N
 
   --out DIR      write each class as DIR/NAME.class
   --main CLASS   the class of the main method, with / between the parts of its name
   FILE...        the class files of the program
+  --rapid        take virtual calls to lead only to classes of which objects are made
   --make N       a large program that is made, of class G, for N from 1 to 100
   -h, --help     print this help; taken as the only word
   -V, --version  print the version; taken as the only word

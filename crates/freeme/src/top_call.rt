@@ -12,7 +12,7 @@ ghost use Rattle.freeme.specs.TopCall.{ComesOf, ComesTo, IsReported, IsTopCall, 
 ghost use Rattle.freeme.specs.declared.status.TheConstants.{CALLS_FREE, METHOD_TOO_LONG, POOL_FULL};
 
 use crate::freeing::{class_lines, freed_classes};
-use crate::judging::judge_program;
+use crate::judging::analysed;
 use crate::program_text::put_text;
 use crate::refusal::FreeRefusal;
 use crate::writing::write_classes;
@@ -24,10 +24,10 @@ use fm_cli_requests::freeme_request::{FreemeRequest, request_of};
 use fm_code::ClassDef;
 use fm_files::{Files, Sink};
 use fm_law_beside_freeme::{law_exact, law_written};
-use fm_law_headline::{law_headline, law_taken};
+use fm_law_headline::{law_headline, law_rapid, law_taken};
 use fm_law_relinked::law_links;
 use fm_law_retyped::law_typed;
-use fm_load::{JobRefusal, given_classes};
+use fm_load::{JobRefusal, given_classes, judge_program};
 use fm_rewrite::Count;
 use std::alloc::Global;
 
@@ -159,7 +159,8 @@ fn do_job<'a, F: Files>(
     }
     let read = given_classes(alloc, names, request.made, files)?;
     let classes: &[ClassDef] = &read;
-    let program = judge_program(alloc, classes, request.main)?;
+    let judged = judge_program(alloc, classes, request.main)?;
+    let program = analysed(alloc, judged, request.rapid)?;
     let made = freed_classes(alloc, &program, classes)?;
     // For their clauses: the classes written link, their methods are typed, files that hold them are taken, and they
     // do what those read do.
@@ -168,6 +169,7 @@ fn do_job<'a, F: Files>(
     law_written();
     law_taken();
     law_headline();
+    law_rapid();
     let written: &[ClassDef] = &made.classes;
     let counts: &[Count] = &made.counts;
     let lines = class_lines(alloc, written, counts)?;

@@ -35,11 +35,16 @@ const OBJECTS: [Row; 12] = [
 ];
 
 // Calls, texts, handlers, jumps and switches.
-const CALLS: [Row; 10] = [
+const CALLS: [Row; 11] = [
     (
         VIRTUAL_ESCAPE,
         0,
         "M: 1 sites, 1 frees\nA: 0 sites, 0 frees\nB: 0 sites, 0 frees\n",
+    ),
+    (
+        VIRTUAL_SECOND,
+        0,
+        "M: 2 sites, 2 frees\nA: 0 sites, 0 frees\nB: 0 sites, 0 frees\n",
     ),
     (MUTUAL_RECURSION, 0, "M: 1 sites, 1 frees\n"),
     (
@@ -95,9 +100,30 @@ const LONG: [Row; 8] = [
     (POOL_HAS_THEM, 0, "M: 1 sites, 1 frees\n"),
 ];
 
-// The words of a call for a program.
-fn words_for(alloc: Global, program: &TestProgram) -> Result<String, NoMemory> {
+// Where targets are looked for only in classes of which objects are made.
+const RAPID: [Row; 4] = [
+    (
+        VIRTUAL_ESCAPE_RAPID,
+        0,
+        "M: 2 sites, 2 frees\nA: 0 sites, 0 frees\nB: 0 sites, 0 frees\n",
+    ),
+    (
+        VIRTUAL_SECOND,
+        0,
+        "M: 2 sites, 2 frees\nA: 0 sites, 0 frees\nB: 0 sites, 0 frees\n",
+    ),
+    (FACTORY, 0, "M: 1 sites, 1 frees\n"),
+    (
+        HAND_FREED,
+        72,
+        "refused: calls FreeMe M.main([Ljava/lang/String;)V 8\n",
+    ),
+];
+
+// The words of a call for a program, of which some stand before the files.
+fn words_for(alloc: Global, program: &TestProgram, more: &str) -> Result<String, NoMemory> {
     let mut words = String::from_str(alloc, "--out d --main M")?;
+    words.push_str(more)?;
     for file in program.read {
         words.push_str(" ")?;
         words.push_str(file.name)?;
@@ -123,23 +149,23 @@ fn are_written(files: &MemFiles, alloc: Global, written: &[ClassFile]) -> Result
     Ok(!written.is_empty() || files.bytes("d/M.class").is_none())
 }
 
-// Whether a call for the program ends so.
-fn is_answered(alloc: Global, row: &Row) -> Result<bool, NoMemory> {
+// Whether a call for the program with some more words ends so.
+fn is_answered(alloc: Global, row: &Row, more: &str) -> Result<bool, NoMemory> {
     let (program, status, lines) = row;
     let mut files = MemFiles::new(alloc, Vec::new(alloc));
     for file in program.read {
         let bytes = file.bytes.bytes(alloc)?;
         files.add(file.name, bytes.as_slice())?;
     }
-    let words = words_for(alloc, program)?;
+    let words = words_for(alloc, program, more)?;
     let is_reported = ends_with(alloc, words.as_str(), &mut files, *status, lines)?;
     Ok(is_reported && are_written(&files, alloc, program.written)?)
 }
 
-// The place of the first program for which a call ends otherwise.
-fn first_other(alloc: Global, rows: &[Row]) -> Result<Option<usize>, NoMemory> {
+// The place of the first program for which a call with some more words ends otherwise.
+fn first_other(alloc: Global, rows: &[Row], more: &str) -> Result<Option<usize>, NoMemory> {
     for (place, row) in rows.iter().enumerate() {
-        if !is_answered(alloc, row)? {
+        if !is_answered(alloc, row, more)? {
             return Ok(Some(place));
         }
     }
@@ -148,14 +174,20 @@ fn first_other(alloc: Global, rows: &[Row]) -> Result<Option<usize>, NoMemory> {
 
 #[test]
 fn dead_objects_are_freed(rt: HostRuntime) -> Result<(), Fail> {
-    assert_eq!(rt; first_other(rt.alloc(), &OBJECTS)?, None);
-    assert_eq!(rt; first_other(rt.alloc(), &CALLS)?, None);
-    assert_eq!(rt; first_other(rt.alloc(), &ENDS)?, None);
+    assert_eq!(rt; first_other(rt.alloc(), &OBJECTS, "")?, None);
+    assert_eq!(rt; first_other(rt.alloc(), &CALLS, "")?, None);
+    assert_eq!(rt; first_other(rt.alloc(), &ENDS, "")?, None);
     Ok(())
 }
 
 #[test]
 fn long_methods_and_pools_are_laid_out(rt: HostRuntime) -> Result<(), Fail> {
-    assert_eq!(rt; first_other(rt.alloc(), &LONG)?, None);
+    assert_eq!(rt; first_other(rt.alloc(), &LONG, "")?, None);
+    Ok(())
+}
+
+#[test]
+fn classes_that_are_not_made_are_no_targets(rt: HostRuntime) -> Result<(), Fail> {
+    assert_eq!(rt; first_other(rt.alloc(), &RAPID, " --rapid")?, None);
     Ok(())
 }
