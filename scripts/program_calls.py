@@ -56,9 +56,9 @@ class Programs:
         status, printed, reported = self.call("fmrun", *words, main, *files)
         return status, printed, reported.decode(errors="replace").removesuffix("\n")
 
-    def free(self, out, main, files):
+    def free(self, out, main, files, *flags):
         """Has freeme write class files to a folder: its status and its lines, of a refusal the one on standard error."""
-        status, printed, reported = self.call("freeme", "--out", out, "--main", main, *files)
+        status, printed, reported = self.call("freeme", "--out", out, "--main", main, *flags, *files)
         lines = reported if status else printed
         return status, lines.decode(errors="replace").removesuffix("\n").split("\n")
 
