@@ -4,4 +4,5 @@ pub mod Example
 pub mod Parts
 pub mod SafePlans
 pub mod SafeMethods
+pub mod ReadBack
 pub mod inner
