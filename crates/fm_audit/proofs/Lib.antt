@@ -1,4 +1,5 @@
 pub mod ReadingLemmas
+pub mod OwnLemmas
 pub mod HeldLemmas
 pub mod CapturedLemmas
 pub mod ListedLemmas
@@ -10,3 +11,6 @@ pub mod SafePlanLemmas
 pub mod CheckedLemmas
 pub mod ProgramFactsLemmas
 pub mod MethodsLemmas
+pub mod LaidLemmas
+pub mod ReadBackLemmas
+pub mod WovenReadLemmas

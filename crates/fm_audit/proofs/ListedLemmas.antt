@@ -3,6 +3,7 @@ use Rattle.std.proofs.Common.{◌≡◌, ℕ, suc, ◌+◌, ◌≤◌, ◌++◌,
 use Rattle.std.specs.Prelude.{nat_eq}
 use Rattle.std.specs.List.{flat_map, range_with_len}
 use Rattle.std.specs.Option.{option_map}
+use Rattle.std.proofs.lemmas.Bool.{false≢true}
 use Rattle.std.proofs.lemmas.Option.{none-some, same_Some}
 use Rattle.fm_base.proofs.OptionFacts.{cond-some_else, IsSomeAnd-from_some, option_map-some}
 use Rattle.fm_base.proofs.TestFacts.{apart-nat_eq, same-nat_eq}
@@ -67,7 +68,7 @@ read_listed free first j (item ∷ old) new p is =
     (read_listed free first (j + 1) old (after_taken (taken first next) next) some.0 some.1))
 
 -- what is read of a method's new items
-abbrev with_starts : List ℕ → Pairs → Read
+abbrev pub with_starts : List ℕ → Pairs → Read
 with_starts starts pairs = record { starts = starts; pairs = pairs }
 
 pub found_listed : (free first : ℕ) (old new : List Item) (f : Found) → read free first old new ≡ Some (read_in f)
@@ -82,6 +83,18 @@ pub read_is : (free first : ℕ) (old items new : List Item) (o : Option Found) 
     → old ≡ items → read free first items new ≡ Some (read_in f)
 read_is free first old items new o f returned found same =
     sym (ap (λ (l : List Item). read free first l new) same) ∙ sym returned ∙ ap (option_map read_in) found
+
+-- those of the start are the ones that are null there
+starts_null : (free first : ℕ) (items new : List Item) (f : Found) → read free first items new ≡ Some (read_in f) → f.starts.items ≡ nulls first new
+starts_null free first items new f is =
+    let some = option_map-some (with_starts (nulls first new)) (read_from free first 0 items (after_nulls first new)) (read_in f) is in
+    sym (ap (λ (r : Read). r.starts) some.2)
+
+-- where some are, one is
+pub some_null : (free first : ℕ) (items new : List Item) (f : Found) → read free first items new ≡ Some (read_in f) → (length f.starts.items == 0) ≡ false
+    → nulls first new ≡ [] → ⊥
+some_null free first items new f is some none =
+    false≢true (sym some ∙ ap (λ (l : List ℕ). length l == 0) (starts_null free first items new f is ∙ none))
 
 -- none is null at the start
 pub no_starts : (free first : ℕ) (items new : List Item) (f : Found) → read free first items new ≡ Some (read_in f) → length f.starts.items ≡ 0

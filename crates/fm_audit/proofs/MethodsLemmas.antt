@@ -4,6 +4,7 @@ use Rattle.std.proofs.lemmas.Bool.{cases_lt}
 use Rattle.std.proofs.lemmas.List.{get_or_append_left, get_or_past, get_or_push, length_push}
 use Rattle.std.proofs.lemmas.Option.{none-some}
 use Rattle.fm_code.specs.declared.code_array.Code.{Code}
+use Rattle.fm_code.specs.declared.code_array.Item.{Item}
 use Rattle.fm_conn.specs.Links.{Typings}
 use Rattle.fm_conn.specs.declared.summaries.Summaries.{Summaries}
 use Rattle.fm_place_weave.specs.declared.planned.Planned.{Planned}
@@ -14,6 +15,7 @@ use Rattle.fm_summ_shapes.proofs.ShapesLemmas.{code_facts}
 use Rattle.fm_summ_shapes.specs.Analysed.{AreAnalysable, AreLeastTypings}
 use Rattle.fm_world.specs.Programs.{code_at, Program}
 use Rattle.fm_audit.proofs.ProgramFactsLemmas.{are_facts, are_listed, facts, insertions_in, least_typings, plans, safe_methods}
+use Rattle.fm_audit.specs.NewCodes.{StaysAt, StaysIn}
 use Rattle.fm_audit.specs.Parts.{planned_of}
 use Rattle.fm_audit.specs.SafeMethods.{AreSafelyInserted, AreSafelyPlanned, IsSafelyPlannedAt, IsSafelyPlannedIn}
 use Rattle.fm_audit.specs.SafePlans.{IsSafelyPlanned}
@@ -29,6 +31,15 @@ safe_with_code p s method code is (Err e) are = tt
 
 pub safe_without_code : (p : Program) (s : Summaries) (method : ℕ) → code_at p method ≡ None → IsSafelyPlannedAt p s method planned.Same
 safe_without_code p s method none = subst (λ o. IsSafelyPlannedIn p s method o planned.Same) (sym none) refl
+
+-- the same of what stays as it is
+pub stays_with_code : {E : Type 0} (p : Program) (method : ℕ) (code : Code) (new : List Item) → code_at p method ≡ Some code
+    → (r : Result Judged E) → IfOk r (λ found. StaysIn (Some code) new (planned_of found)) → IfOk r (λ found. StaysAt p method new (planned_of found))
+stays_with_code p method code new is (Ok found) stays = subst (λ o. StaysIn o new (planned_of found)) (sym is) stays
+stays_with_code p method code new is (Err e) stays = tt
+
+pub stays_without_code : (p : Program) (method : ℕ) (new : List Item) → code_at p method ≡ None → StaysAt p method new planned.Same
+stays_without_code p method new none = subst (λ o. StaysIn o new planned.Same) (sym none) tt
 
 -- ---- one method more
 

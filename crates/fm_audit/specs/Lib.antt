@@ -4,4 +4,6 @@ pub mod Example
 pub mod Parts
 pub mod SafePlans
 pub mod SafeMethods
+pub mod NewCodes
+pub mod ReadBack
 pub mod inner

@@ -1,12 +1,14 @@
 -- What a method's new items are read as: what is inserted at the start, and before and after each old item, and for which holders.
-use Rattle.std.specs.Prelude.{ℕ, ◌+◌, ◌-◌, ◌%◌, ◌==◌, ◌&&◌, Bool, true, false, List, [], ◌∷◌, ◌++◌, length, map, drop, Option, Some, None, nat_lt, if◌then◌else◌}
+use Rattle.std.specs.Prelude.{ℕ, ◌+◌, ◌-◌, ◌==◌, ◌&&◌, Bool, true, false, List, [], ◌∷◌, ◌++◌, length, map, drop, Option, Some, None, nat_lt, if◌then◌else◌}
 use Rattle.std.specs.Option.{option_map}
-use Rattle.fm_code.specs.Operands.{opcode_of}
 use Rattle.fm_code.specs.declared.code_array.Item.{Item}
 use Rattle.fm_code.specs.declared.instructions.Insn.{Insn}
 use Rattle.fm_code.specs.declared.instructions.Insn.TheVariants as insn
-use Rattle.fm_code.specs.declared.opcodes.TheConstants as opcodes
 use Rattle.fm_code.specs.declared.operations.Reg.TheVariants as reg
+use Rattle.fm_code.specs.declared.operations.Test.{Test}
+use Rattle.fm_code.specs.declared.operations.Test.TheVariants as test
+use Rattle.fm_layout.specs.declared.rooms.Condition.{Condition}
+use Rattle.fm_layout.specs.declared.rooms.Condition.TheVariants as condition
 
 -- ---- one instruction
 
@@ -101,26 +103,46 @@ after_frees free first items = items
 
 -- ---- widened branches
 
--- The opcode of the opposite test: those of two opposite tests are next to one another, ifeq to if_acmpne in pairs, then ifnull and ifnonnull (JVMS 6.5,
--- chapter 7).
-abbrev pub opposite_opcode : ℕ → Option ℕ
-opposite_opcode opcode =
-    if nat_lt opcode opcodes.IFEQ then None else
-    if nat_lt opcode opcodes.GOTO then Some (if opcode % 2 == 1 then opcode + 1 else opcode - 1) else
-    if opcode == opcodes.IFNULL then Some opcodes.IFNONNULL else
-    if opcode == opcodes.IFNONNULL then Some opcodes.IFNULL else
-    None
+-- the condition on which a branch is taken, if it is one with a condition (JVMS 6.5.if<cond>, 6.5.if_icmp<cond>, 6.5.if_acmp<cond>, 6.5.ifnull)
+abbrev pub condition_of : Insn → Option Condition
+condition_of (insn.IfInt test target) = Some (condition.Int test)
+condition_of (insn.IfPair test target) = Some (condition.Pair test)
+condition_of (insn.IfSame same target) = Some (condition.Same same)
+condition_of (insn.IfNull null target) = Some (condition.Null null)
+condition_of i = None
 
--- the second is the opcode of the opposite test
-abbrev pub is_opposite : ℕ → ℕ → Bool
-is_opposite one other = by_opposite (opposite_opcode one) where
-  by_opposite : Option ℕ → Bool
-  by_opposite None = false
-  by_opposite (Some opposite) = opposite == other
+-- one test holds exactly where the other one doesn't
+abbrev pub are_opposite_tests : Test → Test → Bool
+are_opposite_tests test.Eq test.Ne = true
+are_opposite_tests test.Ne test.Eq = true
+are_opposite_tests test.Lt test.Ge = true
+are_opposite_tests test.Ge test.Lt = true
+are_opposite_tests test.Gt test.Le = true
+are_opposite_tests test.Le test.Gt = true
+are_opposite_tests t u = false
+
+-- one of the two is true
+abbrev pub differ : Bool → Bool → Bool
+differ true false = true
+differ false true = true
+differ a b = false
+
+-- one condition holds exactly where the other one doesn't
+abbrev pub are_opposite : Condition → Condition → Bool
+are_opposite (condition.Int t) (condition.Int u) = are_opposite_tests t u
+are_opposite (condition.Pair t) (condition.Pair u) = are_opposite_tests t u
+are_opposite (condition.Same same) (condition.Same other) = differ same other
+are_opposite (condition.Null null) (condition.Null other) = differ null other
+are_opposite c d = false
+
+-- there are both, and that holds of them
+abbrev pub are_both_opposite : Option Condition → Option Condition → Bool
+are_both_opposite (Some c) (Some d) = are_opposite c d
+are_both_opposite c d = false
 
 -- an old branch is widened: the first two items are the opposite test and a goto
 abbrev pub is_widened : Item → List Item → Bool
-is_widened item (a ∷ b ∷ items) = is_opposite (opcode_of item) (opcode_of a) && is_goto b.insn
+is_widened item (a ∷ b ∷ items) = are_both_opposite (condition_of item.insn) (condition_of a.insn) && is_goto b.insn
 is_widened item items = false
 
 -- how many items keep an old one

@@ -14,7 +14,7 @@ mod parts;
 mod plans;
 mod reading;
 
-pub use laws::law_example;
+pub use laws::{law_example, law_woven_is_read};
 pub use methods::{JudgedMethods, NewCode, judged_methods};
 pub use parts::Part;
 pub use plans::{Judged, judged_code};

@@ -1,9 +1,10 @@
 // What is to be done with all methods of a program so that they get new code, whoever wrote it.
 
-ghost use Rattle.std.specs.Prelude.{◌<◌, IfOk, length};
+ghost use Rattle.std.specs.Prelude.{◌≡◌, ◌-◌, ◌<◌, IfOk, length};
 ghost use Rattle.fm_conn.specs.Summaries.{AreSummariesOf};
 ghost use Rattle.fm_summ_shapes.specs.Analysed.{AreAnalysable};
 ghost use Rattle.fm_world.specs.Members.{methods_of};
+ghost use Rattle.fm_audit.specs.NewCodes.{AllStay, StaysAt, new_items};
 ghost use Rattle.fm_audit.specs.Parts.{planned_of};
 ghost use Rattle.fm_audit.specs.SafeMethods.{AreSafelyInserted, AreSafelyPlanned, IsSafelyPlannedAt};
 
@@ -45,7 +46,8 @@ pub fn judged_methods(
     new: &[NewCode<'_>],
 ) -> Result<JudgedMethods, NoMemory>
     requires { AreAnalysable program.now }
-    ensures { IfOk result (λ found. AreSafelyInserted program.now found.planned.items) }
+    ensures safe { IfOk result (λ found. AreSafelyInserted program.now found.planned.items) }
+    ensures still { IfOk result (λ found. AllStay program.now new.now found.planned.items) }
 {
     let shapes = shapes_of(alloc, program)?;
     let summaries = summaries(alloc, program, shapes.as_slice())?;
@@ -61,8 +63,9 @@ fn all_judged(
 ) -> Result<JudgedMethods, NoMemory>
     requires analysable { AreAnalysable program.now }
     requires summaries { AreSummariesOf program.now.outline summaries.now }
-    ensures { IfOk result
+    ensures safe { IfOk result
         (λ found. AreSafelyPlanned program.now summaries.now found.planned.items) }
+    ensures still { IfOk result (λ found. AllStay program.now new.now found.planned.items) }
 {
     let mut planned = Vec::new(alloc);
     let mut failing = None;
@@ -70,7 +73,14 @@ fn all_judged(
     let first = (methods as usize).saturating_sub(new.len());
     for number in 0..methods {
         let own = new_code_at(new, first, number as usize);
-        let found = judged_method(alloc, program, summaries, MethodId(number), own)?;
+        let found = judged_method(
+            alloc,
+            program,
+            summaries,
+            MethodId(number),
+            own.free,
+            own.items,
+        )?;
         failing = first_failing(failing, MethodId(number), &found);
         let made = found.planned();
         planned.push(made)?;
@@ -94,36 +104,44 @@ fn first_failing(
 }
 
 /// The new code of a method, where the first one that has new code has this number; else no items.
-fn new_code_at<'a>(new: &[NewCode<'a>], first: usize, number: usize) -> NewCode<'a> {
-    if number >= first {
-        if let Some(own) = new.get(number - first) {
-            return *own;
-        }
+fn new_code_at<'a>(new: &[NewCode<'a>], first: usize, number: usize) -> NewCode<'a>
+    ensures { result.items.now ≡ new_items new.now first number }
+{
+    if number < first {
+        return NewCode {
+            free: 0,
+            items: &[],
+        };
     }
-    NewCode {
-        free: 0,
-        items: &[],
+    match new.get(number - first) {
+        Some(own) => *own,
+        None => NewCode {
+            free: 0,
+            items: &[],
+        },
     }
 }
 
-/// What one method, that has this new code, is found to be: without code it stays as it is.
+/// What one method, that has these new items, is found to be: without code it stays as it is. `free` is the
+/// index of FreeMe.free.
 fn judged_method(
     alloc: Global,
     program: &Program,
     summaries: &Summaries,
     method: MethodId,
-    new: NewCode<'_>,
+    free: u16,
+    new: &[Item],
 ) -> Result<Judged, NoMemory>
     requires analysable { AreAnalysable program.now }
     requires summaries { AreSummariesOf program.now.outline summaries.now }
     requires inside { method.0 < length (methods_of program.now.outline.classes) }
-    ensures { IfOk result
+    ensures safe { IfOk result
         (λ found. IsSafelyPlannedAt program.now summaries.now method.0 (planned_of found)) }
+    ensures still { IfOk result
+        (λ found. StaysAt program.now method.0 new.now (planned_of found)) }
 {
     match &program.method(method).body {
-        Body::Coded(code) => judged_code(
-            alloc, program, summaries, method, code, new.free, new.items,
-        ),
+        Body::Coded(code) => judged_code(alloc, program, summaries, method, code, free, new),
         _ => Ok(Judged::Safe(Planned::Same)),
     }
 }

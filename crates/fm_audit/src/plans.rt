@@ -5,6 +5,7 @@ ghost use Rattle.fm_conn.specs.Summaries.{AreSummariesOf};
 ghost use Rattle.fm_place.specs.inner.PlanRows.{IsSeen};
 ghost use Rattle.fm_summ_shapes.specs.Analysed.{AreAnalysable};
 ghost use Rattle.fm_world.specs.Programs.{code_at};
+ghost use Rattle.fm_audit.specs.NewCodes.{StaysIn};
 ghost use Rattle.fm_audit.specs.Parts.{planned_of};
 ghost use Rattle.fm_audit.specs.SafePlans.{IsReadIn, IsSafelyPlanned};
 ghost use Rattle.fm_audit.specs.inner.Checked.{IsJudgedDone};
@@ -65,6 +66,7 @@ pub fn judged_code(
     ensures safe { IfOk result (λ found.
         IsSafelyPlanned program.now summaries.now method.0 code.now (planned_of found)) }
     ensures read { IfOk result (IsReadIn free code.now new.now) }
+    ensures still { IfOk result (λ found. StaysIn (Some code.now) new.now (planned_of found)) }
 {
     let typed = Typed::of(alloc, program, method, code)?;
     let rows = live(alloc, code, &typed.flow)?;
@@ -109,6 +111,8 @@ fn judged_in(
     requires few { length seen.now.method.code.now.items < 2 ^ 32 }
     ensures safe { IfOk result (IsJudgedDone seen.now sites.now) }
     ensures read { IfOk result (IsReadIn free seen.now.method.code.now new.now) }
+    ensures still { IfOk result
+        (λ found. StaysIn (Some seen.now.method.code.now) new.now (planned_of found)) }
 {
     let code = seen.method.code;
     let Some(found) = read(alloc, free, code.max_locals, &code.items, new)? else {

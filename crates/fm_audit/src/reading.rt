@@ -2,13 +2,12 @@
 
 ghost use Rattle.std.specs.Prelude.{◌≡◌, ◌≢◌, ◌++◌, ◌<◌, ◌≤◌, ◌^◌, IfOk, IsTrue, OnOk, drop, length};
 ghost use Rattle.std.specs.Option.{option_map};
-ghost use Rattle.fm_code.specs.Operands.{opcode_of};
 ghost use Rattle.fm_audit.specs.ReadBy.{pairs_in, read_in};
-ghost use Rattle.fm_audit.specs.Reading.{after_frees, after_nulls, after_taken, calls, found_twice, freed, frees, holder_in, is_dup, is_goto, is_null, is_opposite, is_widened, kept_count, loaded, nulled, nulls, opposite_opcode, pair_if, pairs_of, read, read_from, stored, taken};
+ghost use Rattle.fm_audit.specs.Reading.{after_frees, after_nulls, after_taken, are_both_opposite, are_opposite, are_opposite_tests, calls, condition_of, differ, found_twice, freed, frees, holder_in, is_dup, is_goto, is_null, is_widened, kept_count, loaded, nulled, nulls, pair_if, pairs_of, read, read_from, stored, taken};
 
 use fm_base::NoMemory;
-use fm_code::opcodes::{GOTO, IFEQ, IFNONNULL, IFNULL};
-use fm_code::{Insn, Item, Reg};
+use fm_code::{Insn, Item, Reg, Test};
+use fm_layout::Condition;
 use std::alloc::Global;
 
 /// What a method's new items are read as. Holders are numbered from 0 on, by the locals that are past the
@@ -188,7 +187,7 @@ pub(crate) fn is_widened(item: &Item, items: &[Item]) -> bool
 {
     match items {
         [a, b, ..] => {
-            if is_opposite(opcode_of(item), opcode_of(a)) {
+            if are_both_opposite(condition_of(&item.insn), condition_of(&a.insn)) {
                 is_goto(&b.insn)
             } else {
                 false
@@ -198,44 +197,60 @@ pub(crate) fn is_widened(item: &Item, items: &[Item]) -> bool
     }
 }
 
-/// The first byte of an item.
-fn opcode_of(item: &Item) -> u8
-    ensures { result ≡ opcode_of item.now }
+/// The condition on which a branch is taken, if it is one with a condition.
+fn condition_of(insn: &Insn) -> Option<Condition>
+    ensures { result ≡ condition_of insn.now }
 {
-    match item.bytes.as_slice().first() {
-        Some(opcode) => *opcode,
-        None => 0,
-    }
-}
-
-/// Whether two opcodes are those of opposite tests.
-fn is_opposite(one: u8, other: u8) -> bool
-    ensures { result ≡ is_opposite one other }
-{
-    match opposite_opcode(one) {
-        Some(opcode) => opcode == other,
-        None => false,
-    }
-}
-
-/// The opcode of the opposite test, if it is that of a test.
-fn opposite_opcode(opcode: u8) -> Option<u8>
-    ensures { result ≡ opposite_opcode opcode }
-{
-    if opcode < IFEQ {
-        return None;
-    }
-    if opcode < GOTO {
-        return Some(if opcode % 2 == 1 {
-            opcode + 1
-        } else {
-            opcode - 1
-        });
-    }
-    match opcode {
-        IFNULL => Some(IFNONNULL),
-        IFNONNULL => Some(IFNULL),
+    match insn {
+        Insn::IfInt(test, _) => Some(Condition::Int(*test)),
+        Insn::IfPair(test, _) => Some(Condition::Pair(*test)),
+        Insn::IfSame(same, _) => Some(Condition::Same(*same)),
+        Insn::IfNull(null, _) => Some(Condition::Null(*null)),
         _ => None,
+    }
+}
+
+/// Whether one test holds exactly where the other one doesn't.
+fn are_opposite_tests(one: Test, other: Test) -> bool
+    ensures { result ≡ are_opposite_tests one other }
+{
+    match one {
+        Test::Eq => matches!(other, Test::Ne),
+        Test::Ne => matches!(other, Test::Eq),
+        Test::Lt => matches!(other, Test::Ge),
+        Test::Ge => matches!(other, Test::Lt),
+        Test::Gt => matches!(other, Test::Le),
+        Test::Le => matches!(other, Test::Gt),
+    }
+}
+
+/// Whether one of the two is true.
+fn differ(one: bool, other: bool) -> bool
+    ensures { result ≡ differ one other }
+{
+    if one { !other } else { other }
+}
+
+/// Whether one condition holds exactly where the other one doesn't.
+fn are_opposite(one: Condition, other: Condition) -> bool
+    ensures { result ≡ are_opposite one other }
+{
+    match (one, other) {
+        (Condition::Int(test), Condition::Int(opposite)) => are_opposite_tests(test, opposite),
+        (Condition::Pair(test), Condition::Pair(opposite)) => are_opposite_tests(test, opposite),
+        (Condition::Same(same), Condition::Same(opposite)) => differ(same, opposite),
+        (Condition::Null(null), Condition::Null(opposite)) => differ(null, opposite),
+        _ => false,
+    }
+}
+
+/// Whether there are both conditions, and that holds of them.
+fn are_both_opposite(one: Option<Condition>, other: Option<Condition>) -> bool
+    ensures { result ≡ are_both_opposite one other }
+{
+    match (one, other) {
+        (Some(condition), Some(opposite)) => are_opposite(condition, opposite),
+        _ => false,
     }
 }
 

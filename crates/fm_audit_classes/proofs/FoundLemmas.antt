@@ -18,7 +18,7 @@ use Rattle.fm_audit_classes.proofs.AuditedLemmas.{audited}
 use Rattle.fm_audit_classes.specs.Audited.{ComesOfAudit}
 use Rattle.fm_audit_classes.specs.declared.error.AuditFail.{AuditFail}
 use Rattle.fm_audit_classes.specs.declared.error.AuditFail.TheVariants as fail
-use Rattle.fm_audit_classes.specs.inner.Found.{ComesOfJudged, IsFound, IsOtherClass}
+use Rattle.fm_audit_classes.specs.inner.Found.{AreOthers, ComesOfJudged, IsFound, IsOtherClass}
 
 -- ---- how many there are
 
@@ -40,21 +40,17 @@ comes_of_judged given p done written judged are (Err e) is found = found
 
 -- ---- what is named
 
-not_written : (p : Program) (given : List ClassDef) (main : List ℕ) (written : List ClassDef) (e : AuditFail) → first_call p ≡ None
-    → IsFound (length p.outline.classes) (length (methods_of p.outline.classes)) e → p ≡ program_of given main → ComesOfAudit given main written (Err e)
-not_written p given main written (fail.CallsFree method offset) none found is = absurd found
-not_written p given main written (fail.NotSafe class method part) none found is = record {
+pub not_written : (p : Program) (given : List ClassDef) (main : List ℕ) (written : List ClassDef) (e : AuditFail) → first_call p ≡ None
+    → IsFound (length p.outline.classes) (length (methods_of p.outline.classes)) e → AreOthers given written e → p ≡ program_of given main
+    → ComesOfAudit given main written (Err e)
+not_written p given main written (fail.CallsFree method offset) none found others is = absurd found
+not_written p given main written (fail.NotSafe class method part) none found others is = record {
   no_call = ap first_call (sym is) ∙ none;
   class_inside = subst (λ (q : Program). class.0 < length q.outline.classes) is found.0;
   method_inside = subst (λ (q : Program). IfSome method (λ (m : MethodId). m.0 < length (methods_of q.outline.classes))) is found.1;
+  others = others;
 }
-not_written p given main written fail.NoMemory none found is = tt
-
--- what comes of an audit where the program doesn't call FreeMe
-pub comes_of_audit : (p : Program) (given written : List ClassDef) (r : Result Unit AuditFail) → first_call p ≡ None → ComesOfJudged p given written r
-    → (main : List ℕ) → p ≡ program_of given main → ComesOfAudit given main written r
-comes_of_audit p given written (Ok tested) none comes main is = comes none main is
-comes_of_audit p given written (Err e) none comes main is = not_written p given main written e none comes is
+not_written p given main written fail.NoMemory none found others is = tt
 
 -- what is named among fewer is named among more
 pub found_within : (classes more_classes methods more_methods : ℕ) (e : AuditFail) → classes ≤ more_classes → methods ≤ more_methods

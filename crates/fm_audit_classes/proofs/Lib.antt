@@ -5,3 +5,4 @@ pub mod NumberedLemmas
 pub mod AuditedLemmas
 pub mod FoundLemmas
 pub mod StepLemmas
+pub mod StaysLemmas

@@ -18,15 +18,17 @@ pub record AreSafelyWritten (given : List ClassDef) (main : List ℕ) (written :
   pub safe : Safe given main written marks
   pub least : AreLeastTypings (program_of given main) safe.facts.typing
 
--- the program doesn't call FreeMe, and what is named is one of its classes, and one of its methods or none
-pub record AreNotSafelyWritten (given : List ClassDef) (main : List ℕ) (class : ℕ) (method : Option MethodId) : Type 0 where
+-- The program doesn't call FreeMe, what is named is one of its classes, and one of its methods or none, and the classes written aren't those given, in which
+-- nothing is inserted.
+pub record AreNotSafelyWritten (given : List ClassDef) (main : List ℕ) (written : List ClassDef) (class : ℕ) (method : Option MethodId) : Type 0 where
   pub no_call : first_call (program_of given main) ≡ None
   pub class_inside : class < length (program_of given main).outline.classes
+  pub others : written ≡ given → ⊥
   pub method_inside : IfSome method (λ m. m.0 < length (methods_of (program_of given main).outline.classes))
 
 -- one of the two, or the first call of FreeMe; want of memory says nothing
 abbrev pub ComesOfAudit : List ClassDef → (main : List ℕ) → (written : List ClassDef) → Result Unit AuditFail → Type 0
 ComesOfAudit given main written (Ok done) = AreSafelyWritten given main written
 ComesOfAudit given main written (Err (fail.CallsFree method offset)) = first_call (program_of given main) ≡ Some (method.0, offset)
-ComesOfAudit given main written (Err (fail.NotSafe class method part)) = AreNotSafelyWritten given main class.0 method
+ComesOfAudit given main written (Err (fail.NotSafe class method part)) = AreNotSafelyWritten given main written class.0 method
 ComesOfAudit given main written (Err fail.NoMemory) = Unit {0}

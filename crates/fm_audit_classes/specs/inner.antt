@@ -2,3 +2,4 @@ pub mod Low
 pub mod Inserted
 pub mod Compared
 pub mod Found
+pub mod Codes

@@ -1,10 +1,11 @@
 // Whether written class files are given ones with safe insertions.
 
-ghost use Rattle.std.specs.Prelude.{◌≡◌, ◌+◌, ℕ, IfErr, List, OnOk, drop, length};
+ghost use Rattle.std.specs.Prelude.{◌≡◌, ◌+◌, ℕ, IfErr, IfOk, List, OnOk, drop, length};
 ghost use Rattle.std.specs.List.{AllByRecursion};
 ghost use Rattle.fm_audit.specs.SafeMethods.{AreSafelyInserted};
 ghost use Rattle.fm_audit_classes.specs.Audited.{ComesOfAudit};
-ghost use Rattle.fm_audit_classes.specs.inner.Found.{ComesOfJudged, IsFound};
+ghost use Rattle.fm_audit_classes.specs.inner.Codes.{StayTogether};
+ghost use Rattle.fm_audit_classes.specs.inner.Found.{AreOthers, ComesOfJudged, IsFound};
 ghost use Rattle.fm_code.specs.Fits.{FitsTwo};
 ghost use Rattle.fm_code.specs.Spells.{HasSpelling};
 ghost use Rattle.fm_law_spelled.specs.Changed.{IsShort};
@@ -16,9 +17,10 @@ ghost use Rattle.fm_world.specs.Programs.{program_of};
 
 use crate::comparing::are_written;
 use crate::error::AuditFail;
+use crate::heads::first_other_class;
 use crate::new_codes::new_codes;
-use fm_audit::{JudgedMethods, judged_methods};
-use fm_base::MethodId;
+use fm_audit::{JudgedMethods, Part, judged_methods};
+use fm_base::{ClassId, MethodId, NoMemory};
 use fm_code::ClassDef;
 use fm_rewrite::first_free_call;
 use fm_world::Program;
@@ -46,10 +48,16 @@ pub fn audit(
     if let Some((method, offset)) = first_free_call(program) {
         return Err(calls_free(method, offset));
     }
-    audited(alloc, program, classes, written)
+    match audited(alloc, program, classes, written) {
+        Ok(()) => Ok(()),
+        Err(cause) => {
+            let named = first_cause(alloc, program, classes, written, cause)?;
+            Err(named)
+        }
+    }
 }
 
-/// The same of a program that doesn't call FreeMe.
+/// The same of a program that doesn't call FreeMe, but any class may be named.
 fn audited(
     alloc: Global,
     program: &Program,
@@ -60,12 +68,50 @@ fn audited(
     requires short { AllByRecursion IsShort classes.now }
     requires spelled { AllByRecursion HasSpelling written.now }
     requires one_each { length written.now ≡ length classes.now }
-    ensures { ComesOfJudged program.now classes.now written.now result }
+    ensures comes { ComesOfJudged program.now classes.now written.now result }
+    ensures others { IfErr result (AreOthers classes.now written.now) }
 {
     let first = program.classes() - classes.len() as u32;
     let codes = new_codes(alloc, first, classes, written)?;
     let found = judged_methods(alloc, program, codes.as_slice())?;
     are_written_by(alloc, program, classes, written, codes.len(), &found)
+}
+
+/// What is named where there is this cause to refuse the written classes: the first class that isn't the
+/// given one, codes aside, if there is one. Takes memory for the pool of one class at a time.
+fn first_cause(
+    alloc: Global,
+    program: &Program,
+    classes: &[ClassDef],
+    written: &[ClassDef],
+    cause: AuditFail,
+) -> Result<AuditFail, NoMemory>
+    requires judged { AreJudged classes.now program.now }
+    requires one_each { length written.now ≡ length classes.now }
+    requires found { IsFound (length program.now.outline.classes)
+        (length (methods_of program.now.outline.classes)) cause }
+    requires others { AreOthers classes.now written.now cause }
+    ensures found { IfOk result (IsFound (length program.now.outline.classes)
+        (length (methods_of program.now.outline.classes))) }
+    ensures others { IfOk result (AreOthers classes.now written.now) }
+{
+    let AuditFail::NotSafe(..) = cause else {
+        return Ok(cause);
+    };
+    let first = program.classes() - classes.len() as u32;
+    let other = first_other_class(alloc, classes, written)?;
+    let Some(place) = other else {
+        return Ok(cause);
+    };
+    let number = first + place as u32;
+    Ok(other_class(number))
+}
+
+/// The refusal that names this class, without a method.
+fn other_class(class: u32) -> AuditFail
+    ensures { (methods : ℕ) → IsFound (class + 1) methods result }
+{
+    AuditFail::NotSafe(ClassId(class), None, Part::Classes)
 }
 
 /// The refusal of a program whose method calls FreeMe at an offset.
@@ -92,10 +138,12 @@ fn are_written_by(
     requires one_each { length written.now ≡ length classes.now }
     requires count { count ≡ method_count classes.now }
     requires planned { AreSafelyInserted program.now found.now.planned.items }
+    requires still { StayTogether classes.now written.now found.now.planned.items }
     ensures same { OnOk result
         (written.now ≡ classes_by (drop first_given found.now.planned.items) classes.now) }
     ensures found { IfErr result (IsFound (length program.now.outline.classes)
         (length (methods_of program.now.outline.classes))) }
+    ensures others { IfErr result (AreOthers classes.now written.now) }
 {
     let first_class = program.classes() - classes.len() as u32;
     let first_method = program.methods() - count as u32;

@@ -1,8 +1,8 @@
 // Whether written classes are the given ones, each by what is to be done with its methods.
 
-ghost use Rattle.std.specs.Prelude.{◌≡◌, ◌+◌, ◌<◌, ◌^◌, IfErr, IfOk, IsTrue, OnOk, length};
+ghost use Rattle.std.specs.Prelude.{◌≡◌, ◌+◌, ◌<◌, ◌^◌, IfErr, IfOk, IsTrue, OnOk, false, length, true};
 ghost use Rattle.std.specs.List.{AllByRecursion};
-ghost use Rattle.fm_audit_classes.specs.inner.Found.{IsFound};
+ghost use Rattle.fm_audit_classes.specs.inner.Found.{AreOthers, IsFound};
 ghost use Rattle.fm_audit_classes.specs.inner.Compared.{MayBeCompared, MayBeComparedEach};
 ghost use Rattle.fm_code.specs.Spells.{HasSpelling};
 ghost use Rattle.fm_rewrite.specs.inner.ByPlans.{changes_by, classes_by, is_changed, method_count, rewritten_by};
@@ -36,9 +36,11 @@ pub(crate) fn are_written(
     requires lengths { length written.now ≡ length classes.now }
     requires class_numbers { numbers.0 + length classes.now < 2 ^ 32 }
     requires method_numbers { numbers.1 + method_count classes.now < 2 ^ 32 }
+    requires still { written.now ≡ classes.now → changes_by planned.now ≡ false }
     ensures same { OnOk result (written.now ≡ classes_by planned.now classes.now) }
     ensures found { IfErr result
         (IsFound (numbers.0 + length classes.now) (numbers.1 + method_count classes.now)) }
+    ensures others { IfErr result (AreOthers classes.now written.now) }
 {
     let mut rest = planned;
     for place in 0..classes.len() {
@@ -66,12 +68,30 @@ fn is_written(
 ) -> Result<bool, NoMemory>
     requires class { MayBeCompared planned.now class.now }
     requires written { HasSpelling written.now }
-    ensures { IfOk result
+    ensures same { IfOk result
         (λ same. IsTrue same → written.now ≡ rewritten_by planned.now class.now) }
+    ensures still { IfOk result
+        (λ same. changes_by planned.now ≡ false → written.now ≡ class.now → IsTrue same) }
 {
     if !changes(planned) {
         return is_same(alloc, written, class);
     }
+    is_woven(alloc, class, written, planned)
+}
+
+/// The same of a class that is changed.
+fn is_woven(
+    alloc: Global,
+    class: &ClassDef,
+    written: &ClassDef,
+    planned: &[Planned],
+) -> Result<bool, NoMemory>
+    requires changed { changes_by planned.now ≡ true }
+    requires class { MayBeCompared planned.now class.now }
+    requires written { HasSpelling written.now }
+    ensures { IfOk result
+        (λ same. IsTrue same → written.now ≡ rewritten_by planned.now class.now) }
+{
     if !are_low(planned, &class.methods) {
         return Ok(false);
     }
@@ -110,7 +130,8 @@ fn is_changed(planned: &Planned) -> bool
 fn is_same(alloc: Global, first: &ClassDef, second: &ClassDef) -> Result<bool, NoMemory>
     requires first { HasSpelling first.now }
     requires second { HasSpelling second.now }
-    ensures { IfOk result (λ same. IsTrue same → first.now ≡ second.now) }
+    ensures same { IfOk result (λ same. IsTrue same → first.now ≡ second.now) }
+    ensures all { IfOk result (λ same. first.now ≡ second.now → IsTrue same) }
 {
     let bytes = write_class(alloc, first)?;
     let others = write_class(alloc, second)?;

@@ -1,5 +1,7 @@
 // Whether written classes are given ones, the codes of their methods aside.
 
+ghost use Rattle.std.specs.Prelude.{◌≡◌, ◌<◌, IfOk, IfSome, length};
+ghost use Rattle.std.specs.List.{AllByRecursion};
 ghost use Rattle.fm_code.specs.Spells.{HasSpelling};
 
 use fm_base::NoMemory;
@@ -11,13 +13,29 @@ use std::alloc::Global;
 /// The version of a changed class.
 const REWRITTEN_MAJOR: u16 = 49;
 
+/// The place of the first of these classes that the written one isn't, the codes of its methods aside.
+/// Takes memory for the pool of one class at a time.
+pub(crate) fn first_other_class(
+    alloc: Global,
+    classes: &[ClassDef],
+    written: &[ClassDef],
+) -> Result<Option<usize>, NoMemory>
+    requires spelled { AllByRecursion HasSpelling classes.now }
+    requires lengths { length written.now ≡ length classes.now }
+    ensures { IfOk result (λ found. IfSome found (λ place. place < length classes.now)) }
+{
+    for place in 0..classes.len() {
+        let same = is_class_of(alloc, &classes[place], &written[place])?;
+        if !same {
+            return Ok(Some(place));
+        }
+    }
+    Ok(None)
+}
+
 /// Whether the written class is this one, the codes of its methods aside: as it is where no code differs,
 /// else with version 49.0 and the entries of FreeMe.free. Takes memory for the pool.
-pub(crate) fn is_class_of(
-    alloc: Global,
-    class: &ClassDef,
-    written: &ClassDef,
-) -> Result<bool, NoMemory>
+fn is_class_of(alloc: Global, class: &ClassDef, written: &ClassDef) -> Result<bool, NoMemory>
     requires { HasSpelling class.now }
 {
     if have_same_codes(&class.methods, &written.methods) {

@@ -20,6 +20,12 @@ IsOtherClass classes (fail.CallsFree method offset) = ⊥
 IsOtherClass classes (fail.NotSafe class method part) = (class.0 < classes) × (method ≡ None)
 IsOtherClass classes fail.NoMemory = Unit {0}
 
+-- where classes are refused, the written ones aren't the given ones
+abbrev pub AreOthers : (given written : List ClassDef) → AuditFail → Type 0
+AreOthers given written (fail.CallsFree method offset) = Unit {0}
+AreOthers given written (fail.NotSafe class method part) = written ≡ given → ⊥
+AreOthers given written fail.NoMemory = Unit {0}
+
 -- where the program doesn't call FreeMe, the written classes are safe, or the refusal names what is there
 abbrev pub ComesOfJudged : Program → (given written : List ClassDef) → Result Unit AuditFail → Type 0
 ComesOfJudged p given written (Ok done) = first_call p ≡ None → (main : List ℕ) → p ≡ program_of given main → AreSafelyWritten given main written

@@ -1,17 +1,32 @@
-use Rattle.std.proofs.Common.{◌≡◌, length, subst, sym, arith}
+use Rattle.std.proofs.Common.{rules, ◌≡◌, ℕ, List, length, subst, sym, arith}
 use Rattle.fm_audit.proofs.MethodsLemmas.{each_more}
+use Rattle.fm_audit.specs.NewCodes.{new_items_of, StaysAt}
+use Rattle.fm_audit.specs.Parts.{planned_of}
 use Rattle.fm_audit.specs.SafeMethods.{IsSafelyPlannedAt}
+use Rattle.fm_code.specs.declared.code_array.Item.{Item}
+use Rattle.fm_place_weave.specs.declared.planned.Planned.{Planned}
 use Rattle.fm_world.specs.Members.{methods_of}
 use Rattle.fm_audit.proofs.methods.all_judged.Goals as goal
 
 pub loop-number-preserved : goal.loop-number-preserved
 loop-number-preserved c =
-    each_more (IsSafelyPlannedAt c.args.program.now c.args.summaries.now) c.loop-number.number c.loop-number.planned.items c.push.new.self.items
-    c.planned-made.result c.loop-number.invariant.0 c.in_ok-push.ensures.items c.loop-number.invariant.1
-    (subst (IsSafelyPlannedAt c.args.program.now c.args.summaries.now c.loop-number.number) (sym c.planned-made.ensures) c.in_ok-found.ensures)
+    let p = c.args.program.now in
+    let k = c.loop-number.number in
+    let judged : ℕ → Planned → Type 0 =
+    λ m done. IsSafelyPlannedAt p c.args.summaries.now m done × StaysAt p m (new_items_of p c.args.new.now m) done in
+    let own : c.new_code_at-own.result.items.now ≡ new_items_of p c.args.new.now k = search rules in
+    each_more judged k c.loop-number.planned.items c.push.new.self.items c.planned-made.result c.loop-number.invariant.0 c.in_ok-push.ensures.items
+    c.loop-number.invariant.1
+    (subst (judged k) (sym c.planned-made.ensures) (
+      c.in_ok-found.ensures.safe,
+      subst (λ (items : List Item). StaysAt p k items (planned_of c.in_ok-found.found)) own c.in_ok-found.ensures.still,
+    ))
 
-pub returns : goal.returns
-returns c =
+pub returns-clause-safe : goal.returns-clause-safe
+returns-clause-safe c =
     let count : length c.loop-number.planned.items ≡ length (methods_of c.args.program.now.outline.classes) =
     omega (arith, c.loop-number-test.false, c.loop-number.invariant.0, c.methods-methods.ensures) in
-    record { one_each = count; each = λ k inside. c.loop-number.invariant.1 k (omega (arith, inside, c.loop-number.invariant.0)) }
+    record { one_each = count; each = λ k inside. (c.loop-number.invariant.1 k (omega (arith, inside, c.loop-number.invariant.0))).0 }
+
+pub returns-clause-still : goal.returns-clause-still
+returns-clause-still c = λ k inside. (c.loop-number.invariant.1 k (omega (arith, inside, c.loop-number.invariant.0))).1

@@ -10,9 +10,9 @@ all_judged-requires-clause-summaries c =
     (subst (AreShapesOf c.args.program.now shapes.typings) (sym c.as_slice.ensures.value) shapes.are) in
     exact.summaries
 
-pub returns : goal.returns
-returns c =
+pub returns-clause-safe : goal.returns-clause-safe
+returns-clause-safe c =
     let shapes = c.in_ok-shapes.ensures in
     let exact = c.in_ok-summaries.ensures shapes.typings
     (subst (AreShapesOf c.args.program.now shapes.typings) (sym c.as_slice.ensures.value) shapes.are) in
-    inserted_answers c.args.program.now c.in_ok-summaries.summaries c.requires shapes.typings shapes.least exact c.all_judged.result c.all_judged.ensures
+    inserted_answers c.args.program.now c.in_ok-summaries.summaries c.requires shapes.typings shapes.least exact c.all_judged.result c.all_judged.ensures.safe

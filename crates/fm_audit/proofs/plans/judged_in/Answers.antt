@@ -1,6 +1,6 @@
-use Rattle.std.proofs.Common.{rules, ◌≡◌, ◌∙◌, ℕ, List, Some, length, ap, subst, sym}
+use Rattle.std.proofs.Common.{rules, ◌≡◌, ◌∙◌, ◌==◌, ℕ, false, List, Some, length, ap, subst, sym}
 use Rattle.std.specs.Option.{option_map}
-use Rattle.fm_audit.proofs.ListedLemmas.{found_listed, no_starts, read_is}
+use Rattle.fm_audit.proofs.ListedLemmas.{found_listed, no_starts, read_is, some_null}
 use Rattle.fm_audit.specs.ReadBy.{pairs_in, read_in}
 use Rattle.fm_audit.specs.Reading.{Read}
 use Rattle.fm_audit.specs.inner.Checked.{IsChecking}
@@ -33,3 +33,10 @@ returns-in-Safe-clause-read c =
     read_is c.args.free c.args.seen.now.method.code.now.max_locals c.deref.result.now c.args.seen.now.method.code.now.items c.args.new.now _
     c.in-Some.found c.in_ok-found.ensures c.in-Some.is c.deref.ensures
     ∙ ap (λ starts. Some (with_starts starts)) checked.starts
+
+pub returns-in-Safe-clause-still : goal.returns-in-Safe-clause-still
+returns-in-Safe-clause-still c =
+    let some : (length c.in-Some.found.starts.items == 0) ≡ false = search rules in
+    λ none. absurd (some_null c.args.free c.args.seen.now.method.code.now.max_locals c.args.seen.now.method.code.now.items c.args.new.now c.in-Some.found
+    (read_is c.args.free c.args.seen.now.method.code.now.max_locals c.deref.result.now c.args.seen.now.method.code.now.items c.args.new.now _
+    c.in-Some.found c.in_ok-found.ensures c.in-Some.is c.deref.ensures) some none)

@@ -1,10 +1,10 @@
-use Rattle.std.proofs.Common.{◌≡◌, ◌-◌, ◌+◌, sym, ◌∙◌, ap, subst, List, drop, length, arith, OnOk}
+use Rattle.std.proofs.Common.{◌≡◌, ◌-◌, ◌+◌, sym, ◌∙◌, ap, subst, false, List, drop, length, arith, OnOk}
 use Rattle.fm_audit_classes.proofs.AuditedLemmas.{parts_of}
 use Rattle.fm_audit_classes.proofs.FoundLemmas.{classes_judged, found_within_err, methods_judged}
 use Rattle.fm_audit_classes.specs.inner.Compared.{MayBeComparedEach}
 use Rattle.fm_place.specs.Rewriting.{first_given}
 use Rattle.fm_place_weave.specs.declared.planned.Planned.{Planned}
-use Rattle.fm_rewrite.specs.inner.ByPlans.{classes_by, method_count}
+use Rattle.fm_rewrite.specs.inner.ByPlans.{changes_by, classes_by, method_count}
 use Rattle.fm_world.specs.Members.{methods_of}
 use Rattle.fm_audit_classes.proofs.auditing.are_written_by.Goals as goal
 
@@ -80,3 +80,10 @@ returns-clause-found c =
     found_within_err (c.classes.result - length c.args.classes.now + length c.args.classes.now) (length p.outline.classes)
     (c.methods.result - c.args.count + method_count c.args.classes.now) (length (methods_of p.outline.classes)) c.are_written.result
     (omega (arith, classes, c.classes.ensures)) (omega (arith, methods, c.methods.ensures, c.requires.count)) c.are_written.ensures.found
+
+pub are_written-requires-clause-still : goal.are_written-requires-clause-still
+are_written-requires-clause-still c = λ same.
+    let all = methods_judged c.args.classes.now c.args.program.now c.requires.judged in
+    let first : c.methods.result - c.args.count ≡ first_given = omega (arith, all, c.methods.ensures, c.requires.count) in
+    subst (λ (ds : List Planned). changes_by ds ≡ false)
+    (sym (c.split_at.ensures.back ∙ (λ k. drop (first k) (c.as_slice.ensures.value k)))) (c.requires.still same)

@@ -1,12 +1,14 @@
-use Rattle.std.proofs.Common.{◌≡◌, ◌∙◌, sym, ap, subst, ◌+◌, ◌-◌, ◌<◌, List, drop, take, length, length-take, refl, arith}
+use Rattle.std.proofs.Common.{◌≡◌, ◌∙◌, sym, ap, subst, ◌+◌, ◌-◌, ◌<◌, false, List, drop, take, length, length-take, refl, arith}
+use Rattle.std.proofs.lemmas.Bool.{false≢true}
 use Rattle.std.proofs.lemmas.List.{length-drop}
 use Rattle.fm_audit_classes.proofs.FoundLemmas.{found_within}
+use Rattle.fm_audit_classes.proofs.StaysLemmas.{all_others, same_class, still_dropped, still_taken}
 use Rattle.fm_audit_classes.proofs.StepLemmas.{spelled_more, written_more}
 use Rattle.fm_audit_classes.specs.inner.Compared.{MayBeCompared, MayBeComparedEach}
 use Rattle.fm_code.specs.declared.class_file.ClassDef.{ClassDef}
 use Rattle.fm_place_weave.specs.declared.planned.Planned.{Planned}
 use Rattle.fm_rewrite.proofs.StepLemmas.{left, others_counted}
-use Rattle.fm_rewrite.specs.inner.ByPlans.{classes_by, method_count, others, own, rewritten_by}
+use Rattle.fm_rewrite.specs.inner.ByPlans.{changes_by, classes_by, method_count, others, own, rewritten_by}
 use Rattle.fm_audit_classes.proofs.comparing.are_written.Goals as goal
 
 pub split_at-requires : goal.split_at-requires
@@ -67,6 +69,24 @@ returns-then-not-same-clause-found c =
     (c.args.numbers.1 + method_count c.args.classes.now) c.not_safe.result (omega (arith, c.loop-place-test.true))
     (omega (arith, own, taken, all, shorter)) c.not_safe.ensures
 
+pub returns-then-not-same-clause-others : goal.returns-then-not-same-clause-others
+returns-then-not-same-clause-others c =
+    let here = c.loop-place in
+    let classes = c.args.classes.now in
+    let written = c.args.written.now in
+    let class = c.index-classes-place.result in
+    let new = c.index-written-place.result in
+    let within = c.loop-place-test.true in
+    let inside : here.place < length written = omega (arith, within, c.requires.lengths) in
+    let front = c.split_at.ensures.front ∙ ap (λ n. take n here.rest.now) c.len.ensures in
+    all_others classes written c.not_safe.result
+    (λ same.
+    let quiet : changes_by c.split_at.result.0.now ≡ false =
+    subst (λ (ds : List Planned). changes_by ds ≡ false) (sym front) (still_taken (length class.methods) here.rest.now (here.invariant.still same)) in
+    let found = c.in_ok-same.ensures.still quiet
+    (same_class classes written here.place class new within inside c.index-classes-place.is c.index-written-place.is same) in
+    false≢true (sym c.if-not-same.true ∙ found))
+
 pub loop-place-preserved : goal.loop-place-preserved
 loop-place-preserved c =
     let here = c.loop-place in
@@ -93,9 +113,10 @@ loop-place-preserved c =
           subst (λ (d : List Planned). MayBeComparedEach d rest) (sym after)
           (left classes place class within is (λ (cs : List ClassDef). MayBeComparedEach done cs) here.invariant.may).1;
       spelled = (spelled_more written place new inside c.index-written-place.is here.invariant.spelled).1;
+      still = λ same. subst (λ (ds : List Planned). changes_by ds ≡ false) (sym after) (still_dropped (length class.methods) done (here.invariant.still same));
       same = λ same_rest.
           let here_same : new ≡ rewritten_by (own class done) class =
-          c.in_ok-same.ensures c.if-not-same.false ∙ ap (λ d. rewritten_by d class) front in
+          c.in_ok-same.ensures.same c.if-not-same.false ∙ ap (λ d. rewritten_by d class) front in
           here.invariant.same (written_more classes written place class new done within inside is c.index-written-place.is here_same
           (same_rest ∙ ap (λ d. classes_by d rest) after));
     }

@@ -1,20 +1,12 @@
-use Rattle.std.proofs.Common.{rules, ◌≡◌, ◌∙◌, sym, ap, subst, true, None}
-use Rattle.fm_code.specs.Fits.{FitsTwo}
-use Rattle.fm_code.specs.Spells.{HasSpelling}
-use Rattle.fm_place.specs.Rewriting.{free_index}
-use Rattle.fm_place_weave.specs.ClassByPlan.{first_long}
+use Rattle.std.proofs.Common.{◌≡◌, ◌∙◌, sym, true}
 use Rattle.fm_rewrite.specs.inner.ByPlans.{changes_by}
-use Rattle.fm_audit_classes.specs.inner.Low.{are_low}
+use Rattle.fm_audit_classes.proofs.StaysLemmas.{never_still, once_still}
 use Rattle.fm_audit_classes.proofs.comparing.is_written.Goals as goal
 
-pub is_same-requires-in-Ok-woven_class-clause-second : goal.is_same-requires-in-Ok-woven_class-clause-second
-is_same-requires-in-Ok-woven_class-clause-second c =
-    let class = c.args.class.now in
-    let done = c.args.planned.now in
-    let changed : changes_by done ≡ true = sym c.changes.ensures ∙ c.if-not-changes.false in
-    let low : are_low done class.methods ≡ true = search rules in
-    let made = c.in-Ok.ensures in
-    let fits : FitsTwo (free_index class) = subst FitsTwo made.free (search rules) in
-    let none : first_long (free_index class) 0 done class.methods ≡ None =
-    sym (ap (λ n. first_long n 0 done class.methods) made.free) ∙ c.in-Ok-woven_class.ensures.fits in
-    subst HasSpelling (sym c.in-Ok-woven_class.ensures.woven) (c.requires.class.woven low changed fits made.fits none)
+pub returns-then-not-changes-clause-still : goal.returns-then-not-changes-clause-still
+returns-then-not-changes-clause-still c = once_still _ _ c.is_same.result c.is_same.ensures.all
+
+pub returns-clause-still : goal.returns-clause-still
+returns-clause-still c =
+    let changed : changes_by c.args.planned.now ≡ true = sym c.changes.ensures ∙ c.if-not-changes.false in
+    never_still _ c.args.planned.now changed c.is_woven.result

@@ -1,0 +1,46 @@
+use Rattle.std.proofs.Common.{◌+◌, ◌-◌, ◌<◌, ℕ, Option, IfSome, subst, length, arith}
+use Rattle.fm_audit_classes.proofs.FoundLemmas.{classes_judged, found_within}
+use Rattle.fm_audit_classes.proofs.StaysLemmas.{all_others}
+use Rattle.fm_audit_classes.specs.inner.Found.{AreOthers}
+use Rattle.fm_rewrite.proofs.JudgedLemmas.{judged_spelled}
+use Rattle.fm_world.specs.Members.{methods_of}
+use Rattle.fm_audit_classes.proofs.auditing.first_cause.Goals as goal
+
+pub overflow_sub-first : goal.overflow_sub-first
+overflow_sub-first c =
+    let all = classes_judged c.args.classes.now c.args.program.now c.requires.judged in omega (arith, all, c.classes.ensures)
+
+pub overflow_cast-first : goal.overflow_cast-first
+overflow_cast-first c =
+    let all = classes_judged c.args.classes.now c.args.program.now c.requires.judged in omega (arith, all, c.classes.ensures, c.classes.type_inv)
+
+pub first_other_class-requires-clause-spelled : goal.first_other_class-requires-clause-spelled
+first_other_class-requires-clause-spelled c = judged_spelled c.args.classes.now c.args.program.now c.requires.judged
+
+pub overflow_cast-number : goal.overflow_cast-number
+overflow_cast-number c =
+    let within : c.in-Some.place < length c.args.classes.now =
+    subst (λ (o : Option ℕ). IfSome o (λ place. place < length c.args.classes.now)) c.in-Some.is c.in_ok-other.ensures in
+    let all = classes_judged c.args.classes.now c.args.program.now c.requires.judged in
+    omega (arith, within, all, c.classes.ensures, c.classes.type_inv)
+
+pub overflow_add-number : goal.overflow_add-number
+overflow_add-number c =
+    let within : c.in-Some.place < length c.args.classes.now =
+    subst (λ (o : Option ℕ). IfSome o (λ place. place < length c.args.classes.now)) c.in-Some.is c.in_ok-other.ensures in
+    let all = classes_judged c.args.classes.now c.args.program.now c.requires.judged in
+    omega (arith, within, all, c.classes.ensures, c.classes.type_inv)
+
+pub returns-clause-found : goal.returns-clause-found
+returns-clause-found c =
+    let within : c.in-Some.place < length c.args.classes.now =
+    subst (λ (o : Option ℕ). IfSome o (λ place. place < length c.args.classes.now)) c.in-Some.is c.in_ok-other.ensures in
+    let all = classes_judged c.args.classes.now c.args.program.now c.requires.judged in
+    let methods = length (methods_of c.args.program.now.outline.classes) in
+    found_within (c.classes.result - length c.args.classes.now + c.in-Some.place + 1) (length c.args.program.now.outline.classes) methods methods
+    c.other_class.result (omega (arith, within, all, c.classes.ensures)) (omega arith) (c.other_class.ensures methods)
+
+pub returns-clause-others : goal.returns-clause-others
+returns-clause-others c =
+    all_others c.args.classes.now c.args.written.now c.other_class.result
+    (subst (AreOthers c.args.classes.now c.args.written.now) c.in-NotSafe.is c.requires.others)
