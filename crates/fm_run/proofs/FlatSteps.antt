@@ -28,7 +28,7 @@ use Rattle.fm_run.proofs.NextSteps.{named-is, own_effect, row-does}
 use Rattle.fm_run.proofs.Ranging.{quietly-then, went-quietly}
 use Rattle.fm_run.proofs.Standing.{insn-here, item-inside}
 use Rattle.fm_run.proofs.Steadying.{did-quietly}
-use Rattle.fm_run.specs.inner.Flats.{DoesCall, done_by, FlowsNext, IsFlatNext, IsStraight, item_in, WentOn}
+use Rattle.fm_run.specs.inner.Flats.{DoesAlone, done_by, FlowsNext, IsFlatNext, IsStraight, item_in, WentOn}
 use Rattle.fm_run.specs.inner.Going.{IsCheapNext, Keeps, LeadsQuietly}
 use Rattle.fm_run.specs.inner.Nexts.{DoesNext, StandsAt, StandsIn}
 use Rattle.fm_law_sound.specs.Sound.{IsSound}
@@ -135,31 +135,6 @@ pub record Flowed (p : Program) (choose : Choose) (budget method : ℕ) (x y sam
   pub kept : did ≡ false → same ≡ x
   pub ended : y.ended ≡ x.ended
 
-pub does-flowed : (p : Program) (choose : Choose) (budget method : ℕ) (m : State) (old : List Frame) (counted : ℕ) (m2 : State) (new : List Frame)
-    (insn i : Insn) (did : Bool) → IsFlatNext p budget (resumed m old counted) method insn → insn ≡ i → nest_of i ≡ None
-    → (did ≡ true → IsCheapNext p budget (resumed m old counted) method insn → DoesNext p choose (resumed m old counted) (resumed m2 new (counted + 1)))
-    → (did ≡ false → new ≡ old) → (did ≡ false → m2 ≡ m) → m2.ended ≡ m.ended
-    → Flowed p choose budget method (resumed m old counted) (resumed m2 new (counted + 1)) (resumed m2 new counted) did
-does-flowed p choose budget method m old counted m2 new insn i did next is cheap does same kept ended =
-    let found = cheap-next p budget (resumed m old counted) method insn i next is cheap in
-    record {
-      done = λ told. (insn, found, does told found);
-      kept = λ told. λ j. resumed (kept told j) (same told j) counted;
-      ended = ended;
-    }
-
--- a row over only frames
-pub row-flowed : (p : Program) (choose : Choose) (budget method : ℕ) (m : State) (old : List Frame) (counted : ℕ) (new : List Frame) (insn i : Insn) (did : Bool)
-    → IsFlatNext p budget (resumed m old counted) method insn → insn ≡ i → nest_of i ≡ None
-    → (did ≡ true → (at : StandsAt p (resumed m old counted) insn)
-    → Steps p choose (resumed m old counted) (resumed m new (counted + 1)) (own_effect p (resumed m old counted) at.frame.method i))
-    → (did ≡ false → new ≡ old)
-    → Flowed p choose budget method (resumed m old counted) (resumed m new (counted + 1)) (resumed m new counted) did
-row-flowed p choose budget method m old counted new insn i did next is cheap flows same =
-    does-flowed p choose budget method m old counted m new insn i did next is cheap
-    (λ told found. row-does p choose (resumed m old counted) (resumed m new (counted + 1)) insn i found.at.at is (flows told found.at.at))
-    same (λ told. refl) refl
-
 -- a row of a group
 pub group-flowed : (p : Program) (choose : Choose) (budget method : ℕ) (m : State) (old : List Frame) (counted : ℕ) (new : List Frame) (insn : Insn) (did : Bool)
     → IsFlatNext p budget (resumed m old counted) method insn → (did ≡ true → FlowsNext p method old new insn) → (did ≡ false → new ≡ old)
@@ -177,7 +152,7 @@ group-flowed p choose budget method m old counted new insn did next flows same =
 -- a call, a return or another one that is done out of line
 pub call-flowed : (p : Program) (choose : Choose) (budget method : ℕ) (m : State) (old : List Frame) (counted : ℕ) (m2 : State) (new : List Frame)
     (insn : Insn) (did : Bool) → IsFlatNext p budget (resumed m old counted) method insn
-    → (did ≡ true → DoesCall p choose insn (resumed m old counted) (resumed m2 new (counted + 1))) → (did ≡ false → new ≡ old) → (did ≡ false → m2 ≡ m)
+    → (did ≡ true → DoesAlone p choose insn (resumed m old counted) (resumed m2 new (counted + 1))) → (did ≡ false → new ≡ old) → (did ≡ false → m2 ≡ m)
     → m2.ended ≡ m.ended → Flowed p choose budget method (resumed m old counted) (resumed m2 new (counted + 1)) (resumed m2 new counted) did
 call-flowed p choose budget method m old counted m2 new insn did next does same kept ended = record {
   done =
@@ -274,6 +249,53 @@ straight-within p choose budget before first m frames reach counted run is went 
     let within = went.within in
     let more = went.more in
     (omega (arith, is, below, there, within), omega (arith, is, there), omega (arith, is, more))
+
+-- ---- the next instruction of straight code
+
+module _ (p : Program) (choose : Choose) (budget before : ℕ) (first m : State) (frames : List Frame) (reach counted : ℕ) where
+  -- the run went on to it
+  pub straight-here : counted ≡ done_by reach frames → IsStraight p choose budget before first m frames reach
+      → WentOn p choose budget first (resumed m frames counted)
+  straight-here is went = record {
+    leads = straight-leads p choose budget before first m frames reach counted is went;
+    keeps = straight-keeps p choose budget before first m frames reach counted is went;
+    on = went.on;
+  }
+
+  -- and over it, if it was done
+  pub straight-over : (method : ℕ) (m2 : State) (new : List Frame) (did : Bool) → CanRun p → IsLawful choose → cells.IsSound m2.areas.store
+      → counted ≡ done_by reach frames → IsStraight p choose budget before first m frames reach
+      → Flowed p choose budget method (resumed m frames counted) (resumed m2 new (counted + 1)) (resumed m2 new counted) did → did ≡ true
+      → WentOn p choose budget first (resumed m2 new (counted + 1))
+  straight-over method m2 new did run lawful sound is went flowed done =
+      let here = straight-here is went in
+      let over = flowed-on p choose budget method first (resumed m frames counted) (resumed m2 new (counted + 1)) (resumed m2 new counted) run lawful sound
+      (subst (Flowed p choose budget method (resumed m frames counted) (resumed m2 new (counted + 1)) (resumed m2 new counted)) done flowed)
+      here.on here.leads here.keeps in
+      record { leads = over.0; keeps = over.1; on = over.2 }
+
+  -- or is still there
+  pub straight-stays : (method : ℕ) (m2 : State) (new : List Frame) (did : Bool) → counted ≡ done_by reach frames
+      → IsStraight p choose budget before first m frames reach
+      → Flowed p choose budget method (resumed m frames counted) (resumed m2 new (counted + 1)) (resumed m2 new counted) did → did ≡ false
+      → WentOn p choose budget first (resumed m2 new counted)
+  straight-stays method m2 new did is went flowed none = subst (WentOn p choose budget first) (sym (flowed.kept none)) (straight-here is went)
+
+  -- where the next item comes after the last one, the reach stays as it is
+  pub straight-next : (m2 : State) (new : List Frame) → CanRun p → counted ≡ done_by reach frames → IsStraight p choose budget before first m frames reach
+      → WentOn p choose budget first (resumed m2 new (counted + 1)) → item_in new ≡ item_in frames + 1
+      → IsStraight p choose budget before first m2 new reach
+  straight-next m2 new run is went over there =
+      let was = straight-within p choose budget before first m frames reach counted run is went in
+      straight p choose budget before first m2 new reach (counted + 1) (omega (arith, was.1, there)) over.leads over.keeps over.on
+      (omega (arith, was.2)) (omega (arith, was.1, there)) went.within
+
+-- where a jump leads there, the reach is that of its target
+pub straight-jumped : (p : Program) (choose : Choose) (budget before : ℕ) (first m : State) (frames : List Frame) (reach counted : ℕ) → before ≤ counted
+    → WentOn p choose budget first (resumed m frames (counted + 1)) → done_by reach frames ≡ counted + 1 → 65536 ≤ reach + item_in frames → reach ≤ budget
+    → IsStraight p choose budget before first m frames reach
+straight-jumped p choose budget before first m frames reach counted more over is there within =
+    straight p choose budget before first m frames reach (counted + 1) is over.leads over.keeps over.on (omega (arith, more)) there within
 
 -- ---- frames that are taken out and put in again
 

@@ -9,3 +9,4 @@ pub mod Steadying
 pub mod CheapSteps
 pub mod FlatSteps
 pub mod Keeping
+pub mod QuickSteps

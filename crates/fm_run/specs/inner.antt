@@ -1,3 +1,4 @@
 pub mod Nexts
 pub mod Going
 pub mod Flats
+pub mod Quicks

@@ -6,7 +6,7 @@ ghost use Rattle.fm_code.specs.declared.instructions.Insn.TheVariants as insn;
 ghost use Rattle.fm_fast.specs.Flows.{resumed};
 ghost use Rattle.fm_frames.specs.inner.Doings.{NextFits};
 ghost use Rattle.fm_law_can_step.specs.Ready.{CanRun};
-ghost use Rattle.fm_run.specs.inner.Flats.{DoesCall, IsFlatNext};
+ghost use Rattle.fm_run.specs.inner.Flats.{DoesAlone, IsFlatNext};
 ghost use Rattle.fm_run.specs.inner.Nexts.{DoesNext};
 
 use crate::names::{field_named, method_named, type_named};
@@ -193,7 +193,7 @@ pub(crate) fn do_call<M: Memory>(
     requires fits { NextFits frames.old }
     requires next { IsFlatNext program.now steps (resumed machine.old frames.old counted) method.0
         insn.now }
-    ensures did { result ≡ true → DoesCall program.now M.choose insn.now
+    ensures did { result ≡ true → DoesAlone program.now M.choose insn.now
         (resumed machine.old frames.old counted) (resumed machine.new frames.new (counted + 1)) }
     ensures same { result ≡ false → frames.new ≡ frames.old }
     ensures kept { result ≡ false → machine.new ≡ machine.old }

@@ -3,30 +3,46 @@
 // The frames lie in a local whose address goes to no call that isn't in line, so that what each
 // step changes stays in registers; and the loop is in the function that has the match.
 
-ghost use Rattle.std.specs.Prelude.{◌≡◌, ℕ, ◌+◌, ◌<◌, ◌≤◌, ◌^◌, length, IfSome, None, Some, true, false};
+ghost use Rattle.std.specs.Prelude.{◌≡◌, ◌+◌, ◌<◌, ◌≤◌, ◌^◌, length, slice_get, IfSome, None, Some, true, false};
 ghost use Rattle.fm_fast.specs.Flows.{resumed};
 ghost use Rattle.fm_fast.specs.Operands.{AsksOf};
+ghost use Rattle.fm_fast.specs.Packed.{ArePacked};
 ghost use Rattle.fm_frames.specs.inner.Doings.{NextFits};
 ghost use Rattle.fm_law_can_step.specs.Ready.{CanRun};
 ghost use Rattle.fm_run.specs.inner.Flats.{FlowsNext, IsFlatNext, WentOn};
 ghost use Rattle.fm_run.specs.inner.Going.{Keeps, LeadsQuietly};
+ghost use Rattle.fm_run.specs.inner.Quicks.{AreQuicksOf, StandsFor, codes_of};
 ghost use Rattle.fm_world.specs.Members.{methods_of};
-ghost use Rattle.fm_world.specs.Programs.{code_at, Program};
+ghost use Rattle.fm_world.specs.Programs.{code_at};
 
 use crate::called::do_call;
-use crate::indexed::{field_read, field_written, number, static_read};
+use crate::indexed::number;
 use crate::names::insn_among;
+use crate::quick::Quick;
+use crate::quick_codes::QuickCodes;
+use crate::quick_rows::{
+    do_array_load, do_array_store, do_field, do_goto, do_if_int, do_if_pair, do_int_op, do_load,
+    do_simple, do_store,
+};
 use crate::straight::{done, next_item, reach_after, straight_reach};
 use fm_base::MethodId;
 use fm_cells::Memory;
 use fm_code::{Code, Insn, Item};
 use fm_fast as rows;
-use fm_fast::{array_length, array_load, array_store};
 use fm_frames::{Frames, Machine, code_of};
 use fm_world::Program;
 use std::alloc::Global;
 
-// The next instruction of frames that are taken out of a machine, if it is one of this method.
+// The quick code of an item that is there.
+#[inline(always)]
+fn quick_among(quicks: &[Quick], item: usize) -> &Quick
+    requires { item < length quicks.now }
+    ensures { slice_get quicks.now item ≡ Some result.now }
+{
+    &quicks[item]
+}
+
+// The next instruction of frames that are taken out of a machine, if it is one of this method, with its quick code.
 #[inline(always)]
 fn next_in<'a, M: Memory>(
     machine: &Machine<M>,
@@ -36,8 +52,9 @@ fn next_in<'a, M: Memory>(
     method: MethodId,
     code: &Code,
     items: &'a [Item],
+    quicks: &'a [Quick],
     steps: u64,
-) -> Option<&'a Insn>
+) -> Option<(&'a Insn, &'a Quick)>
     requires run { CanRun program.now }
     requires code { code_at program.now method.0 ≡ Some code.now }
     requires few { steps < 2 ^ 64 }
@@ -45,9 +62,11 @@ fn next_in<'a, M: Memory>(
     requires on { machine.now.ended ≡ None }
     requires within { counted < steps }
     requires items { items.now ≡ code.now.items }
-    ensures fits { IfSome result (λ insn. NextFits frames.now) }
-    ensures next { IfSome result (λ insn. IsFlatNext program.now steps
-        (resumed machine.now frames.now counted) method.0 insn.now) }
+    requires quicks { AreQuicksOf code.now.items quicks.now }
+    ensures fits { IfSome result (λ next. NextFits frames.now) }
+    ensures next { IfSome result (λ next. IsFlatNext program.now steps
+        (resumed machine.now frames.now counted) method.0 next.0.now) }
+    ensures stands { IfSome result (λ next. StandsFor next.1.now next.0.now) }
 {
     let Some(place) = frames.topmost() else {
         return None;
@@ -55,36 +74,8 @@ fn next_in<'a, M: Memory>(
     if place.method != method {
         return None;
     }
-    Some(insn_among(items, place.item))
-}
-
-// Pushes an int, if that is what the instruction does; returns whether it was done.
-#[inline(always)]
-fn do_constant(frames: &mut Frames, insn: &Insn) -> bool
-    requires fits { NextFits frames.old }
-    ensures did { result ≡ true → (p : Program) (method : ℕ)
-        → FlowsNext p method frames.old frames.new insn.now }
-    ensures same { result ≡ false → frames.new ≡ frames.old }
-{
-    match insn {
-        Insn::Const(n) => rows::int_constant(frames, *n),
-        _ => false,
-    }
-}
-
-// Adds to a local, if that is what the instruction does; returns whether it was done.
-#[inline(always)]
-fn do_increment(frames: &mut Frames, insn: &Insn) -> bool
-    requires fits { NextFits frames.old }
-    requires asks { AsksOf insn.now frames.old }
-    ensures did { result ≡ true → (p : Program) (method : ℕ)
-        → FlowsNext p method frames.old frames.new insn.now }
-    ensures same { result ≡ false → frames.new ≡ frames.old }
-{
-    match insn {
-        Insn::Inc(place, by) => rows::increment(frames, *place, *by),
-        _ => false,
-    }
+    let insn = insn_among(items, place.item);
+    Some((insn, quick_among(quicks, place.item)))
 }
 
 // Does the instruction, if it is one of the other simple ones over only frames; returns whether it
@@ -130,6 +121,14 @@ fn do_other(frames: &mut Frames, program: &Program, method: MethodId, insn: &Ins
     }
 }
 
+// Whether an instruction that was done jumped: another item than this one is next.
+#[inline(always)]
+fn jumps(did: bool, frames: &Frames, after: usize) -> bool
+    ensures { result ≡ true → did ≡ true }
+{
+    did && next_item(frames) != after
+}
+
 // Does the simple instructions that come next in this method's code over frames that are taken out, as far as
 // the budget of steps allows; gives the frames again, with how many steps are done then.
 fn flow<M: Memory>(
@@ -139,10 +138,12 @@ fn flow<M: Memory>(
     program: &Program,
     method: MethodId,
     code: &Code,
+    quicks: &[Quick],
     steps: u64,
 ) -> (Frames, u64)
     requires run { CanRun program.now }
     requires code { code_at program.now method.0 ≡ Some code.now }
+    requires quicks { AreQuicksOf code.now.items quicks.now }
     requires few { steps < 2 ^ 32 }
     requires keeps { Keeps program.now steps (resumed machine.old taken before) }
     requires on { machine.old.ended ≡ None }
@@ -160,74 +161,139 @@ fn flow<M: Memory>(
     'straight: loop {
         let counted = done(reach, &frames);
         let next = next_in(
-            machine, &frames, counted, program, method, code, items, steps,
+            machine, &frames, counted, program, method, code, items, quicks, steps,
         );
-        let Some(insn) = next else {
+        let Some((insn, quick)) = next else {
             return (frames, counted);
         };
         let item = next_item(&frames);
-        let did = match insn {
-            Insn::Load(kind, place) => rows::load(&mut frames, *kind, *place),
-            Insn::Store(kind, place) => rows::store(&mut frames, *kind, *place),
-            Insn::Const(_) => do_constant(&mut frames, insn),
-            Insn::Inc(_, _) => do_increment(&mut frames, insn),
-            Insn::IntOp(op) => rows::int_op(&mut frames, *op),
-            Insn::IfInt(test, target) => rows::if_int(&mut frames, *test, *target),
-            Insn::IfPair(test, target) => rows::if_pair(&mut frames, *test, *target),
-            Insn::Goto(target) => {
-                rows::go_to(&mut frames, *target);
-                true
+        let after = item + 1;
+        // For clauses: the store is sound, and the memory's choices are lawful.
+        let _lawful = machine.births();
+        let did = match quick {
+            Quick::Iload(_) | Quick::Lload(_) | Quick::Aload(_) => {
+                do_load(&mut frames, insn, quick)
             }
-            Insn::Dup => rows::dup(&mut frames),
-            Insn::GetField(index) => {
-                field_read(
+            Quick::Istore(_) | Quick::Lstore(_) | Quick::Astore(_) => {
+                do_store(&mut frames, insn, quick)
+            }
+            Quick::Iconst(_) | Quick::Iinc(_, _) | Quick::Dup => {
+                do_simple(&mut frames, insn, quick)
+            }
+            Quick::Iadd
+            | Quick::Isub
+            | Quick::Imul
+            | Quick::Idiv
+            | Quick::Irem
+            | Quick::Iand
+            | Quick::Ior
+            | Quick::Ixor => do_int_op(&mut frames, insn, quick),
+            Quick::Baload
+            | Quick::Caload
+            | Quick::Saload
+            | Quick::Iaload
+            | Quick::Laload
+            | Quick::Aaload
+            | Quick::Arraylength => {
+                do_array_load(
                     machine,
                     &mut frames,
                     counted,
                     program,
                     method,
-                    *index,
+                    insn,
+                    quick,
                     steps,
                 )
             }
-            Insn::GetStatic(index) => {
-                static_read(
+            Quick::Bastore | Quick::Castore | Quick::Sastore | Quick::Iastore | Quick::Lastore => {
+                do_array_store(
                     machine,
                     &mut frames,
                     counted,
                     program,
                     method,
-                    *index,
+                    insn,
+                    quick,
                     steps,
                 )
             }
-            Insn::PutField(index) => {
-                field_written(
+            Quick::Getfield(_) | Quick::Putfield(_) | Quick::Getstatic(_) => {
+                do_field(
                     machine,
                     &mut frames,
                     counted,
                     program,
                     method,
-                    *index,
+                    insn,
+                    quick,
                     steps,
                 )
             }
-            Insn::ArrayLoad(e) => array_load(machine, &mut frames, program, *e),
-            Insn::ArrayStore(e) => array_store(machine, &mut frames, program, *e),
-            Insn::Length => array_length(machine, &mut frames, program),
-            _ => do_other(&mut frames, program, method, insn),
+            Quick::Ifeq(_)
+            | Quick::Ifne(_)
+            | Quick::Iflt(_)
+            | Quick::Ifge(_)
+            | Quick::Ifgt(_)
+            | Quick::Ifle(_) => {
+                let did = do_if_int(&mut frames, insn, quick);
+                if jumps(did, &frames, after) {
+                    reach = reach_after(reach, item, counted, &frames);
+                    if reach > steps {
+                        return (frames, counted + 1);
+                    }
+                    continue 'straight;
+                }
+                did
+            }
+            Quick::IfIcmpeq(_)
+            | Quick::IfIcmpne(_)
+            | Quick::IfIcmplt(_)
+            | Quick::IfIcmpge(_)
+            | Quick::IfIcmpgt(_)
+            | Quick::IfIcmple(_) => {
+                let did = do_if_pair(&mut frames, insn, quick);
+                if jumps(did, &frames, after) {
+                    reach = reach_after(reach, item, counted, &frames);
+                    if reach > steps {
+                        return (frames, counted + 1);
+                    }
+                    continue 'straight;
+                }
+                did
+            }
+            Quick::Goto(_) => {
+                let did = do_goto(&mut frames, insn, quick);
+                if jumps(did, &frames, after) {
+                    reach = reach_after(reach, item, counted, &frames);
+                    if reach > steps {
+                        return (frames, counted + 1);
+                    }
+                    continue 'straight;
+                }
+                did
+            }
+            Quick::Other => {
+                let did = do_other(&mut frames, program, method, insn);
+                if jumps(did, &frames, after) {
+                    reach = reach_after(reach, item, counted, &frames);
+                    if reach > steps {
+                        return (frames, counted + 1);
+                    }
+                    continue 'straight;
+                }
+                did
+            }
+            Quick::Call => false,
         };
-        // For its clauses: the store is sound, and the memory's choices are lawful.
         let _births = machine.births();
         if !did {
             return (frames, counted);
         }
-        let after = next_item(&frames);
-        if after != item + 1 {
-            reach = reach_after(reach, item, counted, &frames);
-            if reach > steps {
-                return (frames, counted + 1);
-            }
+        // Each that jumps has gone on from its arm, which LLVM sees: so nothing is left of this test.
+        let place = next_item(&frames);
+        if place != after {
+            return (frames, counted + 1);
         }
     }
 }
@@ -242,10 +308,12 @@ fn do_next_call<M: Memory>(
     program: &Program,
     method: MethodId,
     code: &Code,
+    quicks: &[Quick],
     steps: u64,
 ) -> bool
     requires run { CanRun program.now }
     requires code { code_at program.now method.0 ≡ Some code.now }
+    requires quicks { AreQuicksOf code.now.items quicks.now }
     requires few { steps < 2 ^ 64 }
     requires keeps { Keeps program.now steps (resumed machine.old frames.old counted) }
     requires on { machine.old.ended ≡ None }
@@ -257,9 +325,9 @@ fn do_next_call<M: Memory>(
 {
     let items = code.items.as_slice();
     let next = next_in(
-        machine, frames, counted, program, method, code, items, steps,
+        machine, frames, counted, program, method, code, items, quicks, steps,
     );
-    let Some(insn) = next else {
+    let Some((insn, _)) = next else {
         return false;
     };
     let did = do_call(machine, frames, counted, program, method, insn, steps);
@@ -274,9 +342,11 @@ pub(crate) fn do_flat_ones<M: Memory>(
     alloc: Global,
     machine: &mut Machine<M>,
     program: &Program,
+    codes: &QuickCodes,
     steps: u64,
 )
     requires run { CanRun program.now }
+    requires codes { codes.now ≡ codes_of program.now }
     requires few { steps < 2 ^ 32 }
     requires keeps { Keeps program.now steps machine.old }
     ensures { LeadsQuietly program.now M.choose steps machine.old machine.new }
@@ -294,13 +364,27 @@ pub(crate) fn do_flat_ones<M: Memory>(
         let Some(code) = code_of(program, method) else {
             break;
         };
-        let flowed = flow(machine, frames, counted, program, method, code, steps);
+        let Some(quicks) = codes.quicks(method) else {
+            break;
+        };
+        let flowed = flow(
+            machine, frames, counted, program, method, code, quicks, steps,
+        );
         frames = flowed.0;
         counted = flowed.1;
         if counted >= steps {
             break;
         }
-        let did = do_next_call(machine, &mut frames, counted, program, method, code, steps);
+        let did = do_next_call(
+            machine,
+            &mut frames,
+            counted,
+            program,
+            method,
+            code,
+            quicks,
+            steps,
+        );
         if !did {
             break;
         }

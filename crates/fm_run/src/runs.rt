@@ -7,11 +7,13 @@ ghost use Rattle.fm_frames.specs.declared.turns.StepFail.TheVariants as StepFail
 ghost use Rattle.fm_law_can_step.specs.Ready.{CanRun};
 ghost use Rattle.fm_run.specs.Running.{BreaksRun, CanGo, FailsRun, KeepsWhole, MakesMostHeld, RunsTo};
 ghost use Rattle.fm_run.specs.inner.Going.{BreaksLater, DidCheap, DidQuietly, FailsLater, FailsNext, IsCheapNext, Keeps, Leads, LeadsQuietly, left_of};
+ghost use Rattle.fm_run.specs.inner.Quicks.{codes_of};
 ghost use Rattle.fm_world.specs.Programs.{code_at};
 
 use crate::flats::do_flat_ones;
 use crate::groups::is_nest;
 use crate::plain::frequent;
+use crate::quick_codes::QuickCodes;
 use crate::steps::{advance, do_step};
 use fm_base::{MethodId, NoMemory};
 use fm_cells::Memory;
@@ -107,16 +109,18 @@ fn do_flat_ones_and_next<M: Memory>(
     alloc: Global,
     machine: &mut Machine<M>,
     program: &Program,
+    codes: &QuickCodes,
     steps: u64,
 ) -> Result<bool, NoMemory>
     requires run { CanRun program.now }
+    requires codes { codes.now ≡ codes_of program.now }
     requires few { steps < 2 ^ 32 }
     requires keeps { Keeps program.now steps machine.old }
     ensures leads { OnOk result (LeadsQuietly program.now M.choose steps machine.old machine.new) }
     ensures less { IfOk result (λ any. any ≡ true
         → left_of steps machine.new < left_of steps machine.old) }
 {
-    do_flat_ones(alloc, machine, program, steps);
+    do_flat_ones(alloc, machine, program, codes, steps);
     let Some(place) = machine.topmost() else {
         return Ok(false);
     };
@@ -133,16 +137,18 @@ fn do_frequent_ones<M: Memory>(
     alloc: Global,
     machine: &mut Machine<M>,
     program: &Program,
+    codes: &QuickCodes,
     steps: u64,
 ) -> Result<(), NoMemory>
     requires run { CanRun program.now }
+    requires codes { codes.now ≡ codes_of program.now }
     requires few { steps < 2 ^ 32 }
     requires keeps { Keeps program.now steps machine.old }
     ensures { OnOk result (LeadsQuietly program.now M.choose steps machine.old machine.new) }
 {
     let mut goes = true;
     while goes {
-        goes = do_flat_ones_and_next(alloc, machine, program, steps)?;
+        goes = do_flat_ones_and_next(alloc, machine, program, codes, steps)?;
     }
     Ok(())
 }
@@ -185,10 +191,12 @@ fn do_cheap_ones<M: Memory, S: Sink>(
     alloc: Global,
     machine: &mut Machine<M>,
     program: &Program,
+    codes: &QuickCodes,
     steps: u64,
     out: &mut S,
 ) -> Result<(), StepFail>
     requires run { CanRun program.now }
+    requires codes { codes.now ≡ codes_of program.now }
     requires few { steps < 2 ^ 32 }
     requires keeps { Keeps program.now steps machine.old }
     ensures leads { OnOk result (Leads program.now M.choose steps machine.old machine.new
@@ -200,7 +208,7 @@ fn do_cheap_ones<M: Memory, S: Sink>(
 {
     let mut goes = true;
     while goes {
-        quiet(do_frequent_ones(alloc, machine, program, steps))?;
+        quiet(do_frequent_ones(alloc, machine, program, codes, steps))?;
         goes = do_cheap(alloc, machine, program, steps, out)?;
     }
     Ok(())
@@ -235,9 +243,12 @@ pub fn run<M: Memory, S: Sink>(
     law_no_fault();
     law_made_since();
     let _births = machine.births();
+    let Ok(codes) = QuickCodes::of(alloc, program) else {
+        return Err(StepFail::NoMemory);
+    };
     while goes(machine, program, steps) {
         advance(alloc, machine, program, out)?;
-        do_cheap_ones(alloc, machine, program, steps, out)?;
+        do_cheap_ones(alloc, machine, program, &codes, steps, out)?;
     }
     Ok(machine.report())
 }

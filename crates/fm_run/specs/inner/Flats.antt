@@ -23,8 +23,8 @@ pub record FlowsNext (p : Program) (method : ℕ) (old new : List Frame) (i : In
   pub does : (choose : Choose) (x : State) → StandsIn p (on x old) method i → DoesNext p choose (on x old) (stepped_on x new)
 
 -- the instruction costs 1, and its step leads from one state to the other
-abbrev pub DoesCall : Program → Choose → Insn → (x y : State) → Type 0
-DoesCall p choose i x y = (nest_of i ≡ None) × DoesNext p choose x y
+abbrev pub DoesAlone : Program → Choose → Insn → (x y : State) → Type 0
+DoesAlone p choose i x y = (nest_of i ≡ None) × DoesNext p choose x y
 
 -- a run that goes on led quietly from one state to another, from which it can go on
 pub record WentOn (p : Program) (choose : Choose) (budget : ℕ) (x y : State) : Type 0 where

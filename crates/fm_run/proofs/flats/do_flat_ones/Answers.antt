@@ -1,11 +1,13 @@
-use Rattle.std.proofs.Common.{◌≡◌, ◌+◌, None, true, false, ap, ◌∙◌, sym, subst, rules}
+use Rattle.std.proofs.Common.{◌≡◌, ◌+◌, None, Some, option_copied, slice_get, true, false, ap, ◌∙◌, sym, subst, rules}
 use Rattle.fm_fast.specs.Flows.{resumed}
 use Rattle.fm_run.proofs.FlatSteps.{taken-out, then-went, went-joined}
+use Rattle.fm_run.proofs.QuickSteps.{quicks-found}
 use Rattle.fm_run.proofs.Ranging.{leads-none}
 use Rattle.fm_run.proofs.flats.do_flat_ones.Goals as goal
-use Rattle.fm_run.proofs.flats.do_flat_ones.Goals.{else-loop-counted-test, then-loop-counted-test+in_default, then-loop-counted-test+in-Some+in_default-code_of, then-loop-counted-test+in-Some+in-Some-code_of+then-counted-steps, then-loop-counted-test+in-Some+in-Some-code_of+else-counted-steps+then-not-did}
+use Rattle.fm_run.proofs.flats.do_flat_ones.Goals.{else-loop-counted-test, then-loop-counted-test+in_default, then-loop-counted-test+in-Some+in_default-code_of, then-loop-counted-test+in-Some+in-Some-code_of+in_default-quicks, then-loop-counted-test+in-Some+in-Some-code_of+in-Some-quicks+then-counted-steps, then-loop-counted-test+in-Some+in-Some-code_of+in-Some-quicks+else-counted-steps+then-not-did}
 use Rattle.fm_run.specs.inner.Flats.{WentOn}
 use Rattle.fm_run.specs.inner.Going.{Keeps, LeadsQuietly}
+use Rattle.fm_world.specs.Programs.{code_at}
 
 pub loop-counted-init : goal.loop-counted-init
 loop-counted-init g c =
@@ -32,6 +34,22 @@ loop-counted-preserved g c =
     (resumed c.flow-flowed.new.machine c.flow-flowed.result.0 c.flow-flowed.result.1) c.loop-counted.invariant c.flow-flowed.ensures.went)
     (c.do_next_call-did.ensures.did did)
 
+pub flow-flowed-requires-clause-quicks : goal.flow-flowed-requires-clause-quicks
+flow-flowed-requires-clause-quicks g c =
+    let at = c.in-Some.place in
+    let code_is : code_at c.args.program.now at.method.0 ≡ Some c.in-Some-code_of.code.now = search rules in
+    let quicks_are : slice_get c.args.codes.now at.method.0 ≡ Some c.in-Some-quicks.quicks.now =
+    sym c.quicks.ensures ∙ ap option_copied c.in-Some-quicks.is in
+    quicks-found c.args.program.now c.args.codes.now at.method.0 c.in-Some-quicks.quicks.now c.in-Some-code_of.code.now c.requires.codes quicks_are code_is
+
+pub do_next_call-did-requires-clause-quicks : goal.do_next_call-did-requires-clause-quicks
+do_next_call-did-requires-clause-quicks g c =
+    let at = c.in-Some.place in
+    let code_is : code_at c.args.program.now at.method.0 ≡ Some c.in-Some-code_of.code.now = search rules in
+    let quicks_are : slice_get c.args.codes.now at.method.0 ≡ Some c.in-Some-quicks.quicks.now =
+    sym c.quicks.ensures ∙ ap option_copied c.in-Some-quicks.is in
+    quicks-found c.args.program.now c.args.codes.now at.method.0 c.in-Some-quicks.quicks.now c.in-Some-code_of.code.now c.requires.codes quicks_are code_is
+
 pub returns-then-is_some : goal.returns-then-is_some
 returns-then-is_some g c out = leads-none c.args.program.now g.M.Memory.choose c.args.steps c.args.machine.now out
 
@@ -52,12 +70,14 @@ returns g c =
       | then-loop-counted-test+in_default w ↦ went-joined p choose b x m last.machine f last.frames n last.counted w.machine-is w.frames-is w.counted-is here
       | then-loop-counted-test+in-Some+in_default-code_of w ↦
           went-joined p choose b x m last.machine f last.frames n last.counted w.machine-is w.frames-is w.counted-is here
-      | then-loop-counted-test+in-Some+in-Some-code_of+then-counted-steps w ↦
+      | then-loop-counted-test+in-Some+in-Some-code_of+in_default-quicks w ↦
+          went-joined p choose b x m last.machine f last.frames n last.counted w.machine-is w.frames-is w.counted-is here
+      | then-loop-counted-test+in-Some+in-Some-code_of+in-Some-quicks+then-counted-steps w ↦
           went-joined p choose b x w.flow-flowed.new.machine last.machine w.flow-flowed.result.0 last.frames w.flow-flowed.result.1 last.counted
           w.machine-is w.frames-is w.counted-is
           (then-went p choose b x (resumed m f n) (resumed w.flow-flowed.new.machine w.flow-flowed.result.0 w.flow-flowed.result.1) here
           w.flow-flowed.ensures.went)
-      | then-loop-counted-test+in-Some+in-Some-code_of+else-counted-steps+then-not-did w ↦
+      | then-loop-counted-test+in-Some+in-Some-code_of+in-Some-quicks+else-counted-steps+then-not-did w ↦
           let didnt : w.do_next_call-did.result ≡ false = search rules in
           went-joined p choose b x w.flow-flowed.new.machine last.machine w.flow-flowed.result.0 last.frames w.flow-flowed.result.1 last.counted
           (w.machine-is ∙ w.do_next_call-did.ensures.kept didnt) (w.frames-is ∙ w.do_next_call-did.ensures.same didnt) w.counted-is

@@ -1,4 +1,4 @@
-use Rattle.std.proofs.Common.{◌≡◌, ◌<◌, ◌^◌, false, true, Err, ap, sym, ◌∙◌, arith}
+use Rattle.std.proofs.Common.{◌≡◌, ◌<◌, ◌^◌, false, true, Err, ap, refl, sym, ◌∙◌, arith}
 use Rattle.fm_frames.specs.declared.turns.StepFail.TheVariants as fail
 use Rattle.fm_run.proofs.Keeping.{run-keeps_whole, run-makes_most}
 use Rattle.fm_run.proofs.Ranging.{cost-some, keeps-going, leads-left, left-less, ran-breaks, ran-ends, ran-fails, ran-more, ran-none, same_error}
@@ -7,6 +7,12 @@ use Rattle.fm_run.proofs.runs.run.Goals as goal
 pub loop-alloc-init : goal.loop-alloc-init
 loop-alloc-init g c =
     ran-none c.args.program.now g.M.Memory.choose c.args.steps c.args.machine.now (g.S.Sink.output c.args.out.now) c.requires.going
+
+pub returns-in_default-clause-kept : goal.returns-in_default-clause-kept
+returns-in_default-clause-kept g c wanting =
+    let out = g.S.Sink.output c.args.out.now in
+    ran-breaks c.args.program.now g.M.Memory.choose c.args.steps c.args.machine.now c.args.machine.now out out out
+    (ran-none c.args.program.now g.M.Memory.choose c.args.steps c.args.machine.now out c.requires.going) refl
 
 pub goes-requires-clause-few : goal.goes-requires-clause-few
 goes-requires-clause-few g c = omega (arith, c.requires.going.births)
