@@ -56,6 +56,11 @@ class Programs:
         status, printed, reported = self.call("fmrun", *words, main, *files)
         return status, printed, reported.decode(errors="replace").removesuffix("\n")
 
+    def audit(self, folder, main, files):
+        """Has freeme audit the class files of a folder: its status and its lines."""
+        status, printed, reported = self.call("freeme", "--audit", folder, "--main", main, *files)
+        return status, (reported if status else printed).decode(errors="replace").removesuffix("\n").split("\n")
+
     def free(self, out, main, files, *flags):
         """Has freeme write class files to a folder: its status and its lines, of a refusal the one on standard error."""
         status, printed, reported = self.call("freeme", "--out", out, "--main", main, *flags, *files)
@@ -111,8 +116,8 @@ def status_of(text):
 def differences(programs, folder, kind="classes"):
     """What differs of one program, a text for each thing, and its two report lines.
 
-    It is run as it was read, then freed, then run as it was written. It agrees where all that expect.txt gives is so, and where
-    the files written print the same and end alike, with no more words at their peak."""
+    It is run as it was read, then freed, then run as it was written. It agrees where all that expect.txt gives is so, where an audit
+    finds the files written safe, and where they print the same and end alike, with no more words at their peak."""
     due = sections((folder / "expect.txt").read_text())
     main = due["main class"][0]
     words = words_of(folder, due["words of fmrun before CLASS FILE..."][0])
@@ -137,6 +142,8 @@ def differences(programs, folder, kind="classes"):
         compare("freeme's status", freed[0], 0)
         if "freeme" in due:
             compare("freeme's lines", freed[1], due["freeme"][1])
+        audited = programs.audit(written, main, files)
+        compare("the audit", audited, (0, [re.sub(r": \d+ sites, \d+ frees$", ": safe", line) for line in freed[1]]))
         after = programs.run(words, main, files_of(Path(written)))
     compare("status of the files written", after[0], status_of(status))
     compare("output of the files written", after[1], printed)

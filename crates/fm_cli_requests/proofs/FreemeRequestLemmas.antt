@@ -17,8 +17,10 @@ use Rattle.fm_cli_requests.proofs.ProgramTextLemmas.{one_of_two}
 use Rattle.fm_cli_requests.specs.ProgramText.{AskForText, text_words}
 use Rattle.fm_cli_requests.specs.declared.program_text.ProgramText.{ProgramText}
 use Rattle.fm_cli_requests.specs.declared.program_text.ProgramText.TheVariants as text
-use Rattle.fm_cli_requests.specs.FreemeRequest.{AskNoJob, Asks, HasNoValues, HasValuesOf, FreemeJob, faults_in, freeme_command, freeme_rules, job_of, matched_in}
+use Rattle.fm_cli_requests.specs.AuditRequest.{AuditJob}
+use Rattle.fm_cli_requests.specs.FreemeRequest.{AskFor, AskForNone, AskNoAudit, AskNoJob, AskToAudit, Asks, FreemeJob, HasNothing, HasValuesFor, faults_in, freeme_command, freeme_rules, matched_in}
 use Rattle.fm_cli_requests.specs.declared.freeme_request.FreemeRequest.{FreemeRequest}
+use Rattle.fm_cli_requests.specs.declared.freeme_request.FreemeRequest.TheVariants as request
 
 -- the command by its arguments
 pub is_command : (app : App) → app ≡ command_with (codes "freeme") freeme_rules → app ≡ freeme_command
@@ -45,14 +47,18 @@ unfolding faults_in
 faults_are app words result = faults_by freeme_command app words result is_free_command
 
 -- what the matches hold is what the words ask for
-pub asked_by : (words : List (List ℕ)) (asked : Option FreemeRequest) → faults_in words ≡ [] →
-    MatchOption asked (HasNoValues (matched_in words)) (λ r. HasValuesOf (matched_in words) (job_of r)) → MatchOption asked (AskNoJob words) (λ r. Asks words (job_of r))
-asked_by words None faultless h = λ job asks. h job asks.values
-asked_by words (Some r) faultless h = record { faultless = faultless; values = h }
+pub asked_by : (words : List (List ℕ)) (asked : Option FreemeRequest) → faults_in words ≡ []
+    → MatchOption asked (HasNothing (matched_in words)) (HasValuesFor (matched_in words)) → MatchOption asked (AskForNone words) (AskFor words)
+asked_by words None faultless h =
+    record { no_job = λ job asks. h.no_job job asks.values; no_audit = λ job asks. h.no_audit job asks.values }
+asked_by words (Some (request.Write r)) faultless h = record { faultless = faultless; values = h }
+asked_by words (Some (request.Audit r)) faultless h = record { faultless = faultless; values = h }
 
--- words in which there is a fault ask for no job
-pub faulty : (words : List (List ℕ)) (kind : ErrorKind) → ¬ (kind ≡ OutOfMemory) → (kind ≡ OutOfMemory) ⊎ IsAmong kind (faults_in words) → AskNoJob words
-faulty words kind known fails = λ job asks. is_fault (faults_in words) kind known fails asks.faultless
+-- words in which there is a fault ask for nothing
+pub faulty : (words : List (List ℕ)) (kind : ErrorKind) → ¬ (kind ≡ OutOfMemory) → (kind ≡ OutOfMemory) ⊎ IsAmong kind (faults_in words) → AskForNone words
+faulty words kind known fails =
+    let fault = is_fault (faults_in words) kind known fails in
+    record { no_job = λ job asks. fault asks.faultless; no_audit = λ job asks. fault asks.faultless }
 
 -- clap finds a fault in each word that asks for a text
 faulty_word : (word : List ℕ) → ¬ (faults_in (word ∷ []) ≡ []) → (asked : List ℕ) → asked ≡ word → ¬ (faults_in (asked ∷ []) ≡ [])
@@ -82,11 +88,18 @@ text_faulty text.Version word among =
     ⊎_elim (faulty_word (codes "--version") version_faulty word) (faulty_word (codes "-V") short_version_faulty word)
     (one_of_two (codes "--version") (codes "-V") word among)
 
--- so words that ask for a text ask for no job
+-- so it finds one in words that ask for a text
+text_faulty_words : (words : List (List ℕ)) (asked : ProgramText) → AskForText words asked → ¬ (faults_in words ≡ [])
+text_faulty_words [] asked asks = absurd asks
+text_faulty_words (word ∷ []) asked asks = text_faulty asked word asks
+text_faulty_words (word ∷ next ∷ words) asked asks = absurd asks
+
+-- and these ask for no job and for no audit
 pub text_no_job : (words : List (List ℕ)) (asked : ProgramText) → AskForText words asked → AskNoJob words
-text_no_job [] asked asks = absurd asks
-text_no_job (word ∷ []) asked asks = λ job has. text_faulty asked word asks has.faultless
-text_no_job (word ∷ next ∷ words) asked asks = absurd asks
+text_no_job words asked asks job has = text_faulty_words words asked asks has.faultless
+
+pub text_no_audit : (words : List (List ℕ)) (asked : ProgramText) → AskForText words asked → AskNoAudit words
+text_no_audit words asked asks job has = text_faulty_words words asked asks has.faultless
 
 -- words ask for one job at most
 pub asks_one : (words : List (List ℕ)) (a b : FreemeJob) → Asks words a → Asks words b → a ≡ b
@@ -95,3 +108,16 @@ asks_one words a b p q =
     let classes = named_once (codes "main") (matched_in words) a.main b.main a.files b.files a.made b.made p.values.classes q.values.classes in
     let rapid = same_test a.rapid b.rapid (λ given. q.values.rapid.1 (p.values.rapid.0 given)) (λ given. p.values.rapid.1 (q.values.rapid.0 given)) in
     λ i. record { folder = folder i; main = classes.main_is i; files = classes.files_are i; made = classes.made_is i; rapid = rapid i }
+
+-- for one audit at most
+pub audits_one : (words : List (List ℕ)) (a b : AuditJob) → AskToAudit words a → AskToAudit words b → a ≡ b
+audits_one words a b p q =
+    let folder = same_value (first_of (codes "audit") (matched_in words)) a.folder b.folder p.values.folder q.values.folder in
+    let classes = named_once (codes "main") (matched_in words) a.main b.main a.files b.files None None p.values.classes q.values.classes in
+    λ i. record { folder = folder i; main = classes.main_is i; files = classes.files_are i }
+
+-- and never for both
+pub audits_alone : (words : List (List ℕ)) (job : AuditJob) → AskToAudit words job → AskNoJob words
+audits_alone words job audits writing asks =
+    let some = audits.values.folder in
+    let none = asks.values.no_audit in cc

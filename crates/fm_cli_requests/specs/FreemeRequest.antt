@@ -1,11 +1,14 @@
 -- What the words of the command line ask freeme for.
 use Rattle.std.specs.Prelude.{◌≡◌, ◌↔◌, ℕ, Bool, List, [], ◌∷◌, Option, Some, None, IsTrue, map, codes}
 use Rattle.clap.specs.Words.{App, Kinds, Row, Rule, fault_of, first_of, matches_of}
+use Rattle.fm_cli_requests.specs.AuditRequest.{AuditJob, AuditsNothing, HasAuditOf, audit_of}
 use Rattle.fm_cli_requests.specs.ClassFiles.{NameClasses}
 use Rattle.fm_cli_requests.specs.ProgramText.{AskForNoText, AskForText}
 use Rattle.fm_cli_requests.specs.Values.{IsGiven, IsValue, command_with, files_rule, flag_rule, option_rule}
 use Rattle.fm_cli_requests.specs.declared.program_text.ProgramText.{ProgramText}
 use Rattle.fm_cli_requests.specs.declared.freeme_request.FreemeRequest.{FreemeRequest}
+use Rattle.fm_cli_requests.specs.declared.freeme_request.FreemeRequest.TheVariants as request
+use Rattle.fm_cli_requests.specs.declared.freeme_request.WriteRequest.{WriteRequest}
 
 -- the folder to write into, the main class, the files to read in order, the number of the class that is made, if one is, and whether targets are
 -- looked for only in classes of which reachable code makes objects
@@ -16,12 +19,14 @@ pub record FreemeJob : Type 0 where
   pub made : Option ℕ
   pub rapid : Bool
 
--- what may be among the words: three options, a flag and the files
+-- what may be among the words: four options, a flag and the files
 abbrev pub freeme_rules : List Rule
 freeme_rules =
-    option_rule (codes "out") ∷ option_rule (codes "main") ∷ option_rule (codes "make") ∷ flag_rule (codes "rapid") ∷ files_rule ∷ []
+    option_rule (codes "out") ∷ option_rule (codes "audit") ∷ option_rule (codes "main") ∷ option_rule (codes "make") ∷ flag_rule (codes "rapid")
+    ∷ files_rule ∷ []
 
--- the command `freeme [--out DIR] [--main CLASS] [--make N] [--rapid] [FILE...]`, as clap reads it: which of them go together is not its matter
+-- the command `freeme [--out DIR] [--audit DIR] [--main CLASS] [--make N] [--rapid] [FILE...]`, as clap reads it: which of them go together is not
+-- its matter
 unfoldable pub freeme_command : App
 freeme_command = command_with (codes "freeme") freeme_rules
 
@@ -34,8 +39,9 @@ unfoldable pub matched_in : List (List ℕ) → List Row
 matched_in words = matches_of freeme_command words
 
 -- what clap matched is the job: the folder, the class files or the class that is made, and whether `--rapid` is given, which no class is made
--- beside
+-- beside; there is no folder to audit
 pub record HasValuesOf (matches : List Row) (job : FreemeJob) : Type 0 where
+  pub no_audit : first_of (codes "audit") matches ≡ None
   pub folder : first_of (codes "out") matches ≡ Some job.folder
   pub folder_is_value : IsValue job.folder
   pub classes : NameClasses (codes "main") matches job.main job.files job.made
@@ -55,19 +61,30 @@ pub record Asks (words : List (List ℕ)) (job : FreemeJob) : Type 0 where
 abbrev pub AskNoJob : List (List ℕ) → Type 0
 AskNoJob words = (job : FreemeJob) → ¬ Asks words job
 
--- the words ask for a text, and so for no job
+-- the same of what is to be audited
+pub record AskToAudit (words : List (List ℕ)) (job : AuditJob) : Type 0 where
+  pub faultless : faults_in words ≡ []
+  pub values : HasAuditOf (matched_in words) job
+
+-- the words ask for no audit
+abbrev pub AskNoAudit : List (List ℕ) → Type 0
+AskNoAudit words = (job : AuditJob) → ¬ AskToAudit words job
+
+-- the words ask for a text, and so for nothing else
 pub record AskOnlyForText (words : List (List ℕ)) : Type 0 where
   pub asked : ProgramText
   pub asks : AskForText words asked
   pub no_job : AskNoJob words
+  pub no_audit : AskNoAudit words
 
--- the words ask for no text and for no job
+-- the words ask for no text, no job and no audit
 pub record AskNothing (words : List (List ℕ)) : Type 0 where
   pub no_text : AskForNoText words
   pub no_job : AskNoJob words
+  pub no_audit : AskNoAudit words
 
--- the job of a request
-abbrev pub job_of : FreemeRequest → FreemeJob
+-- the job of a request to write
+abbrev pub job_of : WriteRequest → FreemeJob
 job_of r = record {
   folder = r.folder.now;
   main = r.main.now;
@@ -75,3 +92,25 @@ job_of r = record {
   made = r.made;
   rapid = r.rapid;
 }
+
+-- ---- a request of either kind
+
+-- what clap matched is what is requested
+abbrev pub HasValuesFor : List Row → FreemeRequest → Type 0
+HasValuesFor matches (request.Write r) = HasValuesOf matches (job_of r)
+HasValuesFor matches (request.Audit r) = HasAuditOf matches (audit_of r)
+
+-- it is nothing that may be requested
+pub record HasNothing (matches : List Row) : Type 0 where
+  pub no_job : HasNoValues matches
+  pub no_audit : AuditsNothing matches
+
+-- the words ask for what is requested
+abbrev pub AskFor : List (List ℕ) → FreemeRequest → Type 0
+AskFor words (request.Write r) = Asks words (job_of r)
+AskFor words (request.Audit r) = AskToAudit words (audit_of r)
+
+-- they ask for nothing that may be requested
+pub record AskForNone (words : List (List ℕ)) : Type 0 where
+  pub no_job : AskNoJob words
+  pub no_audit : AskNoAudit words

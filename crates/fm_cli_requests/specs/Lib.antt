@@ -3,5 +3,6 @@ pub mod Values
 pub mod Arguments
 pub mod ClassFiles
 pub mod ProgramText
+pub mod AuditRequest
 pub mod FreemeRequest
 pub mod FmrunRequest

@@ -66,8 +66,8 @@ fn made_in<'a>(
     })
 }
 
-// Whether no value was matched under this id.
-fn lacks_value(matches: &ArgMatches<'_>, id: &str) -> bool
+/// Whether no value was matched under this id.
+pub(crate) fn lacks_value(matches: &ArgMatches<'_>, id: &str) -> bool
     ensures { IsTrue result ↔ (first_of id.now (rows_of (found_of matches.now)) ≡ None) }
 {
     matches.get_str(id).is_none()

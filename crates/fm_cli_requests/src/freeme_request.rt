@@ -1,10 +1,11 @@
 // What the words of the command line ask freeme for.
 
-ghost use Rattle.std.specs.Prelude.{◌≡◌, IfOk, MatchOption};
-ghost use Rattle.clap.specs.Words.{app_of, found_of, rows_of};
+ghost use Rattle.std.specs.Prelude.{◌≡◌, None, IfOk, MatchOption, codes};
+ghost use Rattle.clap.specs.Words.{app_of, first_of, found_of, rows_of};
 ghost use Rattle.fm_cli.specs.Words.{texts};
-ghost use Rattle.fm_cli_requests.specs.FreemeRequest.{Asks, AskNoJob, HasValuesOf, HasNoValues, freeme_command, job_of};
+ghost use Rattle.fm_cli_requests.specs.FreemeRequest.{AskFor, AskForNone, HasNoValues, HasNothing, HasValuesFor, HasValuesOf, freeme_command, job_of};
 
+use crate::audit_request::{AuditRequest, audit_in};
 use crate::class_files::{NamedClasses, classes_in};
 use crate::values::{command, files, flag, is_given, is_value, option};
 use clap::error::ErrorKind;
@@ -12,9 +13,18 @@ use clap::{ArgMatches, Command};
 use fm_base::NoMemory;
 use std::alloc::Global;
 
+/// What words ask for.
+#[derive(Drop)]
+pub enum FreemeRequest<'a> {
+    /// To write classes again.
+    Write(WriteRequest<'a>),
+    /// To audit classes that were written.
+    Audit(AuditRequest<'a>),
+}
+
 /// What the words `--out DIR --main CLASS [--rapid] FILE...` or `--out DIR --make N` name.
 #[derive(Drop)]
-pub struct FreemeRequest<'a> {
+pub struct WriteRequest<'a> {
     /// The folder to write into.
     pub folder: &'a str,
     /// The main class.
@@ -29,8 +39,8 @@ pub struct FreemeRequest<'a> {
 
 /// What the words ask for, or None where they aren't of that form.
 pub fn request_of(alloc: Global, words: &[String]) -> Result<Option<FreemeRequest<'_>>, NoMemory>
-    ensures { IfOk result (λ asked. MatchOption asked (AskNoJob (texts words.now))
-        (λ r. Asks (texts words.now) (job_of r))) }
+    ensures { IfOk result (λ asked. MatchOption asked (AskForNone (texts words.now))
+        (AskFor (texts words.now))) }
 {
     let command = freeme_command(alloc)?;
     match command.try_get_matches_from(words) {
@@ -48,6 +58,7 @@ fn freeme_command<'a>(alloc: Global) -> Result<Command<'a>, NoMemory>
 {
     let command = command(alloc, "freeme")
         .arg(option(alloc, "out"))?
+        .arg(option(alloc, "audit"))?
         .arg(option(alloc, "main"))?
         .arg(option(alloc, "make"))?
         .arg(flag(alloc, "rapid"))?
@@ -55,12 +66,34 @@ fn freeme_command<'a>(alloc: Global) -> Result<Command<'a>, NoMemory>
     Ok(command)
 }
 
-// The request that was matched, or None where a value is missing, empty or too long, or a class is made
-// beside `--rapid`.
+// The request that was matched, or None where a value is missing, empty or too long, or is one of the
+// other request.
 fn request_in<'a>(
     alloc: Global,
     matches: &ArgMatches<'a>,
 ) -> Result<Option<FreemeRequest<'a>>, NoMemory>
+    ensures { let rows = rows_of (found_of matches.now) in
+        IfOk result (λ asked. MatchOption asked (HasNothing rows) (HasValuesFor rows)) }
+{
+    let Some(folder) = matches.get_str("audit") else {
+        return match write_in(alloc, matches)? {
+            Some(request) => Ok(Some(FreemeRequest::Write(request))),
+            None => Ok(None),
+        };
+    };
+    match audit_in(alloc, matches, folder)? {
+        Some(request) => Ok(Some(FreemeRequest::Audit(request))),
+        None => Ok(None),
+    }
+}
+
+// The request to write that was matched, where no folder to audit was, or None as well where a class is
+// made beside `--rapid`.
+fn write_in<'a>(
+    alloc: Global,
+    matches: &ArgMatches<'a>,
+) -> Result<Option<WriteRequest<'a>>, NoMemory>
+    requires { first_of (codes "audit") (rows_of (found_of matches.now)) ≡ None }
     ensures { let rows = rows_of (found_of matches.now) in
         IfOk result (λ asked. MatchOption asked (HasNoValues rows)
         (λ r. HasValuesOf rows (job_of r))) }
@@ -79,7 +112,7 @@ fn request_in<'a>(
     if rapid && made.is_some() {
         return Ok(None);
     }
-    Ok(Some(FreemeRequest {
+    Ok(Some(WriteRequest {
         folder,
         main,
         files,

@@ -6,6 +6,7 @@
 #![tactic(auto)]
 
 mod arguments;
+mod audit_request;
 mod class_files;
 pub mod fmrun_request;
 pub mod freeme_request;
@@ -13,6 +14,7 @@ mod program_text;
 mod values;
 
 pub use arguments::arguments_of;
+pub use audit_request::AuditRequest;
 pub use fmrun_request::FmrunRequest;
-pub use freeme_request::FreemeRequest;
+pub use freeme_request::{FreemeRequest, WriteRequest};
 pub use program_text::ProgramText;

@@ -2,12 +2,12 @@
 
 use crate::fmrun_words::split_words;
 use fm_base::NoMemory;
-use fm_cli_requests::freeme_request::{FreemeRequest, request_of};
+use fm_cli_requests::freeme_request::{FreemeRequest, WriteRequest, request_of};
 use std::alloc::Global;
 use std::test::Fail;
 
-// The words, a `|` between each two, and the values of the job that they ask for, or nothing.
-const CASES: [(&str, &str); 44] = [
+// The words, a `|` between each two, and the values of the job or the audit that they ask for, or nothing.
+const CASES: [(&str, &str); 57] = [
     ("--out|d|--main|M|M.class", "d M M.class"),
     ("--main|M|--out|d|M.class", "d M M.class"),
     ("M.class|--main|M|--out|d", "d M M.class"),
@@ -58,23 +58,57 @@ const CASES: [(&str, &str); 44] = [
     ("--out|d|--main|M|--rapid", ""),
     ("--out|d|--make|1|--rapid", ""),
     ("--rapid", ""),
+    ("--audit|d|--main|M|M.class", "audit d M M.class"),
+    (
+        "A.class|--main=M|B.class|--audit=d",
+        "audit d M A.class B.class",
+    ),
+    ("--audit|-|--main|-|--|-", "audit - - -"),
+    ("--audit|d|M.class", ""),
+    ("--audit|d|--main|M", ""),
+    ("--audit||--main|M|M.class", ""),
+    ("--audit|d|--main|M|", ""),
+    ("--audit|d|--audit|d|--main|M|M.class", ""),
+    ("--audit|d|--out|d|--main|M|M.class", ""),
+    ("--audit|d|--make|1", ""),
+    ("--audit|d|--make|1|--out|d", ""),
+    ("--audit", ""),
+    ("--audit|d|--main|M|--rapid|M.class", ""),
 ];
 
-// The values of a request, a space between each two, the number of the class that is made, and its flag.
+// The values of a request, a space between each two.
 fn values(alloc: Global, request: &FreemeRequest<'_>) -> Result<String, NoMemory> {
-    let mut text = format!(in alloc; "{} {}", request.folder, request.main)?;
-    for file in request.files.iter() {
-        text.push(' ')?;
-        text.push_str(file)?;
+    match request {
+        FreemeRequest::Write(job) => job_values(alloc, job),
+        FreemeRequest::Audit(audit) => {
+            let mut text = format!(in alloc; "audit {} {}", audit.folder, audit.main)?;
+            push_all(&mut text, &audit.files)?;
+            Ok(text)
+        }
     }
-    if let Some(number) = request.made {
+}
+
+// Those of a job, with the number of the class that is made, and its flag.
+fn job_values(alloc: Global, job: &WriteRequest<'_>) -> Result<String, NoMemory> {
+    let mut text = format!(in alloc; "{} {}", job.folder, job.main)?;
+    push_all(&mut text, &job.files)?;
+    if let Some(number) = job.made {
         let made = format!(in alloc; " #{number}")?;
         text.push_str(made.as_str())?;
     }
-    if request.rapid {
+    if job.rapid {
         text.push_str(" rapid")?;
     }
     Ok(text)
+}
+
+// Puts files behind a text, each after a space.
+fn push_all(text: &mut String, files: &[&str]) -> Result<(), NoMemory> {
+    for file in files.iter() {
+        text.push(' ')?;
+        text.push_str(file)?;
+    }
+    Ok(())
 }
 
 // Whether the words ask for this, or for nothing where it's empty.

@@ -25,14 +25,16 @@ use Rattle.freeme.specs.Causes.{AskFor, AskForGiven, IsKnownAs, IsKnownStatus, S
 use Rattle.fm_load.specs.Causes.{FailsARead, FailsAWrite, IsMissing, HasTooMany, IsKnownLong, IsKnownRefused, IsKnownUnlinked, IsKnownUntyped}
 use Rattle.fm_load.specs.LinkRefusal.{cause_line}
 use Rattle.fm_load.specs.Returned.{ReadsFirst, ReadsFrom, with_contents}
-use Rattle.fm_cli_requests.specs.FreemeRequest.{FreemeJob, Asks, AskNoJob, AskNothing, AskOnlyForText}
+use Rattle.fm_cli_requests.specs.FreemeRequest.{AskForNone, AskNothing, AskOnlyForText, AskToAudit, Asks, FreemeJob}
 use Rattle.fm_cli_requests.specs.ProgramText.{AskForNoText}
+use Rattle.fm_cli_requests.specs.AuditRequest.{AuditJob}
+use Rattle.freeme.specs.Audits.{OnlyReads}
 use Rattle.freeme.specs.Jobs.{given_of, main_name}
 use Rattle.fm_load.specs.Taking.{total_bytes, IsTooLong, IsRefused}
 use Rattle.freeme.specs.TopCall.{StaysWithin, IsBroken, ComesTo, ComesOfJob, ComesOf, IsReported, Outcome}
 use Rattle.freeme.specs.Refusal.{rewrite_status}
 use Rattle.freeme.specs.declared.refusal.FreeRefusal.TheVariants as free_refusal
-use Rattle.freeme.specs.declared.status.TheConstants.{CALLS_FREE, POOL_FULL, METHOD_TOO_LONG}
+use Rattle.freeme.specs.declared.status.TheConstants.{CALLS_FREE, POOL_FULL, METHOD_TOO_LONG, NOT_SAFE}
 use Rattle.fm_load.specs.declared.refusal.JobRefusal.TheVariants as job_refusal
 use Rattle.fm_load.specs.Refusal.{IsRefusedBy, many_line}
 use Rattle.fm_cli.specs.CommandRefusal.{memory_line}
@@ -56,7 +58,7 @@ job_of_status words old new o status (inr (inl nothing)) is unlike_words unlike_
 job_of_status words old new o status (inr (inr lacking)) is unlike_words unlike_memory = absurd (unlike_memory (sym is ∙ ap outcome_status lacking.refused))
 
 -- the status of a program that isn't rewritten: 72 to 74, or that of memory
-rewrite_bounds : (cause : RewriteFail) → (72 ≤ rewrite_status cause) × (rewrite_status cause ≤ 76)
+pub rewrite_bounds : (cause : RewriteFail) → (72 ≤ rewrite_status cause) × (rewrite_status cause ≤ 76)
 rewrite_bounds (fail.CallsFree method offset) = (omega arith, omega arith)
 rewrite_bounds (fail.PoolFull class indices) = (omega arith, omega arith)
 rewrite_bounds (fail.MethodTooLong method bytes) = (omega arith, omega arith)
@@ -169,6 +171,7 @@ job_fails job old new (Err (free_refusal.Job (job_refusal.Shared refusal.Words))
 job_fails job old new (Err (free_refusal.Job (job_refusal.TooManyArguments count))) comes = absurd comes
 job_fails job old new (Err (free_refusal.Job (job_refusal.Shared (refusal.Read file)))) comes = inr (inl (refl, comes.fault.writes))
 job_fails job old new (Err (free_refusal.Rewrite cause name)) comes = inl comes.untouched.faultless
+job_fails job old new (Err (free_refusal.NotSafe name part)) comes = absurd comes
 job_fails job old new (Err (free_refusal.Job (job_refusal.Shared refusal.OutOfMemory))) comes = ⊎_elim (λ untouched. inl untouched.faultless) (λ broken. inl broken.written.faultless) comes
 job_fails job old new (Err (free_refusal.Job (job_refusal.TooManyFiles count))) comes = inl (no_fault_where_same old new comes.kept)
 job_fails job old new (Err (free_refusal.Job (job_refusal.TooLong file))) comes = inl comes.untouched.faultless
@@ -196,6 +199,7 @@ job_keeps job old new (Err (free_refusal.Job (job_refusal.Shared refusal.Words))
 job_keeps job old new (Err (free_refusal.Job (job_refusal.TooManyArguments count))) comes done write memory = absurd comes
 job_keeps job old new (Err (free_refusal.Job (job_refusal.Shared (refusal.Read file)))) comes done write memory = (comes.kept, comes.unwritten)
 job_keeps job old new (Err (free_refusal.Rewrite cause name)) comes done write memory = (comes.untouched.kept, comes.untouched.unwritten)
+job_keeps job old new (Err (free_refusal.NotSafe name part)) comes done write memory = absurd comes
 job_keeps job old new (Err (free_refusal.Job (job_refusal.Shared refusal.OutOfMemory))) comes done write memory = absurd (memory refl)
 job_keeps job old new (Err (free_refusal.Job (job_refusal.TooManyFiles count))) comes done write memory = unchanged_where_same old new comes.kept
 job_keeps job old new (Err (free_refusal.Job (job_refusal.TooLong file))) comes done write memory = (comes.untouched.kept, comes.untouched.unwritten)
@@ -242,6 +246,7 @@ module _ (job : FreemeJob) (old new : Disk) (held : Bytes → Option Bytes) (see
   verdict_of (Err (free_refusal.Rewrite cause name)) comes =
       inl (given_known comes.checked.linked.source (reads_first job.files comes.classes old new comes.reads) (rewrite_status cause)
       (inr (comes.checked.linked.linked, inr (comes.checked.typed, cause_becomes job comes.classes comes.program comes.analysed cause comes.refused))))
+  verdict_of (Err (free_refusal.NotSafe name part)) comes = absurd comes
   verdict_of (Err (free_refusal.Job (job_refusal.Shared refusal.OutOfMemory))) comes = inr (inr (inr refl))
   verdict_of (Err (free_refusal.Job (job_refusal.TooManyFiles count))) comes = let count = comes.count_is in let many = comes.many in inl (inl (omega arith, refl))
   verdict_of (Err (free_refusal.Job (job_refusal.TooLong file))) comes = inl (inr (inl (seen.long file.now comes)))
@@ -306,6 +311,7 @@ module _ (job : FreemeJob) (disk : Disk) (held : Bytes → Option Bytes) (known 
 many_status : (job : FreemeJob) (old new : Disk) → HasTooMany (given_of job) → (o : Outcome) → ComesTo job old new o → Contains (LIMIT ∷ instead_for_words) (outcome_status o)
 many_status job old new many (Ok lines) comes = absurd (let few = comes.freed.checked.linked.source.taken.few in omega arith)
 many_status job old new many (Err (free_refusal.Rewrite cause name)) comes = absurd (let few = comes.checked.linked.source.taken.few in omega arith)
+many_status job old new many (Err (free_refusal.NotSafe name part)) comes = absurd comes
 many_status job old new many (Err (free_refusal.Job (job_refusal.Shared refusal.Words))) comes = absurd comes
 many_status job old new many (Err (free_refusal.Job (job_refusal.TooManyArguments count))) comes = absurd comes
 many_status job old new many (Err (free_refusal.Job (job_refusal.Shared (refusal.Read file)))) comes = absurd (let few = comes.reaches.few in omega arith)
@@ -327,7 +333,7 @@ not_for_words job old new o comes is = omega arith
 
 -- the statuses at which nothing failed
 abbrev pub faultless_statuses : List ℕ
-faultless_statuses = DONE ∷ WORDS ∷ MALFORMED ∷ VERSION ∷ LIMIT ∷ UNSUPPORTED ∷ LINK ∷ CHECK ∷ CALLS_FREE ∷ POOL_FULL ∷ METHOD_TOO_LONG ∷ []
+faultless_statuses = DONE ∷ WORDS ∷ MALFORMED ∷ VERSION ∷ LIMIT ∷ UNSUPPORTED ∷ LINK ∷ CHECK ∷ CALLS_FREE ∷ POOL_FULL ∷ METHOD_TOO_LONG ∷ NOT_SAFE ∷ []
 
 module _ (words : List Bytes) (old new : Disk) (o : Outcome) (comes : ComesOf words old new o) (alike : LeastFactsServeAlike) where
   -- the job that was asked for comes out so, or memory was lacking before
@@ -335,7 +341,7 @@ module _ (words : List Bytes) (old new : Disk) (o : Outcome) (comes : ComesOf wo
   of_job job asked = go comes where
     go : ComesOf words old new o → ComesTo job old new o ⊎ (outcome_status o ≡ OUT_OF_MEMORY)
     go (inl j) = let P : FreemeJob → Type 0 = λ k. ComesTo k old new o in inl (subst P (asks_one words j.job job j.asked asked) j.comes)
-    go (inr (inl nothing)) = absurd (nothing.unasked job asked)
+    go (inr (inl nothing)) = absurd (nothing.unasked.no_job job asked)
     go (inr (inr lacking)) = inr (ap outcome_status lacking.refused)
 
   -- a verdict of its files decides the status, unless there was a fault or memory was lacking
@@ -456,7 +462,7 @@ module _ {words : List Bytes} {old new : Disk} (before after report report' : Ou
   is_for_words no_text = comes_of_words (outcome_line o) (outcome_status o) from to result own WORDS (λ e. omega arith) (λ e. omega arith) (λ is put. words_said comes is (put_so put)) (λ unasked. nothing_decides unasked comes) where
     words_said : ComesOf words old new o → outcome_status o ≡ WORDS → IsLinePut o before after report report' → SaysWords words old new before after report report'
     words_said (inl j) is line = absurd (not_for_words j.job old new o j.comes is)
-    words_said (inr (inl nothing)) is line = record { unasked = record { no_text = no_text; no_job = nothing.unasked }; kept = nothing.kept; refused = let P : Outcome → Type 0 = λ x. IsLinePut x before after report report' in subst P nothing.refused line }
+    words_said (inr (inl nothing)) is line = record { unasked = record { no_text = no_text; no_job = nothing.unasked.no_job; no_audit = nothing.unasked.no_audit }; kept = nothing.kept; refused = let P : Outcome → Type 0 = λ x. IsLinePut x before after report report' in subst P nothing.refused line }
     words_said (inr (inr lacking)) is line = absurd (let other = sym is ∙ ap outcome_status lacking.refused in omega arith)
 
     nothing_decides : AskNothing words → ComesOf words old new o → Contains (WORDS ∷ instead_for_words) (outcome_status o)
@@ -558,14 +564,18 @@ module _ {words : List Bytes} {old new : Disk} (before after report report' : Ou
       let unlike : (s : ℕ) → list_any (λ y. eqb y s) before_writes ≡ false → result ≢ s = λ s none. unlike_elements s before_writes none result among_these in
       reported_silent before after report report' result o reports (unlike DONE refl) (unlike WRITE refl) (unlike OUT_OF_MEMORY refl)
 
-  pub changes_only : ChangesOnly words old new
-  changes_only = record { asked = λ job asked. stays job asked comes; unasked = λ none. unchanged none comes } where
+  pub changes_only : ((audit : AuditJob) → AskToAudit words audit → OnlyReads audit old new) → ChangesOnly words old new
+  changes_only audited = record {
+    asked = λ job asked. stays job asked comes;
+    audited = audited;
+    unasked = λ none. unchanged none comes;
+  } where
     stays : (job : FreemeJob) → Asks words job → ComesOf words old new o → StaysWithin job old new
     stays job asked (inl j) = let P : FreemeJob → Type 0 = λ k. StaysWithin k old new in subst P (asks_one words j.job job j.asked asked) j.within
-    stays job asked (inr (inl nothing)) = absurd (nothing.unasked job asked)
+    stays job asked (inr (inl nothing)) = absurd (nothing.unasked.no_job job asked)
     stays job asked (inr (inr lacking)) = let P : Disk → Type 0 = λ d. StaysWithin job old d in subst P (sym lacking.kept) (reads_within job old old (reads_none job.files old))
 
-    unchanged : AskNoJob words → ComesOf words old new o → new ≡ old
-    unchanged none (inl j) = absurd (none j.job j.asked)
+    unchanged : AskForNone words → ComesOf words old new o → new ≡ old
+    unchanged none (inl j) = absurd (none.no_job j.job j.asked)
     unchanged none (inr (inl nothing)) = nothing.kept
     unchanged none (inr (inr lacking)) = lacking.kept

@@ -31,7 +31,7 @@ use Rattle.freeme.specs.Writing.{IsFileOf, class_text, file_name, written_name}
 -- ---- lists
 
 -- what is at a place is an element
-element : (xs : List Bytes) (i : ℕ) (x : Bytes) → slice_get xs i ≡ Some x → Contains xs x
+pub element : (xs : List Bytes) (i : ℕ) (x : Bytes) → slice_get xs i ≡ Some x → Contains xs x
 element xs i x at = subst (Contains xs) (get_or_from_slice_get xs i x x at) (Contains-get_or xs i x (slice_get_within xs i x at))
 
 -- a status that is neither that of a read nor that of a write
@@ -57,7 +57,7 @@ sorted_once P classes s t (inr a) (inl b) = absurd (a.0 b.0)
 sorted_once P classes s t (inr a) (inr b) = a.1 ∙ sym b.1
 
 -- where contents are known, the classes that are given are of one sort
-one_sort : (P : List ClassDef → Type 0) (given : Given) (contents : Contents) → IsSome contents → (these others : List ClassDef)
+pub one_sort : (P : List ClassDef → Type 0) (given : Given) (contents : Contents) → IsSome contents → (these others : List ClassDef)
     → AreGiven given contents these → AreGiven given contents others → P these → ¬ P others → ⊥
 one_sort P given contents known these others are also holds fails =
     let held = Some-from_is_some contents known in

@@ -40,7 +40,7 @@ among_inside p a (suc n) call e = ⊎_elim
     (λ (later : call_among p (range_with_len (a + 1) n) ≡ Some call). let rest = among_inside p (a + 1) n call later in omega (arith, rest))
     (either (option_map (λ offset. (a, offset)) (call_in_method p a)) (call_among p (range_with_len (a + 1) n)) call e)
 
-call_inside : (p : Program) (call : ℕ × ℕ) → first_call p ≡ Some call → call.0 < length (methods_of p.outline.classes)
+pub call_inside : (p : Program) (call : ℕ × ℕ) → first_call p ≡ Some call → call.0 < length (methods_of p.outline.classes)
 unfolding first_call
 call_inside p call e = let is = among_inside p 0 (length (methods_of p.outline.classes)) call e in omega (arith, is)
 

@@ -58,7 +58,7 @@ use Rattle.freeme.specs.declared.refusal.FreeRefusal.TheVariants as free_refusal
 use Rattle.fm_load.specs.declared.refusal.JobRefusal.{JobRefusal}
 use Rattle.fm_load.specs.declared.refusal.JobRefusal.TheVariants as job_refusal
 use Rattle.fm_load.proofs.ChangesLemmas.{rises_of_kept, rises_then, changes_of_kept, changes_then, faultless_then, write_fault_then}
-use Rattle.fm_cli_requests.specs.declared.freeme_request.FreemeRequest.{FreemeRequest}
+use Rattle.fm_cli_requests.specs.declared.freeme_request.WriteRequest.{WriteRequest}
 use Rattle.fm_load.proofs.GivenLemmas.{given_accepted, given_returned, given_short, given_spelled}
 use Rattle.fm_load.proofs.ReturnedLemmas.{reads_first}
 
@@ -144,7 +144,7 @@ reads_within job old new all = record {
 -- ---- after the classes are written
 
 -- the files of classes are class files of the folder
-in_folder : (folder : Bytes) (classes : List ClassDef) (name : Bytes) → IsFileOf folder classes name → IsClassFileIn folder name
+pub in_folder : (folder : Bytes) (classes : List ClassDef) (name : Bytes) → IsFileOf folder classes name → IsClassFileIn folder name
 in_folder folder classes name among = All-contains (IsClassFileIn folder) (map (written_name folder) classes) name (All-from_recursion (IsClassFileIn folder) (map (written_name folder) classes) (each classes)) among where
   each : (cs : List ClassDef) → AllByRecursion (IsClassFileIn folder) (map (written_name folder) cs)
   each [] = tt
@@ -259,14 +259,14 @@ module _ (job : FreemeJob) (old between new : Disk) (all : ReadsAll job.files ol
 -- ---- a request whose files are read, by their names and their classes as slices
 
 -- the files of the request are these, and these classes were given by them
-pub record Reads (request : FreemeRequest) (names : List (Bor Bytes)) (classes : List ClassDef) (old between : Disk) : Type 0 where
+pub record Reads (request : WriteRequest) (names : List (Bor Bytes)) (classes : List ClassDef) (old between : Disk) : Type 0 where
   pub files_are : map (λ n. n.now) names ≡ (job_of request).files
   pub source : AreGiven (given_of (job_of request)) old.contents classes
   pub faultless : HasNoFileFault old between
   pub calls : ReadsAs (job_of request).files classes old between
   pub all : ReadsAll (job_of request).files old between
 
-pub reads_of : {names : List (Bor Bytes)} {classes items : List ClassDef} {old between : Disk} (request : FreemeRequest) → IsMadeAlone (given_of (job_of request))
+pub reads_of : {names : List (Bor Bytes)} {classes items : List ClassDef} {old between : Disk} (request : WriteRequest) → IsMadeAlone (given_of (job_of request))
     → names ≡ request.files.items → classes ≡ items → ReadsAll (map (λ n. n.now) names) old between → AreMadeOf (map (λ n. n.now) names) request.made items old between
     → Reads request names classes old between
 reads_of {names} {classes} {items} {old} {between} request alone same lent all made =
@@ -283,7 +283,7 @@ reads_of {names} {classes} {items} {old} {between} request alone same lent all m
       all = subst R files all;
     }
 
-module _ {request : FreemeRequest} {names : List (Bor Bytes)} {classes : List ClassDef} {old between : Disk} (reads : Reads request names classes old between) where
+module _ {request : WriteRequest} {names : List (Bor Bytes)} {classes : List ClassDef} {old between : Disk} (reads : Reads request names classes old between) where
   pub spelled : AllByRecursion ClassIsSpelled classes
   spelled = given_spelled reads.source
 

@@ -13,3 +13,6 @@ pub mod WrittenLemmas
 pub mod TakenAgain
 pub mod TextLemmas
 pub mod MeaningLemmas
+pub mod AuditLemmas
+pub mod AuditJobLemmas
+pub mod AuditCompleteLemmas

@@ -1,20 +1,25 @@
 -- A call that is done keeps the meaning of the classes.
-use Rattle.std.proofs.Common.{◌≡◌, ◌⊎◌, ◌++◌, inl, inr, ℕ, List, length, Option, None, append-nil, ap, ◌∙◌, subst}
+use Rattle.std.proofs.Common.{◌≡◌, ◌⊎◌, ◌++◌, inl, inr, ℕ, List, [], length, Option, None, append-nil, append_assoc, refl, sym, ap, ◌∙◌, subst}
+use Rattle.std.specs.List.{AllByRecursion}
 use Rattle.fm_base.proofs.ListFacts.{AllByRecursion-weaker}
 use Rattle.fm_cli_requests.proofs.FreemeRequestLemmas.{asks_one}
+use Rattle.fm_cli_requests.specs.AuditRequest.{AuditJob}
 use Rattle.fm_cli_requests.specs.FreemeRequest.{AskOnlyForText, FreemeJob}
 use Rattle.fm_code.specs.ClassBytes.{class_bytes}
 use Rattle.fm_code.specs.Spells.{HasSpelling}
 use Rattle.fm_code.specs.declared.class_file.ClassDef.{ClassDef}
-use Rattle.fm_files.specs.Files.{Bytes, Disk}
+use Rattle.fm_files.specs.Files.{Bytes, Call, Disk}
 use Rattle.fm_files.specs.Sink.{Output}
 use Rattle.fm_load.proofs.GivenLemmas.{given_spelled}
 use Rattle.fm_load.proofs.ReadLemmas.{same_number}
-use Rattle.fm_load.specs.Given.{made_classes}
+use Rattle.fm_load.specs.Given.{AreGiven, made_classes}
+use Rattle.fm_load.specs.Reading.{AreRead}
+use Rattle.fm_load.specs.Returned.{returned}
 use Rattle.fm_load.specs.Taking.{ClassIsSpelled}
 use Rattle.freeme.proofs.WrittenLemmas.{names_same}
-use Rattle.freeme.specs.Causes.{IsForDone, SaysDone}
-use Rattle.freeme.specs.Meaning.{HasKeptMeaning, HasRunsAlike, KeepsMeaning, RunsAlike}
+use Rattle.freeme.specs.Audits.{IsSafe, audited_files}
+use Rattle.freeme.specs.Causes.{IsForDone, IsForSafe, SaysDone}
+use Rattle.freeme.specs.Meaning.{AuditsAlike, HasAuditedAlike, HasKeptMeaning, HasRunsAlike, KeepsMeaning, RunsAlike}
 use Rattle.freeme.specs.TopCall.{IsDone}
 
 pub keeps_meaning : (words : List Bytes) (old new : Disk) (before after report report' : Output) (result : ℕ) → IsForDone words old new before after report report' result
@@ -37,7 +42,7 @@ keeps_meaning words old new before after report report' result done is = by_said
   })
 
 -- where no class is made, there is a class for each file
-one_each : (files : List Bytes) (read classes : List ClassDef) (made : Option ℕ) → made ≡ None → classes ≡ read ++ made_classes made → length read ≡ length files
+pub one_each : (files : List Bytes) (read classes : List ClassDef) (made : Option ℕ) → made ≡ None → classes ≡ read ++ made_classes made → length read ≡ length files
     → length classes ≡ length files
 one_each files read classes made none are same =
     ap length are ∙ ap (λ number. length (read ++ made_classes number)) none ∙ ap length (append-nil read) ∙ same
@@ -76,3 +81,37 @@ runs_alike words old new before after report report' result done job asked none 
   by_said (inl said) =
       let P : FreemeJob → Type 0 = λ k. IsDone k said.lines old new in
       done_alike job said.lines old new none (subst P (asks_one words said.job job said.asked asked) said.done)
+
+-- ---- audits
+
+-- files that are read are spelled
+pub read_spelled : (files : List Bytes) (classes : List ClassDef) (old new : Disk) → AreRead files classes old new → AllByRecursion ClassIsSpelled classes
+read_spelled files classes old new read =
+    let are : AreGiven (record { files = files; made = None; main = [] }) old.contents classes =
+    record { read = classes; taken = read.taken; alone = tt; classes_are = sym (append-nil classes) } in
+    given_spelled are
+
+-- what is safe does what the program does
+safe_alike : (audit : AuditJob) (lines : List ℕ) (old new : Disk) → IsSafe audit lines old new → HasAuditedAlike audit old new
+safe_alike audit lines old new safe =
+    let audited = safe.audited in
+    let source = audited.judged.checked.linked.source in
+    let names = audited_files audit safe.classes in
+    record {
+      given = safe.classes;
+      one_each = one_each audit.files source.read safe.classes None refl source.classes_are (same_number old.contents audit.files source.read source.taken.taken);
+      spelled = given_spelled source;
+      written = safe.written;
+      spelled_too = read_spelled names safe.written audited.between new audited.read;
+      reads =
+          audited.read.reads ∙ ap (λ (calls : List Call). calls ++ returned names safe.written) audited.judged.reads
+          ∙ append_assoc old.reads (returned audit.files safe.classes) (returned names safe.written);
+      marks = safe.safely.marks;
+      same = safe.alike.same;
+      faultless = safe.alike.faultless;
+    }
+
+pub audits_alike : (words : List Bytes) (old new : Disk) (before after report report' : Output) (result : ℕ) → IsForSafe words old new before after report report' result
+    → AuditsAlike words old new result
+audits_alike words old new before after report report' result said audit asked is =
+    let says = said audit asked is in safe_alike audit says.lines old new says.safe

@@ -1,5 +1,5 @@
 -- The lines of each outcome have bytes, so a call puts at most one piece, which isn't empty.
-use Rattle.std.proofs.Common.{◌≡◌, ◌<◌, ℕ, ◌+◌, inl, inr, List, [], ◌∷◌, ◌++◌, length, length-append, codes, Option, Some, None, Ok, Err, string_bytes, ap, arith}
+use Rattle.std.proofs.Common.{◌≡◌, ◌<◌, ℕ, inl, inr, List, [], ◌∷◌, ◌++◌, length, length-append, codes, Option, Some, None, Ok, Err, string_bytes, ap, arith}
 use Rattle.std.proofs.lemmas.List.{length-map}
 use Rattle.fm_base.proofs.ListFacts.{AllByRecursion-weaker}
 use Rattle.fm_cli.proofs.LineLemmas.{line_once}
@@ -31,12 +31,13 @@ use Rattle.freeme.specs.declared.refusal.FreeRefusal.TheVariants as free_refusal
 
 -- ---- the lines of refusals
 
-refusal_some : (r : FreeRefusal) → 0 < length (refusal_line r)
+pub refusal_some : (r : FreeRefusal) → 0 < length (refusal_line r)
 refusal_some (free_refusal.Job r) = job_refusal_some r
 refusal_some (free_refusal.Rewrite (fail.CallsFree method offset) name) = omega arith
 refusal_some (free_refusal.Rewrite (fail.PoolFull class indices) name) = omega arith
 refusal_some (free_refusal.Rewrite (fail.MethodTooLong method bytes) name) = omega arith
 refusal_some (free_refusal.Rewrite fail.NoMemory name) = omega arith
+refusal_some (free_refusal.NotSafe name part) = omega arith
 
 -- ---- the lines of classes
 
@@ -55,7 +56,7 @@ more_some : (read : List ClassDef) (c : ClassDef) → 0 < length (read ++ c ∷ 
 more_some read c = omega (arith, length-append read (c ∷ []))
 
 -- a job has a class: that of a file, or the one that is made
-classes_some : (id : List ℕ) (matches : _) (main : List ℕ) (files : List Bytes) (number : Option ℕ) (contents : Contents) (read : List ClassDef)
+pub classes_some : (id : List ℕ) (matches : _) (main : List ℕ) (files : List Bytes) (number : Option ℕ) (contents : Contents) (read : List ClassDef)
     → NameClasses id matches main files number → AreTaken contents files read → 0 < length (read ++ made_classes number)
 classes_some id matches main files None contents read names taken =
     let same = same_number contents files read taken in let some = names.some_file in omega (arith, length-append read [])
@@ -87,7 +88,7 @@ outcome_some words old new (Ok lines) (inr (inr lacking)) = absurd (let other = 
 
 -- ---- puts
 
-outcome_once : (before after report report' : Output) (result : ℕ) (o : Outcome) → 0 < length (outcome_line o) → IsReported o before after report report' result
+pub outcome_once : (before after report report' : Output) (result : ℕ) (o : Outcome) → 0 < length (outcome_line o) → IsReported o before after report report' result
     → PutsOnce before after report report'
 outcome_once before after report report' result (Ok lines) some reports = inl (line_once (string_bytes lines) DONE before after result reports.0 some, reports.1)
 outcome_once before after report report' result (Err refusal) some reports =

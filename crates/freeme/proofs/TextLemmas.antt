@@ -8,24 +8,30 @@ use Rattle.fm_cli.proofs.OutsideLemmas.{no_fault_where_same}
 use Rattle.fm_cli.specs.Line.{Tells}
 use Rattle.fm_cli.specs.Status.{ComesExactly}
 use Rattle.fm_cli.specs.declared.status.TheConstants.{DONE, WORDS, READ, LIMIT, LINK, CHECK, WRITE, OUT_OF_MEMORY}
-use Rattle.fm_cli_requests.proofs.FreemeRequestLemmas.{text_no_job}
+use Rattle.fm_cli_requests.proofs.FreemeRequestLemmas.{text_no_audit, text_no_job}
 use Rattle.fm_cli_requests.proofs.ProgramTextLemmas.{one_text}
-use Rattle.fm_cli_requests.specs.FreemeRequest.{FreemeJob, AskNoJob, AskOnlyForText}
+use Rattle.fm_cli_requests.specs.FreemeRequest.{AskNoAudit, AskNoJob, AskOnlyForText, FreemeJob}
 use Rattle.fm_cli_requests.specs.ProgramText.{AskForText}
 use Rattle.fm_cli_requests.specs.declared.program_text.ProgramText.{ProgramText}
 use Rattle.fm_cli_requests.specs.declared.program_text.ProgramText.TheVariants as text
 use Rattle.fm_load.specs.Causes.{FailsARead, FailsAWrite, IsMissing}
 use Rattle.freeme.proofs.CauseLemmas.{faultless_statuses}
 use Rattle.freeme.proofs.StatusLemmas.{all_statuses}
-use Rattle.freeme.specs.Causes.{AskFor, AskForGiven, ChangesOnly, IsFaultless, IsForBytes, IsForCheck, IsForDone, IsForLimit, IsForLink, IsForMemory, IsForRead, IsForReturned, IsForRewrite, IsForText, IsForWords, IsForWrite, IsSilent, IsStatus, KeepsContents, PutsOnce, before_writes}
+use Rattle.freeme.specs.Causes.{AskFor, AskForGiven, ChangesOnly, IsFaultless, IsForBytes, IsForCheck, IsForDone, IsForLimit, IsForLink, IsForMemory, IsForNotSafe, IsForRead, IsForReturned, IsForRewrite, IsForSafe, IsForText, IsForWords, IsForWrite, IsSilent, IsStatus, IsUnwrittenByAudits, KeepsContents, PutsOnce, before_writes}
+use Rattle.freeme.specs.Complete.{AuditsComplete}
+use Rattle.freeme.specs.Meaning.{AuditsAlike}
+use Rattle.freeme.specs.declared.status.TheConstants.{NOT_SAFE}
 use Rattle.freeme.specs.TopCall.{IsTextPut, IsTopCall, text_bytes}
 
 module _ (words : List Bytes) (files : Disk) (before after report : Output) (result : ℕ) (asked : ProgramText) (asks : AskForText words asked) (reports : Tells (text_bytes asked) DONE before after result) where
   no_job : AskNoJob words
   no_job = text_no_job words asked asks
 
+  no_audit : AskNoAudit words
+  no_audit = text_no_audit words asked asks
+
   only_text : AskOnlyForText words
-  only_text = record { asked = asked; asks = asks; no_job = no_job }
+  only_text = record { asked = asked; asks = asks; no_job = no_job; no_audit = no_audit }
 
   none_for : {P : FreemeJob → Type 0} → ¬ AskFor words P
   none_for (job, (has, holds)) = no_job job has
@@ -56,7 +62,7 @@ module _ (words : List Bytes) (files : Disk) (before after report : Output) (res
   text_whole = inl (record { asked = asked; asks = asks; put = put })
 
   pub text_status : IsStatus result
-  text_status = told_among (text_bytes asked) DONE before after result reports all_statuses (0, omega arith, refl) (12, omega arith, refl) (13, omega arith, refl)
+  text_status = told_among (text_bytes asked) DONE before after result reports all_statuses (0, omega arith, refl) (13, omega arith, refl) (14, omega arith, refl)
 
   pub text_done : IsForDone words files files before after report report result
   text_done = record { only = λ is. inr only_text; there = λ cause. absurd (none_for cause) }
@@ -133,4 +139,19 @@ module _ (words : List Bytes) (files : Disk) (before after report : Output) (res
   text_returned held status reads asks = absurd (no_job asks.0 asks.1.0)
 
   pub text_changes : ChangesOnly words files files
-  text_changes = record { asked = λ job has. absurd (no_job job has); unasked = λ none. refl }
+  text_changes = record { asked = λ job has. absurd (no_job job has); audited = λ audit has. absurd (no_audit audit has); unasked = λ none. refl }
+
+  pub text_safe : IsForSafe words files files before after report report result
+  text_safe audit has is = absurd (no_audit audit has)
+
+  pub text_not_safe : IsForNotSafe words files files before after report report result
+  text_not_safe is = absurd (apart NOT_SAFE (λ e. omega arith) (λ e. omega arith) (λ e. omega arith) is)
+
+  pub text_audited : AuditsComplete words files files before after report report result
+  text_audited audit classes others has can none = absurd (no_audit audit has)
+
+  pub text_unwritten : IsUnwrittenByAudits words files files
+  text_unwritten audit has = absurd (no_audit audit has)
+
+  pub text_alike : AuditsAlike words files files result
+  text_alike audit has is = absurd (no_audit audit has)

@@ -18,15 +18,18 @@ use Rattle.fm_world.specs.Programs.{Program}
 use Rattle.fm_load.specs.ClassRefusal.{class_refusal_line, class_refusal_status}
 use Rattle.fm_load.specs.LinkRefusal.{link_line}
 use Rattle.fm_load.specs.Refusal.{IsRefusedBy, check_line, many_line, long_line, write_line}
-use Rattle.freeme.specs.Refusal.{rewrite_line, rewrite_status}
-use Rattle.fm_cli_requests.specs.FreemeRequest.{FreemeJob, Asks, AskNoJob, AskNothing, AskOnlyForText}
+use Rattle.freeme.specs.Audits.{IsNotSafe, IsSafe, OnlyReads}
+use Rattle.freeme.specs.Refusal.{not_safe_line, rewrite_line, rewrite_status}
+use Rattle.fm_cli_requests.specs.AuditRequest.{AuditJob}
+use Rattle.fm_cli_requests.specs.FreemeRequest.{AskForNone, AskNoAudit, AskNothing, AskOnlyForText, AskToAudit, Asks, FreemeJob}
 use Rattle.fm_cli_requests.specs.ProgramText.{AskForText}
 use Rattle.fm_cli_requests.specs.declared.program_text.ProgramText.{ProgramText}
 use Rattle.freeme.specs.Jobs.{given_of, IsJobProgram}
 use Rattle.freeme.specs.TopCall.{StaysWithin, IsDone, IsUnwritten, IsBroken, IsNotFreed, IsTextPut, IsUnreported, Outcome, ComesOf}
-use Rattle.freeme.specs.declared.status.TheConstants.{CALLS_FREE, POOL_FULL, METHOD_TOO_LONG}
+use Rattle.freeme.specs.declared.status.TheConstants.{CALLS_FREE, POOL_FULL, METHOD_TOO_LONG, NOT_SAFE}
 use Rattle.fm_load.specs.Causes.{FailsARead, FailsAWrite, HasTooMany, IsMissing, IsKnownLong, IsKnownRefused, IsKnownUnlinked, IsKnownUntyped}
 use Rattle.fm_load.specs.Given.{Given, IsUntouched, AreMany, IsUnread, IsLong, IsRefusedFile, IsNotLinked, IsNotTyped, AreChecked, given_program}
+use Rattle.fm_load.specs.Reading.{KeepsWrites}
 use Rattle.fm_load.specs.Returned.{ReadsFrom, with_contents}
 use Rattle.fm_load.specs.declared.class_refusal.ClassRefusal.{ClassRefusal}
 
@@ -34,7 +37,11 @@ use Rattle.fm_load.specs.declared.class_refusal.ClassRefusal.{ClassRefusal}
 abbrev pub IsStatus : ℕ → Type 0
 IsStatus result =
     Contains (DONE ∷ WORDS ∷ READ ∷ MALFORMED ∷ VERSION ∷ LIMIT ∷ UNSUPPORTED ∷ LINK ∷ CHECK
-    ∷ CALLS_FREE ∷ POOL_FULL ∷ METHOD_TOO_LONG ∷ WRITE ∷ OUT_OF_MEMORY ∷ []) result
+    ∷ CALLS_FREE ∷ POOL_FULL ∷ METHOD_TOO_LONG ∷ NOT_SAFE ∷ WRITE ∷ OUT_OF_MEMORY ∷ []) result
+
+-- what is said of words that ask for no audit
+abbrev pub OfJobs : List Bytes → Type 0 → Type 0
+OfJobs words said = AskNoAudit words → said
 
 -- the words ask for a job such as this
 abbrev pub AskFor : List Bytes → (FreemeJob → Type 0) → Type 0
@@ -302,13 +309,13 @@ IsForReturned words old new result =
 abbrev pub IsFaultless : Disk → Disk → Output → Output → Output → Output → ℕ → Type 0
 IsFaultless old new before after report report' result =
     Contains (DONE ∷ WORDS ∷ MALFORMED ∷ VERSION ∷ LIMIT ∷ UNSUPPORTED ∷ LINK ∷ CHECK
-    ∷ CALLS_FREE ∷ POOL_FULL ∷ METHOD_TOO_LONG ∷ []) result
+    ∷ CALLS_FREE ∷ POOL_FULL ∷ METHOD_TOO_LONG ∷ NOT_SAFE ∷ []) result
     → HasNoFileFault old new × (after.faults ≡ before.faults) × (report'.faults ≡ report.faults)
 
 -- the statuses of refusals before the first write
 abbrev pub before_writes : List ℕ
 before_writes =
-    WORDS ∷ READ ∷ MALFORMED ∷ VERSION ∷ LIMIT ∷ UNSUPPORTED ∷ LINK ∷ CHECK ∷ CALLS_FREE ∷ POOL_FULL ∷ METHOD_TOO_LONG ∷ []
+    WORDS ∷ READ ∷ MALFORMED ∷ VERSION ∷ LIMIT ∷ UNSUPPORTED ∷ LINK ∷ CHECK ∷ CALLS_FREE ∷ POOL_FULL ∷ METHOD_TOO_LONG ∷ NOT_SAFE ∷ []
 
 -- such a refusal leaves all contents as they were, and writes nothing
 abbrev pub KeepsContents : Disk → Disk → ℕ → Type 0
@@ -322,8 +329,42 @@ IsSilent before after result = Contains before_writes result → after ≡ befor
 abbrev pub PutsOnce : Output → Output → Output → Output → Type 0
 PutsOnce before after report report' = (GetsAtMostOne before after × (report' ≡ report)) ⊎ (GetsAtMostOne report report' × (after ≡ before))
 
--- a job reads only its files and changes no name but those of class files in its folder, and words
--- that ask for no job leave the files as they were
+-- a job reads only its files and changes no name but those of class files in its folder, an audit reads only its files and class files
+-- of its folder and changes nothing, and words that ask for neither leave the files as they were
 pub record ChangesOnly (words : List Bytes) (old new : Disk) : Type 0 where
   pub asked : (job : FreemeJob) → Asks words job → StaysWithin job old new
-  pub unasked : AskNoJob words → new ≡ old
+  pub audited : (audit : AuditJob) → AskToAudit words audit → OnlyReads audit old new
+  pub unasked : AskForNone words → new ≡ old
+
+-- ---- audits
+
+-- all files of an audit are taken, and those that are audited are safe insertions; nothing else happened to the files, the output got a line
+-- of each class as one piece, and the report is as it was
+pub record SaysSafe (audit : AuditJob) (old new : Disk) (before after report report' : Output) : Type 0 where
+  pub lines : List ℕ
+  pub safe : IsSafe audit lines old new
+  pub line : after ≡ with_piece lines before
+  pub unreported : report' ≡ report
+
+-- an audit is done only there
+abbrev pub IsForSafe : List Bytes → Disk → Disk → Output → Output → Output → Output → ℕ → Type 0
+IsForSafe words old new before after report report' result =
+    (audit : AuditJob) → AskToAudit words audit → result ≡ DONE → SaysSafe audit old new before after report report'
+
+-- the words ask for an audit, all files of which are taken, and those that are audited aren't safe insertions; the line names the first class or
+-- method and the part for which they aren't
+pub record SaysNotSafe (words : List Bytes) (old new : Disk) (before after report report' : Output) : Type 0 where
+  pub audit : AuditJob
+  pub asked : AskToAudit words audit
+  pub name : Bytes
+  pub part : ℕ
+  pub not_safe : IsNotSafe audit name part old new
+  pub refused : IsRefusedBy (not_safe_line name part) before after report report'
+
+-- this status comes only there
+abbrev pub IsForNotSafe : List Bytes → Disk → Disk → Output → Output → Output → Output → ℕ → Type 0
+IsForNotSafe words old new before after report report' result = result ≡ NOT_SAFE → SaysNotSafe words old new before after report report'
+
+-- an audit changes no contents and writes nothing, at any status
+abbrev pub IsUnwrittenByAudits : List Bytes → Disk → Disk → Type 0
+IsUnwrittenByAudits words old new = (audit : AuditJob) → AskToAudit words audit → KeepsWrites old new

@@ -2,6 +2,7 @@ pub mod inner
 pub mod Jobs
 pub mod Refusal
 pub mod Writing
+pub mod Audits
 pub mod TopCall
 pub mod Complete
 pub mod Causes

@@ -1,18 +1,20 @@
 -- That the classes which are written mean what those mean that are read.
-use Rattle.std.specs.Prelude.{◌≡◌, ◌⊎◌, ℕ, List, None, length, map}
+use Rattle.std.specs.Prelude.{◌≡◌, ◌⊎◌, ◌++◌, ℕ, List, None, length, map}
 use Rattle.std.specs.List.{AllByRecursion}
 use Rattle.fm_files.specs.Files.{Bytes, Disk}
 use Rattle.fm_cli.specs.declared.status.TheConstants.{DONE}
 use Rattle.fm_code.specs.declared.class_file.ClassDef.{ClassDef}
-use Rattle.fm_cli_requests.specs.FreemeRequest.{AskOnlyForText, Asks, FreemeJob}
+use Rattle.fm_cli_requests.specs.AuditRequest.{AuditJob}
+use Rattle.fm_cli_requests.specs.FreemeRequest.{AskOnlyForText, AskToAudit, Asks, FreemeJob}
 use Rattle.fm_law_headline.specs.Headline.{DoesTheSame, EndTheSame, MakesAsHeld}
 use Rattle.fm_law_same_runs.specs.Beside.{InAllRuns, IsWithoutFault, Marks, Same}
 use Rattle.fm_load.specs.Given.{AreChecked}
-use Rattle.fm_load.specs.Returned.{ReadsAs}
+use Rattle.fm_load.specs.Returned.{ReadsAs, returned}
 use Rattle.fm_load.specs.Taking.{ClassIsSpelled}
 use Rattle.fm_rewrite.specs.Rewritten.{AreRewrittenOf}
 use Rattle.fm_rewrite.specs.declared.rewriting.Rewritten.{Rewritten}
 use Rattle.fm_world.specs.Programs.{Program, program_of}
+use Rattle.freeme.specs.Audits.{audited_files, given_in}
 use Rattle.freeme.specs.Jobs.{given_of, IsJobProgram, main_name}
 use Rattle.freeme.specs.Writing.{AllWritten, class_text}
 
@@ -62,3 +64,22 @@ pub record HasRunsAlike (job : FreemeJob) (old new : Disk) : Type 0 where
 -- where it is done, of class files
 abbrev pub RunsAlike : List Bytes → Disk → Disk → ℕ → Type 0
 RunsAlike words old new result = (job : FreemeJob) → Asks words job → job.made ≡ None → result ≡ DONE → HasRunsAlike job old new
+
+-- ---- the same of what is audited
+
+-- The class files of an audit and those that are audited, whose bytes the reads of this call returned in this order: each spells its class (JVMS 4). With the main
+-- class of the audit the second program does what the first one does, on memory that reuses cells in any way, step for matched step, and no freed cell is used.
+pub record HasAuditedAlike (audit : AuditJob) (old new : Disk) : Type 0 where
+  pub given : List ClassDef
+  pub one_each : length given ≡ length audit.files
+  pub spelled : AllByRecursion ClassIsSpelled given
+  pub written : List ClassDef
+  pub spelled_too : AllByRecursion ClassIsSpelled written
+  pub reads : new.reads ≡ old.reads ++ (returned audit.files given ++ returned (audited_files audit given) written)
+  pub marks : Marks
+  pub same : Same (program_of given (given_in audit).main) (program_of written (given_in audit).main) marks
+  pub faultless : InAllRuns (program_of given (given_in audit).main) (program_of written (given_in audit).main) marks IsWithoutFault
+
+-- where the audit is done
+abbrev pub AuditsAlike : List Bytes → Disk → Disk → ℕ → Type 0
+AuditsAlike words old new result = (audit : AuditJob) → AskToAudit words audit → result ≡ DONE → HasAuditedAlike audit old new

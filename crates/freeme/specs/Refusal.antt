@@ -9,7 +9,7 @@ use Rattle.fm_cli.specs.CommandRefusal.{memory_line}
 use Rattle.fm_cli.specs.declared.status.TheConstants.{OUT_OF_MEMORY}
 use Rattle.freeme.specs.declared.refusal.FreeRefusal.{FreeRefusal}
 use Rattle.freeme.specs.declared.refusal.FreeRefusal.TheVariants as free_refusal
-use Rattle.freeme.specs.declared.status.TheConstants.{CALLS_FREE, POOL_FULL, METHOD_TOO_LONG}
+use Rattle.freeme.specs.declared.status.TheConstants.{CALLS_FREE, POOL_FULL, METHOD_TOO_LONG, NOT_SAFE}
 
 -- the lines, each with its line end: of a method that calls FreeMe at an offset,
 abbrev pub calls_line : List ℕ → ℕ → List ℕ
@@ -37,12 +37,18 @@ rewrite_status (fail.PoolFull class indices) = POOL_FULL
 rewrite_status (fail.MethodTooLong method bytes) = METHOD_TOO_LONG
 rewrite_status fail.NoMemory = OUT_OF_MEMORY
 
+-- the line of what isn't safe for the method or the class of this name, and for this part
+abbrev pub not_safe_line : List ℕ → ℕ → List ℕ
+not_safe_line name part = codes "refused: not-safe " ++ (printed name ++ (codes " " ++ (decimal part ++ 10 ∷ [])))
+
 -- the line of a refusal
 abbrev pub refusal_line : FreeRefusal → List ℕ
 refusal_line (free_refusal.Job refusal) = job_line refusal
 refusal_line (free_refusal.Rewrite fail name) = rewrite_line fail name
+refusal_line (free_refusal.NotSafe name part) = not_safe_line name part
 
 -- the status of a refusal
 abbrev pub refusal_status : FreeRefusal → ℕ
 refusal_status (free_refusal.Job refusal) = job_status refusal
 refusal_status (free_refusal.Rewrite fail name) = rewrite_status fail
+refusal_status (free_refusal.NotSafe name part) = NOT_SAFE

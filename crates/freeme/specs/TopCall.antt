@@ -28,10 +28,12 @@ use Rattle.fm_load.specs.Returned.{ReadsAs, ReadsInOrder}
 use Rattle.fm_load.specs.Taking.{ClassIsSpelled}
 use Rattle.fm_load.specs.Changes.{RisesOnlyAt, ChangesOnlyAt, ReadsOnly}
 use Rattle.freeme.specs.Refusal.{refusal_line, refusal_status}
-use Rattle.fm_cli_requests.specs.FreemeRequest.{FreemeJob, Asks, AskNoJob}
+use Rattle.fm_cli_requests.specs.AuditRequest.{AuditJob}
+use Rattle.fm_cli_requests.specs.FreemeRequest.{AskForNone, AskToAudit, Asks, FreemeJob}
 use Rattle.fm_cli_requests.specs.ProgramText.{AskForNoText, AskForText}
 use Rattle.fm_cli_requests.specs.declared.program_text.ProgramText.{ProgramText}
 use Rattle.fm_cli_requests.specs.declared.program_text.ProgramText.TheVariants as text
+use Rattle.freeme.specs.Audits.{AuditsTo, OnlyReads}
 use Rattle.freeme.specs.Jobs.{given_of, IsJobProgram, main_name}
 use Rattle.freeme.specs.Writing.{IsClassFileIn, written_name, class_lines, AllWritten, SomeWritten, FailsToWrite}
 use Rattle.freeme.specs.declared.program_text.TheConstants.{HELP, VERSION_LINE}
@@ -153,6 +155,7 @@ Outcome = Result (String Global) FreeRefusal
 abbrev pub ComesTo : FreemeJob → Disk → Disk → Outcome → Type 0
 ComesTo job old new (Ok lines) = IsDone job (string_bytes lines) old new
 ComesTo job old new (Err (free_refusal.Rewrite cause name)) = IsNotFreed job cause name old new
+ComesTo job old new (Err (free_refusal.NotSafe name part)) = ⊥
 ComesTo job old new (Err (free_refusal.Job (job_refusal.Write name))) = IsUnwritten job (string_bytes name) old new
 ComesTo job old new (Err (free_refusal.Job (job_refusal.TooManyFiles count))) = AreMany job.files count old new
 ComesTo job old new (Err (free_refusal.Job (job_refusal.TooLong file))) = IsLong job.files file.now old new
@@ -173,9 +176,9 @@ pub record ComesOfJob (words : List Bytes) (old new : Disk) (outcome : Outcome) 
   pub within : StaysWithin job old new
   pub comes : ComesTo job old new outcome
 
--- the words ask for no job, which is refused, and leaves the files as they were
+-- the words ask for no job and for no audit, which is refused, and leaves the files as they were
 pub record ComesOfNothing (words : List Bytes) (old new : Disk) (outcome : Outcome) : Type 0 where
-  pub unasked : AskNoJob words
+  pub unasked : AskForNone words
   pub refused : outcome ≡ Err (free_refusal.Job (job_refusal.Shared refusal.Words))
   pub kept : new ≡ old
 
@@ -184,7 +187,7 @@ pub record LacksRequest (old new : Disk) (outcome : Outcome) : Type 0 where
   pub refused : outcome ≡ Err (free_refusal.Job (job_refusal.Shared refusal.OutOfMemory))
   pub kept : new ≡ old
 
--- what words that come out so do to the files
+-- what words that come out so, and ask for no audit, do to the files
 abbrev pub ComesOf : List Bytes → Disk → Disk → Outcome → Type 0
 ComesOf words old new outcome = ComesOfJob words old new outcome ⊎ (ComesOfNothing words old new outcome ⊎ LacksRequest old new outcome)
 
@@ -200,12 +203,27 @@ abbrev pub IsUnreported : Outcome → Output → Output → Output → Output �
 IsUnreported (Ok lines) before after report report' = FailsPut (string_bytes lines) before after × (report' ≡ report)
 IsUnreported (Err refusal) before after report report' = FailsPut (refusal_line refusal) report report' × (after ≡ before)
 
--- a call for no text: what the words ask for comes out in some way, and that is reported
+-- a call for no text: what the words ask for, which is no audit, comes out in some way, or memory to read them can't be had, and that is reported
 pub record IsJobCall (words : List Bytes) (old new : Disk) (before after report report' : Output) (result : ℕ) : Type 0 where
   pub no_text : AskForNoText words
   pub outcome : Outcome
   pub comes : ComesOf words old new outcome
   pub reports : IsReported outcome before after report report' result
+
+-- a call for an audit, which comes out in some way, and that is reported
+pub record IsAuditCall (words : List Bytes) (old new : Disk) (before after report report' : Output) (result : ℕ) : Type 0 where
+  pub no_text : AskForNoText words
+  pub audit : AuditJob
+  pub asked : AskToAudit words audit
+  pub within : OnlyReads audit old new
+  pub outcome : Outcome
+  pub comes : AuditsTo audit old new outcome
+  pub reports : IsReported outcome before after report report' result
+
+-- one of the two
+abbrev pub IsCallForNoText : List Bytes → Disk → Disk → Output → Output → Output → Output → ℕ → Type 0
+IsCallForNoText words old new before after report report' result =
+    IsJobCall words old new before after report report' result ⊎ IsAuditCall words old new before after report report' result
 
 -- the bytes of a text of the program
 abbrev pub text_bytes : ProgramText → List ℕ
@@ -227,4 +245,4 @@ pub record IsTextCall (words : List Bytes) (old new : Disk) (before after report
 -- what a call does, by what the words ask for
 abbrev pub IsTopCall : List Bytes → Disk → Disk → Output → Output → Output → Output → ℕ → Type 0
 IsTopCall words old new before after report report' result =
-    IsTextCall words old new before after report report' result ⊎ IsJobCall words old new before after report report' result
+    IsTextCall words old new before after report report' result ⊎ IsCallForNoText words old new before after report report' result

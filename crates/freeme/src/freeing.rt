@@ -49,9 +49,9 @@ fn cause_name(alloc: Global, program: &Program, fail: RewriteFail) -> Result<Nam
     }
 }
 
-// The name of a class of the program.
+/// The name of a class of the program.
 #[tactic(auto, unfolding(fm_world::specs::Programs::class_info))]
-fn class_name(alloc: Global, program: &Program, class: ClassId) -> Result<Name, NoMemory>
+pub fn class_name(alloc: Global, program: &Program, class: ClassId) -> Result<Name, NoMemory>
     requires { class.0 < length program.now.outline.classes }
     ensures { IfOk result (λ name. name ≡ (class_info program.now.outline class.0).name) }
 {

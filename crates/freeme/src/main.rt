@@ -7,10 +7,12 @@
 // the words of the command line, the files of the system, standard output and standard error.
 #![tactic(auto)]
 
+mod auditing;
 mod freeing;
 mod judging;
 mod program_text;
 mod refusal;
+mod reporting;
 mod status;
 #[cfg(test)]
 mod tests;

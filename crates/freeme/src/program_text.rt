@@ -12,21 +12,24 @@ use std::alloc::Global;
 
 /// The help, with its line ends.
 pub const HELP: &str = "\
-freeme writes the class files of a program again, with calls that free what dies young.
+freeme writes the class files of a program again, with calls that free what dies young,
+or audits files that were written so.
 
 usage: freeme --out DIR --main CLASS [--rapid] FILE...
        freeme --out DIR --make N
+       freeme --audit DIR --main CLASS FILE...
 
   --out DIR      write each class as DIR/NAME.class
   --main CLASS   the class of the main method, with / between the parts of its name
   FILE...        the class files of the program
   --rapid        take virtual calls to lead only to classes of which objects are made
   --make N       a large program that is made, of class G, for N from 1 to 100
+  --audit DIR    read each DIR/NAME.class, and report whether its insertions are safe
   -h, --help     print this help; taken as the only word
   -V, --version  print the version; taken as the only word
 
 status: 0 done, 64 these words, 65 a read failed, 66 to 69 a class file, 70 links, 71 types,
-        72 to 74 no rewriting, 75 a write failed, 76 no memory
+        72 to 74 no rewriting, 75 a write failed, 76 no memory, 78 not safe
 
 example: freeme --out freed --main Main classes/*.class
 ";

@@ -3,7 +3,7 @@
 ghost use Rattle.std.specs.Prelude.{◌≡◌, IfOk, string_bytes};
 ghost use Rattle.fm_load.specs.declared.refusal.JobRefusal.TheVariants as job_refusal;
 ghost use Rattle.fm_cli.specs.declared.command_refusal.CommandRefusal.TheVariants as refusal;
-ghost use Rattle.freeme.specs.Refusal.{refusal_line, refusal_status, rewrite_line, rewrite_status};
+ghost use Rattle.freeme.specs.Refusal.{not_safe_line, refusal_line, refusal_status, rewrite_line, rewrite_status};
 ghost use Rattle.freeme.specs.declared.refusal.FreeRefusal.TheVariants as free_refusal;
 
 use crate::status;
@@ -22,6 +22,9 @@ pub enum FreeRefusal<'a> {
     /// The program isn't rewritten, for the method or the class of this name; want of memory is
     /// never reported so.
     Rewrite(RewriteFail, Name),
+    /// What is audited isn't safe, for the method or the class of this name, and for this part of what
+    /// makes it safe, from 1 to 6.
+    NotSafe(Name, u8),
 }
 
 impl FreeRefusal<'_> {
@@ -32,6 +35,7 @@ impl FreeRefusal<'_> {
         match self {
             FreeRefusal::Job(refusal) => refusal.line(alloc),
             FreeRefusal::Rewrite(fail, name) => rewrite_line(alloc, *fail, name),
+            FreeRefusal::NotSafe(name, part) => not_safe_line(alloc, name, *part),
         }
     }
 
@@ -42,6 +46,7 @@ impl FreeRefusal<'_> {
         match self {
             FreeRefusal::Job(refusal) => refusal.status(),
             FreeRefusal::Rewrite(fail, _) => rewrite_status(*fail),
+            FreeRefusal::NotSafe(_, _) => status::NOT_SAFE,
         }
     }
 }
@@ -63,6 +68,14 @@ fn rewrite_line(alloc: Global, fail: RewriteFail, name: &Name) -> Result<String,
         }
         RewriteFail::NoMemory => CommandRefusal::OutOfMemory.line(alloc),
     }
+}
+
+// The line of what isn't safe for the method or the class of this name, and for this part.
+fn not_safe_line(alloc: Global, name: &Name, part: u8) -> Result<String, NoMemory>
+    ensures { IfOk result (λ text. string_bytes text ≡ not_safe_line name.now part) }
+{
+    let name = printed(alloc, name)?;
+    Ok(format!(in alloc; "refused: not-safe {name} {part}\n")?)
 }
 
 // The status of a program that isn't rewritten.

@@ -1,5 +1,6 @@
 // The program over files and sinks in memory.
 
+mod audits;
 mod changes;
 mod checking;
 mod family;

@@ -2,25 +2,28 @@
 
 ghost use Rattle.fm_cli.specs.Words.{texts};
 ghost use Rattle.fm_cli.specs.declared.status.TheConstants.{MALFORMED, UNSUPPORTED, VERSION};
-ghost use Rattle.freeme.specs.Causes.{ChangesOnly, IsFaultless, IsForBytes, IsForCheck, IsForDone, IsForLimit, IsForLink, IsForMemory, IsForRead, IsForReturned, IsForRewrite, IsForText, IsForWords, IsForWrite, IsSilent, IsStatus, KeepsContents, PutsOnce};
-ghost use Rattle.freeme.specs.Complete.{IsComplete};
+ghost use Rattle.freeme.specs.Causes.{ChangesOnly, IsFaultless, IsForBytes, IsForCheck, IsForDone, IsForLimit, IsForLink, IsForMemory, IsForNotSafe, IsForRead, IsForReturned, IsForRewrite, IsForSafe, IsForText, IsForWords, IsForWrite, IsSilent, IsStatus, IsUnwrittenByAudits, KeepsContents, OfJobs, PutsOnce};
+ghost use Rattle.freeme.specs.Complete.{AuditsComplete, IsComplete};
 ghost use Rattle.fm_cli_requests.specs.FreemeRequest.{job_of};
+ghost use Rattle.fm_cli_requests.specs.ProgramText.{AskForNoText};
 ghost use Rattle.fm_load.specs.Given.{IsMadeAlone};
 ghost use Rattle.freeme.specs.Jobs.{given_of};
-ghost use Rattle.freeme.specs.Meaning.{KeepsMeaning, RunsAlike};
-ghost use Rattle.freeme.specs.TopCall.{ComesOf, ComesTo, IsReported, IsTopCall, StaysWithin};
+ghost use Rattle.freeme.specs.Meaning.{AuditsAlike, KeepsMeaning, RunsAlike};
+ghost use Rattle.freeme.specs.TopCall.{ComesTo, IsCallForNoText, IsTopCall, StaysWithin};
 ghost use Rattle.freeme.specs.declared.status.TheConstants.{CALLS_FREE, METHOD_TOO_LONG, POOL_FULL};
 
+use crate::auditing::audit_files;
 use crate::freeing::{class_lines, freed_classes};
 use crate::judging::analysed;
 use crate::program_text::put_text;
 use crate::refusal::FreeRefusal;
+use crate::reporting::report_outcome;
 use crate::writing::write_classes;
 use fm_base::NoMemory;
 use fm_base::limits::MAX_CLASS_FILES;
-use fm_cli::{CommandRefusal, put_line, status};
-use fm_cli_requests::ProgramText;
-use fm_cli_requests::freeme_request::{FreemeRequest, request_of};
+use fm_cli::CommandRefusal;
+use fm_cli_requests::freeme_request::request_of;
+use fm_cli_requests::{FreemeRequest, ProgramText, WriteRequest};
 use fm_code::ClassDef;
 use fm_files::{Files, Sink};
 use fm_law_beside_freeme::{law_exact, law_written};
@@ -45,53 +48,53 @@ pub fn freeme_run<F: Files, O: Sink, R: Sink>(
         (F.disk files.old) (F.disk files.new) (O.output out.old) (O.output out.new)
         (R.output report.old) (R.output report.new) result }
 
-    // Each status: when it comes, and what it says. There is no other.
+    // Each status: when it comes, and what it says. There is no other. That of an audit is in the whole.
     ensures status { IsStatus result }
-    ensures done { IsForDone (texts words.now)
+    ensures done { OfJobs (texts words.now) (IsForDone (texts words.now)
         (F.disk files.old) (F.disk files.new) (O.output out.old) (O.output out.new)
-        (R.output report.old) (R.output report.new) result }
+        (R.output report.old) (R.output report.new) result) }
     ensures text { IsForText (texts words.now)
         (F.disk files.old) (F.disk files.new) (O.output out.old) (O.output out.new)
         (R.output report.old) (R.output report.new) result }
     ensures words { IsForWords (texts words.now)
         (F.disk files.old) (F.disk files.new) (O.output out.old) (O.output out.new)
         (R.output report.old) (R.output report.new) result }
-    ensures read { IsForRead (texts words.now)
+    ensures read { OfJobs (texts words.now) (IsForRead (texts words.now)
         (F.disk files.old) (F.disk files.new) (O.output out.old) (O.output out.new)
-        (R.output report.old) (R.output report.new) result }
-    ensures malformed { IsForBytes MALFORMED (texts words.now)
+        (R.output report.old) (R.output report.new) result) }
+    ensures malformed { OfJobs (texts words.now) (IsForBytes MALFORMED (texts words.now)
         (F.disk files.old) (F.disk files.new) (O.output out.old) (O.output out.new)
-        (R.output report.old) (R.output report.new) result }
-    ensures version { IsForBytes VERSION (texts words.now)
+        (R.output report.old) (R.output report.new) result) }
+    ensures version { OfJobs (texts words.now) (IsForBytes VERSION (texts words.now)
         (F.disk files.old) (F.disk files.new) (O.output out.old) (O.output out.new)
-        (R.output report.old) (R.output report.new) result }
-    ensures limit { IsForLimit (texts words.now)
+        (R.output report.old) (R.output report.new) result) }
+    ensures limit { OfJobs (texts words.now) (IsForLimit (texts words.now)
         (F.disk files.old) (F.disk files.new) (O.output out.old) (O.output out.new)
-        (R.output report.old) (R.output report.new) result }
-    ensures unsupported { IsForBytes UNSUPPORTED (texts words.now)
+        (R.output report.old) (R.output report.new) result) }
+    ensures unsupported { OfJobs (texts words.now) (IsForBytes UNSUPPORTED (texts words.now)
         (F.disk files.old) (F.disk files.new) (O.output out.old) (O.output out.new)
-        (R.output report.old) (R.output report.new) result }
-    ensures link { IsForLink (texts words.now)
+        (R.output report.old) (R.output report.new) result) }
+    ensures link { OfJobs (texts words.now) (IsForLink (texts words.now)
         (F.disk files.old) (F.disk files.new) (O.output out.old) (O.output out.new)
-        (R.output report.old) (R.output report.new) result }
-    ensures check { IsForCheck (texts words.now)
+        (R.output report.old) (R.output report.new) result) }
+    ensures check { OfJobs (texts words.now) (IsForCheck (texts words.now)
         (F.disk files.old) (F.disk files.new) (O.output out.old) (O.output out.new)
-        (R.output report.old) (R.output report.new) result }
-    ensures calls_free { IsForRewrite CALLS_FREE (texts words.now)
+        (R.output report.old) (R.output report.new) result) }
+    ensures calls_free { OfJobs (texts words.now) (IsForRewrite CALLS_FREE (texts words.now)
         (F.disk files.old) (F.disk files.new) (O.output out.old) (O.output out.new)
-        (R.output report.old) (R.output report.new) result }
+        (R.output report.old) (R.output report.new) result) }
     ensures pool_full { IsForRewrite POOL_FULL (texts words.now)
         (F.disk files.old) (F.disk files.new) (O.output out.old) (O.output out.new)
         (R.output report.old) (R.output report.new) result }
     ensures method_too_long { IsForRewrite METHOD_TOO_LONG (texts words.now)
         (F.disk files.old) (F.disk files.new) (O.output out.old) (O.output out.new)
         (R.output report.old) (R.output report.new) result }
-    ensures write { IsForWrite (texts words.now)
+    ensures write { OfJobs (texts words.now) (IsForWrite (texts words.now)
         (F.disk files.old) (F.disk files.new) (O.output out.old) (O.output out.new)
-        (R.output report.old) (R.output report.new) result }
-    ensures memory { IsForMemory (texts words.now)
+        (R.output report.old) (R.output report.new) result) }
+    ensures memory { OfJobs (texts words.now) (IsForMemory (texts words.now)
         (F.disk files.old) (F.disk files.new) (O.output out.old) (O.output out.new)
-        (R.output report.old) (R.output report.new) result }
+        (R.output report.old) (R.output report.new) result) }
 
     // Where nothing is against a job and nothing fails, it is done, or memory can't be had.
     ensures complete { IsComplete (texts words.now)
@@ -113,32 +116,58 @@ pub fn freeme_run<F: Files, O: Sink, R: Sink>(
     ensures others { ChangesOnly (texts words.now) (F.disk files.old) (F.disk files.new) }
 
     // Where it is done: the classes written do what the classes read do.
-    ensures same { KeepsMeaning (texts words.now) (F.disk files.old) (F.disk files.new) result }
+    ensures same { OfJobs (texts words.now)
+        (KeepsMeaning (texts words.now) (F.disk files.old) (F.disk files.new) result) }
     ensures runs { RunsAlike (texts words.now) (F.disk files.old) (F.disk files.new) result }
+
+    // An audit: what is safe, which does what the classes of the program do, and what isn't.
+    ensures safe { IsForSafe (texts words.now)
+        (F.disk files.old) (F.disk files.new) (O.output out.old) (O.output out.new)
+        (R.output report.old) (R.output report.new) result }
+    ensures not_safe { IsForNotSafe (texts words.now)
+        (F.disk files.old) (F.disk files.new) (O.output out.old) (O.output out.new)
+        (R.output report.old) (R.output report.new) result }
+    ensures audited { AuditsComplete (texts words.now)
+        (F.disk files.old) (F.disk files.new) (O.output out.old) (O.output out.new)
+        (R.output report.old) (R.output report.new) result }
+    ensures unwritten { IsUnwrittenByAudits (texts words.now)
+        (F.disk files.old) (F.disk files.new) }
+    ensures alike { AuditsAlike (texts words.now) (F.disk files.old) (F.disk files.new) result }
 {
     // For its clauses: it makes no difference which exact facts are taken.
     law_exact();
     match ProgramText::asked_by(words) {
         Some(asked) => put_text(alloc, asked, out),
-        None => {
-            let outcome = do_words(alloc, words, files);
-            report_outcome(alloc, outcome, out, report)
-        }
+        None => do_words(alloc, words, files, out, report),
     }
 }
 
-// Does the job that the words ask for, and returns the lines that report it.
-fn do_words<'a, F: Files>(
+// Does the job or the audit that the words ask for, and reports it.
+fn do_words<F: Files, O: Sink, R: Sink>(
     alloc: Global,
-    words: &'a [String],
+    words: &[String],
     files: &mut F,
-) -> Result<String, FreeRefusal<'a>>
-    ensures { ComesOf (texts words.now) (F.disk files.old) (F.disk files.new) result }
+    out: &mut O,
+    report: &mut R,
+) -> u8
+    requires { AskForNoText (texts words.now) }
+    ensures { IsCallForNoText (texts words.now)
+        (F.disk files.old) (F.disk files.new) (O.output out.old) (O.output out.new)
+        (R.output report.old) (R.output report.new) result }
 {
-    let asked = request_of(alloc, words)?;
-    match asked {
-        Some(request) => do_job(alloc, request, files),
-        None => Err(FreeRefusal::Job(JobRefusal::Shared(CommandRefusal::Words))),
+    match request_of(alloc, words) {
+        Ok(Some(asked)) => match asked {
+            FreemeRequest::Write(request) => {
+                let outcome = do_job(alloc, request, files);
+                report_outcome(alloc, outcome, out, report)
+            }
+            FreemeRequest::Audit(request) => audit_files(alloc, request, files, out, report),
+        },
+        Ok(None) => {
+            let refusal = FreeRefusal::Job(JobRefusal::Shared(CommandRefusal::Words));
+            report_outcome(alloc, Err(refusal), out, report)
+        }
+        Err(NoMemory) => report_outcome(alloc, Err(FreeRefusal::from(NoMemory)), out, report),
     }
 }
 
@@ -146,7 +175,7 @@ fn do_words<'a, F: Files>(
 // are taken and make a program of typed methods that may be rewritten.
 fn do_job<'a, F: Files>(
     alloc: Global,
-    request: FreemeRequest<'a>,
+    request: WriteRequest<'a>,
     files: &mut F,
 ) -> Result<String, FreeRefusal<'a>>
     requires { IsMadeAlone (given_of (job_of request)) }
@@ -175,24 +204,4 @@ fn do_job<'a, F: Files>(
     let lines = class_lines(alloc, written, counts)?;
     write_classes(alloc, request.folder, written, files)?;
     Ok(lines)
-}
-
-// Puts the lines of a job that is done into the output, or the line of a refusal into the report, and
-// returns the status, or that of the put.
-fn report_outcome<O: Sink, R: Sink>(
-    alloc: Global,
-    outcome: Result<String, FreeRefusal<'_>>,
-    out: &mut O,
-    report: &mut R,
-) -> u8
-    ensures { IsReported outcome.entry (O.output out.old) (O.output out.new)
-        (R.output report.old) (R.output report.new) result }
-{
-    match outcome {
-        Ok(lines) => put_line(alloc, out, lines.as_bytes(), status::DONE),
-        Err(refusal) => match refusal.line(alloc) {
-            Ok(line) => put_line(alloc, report, line.as_bytes(), refusal.status()),
-            Err(NoMemory) => status::OUT_OF_MEMORY,
-        },
-    }
 }

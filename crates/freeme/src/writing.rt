@@ -1,6 +1,6 @@
 // The classes of a job, written one after the other.
 
-ghost use Rattle.std.specs.Prelude.{◌≡◌, IfOk, string_bytes};
+ghost use Rattle.std.specs.Prelude.{◌≡◌, IfOk, map, string_bytes};
 ghost use Rattle.std.specs.List.{AllByRecursion};
 ghost use Rattle.freeme.specs.Writing.{HasName, class_text, written_name};
 ghost use Rattle.freeme.specs.inner.Writing.{AreApart, ComesOfClass, ComesOfClasses, KeepsReads};
@@ -30,6 +30,23 @@ fn written_name(alloc: Global, folder: &str, class: &ClassDef) -> Result<String,
 {
     let name = class_text(alloc, class)?;
     Ok(format!(in alloc; "{folder}/{name}.class")?)
+}
+
+/// The names of the files of classes, in their order.
+pub fn written_names(
+    alloc: Global,
+    folder: &str,
+    classes: &[ClassDef],
+) -> Result<Vec<String>, NoMemory>
+    requires { AllByRecursion HasName classes.now }
+    ensures { IfOk result (λ names. map string_bytes names.items
+        ≡ map (written_name folder.now) classes.now) }
+{
+    let mut names = Vec::new(alloc);
+    for class in classes {
+        names.push(written_name(alloc, folder, class)?)?;
+    }
+    Ok(names)
 }
 
 /// Writes each class to its file in the folder, in their order.

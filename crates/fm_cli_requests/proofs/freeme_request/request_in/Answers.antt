@@ -1,35 +1,36 @@
-use Rattle.std.proofs.Common.{refl, sym, ◌∙◌, codes, subst}
-use Rattle.std.proofs.lemmas.Bool.{false≢true}
-use Rattle.clap.specs.Words.{found_of, rows_of}
-use Rattle.fm_base.proofs.OptionFacts.{None-from_not_some}
-use Rattle.fm_cli_requests.specs.Values.{IsValue}
-use Rattle.fm_cli_requests.proofs.ClassFilesLemmas.{IsNamedBy}
-use Rattle.fm_cli_requests.proofs.MatchLemmas.{first_found, first_missing, untested}
+use Rattle.std.proofs.Common.{◌≡◌, ◌∙◌, List, ℕ, Option, None, MatchOption, ap, codes, option_map, subst}
+use Rattle.std.specs.Borrow.{Bor}
+use Rattle.clap.specs.Words.{first_of, found_of, rows_of}
+use Rattle.fm_cli_requests.specs.AuditRequest.{AuditsNothing, HasAuditOf, audit_of}
+use Rattle.fm_cli_requests.specs.FreemeRequest.{HasNoValues, HasValuesOf, job_of}
+use Rattle.fm_cli_requests.specs.declared.audit_request.AuditRequest.{AuditRequest}
+use Rattle.fm_cli_requests.specs.declared.freeme_request.WriteRequest.{WriteRequest}
+use Rattle.fm_cli_requests.proofs.MatchLemmas.{first_found, first_is}
 use Rattle.fm_cli_requests.proofs.freeme_request.request_in.Goals as goal
-use Rattle.fm_cli_requests.proofs.freeme_request.request_in.Goals.{else-rapid-via-then-rapid+else-is_some, else-rapid-via-else-rapid}
 
-pub returns-in_default : goal.returns-in_default
-returns-in_default c = λ job h.
-    first_missing (found_of c.args.matches.now) (codes "out") c.get_str.result job.folder c.get_str.ensures c.in_default.is h.folder
+pub write_in-requires : goal.write_in-requires
+write_in-requires c = first_is (found_of c.args.matches.now) (codes "audit") c.get_str.result c.get_str.ensures ∙ ap (option_map (λ (s : Bor (List ℕ)). s.now)) c.in_default.is
 
-pub returns-then-not-is_value : goal.returns-then-not-is_value
-returns-then-not-is_value c =
-    let folder = first_found (found_of c.args.matches.now) (codes "out") c.get_str.result c.in-Some.folder c.get_str.ensures c.in-Some.is in
-    λ job h. untested IsValue _ c.in-Some.folder.now job.folder c.if-not-is_value.ensures.1 folder h.folder h.folder_is_value
+pub returns-in-None : goal.returns-in-None
+returns-in-None c =
+    let rows = rows_of (found_of c.args.matches.now) in
+    let P : Option WriteRequest → Type 0 = λ asked. MatchOption asked (HasNoValues rows) (λ r. HasValuesOf rows (job_of r)) in
+    let none : first_of (codes "audit") rows ≡ None =
+    first_is (found_of c.args.matches.now) (codes "audit") c.get_str.result c.get_str.ensures ∙ ap (option_map (λ (s : Bor (List ℕ)). s.now)) c.in_default.is in
+    record {
+      no_job = subst P c.in-None.is c.in_ok-request.ensures;
+      no_audit = λ audit has. let some = has.folder in cc;
+    }
 
-pub returns-in_default-2 : goal.returns-in_default-2
-returns-in_default-2 c = λ job h.
-    subst (IsNamedBy (codes "main") (rows_of (found_of c.args.matches.now))) c.in_default-2.is c.in_ok-named.ensures job.main job.files job.made h.classes
+pub audit_in-requires : goal.audit_in-requires
+audit_in-requires c = first_found (found_of c.args.matches.now) (codes "audit") c.get_str.result c.in-Some.folder c.get_str.ensures c.in-Some.is
 
-pub returns : goal.returns
-returns c = record {
-  folder = first_found (found_of c.args.matches.now) (codes "out") c.get_str.result c.in-Some.folder c.get_str.ensures c.in-Some.is;
-  folder_is_value = c.if-not-is_value.ensures.0 refl;
-  classes = subst (IsNamedBy (codes "main") (rows_of (found_of c.args.matches.now))) c.in-Some-2.is c.in_ok-named.ensures;
-  rapid = c.is_given-rapid.ensures;
-  of_files = λ given. elim c.else-rapid.branch [
-    | else-rapid-via-then-rapid+else-is_some w ↦
-        None-from_not_some c.in-Some-2.named.made (λ some. false≢true (sym w.if-is_some.false ∙ w.is_some.ensures ∙ some))
-    | else-rapid-via-else-rapid w ↦ absurd (false≢true (sym w.if-rapid.false ∙ given))
-  ];
-}
+pub returns-in-None-2 : goal.returns-in-None-2
+returns-in-None-2 c =
+    let rows = rows_of (found_of c.args.matches.now) in
+    let P : Option AuditRequest → Type 0 = λ asked. MatchOption asked (AuditsNothing rows) (λ r. HasAuditOf rows (audit_of r)) in
+    let some = first_found (found_of c.args.matches.now) (codes "audit") c.get_str.result c.in-Some.folder c.get_str.ensures c.in-Some.is in
+    record {
+      no_job = λ job has. let none = has.no_audit in cc;
+      no_audit = subst P c.in-None-2.is c.in_ok-request-2.ensures;
+    }
