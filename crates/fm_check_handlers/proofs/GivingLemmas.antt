@@ -262,6 +262,16 @@ left_gives t rises left run given old new sound local (inr one) held can carries
     (subst (λ (xs : List Rise). CarriesHandlers t xs run.entries.items old new) one.left_is
     (subst (λ (es : List Handler). CarriesHandlers t left es old new) one.same carries))
 
+-- a run without entries
+pub GivesRun-nothing : (W : Wanted) (t : Task) (run : Run) (w : Walked) → IsSound t → Stands t w → IsGiven t w.states run → length run.entries.items ≡ 0
+    → GivesRun W t run run w w
+GivesRun-nothing W t run w sound stands given none = record {
+  went = Went-none t w sound stands;
+  same = refl;
+  held = given;
+  done = λ h found. absurd (omega (arith, found.1, none));
+}
+
 -- nothing rose
 pub CarriesHandlers-nothing : (t : Task) (rises : List Rise) (handlers : List Handler) (w : Walked) → IsSound t → Stands t w → length rises ≡ 0
     → CarriesHandlers t rises handlers w w

@@ -274,7 +274,7 @@ fn bring_to_run(
     Ok(true)
 }
 
-// Gives what an item does to the handlers of a run's entries.
+// Gives what an item does to the handlers of a run's entries. Most runs have none, and cost nothing.
 fn give_to_run(
     alloc: Global,
     walk: &mut Walk,
@@ -294,6 +294,9 @@ fn give_to_run(
         run.new (walked walk.old) (walked walk.new))
         (Untypable (task method.now))) }
 {
+    if run.entries.is_empty() {
+        return Ok(true);
+    }
     match giving {
         Giving::State(state, locals) => {
             bring_to_run(alloc, walk, method, run, item, state, locals)
