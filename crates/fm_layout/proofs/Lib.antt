@@ -1,5 +1,6 @@
 pub mod LoopLemmas
 pub mod RoomsLemmas
+pub mod InPlaceLemmas
 pub mod BoundsLemmas
 pub mod WideningLemmas
 pub mod SizesLemmas

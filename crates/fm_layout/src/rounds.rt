@@ -1,6 +1,6 @@
 // Widening in rounds, and where each room begins.
 
-ghost use Rattle.std.specs.Prelude.{◌≡◌, ◌<◌, ◌^◌, ◌*◌, IfOk, length};
+ghost use Rattle.std.specs.Prelude.{◌≡◌, ◌<◌, ◌^◌, ◌*◌, IfOk, OnOk, length};
 ghost use Rattle.fm_layout.specs.Laid.{firsts_from};
 ghost use Rattle.fm_layout.specs.Rooms.{end_from, rooms_of, starts_from, widened_from, widened_rooms};
 ghost use Rattle.fm_layout.specs.inner.Settled.{is_settled};
@@ -59,13 +59,23 @@ pub(crate) fn starts_of(alloc: Global, rooms: &[Room]) -> Result<Vec<u32>, NoMem
     ensures { IfOk result (λ starts. starts.items ≡ starts_from 0 rooms.now) }
 {
     let mut starts = Vec::new(alloc);
+    put_starts(rooms, &mut starts)?;
+    Ok(starts)
+}
+
+// Puts in place of all offsets those where each room begins, and where the last one ends.
+fn put_starts(rooms: &[Room], starts: &mut Vec<u32>) -> Result<(), NoMemory>
+    requires { end_from 0 rooms.now < 2 ^ 32 }
+    ensures { OnOk result (starts.new.items ≡ starts_from 0 rooms.now) }
+{
+    starts.clear();
     let mut start = 0;
     for room in rooms {
         starts.push(start)?;
         start += room.size_at(start);
     }
     starts.push(start)?;
-    Ok(starts)
+    Ok(())
 }
 
 /// The number of the first laid item of each room, and at the end the number of all.
@@ -83,18 +93,18 @@ pub(crate) fn firsts_of(alloc: Global, rooms: &[Room]) -> Result<Vec<u32>, NoMem
     Ok(firsts)
 }
 
-/// The rooms after one round, where each target starts at an offset of this list.
-fn round_over(alloc: Global, rooms: &[Room], starts: &[u32]) -> Result<Vec<Room>, NoMemory>
-    requires { end_from 0 rooms.now < 2 ^ 32 }
-    ensures { IfOk result (λ wider. wider.items ≡ widened_from starts.now 0 rooms.now) }
+// One round, where each target starts at an offset of this list.
+fn widen_each(rooms: &mut [Room], starts: &[u32])
+    requires { end_from 0 rooms.old < 2 ^ 32 }
+    ensures { rooms.new ≡ widened_from starts.now 0 rooms.old }
 {
-    let mut wider = Vec::with_capacity(alloc, rooms.len())?;
     let mut start = 0;
-    for room in rooms {
-        wider.push(room.widened_at(starts, start))?;
+    for k in 0..rooms.len() {
+        let room = rooms[k];
+        let wider = room.widened_at(starts, start);
+        rooms[k] = wider;
         start += room.size_at(start);
     }
-    Ok(wider)
 }
 
 /// Whether a round widens none of these rooms.
@@ -112,18 +122,19 @@ fn is_settled(rooms: &[Room], starts: &[u32]) -> bool
     true
 }
 
-/// The rooms after the last round. Each round goes over the code once.
+/// The rooms after the last round. Each round goes over the code, and takes no memory of its own.
 pub(crate) fn widened_rooms(alloc: Global, rooms: Vec<Room>) -> Result<Vec<Room>, NoMemory>
     requires { weight_of rooms.items < 2 ^ 32 }
     ensures { IfOk result (λ wide. wide.items ≡ widened_rooms rooms.items) }
 {
     let mut rooms = rooms;
+    let mut starts = Vec::new(alloc);
     for _ in 0..rooms.len() {
-        let starts = starts_of(alloc, rooms.as_slice())?;
+        put_starts(rooms.as_slice(), &mut starts)?;
         if is_settled(rooms.as_slice(), starts.as_slice()) {
             return Ok(rooms);
         }
-        rooms = round_over(alloc, rooms.as_slice(), starts.as_slice())?;
+        widen_each(rooms.as_mut_slice(), starts.as_slice());
     }
     Ok(rooms)
 }

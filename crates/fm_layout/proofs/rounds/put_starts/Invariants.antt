@@ -1,6 +1,6 @@
 use Rattle.std.proofs.Common.{◌≡◌, ◌++◌, drop}
 use Rattle.fm_layout.specs.Rooms.{end_from, starts_from}
-use Rattle.fm_layout.proofs.rounds.starts_of.Given as goal
+use Rattle.fm_layout.proofs.rounds.put_starts.Given as goal
 
 abbrev pub invariant-loop-room : goal.invariant-loop-room
 invariant-loop-room l = record {

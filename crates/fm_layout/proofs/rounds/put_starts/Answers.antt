@@ -1,6 +1,6 @@
 use Rattle.std.proofs.Common.{arith}
 use Rattle.fm_layout.proofs.RoomsLemmas.{fits_at}
-use Rattle.fm_layout.proofs.rounds.starts_of.Goals as goal
+use Rattle.fm_layout.proofs.rounds.put_starts.Goals as goal
 
 pub size_at-start-requires : goal.size_at-start-requires
 size_at-start-requires c = let fits = fits_at c.args.rooms.now c.loop-room.room-index c.loop-room.start _ c.loop-room-test.true c.loop-room.invariant.end in omega arith
