@@ -11,7 +11,8 @@ use Rattle.fm_base.proofs.OptionFacts.{option_map-some}
 use Rattle.fm_base.proofs.TestFacts.{apart-nat_eq}
 use Rattle.fm_code.proofs.EdgesLemmas.{Contains-first, Contains-from_map, Contains-map}
 use Rattle.fm_code.specs.declared.code_array.Code.{Code}
-use Rattle.fm_conn.proofs.ListLemmas.{Contains-from_flat_map, Contains-one, Contains-range}
+use Rattle.fm_flow.proofs.SourcesLemmas.{Contains-from_flat_map}
+use Rattle.fm_conn.proofs.ListLemmas.{Contains-one, Contains-range}
 use Rattle.fm_place.proofs.FullLemmas.{all-from}
 use Rattle.fm_place.proofs.GroupLemmas.{slice_get-mapped}
 use Rattle.fm_place.proofs.HolderLemmas.{flat_range_same}

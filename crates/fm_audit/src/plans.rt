@@ -69,7 +69,7 @@ pub fn judged_code(
     ensures still { IfOk result (λ found. StaysIn (Some code.now) new.now (planned_of found)) }
 {
     let typed = Typed::of(alloc, program, method, code)?;
-    let rows = live(alloc, code, &typed.flow)?;
+    let rows = live(alloc, code)?;
     let classes = classes(
         alloc,
         program,

@@ -8,7 +8,8 @@ use Rattle.fm_code.specs.declared.instructions.Insn.TheVariants as insn
 use Rattle.fm_types.specs.States.{TypeState}
 use Rattle.fm_world.specs.Programs.{targets}
 use Rattle.fm_world.specs.declared.calls.Call.{Call}
-use Rattle.fm_conn.proofs.ListLemmas.{Contains-from_flat_map, Contains-one, Contains-range}
+use Rattle.fm_flow.proofs.SourcesLemmas.{Contains-from_flat_map}
+use Rattle.fm_conn.proofs.ListLemmas.{Contains-one, Contains-range}
 use Rattle.fm_conn.proofs.ListedEndLemmas.{linked_ends, linked_first, links-is}
 use Rattle.fm_conn.proofs.PairLemmas.{below_is, IsTabled, PairNumbers, place_complete, place_sound, PlaceFits, slot_is, state_inside}
 use Rattle.fm_conn.proofs.WordLemmas.{HasNumber, Located, located-at, located-some, node_below, reached_at, slot_number-some, words_count}

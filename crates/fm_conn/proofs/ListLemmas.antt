@@ -1,20 +1,12 @@
 -- Elements of lists that are made piece by piece, and of ranges of numbers.
 use Rattle.std.proofs.Common.{◌≡◌, ℕ, zero, suc, ◌+◌, ◌<◌, ◌≤◌, Bool, true, List, [], ◌∷◌, ◌++◌, map, IsSomeAnd, Contains, refl, ap, sym, ◌∙◌, inl, inr, ⊎_elim, append_assoc, append-nil, arith}
 use Rattle.std.proofs.lemmas.Bool.{cases_lt, false≢true}
-use Rattle.std.proofs.lemmas.List.Elements.{Contains-append_right, Contains-append_cases}
+use Rattle.std.proofs.lemmas.List.Elements.{Contains-append_right}
 use Rattle.std.proofs.lemmas.Grind.{flat_map-append}
 use Rattle.std.specs.List.{flat_map, range_with_len, slice_get}
 use Rattle.fm_base.proofs.ContainsFacts.{Contains-cons_cases}
 use Rattle.fm_base.proofs.ListFacts.{range-next}
 use Rattle.fm_base.specs.Rows.{has}
-
--- and each is one of those
-pub Contains-from_flat_map : {X Y : Type 0} (f : X → List Y) (xs : List X) (y : Y) → Contains (flat_map f xs) y → (x : X) × Contains xs x × Contains (f x) y
-Contains-from_flat_map f [] y (k, within, there) = absurd (omega arith)
-Contains-from_flat_map f (x ∷ xs) y found =
-    ⊎_elim (λ here. (x, (0, omega arith, refl), here))
-    (λ later. let was = Contains-from_flat_map f xs y later in (was.0, Contains-append_right (x ∷ []) xs was.0 was.1, was.2))
-    (Contains-append_cases (f x) (flat_map f xs) y found)
 
 -- the numbers of a range
 pub Contains-range : (a n k : ℕ) → a ≤ k → k < a + n → Contains (range_with_len a n) k

@@ -5,7 +5,8 @@ use Rattle.fm_base.proofs.ContainsFacts.{Contains-cons_cases, Contains-flat_map,
 use Rattle.fm_code.proofs.EdgesLemmas.{Contains-later}
 use Rattle.fm_conn.specs.Summaries.{end_number, links, same_number}
 use Rattle.fm_conn.specs.declared.ends.End2.{End2}
-use Rattle.fm_conn.proofs.ListLemmas.{Contains-first, Contains-from_flat_map, Contains-one}
+use Rattle.fm_flow.proofs.SourcesLemmas.{Contains-from_flat_map}
+use Rattle.fm_conn.proofs.ListLemmas.{Contains-first, Contains-one}
 use Rattle.fm_conn.specs.inner.ListedEnds.{first_with, link_pairs, numbered, pair_unless_same, with_number}
 
 -- ---- numbers of ends

@@ -21,7 +21,8 @@ use Rattle.fm_types.specs.States.{TypeState}
 use Rattle.fm_types.specs.Typed.{state_at}
 use Rattle.fm_world.specs.Programs.{Outline}
 use Rattle.fm_world.specs.declared.uses.Use.{Use}
-use Rattle.fm_conn.proofs.ListLemmas.{Contains-from_flat_map, Contains-from_range, Contains-one, Contains-range}
+use Rattle.fm_flow.proofs.SourcesLemmas.{Contains-from_flat_map}
+use Rattle.fm_conn.proofs.ListLemmas.{Contains-from_range, Contains-one, Contains-range}
 use Rattle.fm_conn.proofs.NumberLemmas.{IsThere, item_inside}
 use Rattle.fm_conn.proofs.WordLemmas.{depth_is, HasNumber, Located, located-at, located-some, local_number-some, local_number-there, reached_at, slot_number-node, slot_number-some}
 use Rattle.fm_conn.specs.Nodes.{Global, IsNode, Local, Node, Return, Slot, TypedMethod}

@@ -18,7 +18,8 @@ use Rattle.fm_types.specs.declared.slots.Slot.TheVariants as slot
 use Rattle.fm_world.specs.declared.calls.Call.{Call}
 use Rattle.fm_conn.proofs.CallLemmas.{call_fits, stand_complete, stand_sound}
 use Rattle.fm_conn.proofs.ChainLemmas.{classes_same}
-use Rattle.fm_conn.proofs.ListLemmas.{Contains-from_flat_map, Contains-from_range, Contains-one, Contains-range}
+use Rattle.fm_flow.proofs.SourcesLemmas.{Contains-from_flat_map}
+use Rattle.fm_conn.proofs.ListLemmas.{Contains-from_range, Contains-one, Contains-range}
 use Rattle.fm_conn.proofs.MethodLemmas.{lists_nodes, own_lists}
 use Rattle.fm_conn.proofs.PairLemmas.{state_inside, IsTabled}
 use Rattle.fm_conn.proofs.WordLemmas.{located-at, located-some, reached_at, state_reached, Located}

@@ -34,7 +34,7 @@ caught_first ends handlers x marked unmarked (k, h, within, there, catches) =
     false≢true (sym unmarked ∙ ap (has ends) (sym at_zero) ∙ mark.start)
 
 -- where no range begins or ends, the handlers are those of the item before
-caught_next : (ends : List Bool) (handlers : List Handler) (j x : ℕ) → AllByRecursion (IsMarked ends) handlers → has ends (j + 1) ≡ false →
+pub caught_next : (ends : List Bool) (handlers : List Handler) (j x : ℕ) → AllByRecursion (IsMarked ends) handlers → has ends (j + 1) ≡ false →
     Any (Catches j x) handlers ↔ Any (Catches (j + 1) x) handlers
 caught_next ends handlers j x marked unmarked =
     let mark : (h : Handler) → Contains handlers h → IsMarked ends h =
@@ -54,7 +54,7 @@ caught_next ends handlers j x marked unmarked =
     )
 
 -- handlers are items
-handler_inside : (code : Code) → MeetsCodeRules code → (j x : ℕ) → Any (Catches j x) code.handlers → x < length code.items
+pub handler_inside : (code : Code) → MeetsCodeRules code → (j x : ℕ) → Any (Catches j x) code.handlers → x < length code.items
 handler_inside code (entries, valid) j x (k, h, within, there, catches) =
     let Valid : Handler → Type 0 = HandlerIsValid entries (length code.items) in
     let is = All-contains Valid code.handlers h (All-from_recursion Valid code.handlers valid.handlers) (k, within, there) in
@@ -64,23 +64,29 @@ handler_inside code (entries, valid) j x (k, h, within, there, catches) =
 
 -- ---- the edges of one item
 
--- the normal edges and the handlers together
-pub IsRisingListOf-edges : (code : Code) (j : ℕ) (i : Insn) (normal caught list : List ℕ) → MeetsCodeRules code → j < length code.items →
-    insn_of code j ≡ Some i → IsRisingListOf (Onward i j (length code.items)) normal → AreHandlersAt code j caught →
+-- the normal edges
+pub IsRisingListOf-normal : (code : Code) (j : ℕ) (i : Insn) (list : List ℕ) → insn_of code j ≡ Some i →
+    IsRisingListOf (Onward i j (length code.items)) list → IsRisingListOf (IsNormalEdge code j) list
+IsRisingListOf-normal code j i list is onward =
+    IsRisingListOf-same (Onward i j (length code.items)) (IsNormalEdge code j) list onward
+    (λ x. (
+      λ leads. record { inside = leads.0; leads = IsSomeAnd-from_some (insn_of code j) (λ i. LeadsTo i j x) i is leads.1 },
+      λ edge. (edge.inside, IsSomeAnd-at_some (insn_of code j) (λ i. LeadsTo i j x) i is edge.leads),
+    ))
+
+-- and the handlers together
+pub IsRisingListOf-edges : (code : Code) (j : ℕ) (normal caught list : List ℕ) → MeetsCodeRules code → j < length code.items →
+    IsRisingListOf (IsNormalEdge code j) normal → AreHandlersAt code j caught →
     IsRisingListOf (λ x. Contains normal x ⊎ Contains caught x) list → IsRisingListOf (IsEdge code j) list
-IsRisingListOf-edges code j i normal caught list rules inside is onward handlers lists =
+IsRisingListOf-edges code j normal caught list rules inside edges handlers lists =
     IsRisingListOf-same (λ x. Contains normal x ⊎ Contains caught x) (IsEdge code j) list lists
     (λ x. (
-      λ found. ⊎_elim
-          (λ (one : Contains normal x).
-          let leads = (onward.members x).0 one in
-          inl (record { inside = leads.0; leads = IsSomeAnd-from_some (insn_of code j) (λ i. LeadsTo i j x) i is leads.1 }))
+      λ found. ⊎_elim (λ (one : Contains normal x). inl ((edges.members x).0 one))
           (λ (other : Contains caught x).
           let catches = (handlers.members x).0 other in
           inr (record { inside = handler_inside code rules j x catches; from_item = inside; caught = catches }))
           found,
-      λ edge. ⊎_elim
-          (λ (one : IsNormalEdge code j x). inl ((onward.members x).1 (one.inside, IsSomeAnd-at_some (insn_of code j) (λ i. LeadsTo i j x) i is one.leads)))
+      λ edge. ⊎_elim (λ (one : IsNormalEdge code j x). inl ((edges.members x).1 one))
           (λ (other : IsHandlerEdge code j x). inr ((handlers.members x).1 other.caught))
           edge,
     ))

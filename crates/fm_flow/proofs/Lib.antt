@@ -10,4 +10,5 @@ pub mod OnwardLemmas
 pub mod ReachLemmas
 pub mod RisingLemmas
 pub mod RowFacts
+pub mod SourcesLemmas
 pub mod UsesLemmas

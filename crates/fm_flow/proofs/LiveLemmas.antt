@@ -20,7 +20,7 @@ use Rattle.fm_flow.proofs.ReachLemmas.{edge_from_item}
 use Rattle.fm_flow.proofs.RowFacts.{has-replicate, has-set_same, has-set_kept, has-set_only}
 use Rattle.fm_flow.proofs.UsesLemmas.{loaded_fits}
 use Rattle.fm_flow.specs.LiveRows.{AreLiveOf}
-use Rattle.fm_flow.specs.inner.LiveWalks.{AreSourcesOf, IsLiveRow, list_of, row_of, StoresOver, Tracing}
+use Rattle.fm_flow.specs.inner.LiveWalks.{IsLiveRow, row_of, StoresOver, Tracing}
 use Rattle.fm_flow.specs.inner.Walks.{Marks}
 
 -- ---- what is live at an item
@@ -101,12 +101,12 @@ pub tracing_inside : (code : Code) (k : ℕ) (row seen : List Bool) (rest : List
 tracing_inside code k row seen rest j so_far = let live = so_far.waiting_live j (Contains-push rest j) in live_inside code k j live.0 live.1
 
 -- an item that waited is in the row, and the sources of its edges are seen
-pub Tracing-more : (code : Code) (k : ℕ) (sources : List (List ℕ)) (row seen new : List Bool) (rest waiting : List ℕ) (j : ℕ) → AreSourcesOf code sources →
-    Tracing code k row seen (rest ++ j ∷ []) → Marks (list_of sources j) seen new rest waiting → Tracing code k (set row j true) new waiting
-Tracing-more code k sources row seen new rest waiting j listed so_far marks =
+pub Tracing-more : (code : Code) (k : ℕ) (sources : List ℕ) (row seen new : List Bool) (rest waiting : List ℕ) (j : ℕ) →
+    ((x : ℕ) → Contains sources x ↔ IsEdge code x j) → Tracing code k row seen (rest ++ j ∷ []) → Marks sources seen new rest waiting →
+    Tracing code k (set row j true) new waiting
+Tracing-more code k sources row seen new rest waiting j edges so_far marks =
     let inside = tracing_inside code k row seen rest j so_far in
     let at_j = so_far.waiting_live j (Contains-push rest j) in
-    let edges = listed.each j inside in
     let bits = so_far.row_bits in
     record {
       row_bits = length-set row j true ∙ so_far.row_bits;

@@ -2,7 +2,7 @@
 use Rattle.std.proofs.Common.{◌≡◌, ℕ, ◌+◌, ◌<◌, ◌≤◌, ◌⊎◌, ◌↔◌, Bool, true, false, List, [], ◌∷◌, ◌++◌, length, take, replicate, get_or, set, Contains, Option, None, IsSomeAnd, refl, inl, inr, ⊎_elim, ap, sym, ◌∙◌, subst, arith, length-set}
 use Rattle.std.proofs.lemmas.Bool.{cases_lt, false≢true, false_from_ne_true}
 use Rattle.std.proofs.lemmas.List.{get_or-replicate, length-replicate, length_push}
-use Rattle.std.proofs.lemmas.List.Elements.{Contains-append_left, Contains-push, Contains-push_cases}
+use Rattle.std.proofs.lemmas.List.Elements.{Contains-append_cases, Contains-append_left, Contains-append_right, Contains-push, Contains-push_cases}
 use Rattle.std.proofs.lemmas.Option.{slice_get_past}
 use Rattle.std.specs.Option.{option_map}
 use Rattle.fm_base.specs.Rows.{has}
@@ -75,6 +75,41 @@ Marks-known list i old row old_waiting waiting inside so_far marked =
       waiting_listed = λ x waits. ⊎_elim (λ before. inl before) (λ now. inr ((more x).1 (inl now.0), now.1)) (so_far.waiting_listed x waits);
       work = so_far.work;
     }
+
+-- all of them were marked before
+pub Marks-all : (list : List ℕ) (row : List Bool) (waiting : List ℕ) → ((j : ℕ) → Contains list j → has row j ≡ true) → Marks list row row waiting waiting
+Marks-all list row waiting all = record {
+  same_length = refl;
+  kept = λ j is. is;
+  listed = all;
+  only_listed = λ j is. inl is;
+  still_waiting = λ j waits. waits;
+  waiting_listed = λ j waits. inl waits;
+  work = refl;
+}
+
+-- two lists, one after the other
+pub Marks-append : (a b : List ℕ) (old mid new : List Bool) (old_waiting mid_waiting waiting : List ℕ) → Marks a old mid old_waiting mid_waiting →
+    Marks b mid new mid_waiting waiting → Marks (a ++ b) old new old_waiting waiting
+Marks-append a b old mid new old_waiting mid_waiting waiting first second = record {
+  same_length = second.same_length ∙ first.same_length;
+  kept = λ j is. second.kept j (first.kept j is);
+  listed = λ j found.
+      ⊎_elim (λ one. second.kept j (first.listed j one)) (λ other. second.listed j other) (Contains-append_cases a b j found);
+  only_listed = λ j is.
+      ⊎_elim
+      (λ before.
+      ⊎_elim (λ was. inl was) (λ now. inr (Contains-append_left a b j now.0, second.still_waiting j now.1)) (first.only_listed j before))
+      (λ now. inr (Contains-append_right a b j now.0, now.1))
+      (second.only_listed j is);
+  still_waiting = λ j waits. second.still_waiting j (first.still_waiting j waits);
+  waiting_listed = λ j waits.
+      ⊎_elim
+      (λ before. ⊎_elim (λ was. inl was) (λ now. inr (Contains-append_left a b j now.0, now.1)) (first.waiting_listed j before))
+      (λ now. inr (Contains-append_right a b j now.0, false_from_ne_true (has old j) (λ was. false≢true (sym now.1 ∙ first.kept j was))))
+      (second.waiting_listed j waits);
+  work = second.work ∙ first.work;
+}
 
 -- ---- the walk
 

@@ -2,3 +2,4 @@
 pub mod EdgeLists
 pub mod Walks
 pub mod LiveWalks
+pub mod Sources

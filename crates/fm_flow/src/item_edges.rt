@@ -4,7 +4,7 @@ ghost use Rattle.std.specs.Prelude.{◌≡◌, ◌+◌, ◌<◌, ◌≤◌, ◌�
 ghost use Rattle.std.specs.List.{AllByRecursion};
 ghost use Rattle.std.specs.List.Sorted.{IsStrictlyIncreasing};
 ghost use Rattle.fm_base.specs.Rows.{has};
-ghost use Rattle.fm_code.specs.Edges.{Catches, IsEdge, LeadsTo, MeetsCodeRules};
+ghost use Rattle.fm_code.specs.Edges.{Catches, IsEdge, IsNormalEdge, LeadsTo, MeetsCodeRules};
 ghost use Rattle.fm_code.specs.SpellsCode.{targets_of};
 ghost use Rattle.fm_code.specs.declared.code_array.Handler.{Handler};
 ghost use Rattle.fm_flow.specs.Tables.{AreEdgesOf, IsRisingListOf};
@@ -30,8 +30,8 @@ fn normal_edges(alloc: Global, insn: &Insn, j: u32, count: u32) -> Result<Vec<u3
     Ok(list)
 }
 
-// The handlers of item j.
-fn handlers_at(alloc: Global, handlers: &[Handler], j: u32) -> Result<Vec<u32>, NoMemory>
+/// The handlers of item j.
+pub fn handlers_at(alloc: Global, handlers: &[Handler], j: u32) -> Result<Vec<u32>, NoMemory>
     ensures { IfOk result
         (λ list. IsRisingListOf (λ handler. Any (Catches j handler) handlers.now) list.items) }
 {
@@ -76,8 +76,8 @@ fn merged(alloc: Global, first: &[u32], second: &[u32]) -> Result<Vec<u32>, NoMe
     Ok(list)
 }
 
-// The items at which the range of a handler begins or ends, as bits.
-fn range_ends(alloc: Global, handlers: &[Handler], count: u32) -> Result<Row, NoMemory>
+/// The items at which the range of a handler begins or ends, as bits.
+pub fn range_ends(alloc: Global, handlers: &[Handler], count: u32) -> Result<Row, NoMemory>
     requires few { count ≤ 65535 }
     requires within { AllByRecursion (EndsWithin count) handlers.now }
     ensures { IfOk result (AreMarked count handlers.now) }
@@ -109,6 +109,16 @@ pub fn edges_of(alloc: Global, code: &Code) -> Result<EdgeLists, NoMemory>
     gathered(alloc, code, &ends)
 }
 
+/// The items to which control goes from item j where it ends as usual.
+pub fn normal_at(alloc: Global, code: &Code, j: u32) -> Result<Vec<u32>, NoMemory>
+    requires spelled { MeetsCodeRules code.now }
+    requires inside { j < length code.now.items }
+    ensures { IfOk result (λ list. IsRisingListOf (IsNormalEdge code.now j) list.items) }
+{
+    let item = &code.items.as_slice()[j as usize];
+    normal_edges(alloc, &item.insn, j, item_count(code))
+}
+
 // The edges of item j, which has these handlers.
 fn edges_at(alloc: Global, code: &Code, j: u32, caught: &[u32]) -> Result<Vec<u32>, NoMemory>
     requires spelled { MeetsCodeRules code.now }
@@ -116,8 +126,7 @@ fn edges_at(alloc: Global, code: &Code, j: u32, caught: &[u32]) -> Result<Vec<u3
     requires caught { AreHandlersAt code.now j caught.now }
     ensures { IfOk result (λ list. IsRisingListOf (IsEdge code.now j) list.items) }
 {
-    let item = &code.items.as_slice()[j as usize];
-    let normal = normal_edges(alloc, &item.insn, j, item_count(code))?;
+    let normal = normal_at(alloc, code, j)?;
     merged(alloc, normal.as_slice(), caught)
 }
 

@@ -2,15 +2,14 @@
 
 ghost use Rattle.std.specs.Prelude.{◌≡◌, ℕ, ◌<◌, IfOk};
 ghost use Rattle.fm_code.specs.Edges.{MeetsCodeRules};
-ghost use Rattle.fm_flow.specs.Flow.{IsFlowOf};
 ghost use Rattle.fm_flow.specs.LiveRows.{AreLiveOf, IsLiveRowsOf, is_live, item_count, local_count};
-ghost use Rattle.fm_flow.specs.inner.LiveWalks.{AreSourcesOf, AreUsesOf};
+ghost use Rattle.fm_flow.specs.inner.LiveWalks.{AreUsesOf};
+ghost use Rattle.fm_flow.specs.inner.Sources.{AreSourcesOf};
 
-use crate::flow::Flow;
 use crate::live_walk::live_row;
-use crate::sources::sources_of;
+use crate::sources::{Sources, sources_of};
 use crate::uses::{Uses, uses_of};
-use fm_base::{NoMemory, Row, Seq};
+use fm_base::{NoMemory, Row};
 use fm_code::Code;
 use std::alloc::Global;
 
@@ -32,15 +31,15 @@ impl LiveRows {
     }
 }
 
-/// The live locals of a code with this flow. Takes memory for the edges, listed by their ends, for
-/// the uses of each local, and a bit for each item and local.
-pub fn live(alloc: Global, code: &Code, flow: &Flow) -> Result<LiveRows, NoMemory>
-    requires { IsFlowOf code.now flow.now }
+/// The live locals of a code. Takes memory for where its edges come from, for the uses of each local,
+/// and a bit for each item and local.
+pub fn live(alloc: Global, code: &Code) -> Result<LiveRows, NoMemory>
+    requires { MeetsCodeRules code.now }
     ensures { IfOk result (IsLiveRowsOf code.now) }
 {
-    let sources = sources_of(alloc, code, flow)?;
+    let sources = sources_of(alloc, code)?;
     let uses = uses_of(alloc, code)?;
-    let rows = live_rows(alloc, code, sources.as_slice(), &uses)?;
+    let rows = live_rows(alloc, code, &sources, &uses)?;
     Ok(LiveRows { rows })
 }
 
@@ -48,7 +47,7 @@ pub fn live(alloc: Global, code: &Code, flow: &Flow) -> Result<LiveRows, NoMemor
 fn live_rows(
     alloc: Global,
     code: &Code,
-    sources: &[Seq<u32>],
+    sources: &Sources,
     uses: &Uses,
 ) -> Result<Vec<Row>, NoMemory>
     requires spelled { MeetsCodeRules code.now }

@@ -1,13 +1,16 @@
 // The walk back along the edges that finds the items at which a local is live.
 
-ghost use Rattle.std.specs.Prelude.{◌≡◌, ◌<◌, IfOk};
+ghost use Rattle.std.specs.Prelude.{◌≡◌, ◌<◌, ◌^◌, ℕ, true, Contains, IfOk, OnOk, length};
 ghost use Rattle.fm_code.specs.Edges.{MeetsCodeRules};
-ghost use Rattle.fm_flow.specs.inner.LiveWalks.{AreSourcesOf, AreUsesOf, IsLiveRow};
+ghost use Rattle.fm_base.specs.Rows.{has};
+ghost use Rattle.fm_flow.specs.inner.LiveWalks.{AreUsesOf, IsLiveRow, list_of};
+ghost use Rattle.fm_flow.specs.inner.Sources.{AreSourcesOf, Covers, MarksRun, MarksRuns};
 
 use crate::item_edges::item_count;
 use crate::reach::mark;
+use crate::sources::{Runs, Sources};
 use crate::uses::Uses;
-use fm_base::{NoMemory, Row, Seq};
+use fm_base::{NoMemory, Row};
 use fm_code::Code;
 use std::alloc::Global;
 
@@ -17,7 +20,7 @@ use std::alloc::Global;
 pub fn live_row(
     alloc: Global,
     code: &Code,
-    sources: &[Seq<u32>],
+    sources: &Sources,
     uses: &Uses,
     local: u16,
 ) -> Result<Row, NoMemory>
@@ -35,9 +38,67 @@ pub fn live_row(
     waiting.clear();
     let loads = uses.loads[usize::from(local)].as_slice();
     mark(loads, &mut seen, &mut waiting)?;
+    let mut done = Row::new(alloc, run_count(sources))?;
     while let Some(j) = waiting.pop() {
         row.set(j);
-        mark(sources[j as usize].as_slice(), &mut seen, &mut waiting)?;
+        mark(sources.own[j as usize].as_slice(), &mut seen, &mut waiting)?;
+        mark_runs(&sources.runs, j, &mut seen, &mut waiting, &mut done)?;
     }
     Ok(row)
+}
+
+// Marks the items of the runs of which item j is a handler. Each run is gone over once.
+fn mark_runs(
+    runs: &Runs,
+    j: u32,
+    seen: &mut Row,
+    waiting: &mut Vec<u32>,
+    done: &mut Row,
+) -> Result<(), NoMemory>
+    requires inside { j < length runs.now.caught.items }
+    requires within { (r : ℕ) → Contains (list_of runs.now.caught.items j) r
+        → r < length runs.now.items.items }
+    requires below { (r x : ℕ) → Contains (list_of runs.now.items.items r) x
+        → x < length seen.old }
+    requires covers { Covers runs.now.items.items done.old seen.old }
+    ensures { OnOk result (MarksRuns runs.now.items.items (list_of runs.now.caught.items j)
+        seen.old seen.new waiting.old.items waiting.new.items done.new) }
+{
+    let list = runs.caught[j as usize].as_slice();
+    for run in list {
+        let items = runs.items[*run as usize].as_slice();
+        mark_run(items, *run, seen, waiting, done)?;
+    }
+    Ok(())
+}
+
+// Marks the items of a run, unless that was done.
+fn mark_run(
+    items: &[u32],
+    run: u32,
+    seen: &mut Row,
+    waiting: &mut Vec<u32>,
+    done: &mut Row,
+) -> Result<(), NoMemory>
+    requires inside { run < length done.old }
+    requires below { (x : ℕ) → Contains items.now x → x < length seen.old }
+    requires marked { has done.old run ≡ true
+        → (x : ℕ) → Contains items.now x → has seen.old x ≡ true }
+    ensures { OnOk result (MarksRun items.now run seen.old seen.new waiting.old.items
+        waiting.new.items done.old done.new) }
+{
+    if done.get(run) {
+        return Ok(());
+    }
+    done.set(run);
+    mark(items, seen, waiting)?;
+    Ok(())
+}
+
+// The number of runs.
+fn run_count(sources: &Sources) -> u32
+    requires { length sources.now.runs.items.items < 2 ^ 32 }
+    ensures { result ≡ length sources.now.runs.items.items }
+{
+    sources.runs.items.len() as u32
 }

@@ -17,7 +17,7 @@ use Rattle.fm_code.specs.declared.class_file.ClassDef.{ClassDef}
 use Rattle.fm_code.specs.declared.code_array.Item.{Item}
 use Rattle.fm_code.specs.declared.instructions.Insn.{Insn}
 use Rattle.fm_code.specs.declared.instructions.Insn.TheVariants as insn
-use Rattle.fm_conn.proofs.ListLemmas.{Contains-from_flat_map}
+use Rattle.fm_flow.proofs.SourcesLemmas.{Contains-from_flat_map}
 use Rattle.fm_conn.proofs.TypeLemmas.{types_in}
 use Rattle.fm_link_names.proofs.SpelledNames.{named_class-is}
 use Rattle.fm_link_names.proofs.SpelledTypes.{few_class}

@@ -17,7 +17,8 @@ use Rattle.fm_code.specs.declared.constant_pool.Entry.{Entry}
 use Rattle.fm_code.specs.declared.constant_pool.Entry.TheVariants as entry
 use Rattle.fm_code.specs.declared.instructions.Insn.TheVariants as insn
 use Rattle.fm_code.specs.declared.operations.Elem.{Elem}
-use Rattle.fm_conn.proofs.ListLemmas.{Contains-from_flat_map, Contains-range}
+use Rattle.fm_flow.proofs.SourcesLemmas.{Contains-from_flat_map}
+use Rattle.fm_conn.proofs.ListLemmas.{Contains-range}
 use Rattle.fm_frames.proofs.Programs.{string-is, string_number}
 use Rattle.fm_frames.specs.ArrayRows.{element_type}
 use Rattle.fm_frames.specs.Runs.{arguments_type}

@@ -34,7 +34,7 @@ pub fn full_plan(
     ensures { IfOk result (IsFullPlan program.now summaries.now method.0 code.now) }
 {
     let typed = Typed::of(alloc, program, method, code)?;
-    let rows = live(alloc, code, &typed.flow)?;
+    let rows = live(alloc, code)?;
     let classes = classes(
         alloc,
         program,

@@ -29,7 +29,8 @@ use Rattle.fm_conn.specs.declared.ends.End2.{End2}
 use Rattle.fm_conn.specs.declared.ends.End2.TheVariants as end
 use Rattle.fm_conn.proofs.ListedEndLemmas.{links-from, links-is}
 use Rattle.fm_summ.proofs.EntryLemmas.{end_number-listed, number_is, same_end-is}
-use Rattle.fm_conn.proofs.ListLemmas.{Contains-first, Contains-from_flat_map, Contains-one, Contains-range}
+use Rattle.fm_flow.proofs.SourcesLemmas.{Contains-from_flat_map}
+use Rattle.fm_conn.proofs.ListLemmas.{Contains-first, Contains-one, Contains-range}
 use Rattle.fm_summ.specs.inner.BuiltIns.{bare_ends, bare_entries, entry_number, entry_words, get_class_row, is_linked_by, is_one_of, linking_rows, own_number, parameter_end, parameter_ends, result_end, row_in}
 use Rattle.fm_summ.specs.inner.State.{IsBare}
 

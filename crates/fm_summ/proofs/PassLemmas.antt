@@ -12,7 +12,8 @@ use Rattle.fm_conn.specs.declared.ends.End2.{End2}
 use Rattle.fm_conn.specs.declared.shapes.CallShape.{CallShape}
 use Rattle.fm_conn.specs.declared.shapes.Shape.{Shape}
 use Rattle.fm_conn.proofs.ListedEndLemmas.{linked_ends, linked_first, LinkedEnds}
-use Rattle.fm_conn.proofs.ListLemmas.{Contains-first, Contains-from_flat_map}
+use Rattle.fm_flow.proofs.SourcesLemmas.{Contains-from_flat_map}
+use Rattle.fm_conn.proofs.ListLemmas.{Contains-first}
 use Rattle.fm_summ.specs.inner.Callers.{call_targets, numbers_of, targets_at}
 use Rattle.fm_conn.specs.inner.ListedEnds.{link_pairs}
 use Rattle.fm_summ.specs.inner.Passed.{call_pairs, ends_at, method_pairs, target_pairs}

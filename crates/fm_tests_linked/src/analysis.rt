@@ -320,7 +320,7 @@ fn is_live(
         return Ok(None);
     }
     let typed = Typed::of(alloc, program, method, code)?;
-    let rows = live(alloc, code, &typed.flow)?;
+    let rows = live(alloc, code)?;
     Ok(Some(rows.is_live(local, item)))
 }
 

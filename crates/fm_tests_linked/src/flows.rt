@@ -135,8 +135,7 @@ fn control_that_falls_off_is_told(rt: HostRuntime) -> Result<(), Fail> {
 #[test]
 fn a_local_is_live_by_a_handler(rt: HostRuntime) -> Result<(), Fail> {
     let code = code(rt.alloc())?;
-    let flow = Flow::of(rt.alloc(), &code)?;
-    let live = live(rt.alloc(), &code, &flow)?;
+    let live = live(rt.alloc(), &code)?;
     assert!(rt; live.is_live(0, 3));
     assert!(rt; live.is_live(0, 4));
     assert!(rt; !live.is_live(0, 9));

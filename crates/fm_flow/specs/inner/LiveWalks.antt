@@ -25,10 +25,6 @@ pub record AreListsBy (n : ℕ) (R : ℕ → ℕ → Type 0) (lists : List (List
   pub one_each : length lists ≡ n
   pub each : (k : ℕ) → k < n → (x : ℕ) → Contains (list_of lists k) x ↔ R k x
 
--- the lists have for each item the items from which an edge leads to it
-abbrev pub AreSourcesOf : Code → List (List ℕ) → Type 0
-AreSourcesOf code sources = AreListsBy (length code.items) (λ next j. IsEdge code j next) sources
-
 -- ---- uses of locals
 
 -- the local from which the instruction loads a reference

@@ -8,6 +8,9 @@ use Rattle.fm_world.specs.Programs.{code_at}
 use Rattle.fm_audit.proofs.SafePlanLemmas.{safe_answers}
 use Rattle.fm_audit.proofs.plans.judged_code.Goals as goal
 
+pub live-requires : goal.live-requires
+live-requires c = c.in_ok-typed.ensures.flow.spelled
+
 pub judged_in-requires-clause-seen : goal.judged_in-requires-clause-seen
 judged_in-requires-clause-seen c =
     let p = c.args.program.now in

@@ -8,6 +8,9 @@ use Rattle.fm_rewrite.proofs.PlansLemmas.{full_plan_is}
 use Rattle.fm_types.specs.Typings.{states_of}
 use Rattle.fm_rewrite.proofs.plans.full_plan.Goals as goal
 
+pub live-requires : goal.live-requires
+live-requires c = c.in_ok-typed.ensures.flow.spelled
+
 pub places-requires-clause-few : goal.places-requires-clause-few
 places-requires-clause-few c =
     let found = c.as_slice.ensures.value ∙ c.in_ok-sites.ensures c.args.code.now c.requires.code in

@@ -1,0 +1,12 @@
+use Rattle.std.proofs.Common.{◌∙◌, sym}
+use Rattle.fm_flow.proofs.SourcesLemmas.{MarksRun-done, MarksRun-new}
+use Rattle.fm_flow.proofs.live_walk.mark_run.Goals as goal
+
+pub returns-then-get : goal.returns-then-get
+returns-then-get c =
+    MarksRun-done c.args.items.now c.args.run c.args.seen.now c.args.waiting.now.items c.args.done.now (c.requires.marked (sym c.get.ensures ∙ c.if-get.true))
+
+pub returns : goal.returns
+returns c =
+    rw c.set.ensures
+    (MarksRun-new c.args.items.now c.args.run c.args.seen.now c.mark.new.reached c.args.waiting.now.items c.mark.new.waiting.items c.args.done.now c.in_ok-mark.ensures)

@@ -1,0 +1,90 @@
+-- Where the edges to an item come from: lists of items by item, and runs of items that have the same handlers.
+use Rattle.std.specs.Prelude.{◌≡◌, ℕ, ◌+◌, ◌-◌, ◌<◌, ◌≤◌, ◌⊎◌, ◌↔◌, Bool, true, false, List, [], ◌∷◌, ◌++◌, length, Contains, slice_set}
+use Rattle.std.specs.List.{flat_map, Any}
+use Rattle.fm_base.specs.Rows.{has}
+use Rattle.fm_code.specs.Edges.{Catches, IsNormalEdge}
+use Rattle.fm_code.specs.declared.code_array.Code.{Code}
+use Rattle.fm_flow.specs.declared.sources.Sources.{Sources}
+use Rattle.fm_flow.specs.inner.LiveWalks.{AddsToEach, AreListsBy, list_of}
+use Rattle.fm_flow.specs.inner.Walks.{AreHandlersAt, Marks}
+
+-- item j has the handler
+abbrev pub HasHandler : Code → ℕ → ℕ → Type 0
+HasHandler code j handler = Any (Catches j handler) code.handlers
+
+-- a number more in the last list
+abbrev pub with_last : List (List ℕ) → ℕ → List (List ℕ)
+with_last lists j = slice_set lists (length lists - 1) (list_of lists (length lists - 1) ++ j ∷ [])
+
+-- ---- runs
+
+-- a run more: it has no items so far, and is among those of each handler of item j
+pub record BeginsRun (code : Code) (j : ℕ) (old_caught old_items caught items : List (List ℕ)) : Type 0 where
+  pub handlers : List ℕ
+  pub are : AreHandlersAt code j handlers
+  pub adds : AddsToEach handlers (length old_items) old_caught caught
+  pub pushed : items ≡ old_items ++ [] ∷ []
+
+-- the runs of the items below j: an item below j has the handlers whose run it is in, and no others
+pub record HasRuns (code : Code) (caught items : List (List ℕ)) (j : ℕ) : Type 0 where
+  pub one_each : length caught ≡ length code.items
+  pub within : (handler run : ℕ) → Contains (list_of caught handler) run → run < length items
+  pub below : (run x : ℕ) → Contains (list_of items run) x → x < j
+  pub sound : (handler run x : ℕ) → Contains (list_of caught handler) run → Contains (list_of items run) x → HasHandler code x handler
+  pub complete : (handler x : ℕ) → x < j → HasHandler code x handler →
+      (run : ℕ) × Contains (list_of caught handler) run × Contains (list_of items run) x
+
+-- the last run has the handlers of item j
+pub record IsOpen (code : Code) (caught items : List (List ℕ)) (j : ℕ) : Type 0 where
+  pub some : 0 < length items
+  pub few : length items ≤ j + 1
+  pub each : (handler : ℕ) → HasHandler code j handler ↔ Contains (list_of caught handler) (length items - 1)
+
+-- item j may be put into the last run
+pub record IsOpened (code : Code) (caught items : List (List ℕ)) (j : ℕ) : Type 0 where
+  pub runs : HasRuns code caught items j
+  pub ready : IsOpen code caught items j
+
+-- the runs so far, and whether item j may be put into the last one
+pub record Running (code : Code) (ends : List Bool) (caught items : List (List ℕ)) (j : ℕ) : Type 0 where
+  pub runs : HasRuns code caught items j
+  pub few : length items ≤ j
+  pub ready : 0 < j → has ends j ≡ false → IsOpen code caught items j
+
+-- the runs of all items
+pub record AreRunsOf (code : Code) (caught items : List (List ℕ)) : Type 0 where
+  pub runs : HasRuns code caught items (length code.items)
+  pub few : length items ≤ length code.items
+
+-- ---- sources
+
+-- the sources of all edges
+pub record AreSourcesOf (code : Code) (s : Sources) : Type 0 where
+  pub own : AreListsBy (length code.items) (λ next j. IsNormalEdge code j next) s.own.items
+  pub runs : AreRunsOf code s.runs.caught.items s.runs.items.items
+
+-- the items of these runs
+abbrev pub items_of : List (List ℕ) → List ℕ → List ℕ
+items_of items runs = flat_map (list_of items) runs
+
+-- the items from which an edge leads to item j
+abbrev pub came_from : Sources → ℕ → List ℕ
+came_from s j = list_of s.own.items j ++ items_of s.runs.items.items (list_of s.runs.caught.items j)
+
+-- ---- the walk
+
+-- all items of a run that is done are marked
+pub record Covers (items : List (List ℕ)) (done row : List Bool) : Type 0 where
+  pub one_each : length done ≡ length items
+  pub each : (run x : ℕ) → has done run ≡ true → Contains (list_of items run) x → has row x ≡ true
+
+-- the items of a run are marked, and it is done
+pub record MarksRun (list : List ℕ) (run : ℕ) (old new : List Bool) (old_waiting waiting : List ℕ) (old_done done : List Bool) : Type 0 where
+  pub marks : Marks list old new old_waiting waiting
+  pub same_length : length done ≡ length old_done
+  pub only : (r : ℕ) → has done r ≡ true → (r ≡ run) ⊎ (has old_done r ≡ true)
+
+-- the items of runs are marked, and what is done still covers
+pub record MarksRuns (items : List (List ℕ)) (runs : List ℕ) (old new : List Bool) (old_waiting waiting : List ℕ) (done : List Bool) : Type 0 where
+  pub marks : Marks (items_of items runs) old new old_waiting waiting
+  pub covers : Covers items done new
