@@ -13,6 +13,8 @@ use Rattle.fm_code.specs.Edges.{edges_listed, IsEdge, IsFlowPath}
 use Rattle.fm_code.specs.declared.code_array.Code.{Code}
 use Rattle.fm_flow.proofs.ReachLemmas.{edge_from_item, edge_inside, IsFlowPath-more}
 use Rattle.fm_flow.proofs.RowFacts.{has-replicate, has_inside}
+use Rattle.fm_flow.specs.Flow.{IsMarkedBy}
+use Rattle.fm_flow.specs.declared.flow.Flow.{Flow}
 use Rattle.fm_flow.specs.inner.Walks.{Marks}
 
 -- ---- the test and paths
@@ -48,6 +50,11 @@ loops_are_by_paths code j = (forth, back) where
       (leads_from (edges_listed code) (length code.items) (listed_inside code) loop.next loop.path j (search_path code loop.next loop.path j loop.leads))
 
 -- ---- the walk
+
+-- the walk, and what it need not go over again
+pub record LoopingOnce (code : Code) (flow : Flow) (item : ℕ) (reached : List Bool) (waiting : List ℕ) (done : List Bool) : Type 0 where
+  pub looping : Looping code item reached waiting
+  pub covered : IsMarkedBy flow done reached
 
 module _ (code : Code) (item : ℕ) (edges : List ℕ) (listed : (next : ℕ) → Contains edges next ↔ IsEdge code item next) where
   -- the ends of the item's edges are marked, and wait

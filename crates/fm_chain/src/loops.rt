@@ -6,11 +6,11 @@ ghost use Rattle.fm_flow.specs.Flow.{IsFlowOf};
 
 use fm_base::{NoMemory, Row};
 use fm_code::Code;
-use fm_flow::{Flow, mark};
+use fm_flow::Flow;
 use std::alloc::Global;
 
 /// Whether the item lies in a loop: a path of at least one edge leads from it back to it. The flow is that
-/// of the code. Takes at most one step for each edge, and memory for a bit for each item.
+/// of the code. Takes at most one step for each edge that the flow keeps, and memory for a bit for each item.
 pub fn looped(alloc: Global, code: &Code, flow: &Flow, item: u32) -> Result<bool, NoMemory>
     requires flow { IsFlowOf code.now flow.now }
     requires inside { item < length code.now.items }
@@ -18,9 +18,10 @@ pub fn looped(alloc: Global, code: &Code, flow: &Flow, item: u32) -> Result<bool
 {
     let mut reached = Row::new(alloc, item_count(code))?;
     let mut waiting = Vec::new(alloc);
-    mark(flow.edges(item), &mut reached, &mut waiting)?;
+    let mut done = flow.no_marks(alloc)?;
+    flow.mark_edges(item, &mut reached, &mut waiting, &mut done)?;
     while let Some(j) = waiting.pop() {
-        mark(flow.edges(j), &mut reached, &mut waiting)?;
+        flow.mark_edges(j, &mut reached, &mut waiting, &mut done)?;
     }
     Ok(reached.get(item))
 }

@@ -5,10 +5,10 @@ pub mod EdgesOfLemmas
 pub mod HandlerLemmas
 pub mod ListsByLemmas
 pub mod LiveLemmas
-pub mod MergeLemmas
 pub mod OnwardLemmas
 pub mod ReachLemmas
 pub mod RisingLemmas
 pub mod RowFacts
+pub mod RunLemmas
 pub mod SourcesLemmas
 pub mod UsesLemmas

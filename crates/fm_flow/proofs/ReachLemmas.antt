@@ -12,8 +12,8 @@ use Rattle.fm_code.specs.declared.code_array.Item.{Item}
 use Rattle.fm_code.specs.declared.instructions.Insn.{Insn}
 use Rattle.fm_flow.proofs.RisingLemmas.{Contains-take_more}
 use Rattle.fm_flow.proofs.RowFacts.{has_inside, has-set_same, has-set_kept, has-set_only, unset-set}
-use Rattle.fm_flow.specs.Tables.{AreEdgesOf, AreReachableOf}
-use Rattle.fm_flow.specs.inner.Walks.{Marks, Reaching}
+use Rattle.fm_flow.specs.Tables.{AreReachableOf}
+use Rattle.fm_flow.specs.inner.Walks.{Covers, Marks, Reaching}
 
 -- ---- a list of items is marked
 
@@ -160,18 +160,16 @@ waiting_inside code reached rest j so_far =
     let bits = so_far.bits in omega arith
 
 -- the ends of an item's edges are marked
-pub Reaching-more : (code : Code) (edges : List (List ℕ)) (old row : List Bool) (rest waiting : List ℕ) (j : ℕ) → AreEdgesOf code edges →
-    Reaching code old (rest ++ j ∷ []) → Marks (get_or edges j []) old row rest waiting → Reaching code row waiting
-Reaching-more code edges old row rest waiting j all so_far marks =
-    let inside = waiting_inside code old rest j so_far in
-    let lists = all.each j inside in
+pub Reaching-more : (code : Code) (ends : List ℕ) (old row : List Bool) (rest waiting : List ℕ) (j : ℕ) → ((x : ℕ) → Contains ends x ↔ IsEdge code j x) →
+    Reaching code old (rest ++ j ∷ []) → Marks ends old row rest waiting → Reaching code row waiting
+Reaching-more code ends old row rest waiting j are so_far marks =
     let reached = so_far.sound j (so_far.waiting_marked j (Contains-push rest j)) in
     record {
       bits = marks.same_length ∙ so_far.bits;
       first = marks.kept 0 so_far.first;
       sound = λ x is.
           ⊎_elim (λ before. so_far.sound x before)
-          (λ now. (reached.0 ++ x ∷ [], IsFlowPath-more code 0 reached.0 j x reached.1 ((lists.members x).0 now.0)))
+          (λ now. (reached.0 ++ x ∷ [], IsFlowPath-more code 0 reached.0 j x reached.1 ((are x).0 now.0)))
           (marks.only_listed x is);
       waiting_marked = λ x waits.
           ⊎_elim (λ before. marks.kept x (so_far.waiting_marked x (Contains-append_left rest (j ∷ []) x before))) (λ now. marks.listed x now.0) (marks.waiting_listed x waits);
@@ -181,13 +179,18 @@ Reaching-more code edges old row rest waiting j all so_far marks =
           ⊎_elim
           (λ (waited : Contains (rest ++ j ∷ []) x).
           ⊎_elim (λ still. inl (marks.still_waiting x still))
-          (λ (same : j ≡ x). inr (λ next edge. marks.listed next ((lists.members next).1 (subst (λ (n : ℕ). IsEdge code n next) (sym same) edge))))
+          (λ (same : j ≡ x). inr (λ next edge. marks.listed next ((are next).1 (subst (λ (n : ℕ). IsEdge code n next) (sym same) edge))))
           (Contains-push_cases rest j x waited))
           (λ closed. inr (λ next edge. marks.kept next (closed next edge)))
           (so_far.closed x before))
           (λ now. inl now.1)
           (marks.only_listed x is);
     }
+
+-- the walk, and the runs whose handlers are marked
+pub record ReachingOnce (code : Code) (caught : List (List ℕ)) (reached : List Bool) (waiting : List ℕ) (done : List Bool) : Type 0 where
+  pub reaching : Reaching code reached waiting
+  pub covers : Covers caught done reached
 
 -- where no item waits, all items along a path are marked
 marked_along : (code : Code) (reached : List Bool) → Reaching code reached [] → (path : List ℕ) (a b : ℕ) → has reached a ≡ true → IsFlowPath code a path b →

@@ -1,21 +1,20 @@
 -- Where the edges to an item come from: runs of items that have the same handlers, and the walk over them.
-use Rattle.std.proofs.Common.{◌≡◌, ◌≢◌, ℕ, ◌+◌, ◌-◌, ◌<◌, ◌≤◌, ◌⊎◌, ◌↔◌, Bool, true, false, List, [], ◌∷◌, ◌++◌, length, take, replicate, get_or, set, Contains, refl, inl, inr, ⊎_elim, ap, sym, ◌∙◌, subst, arith, append-nil, length-set}
+use Rattle.std.proofs.Common.{◌≡◌, ◌≢◌, ℕ, ◌+◌, ◌-◌, ◌<◌, ◌≤◌, ◌⊎◌, ◌↔◌, Bool, List, [], ◌∷◌, ◌++◌, length, take, replicate, get_or, Contains, refl, inl, inr, ⊎_elim, ap, sym, ◌∙◌, subst, arith, append-nil, length-set}
 use Rattle.std.proofs.lemmas.Bool.{cases_eq, cases_lt}
 use Rattle.std.proofs.lemmas.Grind.{flat_map-append}
 use Rattle.std.proofs.lemmas.List.{get_or-set_same, get_or-set_other, get_or-replicate, get_or_append_left, get_or_past, get_or_push, length-replicate, length_push, take_more}
 use Rattle.std.proofs.lemmas.List.Elements.{Contains-append_cases, Contains-append_left, Contains-append_right, Contains-push, Contains-push_cases}
 use Rattle.std.specs.List.{AllByRecursion, flat_map}
 use Rattle.fm_base.proofs.ContainsFacts.{Contains-flat_map, Contains-none}
-use Rattle.fm_base.specs.Rows.{has}
 use Rattle.fm_code.specs.Edges.{IsEdge, IsHandlerEdge}
 use Rattle.fm_code.specs.declared.code_array.Code.{Code}
 use Rattle.fm_flow.proofs.EdgesOfLemmas.{caught_next}
-use Rattle.fm_flow.proofs.ReachLemmas.{Marks-all, Marks-append, Marks-none}
-use Rattle.fm_flow.proofs.RowFacts.{has-set_only}
+use Rattle.fm_flow.proofs.ReachLemmas.{Marks-append, Marks-none}
+use Rattle.fm_flow.proofs.RunLemmas.{Covers-more}
 use Rattle.fm_flow.specs.declared.sources.Sources.{Sources}
 use Rattle.fm_flow.specs.inner.LiveWalks.{list_of, Tracing}
-use Rattle.fm_flow.specs.inner.Sources.{AreRunsOf, AreSourcesOf, BeginsRun, came_from, Covers, HasHandler, HasRuns, IsOpened, items_of, MarksRun, MarksRuns, Running, with_last}
-use Rattle.fm_flow.specs.inner.Walks.{IsMarked, Marks}
+use Rattle.fm_flow.specs.inner.Sources.{AreRunsOf, AreSourcesOf, BeginsRun, came_from, HasHandler, HasRuns, IsOpened, items_of, MarksRuns, Running, with_last}
+use Rattle.fm_flow.specs.inner.Walks.{Covers, IsMarked, Marks, MarksRun}
 
 -- ---- lists
 
@@ -222,25 +221,6 @@ came_from-is code s j are inside x =
 
 -- ---- the walk over runs
 
-pub Covers-none : (items : List (List ℕ)) (n : ℕ) (row : List Bool) → n ≡ length items → ((r : ℕ) → has (replicate n false) r ≡ true → ⊥) → Covers items (replicate n false) row
-Covers-none items n row count none = record {
-  one_each = length-replicate n false ∙ count;
-  each = λ r x is there. absurd (none r is);
-}
-
--- the run was gone over
-pub MarksRun-done : (list : List ℕ) (run : ℕ) (row : List Bool) (waiting : List ℕ) (done : List Bool) → ((x : ℕ) → Contains list x → has row x ≡ true) →
-    MarksRun list run row row waiting waiting done done
-MarksRun-done list run row waiting done all = record { marks = Marks-all list row waiting all; same_length = refl; only = λ r is. inr is }
-
-pub MarksRun-new : (list : List ℕ) (run : ℕ) (old new : List Bool) (old_waiting waiting : List ℕ) (done : List Bool) → Marks list old new old_waiting waiting →
-    MarksRun list run old new old_waiting waiting done (set done run true)
-MarksRun-new list run old new old_waiting waiting done marks = record {
-  marks = marks;
-  same_length = length-set done run true;
-  only = λ r is. has-set_only done run r is;
-}
-
 pub MarksRuns-none : (items : List (List ℕ)) (row : List Bool) (waiting : List ℕ) (done : List Bool) → Covers items done row →
     MarksRuns items [] row row waiting waiting done
 MarksRuns-none items row waiting done covers = record { marks = Marks-none row waiting; covers = covers }
@@ -258,13 +238,7 @@ MarksRuns-more items runs i old mid new old_waiting mid_waiting waiting mid_done
     record {
       marks = subst (λ (xs : List ℕ). Marks xs old new old_waiting waiting) (sym is)
           (Marks-append (items_of items (take i runs)) (list_of items run) old mid new old_waiting mid_waiting waiting so_far.marks one.marks);
-      covers = record {
-        one_each = one.same_length ∙ so_far.covers.one_each;
-        each = λ r x is_done there.
-            ⊎_elim (λ (same : r ≡ run). one.marks.listed x (subst (λ (k : ℕ). Contains (list_of items k) x) same there))
-            (λ before. one.marks.kept x (so_far.covers.each r x before there))
-            (one.only r is_done);
-      };
+      covers = Covers-more items run mid new mid_waiting waiting mid_done done so_far.covers one;
     }
 
 -- ---- the walk back along the edges
@@ -273,7 +247,3 @@ MarksRuns-more items runs i old mid new old_waiting mid_waiting waiting mid_done
 pub record TracingRuns (code : Code) (k : ℕ) (s : Sources) (row seen : List Bool) (waiting : List ℕ) (done : List Bool) : Type 0 where
   pub tracing : Tracing code k row seen waiting
   pub covers : Covers s.runs.items.items done seen
-
--- a row more
-pub Covers-kept : (items : List (List ℕ)) (done old new : List Bool) → Covers items done old → ((x : ℕ) → has old x ≡ true → has new x ≡ true) → Covers items done new
-Covers-kept items done old new covers kept = record { one_each = covers.one_each; each = λ r x is there. kept x (covers.each r x is there) }

@@ -3,24 +3,26 @@
 ghost use Rattle.std.specs.Prelude.{◌≡◌, ◌<◌, Err, IfOk, OnOk, length};
 ghost use Rattle.fm_code.specs.Edges.{FallsOff, HasNoLeftOut, MeetsCodeRules};
 
-use crate::edge_lists::EdgeLists;
+use crate::edge_tables::{EdgeTables, edges_of};
 use crate::error::FlowFail;
-use crate::item_edges::{edges_of, item_count};
+use crate::item_edges::item_count;
 use crate::reach::reached_items;
-use fm_base::Row;
+use fm_base::{NoMemory, Row};
 use fm_code::Code;
 use std::alloc::Global;
 
 /// The flow of control of a code. Items are numbered from 0 on.
 #[derive(Debug, Drop)]
 pub struct Flow {
-    edges: EdgeLists,
+    edges: EdgeTables,
     reached: Row,
-    ghost one_each: { length reached ≡ length edges },
+    ghost one_each: { length reached ≡ length edges.own },
 }
 
 impl Flow {
-    ghost use Rattle.fm_flow.specs.Flow.{IsFlowOf, edges_at, is_reachable, item_count};
+    ghost use Rattle.std.specs.Prelude.{Bool, List};
+    ghost use Rattle.fm_flow.specs.Flow.{AreEndsWithin, IsFlowOf, IsMarkedBy, edges_at, is_reachable, item_count};
+    ghost use Rattle.fm_flow.specs.inner.Walks.{Marks};
 
     /// The flow of a code that is in a class file and has no instruction that is left out.
     /// `FallsOff` comes exactly where the last item is reachable and control can go on past it.
@@ -41,12 +43,33 @@ impl Flow {
         Ok(Flow { edges, reached })
     }
 
-    /// The ends of the edges from item j, in rising order and each once.
-    pub fn edges(&self, j: u32) -> &[u32]
-        requires { j < item_count self.now }
-        ensures { result.now ≡ edges_at self.now j }
+    /// What a walk along the edges has marked of handlers: none so far. `mark_edges` notes there what need
+    /// not be gone over again.
+    pub fn no_marks(&self, alloc: Global) -> Result<Row, NoMemory>
+        requires { AreEndsWithin self.now }
+        ensures { IfOk result (λ done. (row : List Bool) → IsMarkedBy self.now done row) }
     {
-        self.edges.list(j as usize)
+        Row::new(alloc, self.edges.run_count())
+    }
+
+    /// Marks the ends of the edges from item j, and lets those wait that weren't marked. The rows are those
+    /// of one walk; after `NoMemory` only some ends are marked.
+    pub fn mark_edges(
+        &self,
+        j: u32,
+        row: &mut Row,
+        waiting: &mut Vec<u32>,
+        done: &mut Row,
+    ) -> Result<(), NoMemory>
+        requires item { j < item_count self.now }
+        requires row { length row.old ≡ item_count self.now }
+        requires within { AreEndsWithin self.now }
+        requires marked { IsMarkedBy self.now done.old row.old }
+        ensures marks { OnOk result
+            (Marks (edges_at self.now j) row.old row.new waiting.old.items waiting.new.items) }
+        ensures marked { OnOk result (IsMarkedBy self.now done.new row.new) }
+    {
+        self.edges.mark_from(j, row, waiting, done)
     }
 
     /// Whether a path of edges leads from the first item to item j.

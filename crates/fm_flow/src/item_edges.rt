@@ -1,16 +1,12 @@
-// The edges of one item, and those of all items of a code.
+// The edges of one item: those of its instruction, and those to its handlers.
 
-ghost use Rattle.std.specs.Prelude.{◌≡◌, ◌+◌, ◌<◌, ◌≤◌, ◌⊎◌, true, Any, IfOk, OnOk, Contains, length};
+ghost use Rattle.std.specs.Prelude.{◌≡◌, ◌<◌, ◌≤◌, Any, IfOk, Contains, false, length};
 ghost use Rattle.std.specs.List.{AllByRecursion};
-ghost use Rattle.std.specs.List.Sorted.{IsStrictlyIncreasing};
 ghost use Rattle.fm_base.specs.Rows.{has};
-ghost use Rattle.fm_code.specs.Edges.{Catches, IsEdge, IsNormalEdge, LeadsTo, MeetsCodeRules};
+ghost use Rattle.fm_code.specs.Edges.{Catches, IsNormalEdge, LeadsTo, MeetsCodeRules};
 ghost use Rattle.fm_code.specs.SpellsCode.{targets_of};
-ghost use Rattle.fm_code.specs.declared.code_array.Handler.{Handler};
-ghost use Rattle.fm_flow.specs.Tables.{AreEdgesOf, IsRisingListOf};
-ghost use Rattle.fm_flow.specs.inner.Walks.{AreHandlersAt, AreMarked, EndsWithin};
+ghost use Rattle.fm_flow.specs.inner.Walks.{AreMarked, EndsWithin, IsRisingListOf};
 
-use crate::edge_lists::EdgeLists;
 use fm_base::{NoMemory, Row};
 use fm_code::{Code, Handler, Insn};
 use std::alloc::Global;
@@ -53,29 +49,6 @@ fn sort_once(list: &mut Vec<u32>)
     list.dedup();
 }
 
-// The numbers of both lists.
-fn merged(alloc: Global, first: &[u32], second: &[u32]) -> Result<Vec<u32>, NoMemory>
-    requires first { IsStrictlyIncreasing first.now }
-    requires second { IsStrictlyIncreasing second.now }
-    ensures { IfOk result
-        (λ list. IsRisingListOf (λ x. Contains first.now x ⊎ Contains second.now x) list.items) }
-{
-    let mut list = Vec::with_capacity(alloc, first.len())?;
-    let mut taken = 0;
-    for x in first {
-        while taken < second.len() && second[taken] < *x {
-            list.push(second[taken])?;
-            taken += 1;
-        }
-        if taken < second.len() && second[taken] == *x {
-            taken += 1;
-        }
-        list.push(*x)?;
-    }
-    list.extend_from_slice(&second[taken..])?;
-    Ok(list)
-}
-
 /// The items at which the range of a handler begins or ends, as bits.
 pub fn range_ends(alloc: Global, handlers: &[Handler], count: u32) -> Result<Row, NoMemory>
     requires few { count ≤ 65535 }
@@ -100,15 +73,6 @@ pub fn item_count(code: &Code) -> u32
     code.items.len() as u32
 }
 
-/// The edges of each item of a code.
-pub fn edges_of(alloc: Global, code: &Code) -> Result<EdgeLists, NoMemory>
-    requires { MeetsCodeRules code.now }
-    ensures { IfOk result (AreEdgesOf code.now) }
-{
-    let ends = range_ends(alloc, code.handlers.as_slice(), item_count(code))?;
-    gathered(alloc, code, &ends)
-}
-
 /// The items to which control goes from item j where it ends as usual.
 pub fn normal_at(alloc: Global, code: &Code, j: u32) -> Result<Vec<u32>, NoMemory>
     requires spelled { MeetsCodeRules code.now }
@@ -119,32 +83,12 @@ pub fn normal_at(alloc: Global, code: &Code, j: u32) -> Result<Vec<u32>, NoMemor
     normal_edges(alloc, &item.insn, j, item_count(code))
 }
 
-// The edges of item j, which has these handlers.
-fn edges_at(alloc: Global, code: &Code, j: u32, caught: &[u32]) -> Result<Vec<u32>, NoMemory>
-    requires spelled { MeetsCodeRules code.now }
-    requires inside { j < length code.now.items }
-    requires caught { AreHandlersAt code.now j caught.now }
-    ensures { IfOk result (λ list. IsRisingListOf (IsEdge code.now j) list.items) }
+/// Whether a run of items that have the same handlers begins at item j, where the bits of the items are
+/// set at which the range of a handler begins or ends.
+pub fn begins_run(ends: &Row, j: u32) -> bool
+    requires { j < length ends.now }
+    ensures later { result ≡ false → 0 < j }
+    ensures unmarked { result ≡ false → has ends.now j ≡ false }
 {
-    let normal = normal_at(alloc, code, j)?;
-    merged(alloc, normal.as_slice(), caught)
-}
-
-// The edges of each item, where the bits of the items are set at which the range of a handler begins
-// or ends. So handlers are looked for at these items alone.
-fn gathered(alloc: Global, code: &Code, ends: &Row) -> Result<EdgeLists, NoMemory>
-    requires spelled { MeetsCodeRules code.now }
-    requires marked { AreMarked (length code.now.items) code.now.handlers ends.now }
-    ensures { IfOk result (AreEdgesOf code.now) }
-{
-    let mut edges = EdgeLists::new(alloc)?;
-    let mut caught = Vec::new(alloc);
-    for j in 0..item_count(code) {
-        if ends.get(j) {
-            caught = handlers_at(alloc, code.handlers.as_slice(), j)?;
-        }
-        let list = edges_at(alloc, code, j, caught.as_slice())?;
-        edges.push(list.as_slice())?;
-    }
-    Ok(edges)
+    j == 0 || ends.get(j)
 }

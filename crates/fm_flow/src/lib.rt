@@ -6,6 +6,7 @@
 #![tactic(auto)]
 
 mod edge_lists;
+mod edge_tables;
 mod error;
 mod flow;
 mod item_edges;
@@ -13,6 +14,7 @@ mod item_rows;
 mod lists;
 mod live_rows;
 mod live_walk;
+mod marking;
 mod reach;
 mod sources;
 mod uses;
@@ -21,4 +23,4 @@ pub use error::FlowFail;
 pub use flow::Flow;
 pub use item_rows::empty_rows;
 pub use live_rows::{LiveRows, live};
-pub use reach::mark;
+pub use marking::mark;

@@ -1,13 +1,13 @@
 // The walk back along the edges that finds the items at which a local is live.
 
-ghost use Rattle.std.specs.Prelude.{◌≡◌, ◌<◌, ◌^◌, ℕ, true, Contains, IfOk, OnOk, length};
+ghost use Rattle.std.specs.Prelude.{◌≡◌, ◌<◌, ◌^◌, ℕ, Contains, IfOk, OnOk, length};
 ghost use Rattle.fm_code.specs.Edges.{MeetsCodeRules};
-ghost use Rattle.fm_base.specs.Rows.{has};
 ghost use Rattle.fm_flow.specs.inner.LiveWalks.{AreUsesOf, IsLiveRow, list_of};
-ghost use Rattle.fm_flow.specs.inner.Sources.{AreSourcesOf, Covers, MarksRun, MarksRuns};
+ghost use Rattle.fm_flow.specs.inner.Sources.{AreSourcesOf, MarksRuns};
+ghost use Rattle.fm_flow.specs.inner.Walks.{Covers};
 
 use crate::item_edges::item_count;
-use crate::reach::mark;
+use crate::marking::{mark, mark_run};
 use crate::sources::{Runs, Sources};
 use crate::uses::Uses;
 use fm_base::{NoMemory, Row};
@@ -69,29 +69,6 @@ fn mark_runs(
         let items = runs.items[*run as usize].as_slice();
         mark_run(items, *run, seen, waiting, done)?;
     }
-    Ok(())
-}
-
-// Marks the items of a run, unless that was done.
-fn mark_run(
-    items: &[u32],
-    run: u32,
-    seen: &mut Row,
-    waiting: &mut Vec<u32>,
-    done: &mut Row,
-) -> Result<(), NoMemory>
-    requires inside { run < length done.old }
-    requires below { (x : ℕ) → Contains items.now x → x < length seen.old }
-    requires marked { has done.old run ≡ true
-        → (x : ℕ) → Contains items.now x → has seen.old x ≡ true }
-    ensures { OnOk result (MarksRun items.now run seen.old seen.new waiting.old.items
-        waiting.new.items done.old done.new) }
-{
-    if done.get(run) {
-        return Ok(());
-    }
-    done.set(run);
-    mark(items, seen, waiting)?;
     Ok(())
 }
 

@@ -1,14 +1,13 @@
 // Where the edges to an item come from: those of instructions by item, and those to handlers by runs of
 // items that have the same handlers.
 
-ghost use Rattle.std.specs.Prelude.{◌≡◌, ◌<◌, ◌+◌, ◌^◌, false, IfOk, OnOk, length};
-ghost use Rattle.fm_base.specs.Rows.{has};
+ghost use Rattle.std.specs.Prelude.{◌≡◌, ◌<◌, ◌+◌, ◌^◌, IfOk, OnOk, length};
 ghost use Rattle.fm_code.specs.Edges.{IsNormalEdge, MeetsCodeRules};
 ghost use Rattle.fm_flow.specs.inner.LiveWalks.{AreListsBy};
 ghost use Rattle.fm_flow.specs.inner.Sources.{AreRunsOf, AreSourcesOf, BeginsRun, IsOpened, Running, with_last};
 ghost use Rattle.fm_flow.specs.inner.Walks.{AreMarked};
 
-use crate::item_edges::{handlers_at, item_count, normal_at, range_ends};
+use crate::item_edges::{begins_run, handlers_at, item_count, normal_at, range_ends};
 use crate::lists::{add_to_each, empty_lists};
 use fm_base::{NoMemory, Row, Seq};
 use fm_code::Code;
@@ -103,15 +102,6 @@ fn open_run(
         begin_run(alloc, code, j, caught, items)?;
     }
     Ok(())
-}
-
-// Whether a run begins at item j.
-fn begins_run(ends: &Row, j: u32) -> bool
-    requires { j < length ends.now }
-    ensures later { result ≡ false → 0 < j }
-    ensures unmarked { result ≡ false → has ends.now j ≡ false }
-{
-    j == 0 || ends.get(j)
 }
 
 // A run more, with the handlers of item j and no items so far.

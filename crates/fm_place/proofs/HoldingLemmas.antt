@@ -12,6 +12,7 @@ use Rattle.fm_conn.specs.Facts.{Facts}
 use Rattle.fm_conn.specs.Nodes.{TypedMethod}
 use Rattle.fm_flow.proofs.ReachLemmas.{edge_from_item}
 use Rattle.fm_flow.proofs.RowFacts.{has-replicate, has_inside, has-set_kept, has-set_same}
+use Rattle.fm_flow.specs.Flow.{IsMarkedBy}
 use Rattle.fm_flow.specs.inner.LiveWalks.{row_of}
 use Rattle.fm_flow.specs.inner.Walks.{Marks}
 use Rattle.fm_place.proofs.PathLemmas.{may_hold-from, may_hold-tells}
@@ -30,6 +31,11 @@ path-more facts x class (b ∷ path) a j next (busy_here, (first, rest)) busy ed
     (busy_here, (first, path-more facts x class path b j next rest busy edge))
 
 -- ---- the walk
+
+-- the walk, and what it need not go over again
+pub record FollowingOnce (s : Seen) (pair : ℕ × ℕ) (busy old row freed : List Bool) (waiting : List ℕ) (done : List Bool) : Type 0 where
+  pub following : Following s pair busy old row freed waiting
+  pub covered : IsMarkedBy s.flow.now done row
 
 module _ (s : Seen) (pair : ℕ × ℕ) (busy : List Bool) (busy_is : IsRowOf (count_of s) (λ j. is_busy_at s j pair.1) busy) (old : List Bool) where
   -- the item after the site is set, and waits

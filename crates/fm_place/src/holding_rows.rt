@@ -20,8 +20,8 @@ pub struct Holding {
 }
 
 impl Seen<'_> {
-    /// Where each holder may hold something, by where the classes are busy. Takes as many steps as there
-    /// are holders times edges at most, and memory for a bit for each holder and item.
+    /// Where each holder may hold something, by where the classes are busy. Takes at most as many
+    /// steps for each holder as the flow keeps edges, and memory for a bit for each holder and item.
     pub fn holding_rows(
         &self,
         alloc: Global,
@@ -61,11 +61,12 @@ impl Seen<'_> {
     {
         let mut row = Row::new(alloc, busy.bits())?;
         let mut waiting = Vec::new(alloc);
+        let mut done = self.flow.no_marks(alloc)?;
         let first = item_after(alloc, pair.0, busy.bits())?;
         mark(first.as_slice(), &mut row, &mut waiting)?;
         while let Some(j) = waiting.pop() {
             if busy.get(j) {
-                mark(self.flow.edges(j), &mut row, &mut waiting)?;
+                self.flow.mark_edges(j, &mut row, &mut waiting, &mut done)?;
             } else {
                 freed.set(j);
             }

@@ -26,7 +26,7 @@ use Rattle.std.specs.List.Retain.{IsFiltered, DiffersFromLast}
 use Rattle.std.specs.List.Sorted.{IsBinarySearchResult, IsPermutation, IsSorted, IsStrictlyIncreasing}
 use Rattle.std.specs.Ordering.{nat_cmp}
 use Rattle.fm_code.proofs.EdgesLemmas.{Contains-later}
-use Rattle.fm_flow.proofs.MergeLemmas.{not_above}
+use Rattle.fm_flow.proofs.RisingLemmas.{not_above}
 use Rattle.fm_conn.proofs.ListLemmas.{Contains-first}
 use Rattle.fm_summ.proofs.NumberLemmas.{number_in-none, number_in-place}
 use Rattle.fm_summ.specs.inner.Numbers.{named, number_in}

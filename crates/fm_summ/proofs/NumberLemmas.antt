@@ -6,8 +6,7 @@ use Rattle.std.specs.List.Sorted.{IsStrictlyIncreasing}
 use Rattle.fm_base.proofs.GraphLemmas.{numbers_back, numbers_then, paired_back}
 use Rattle.fm_base.specs.Graph.{AreJoined, AreLeastJoined, AreNodes, ArePaired, IsPath}
 use Rattle.fm_code.proofs.EdgesLemmas.{Contains-from_map, Contains-map}
-use Rattle.fm_flow.proofs.MergeLemmas.{not_above}
-use Rattle.fm_flow.proofs.RisingLemmas.{rising_pair}
+use Rattle.fm_flow.proofs.RisingLemmas.{not_above, rising_pair}
 use Rattle.fm_summ.specs.inner.Numbers.{Merges, named, number_in}
 
 -- ---- places

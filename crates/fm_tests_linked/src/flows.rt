@@ -1,10 +1,11 @@
 // A code with a loop, a switch and a handler: its edges, what of it is reachable, and its live locals.
 
-ghost use Rattle.std.specs.Prelude.{◌≡◌, ◌∷◌, [], IfOk, pos};
+ghost use Rattle.std.specs.Prelude.{◌≡◌, ◌<◌, ◌∷◌, [], IfOk, length, pos};
 ghost use Rattle.fm_code.specs.Edges.{HasNoLeftOut, MeetsCodeRules};
 ghost use Rattle.fm_code.specs.EdgesExample.{example_code, example_items, falling_code, item_of};
+ghost use Rattle.fm_flow.specs.Flow.{IsFlowOf};
 
-use fm_base::{NoMemory, Seq};
+use fm_base::{NoMemory, Row, Seq};
 use fm_code::{Code, Handler, Insn, InsnBytes, Item, Reg, SwitchList};
 use fm_flow::{Flow, FlowFail, live};
 use std::alloc::Global;
@@ -105,14 +106,37 @@ fn nop(alloc: Global) -> Result<Code, NoMemory>
     written_nop(alloc)
 }
 
+// The ends of the edges from item j of the code, which has 12 items, as a walk that begins there finds
+// them.
+fn ends(alloc: Global, code: &Code, flow: &Flow, j: u32) -> Result<Vec<u32>, NoMemory>
+    requires flow { IsFlowOf code.now flow.now }
+    requires items { length code.now.items ≡ 12 }
+    requires inside { j < 12 }
+{
+    let mut row = Row::new(alloc, 12)?;
+    let mut waiting = Vec::new(alloc);
+    let mut done = flow.no_marks(alloc)?;
+    flow.mark_edges(j, &mut row, &mut waiting, &mut done)?;
+    Ok(waiting)
+}
+
 #[test]
 fn edges_rise_and_lead_to_handlers(rt: HostRuntime) -> Result<(), Fail> {
     let code = code(rt.alloc())?;
     let flow = Flow::of(rt.alloc(), &code)?;
-    assert_eq!(rt; flow.edges(1), [2, 4, 6].as_slice());
-    assert_eq!(rt; flow.edges(2), [3, 7].as_slice());
-    assert_eq!(rt; flow.edges(5), [0].as_slice());
-    assert_eq!(rt; flow.edges(11).len(), 0);
+    assert_eq!(rt;
+        ends(rt.alloc(), &code, &flow, 1)?.as_slice(),
+        [2, 4, 6].as_slice()
+    );
+    assert_eq!(rt;
+        ends(rt.alloc(), &code, &flow, 2)?.as_slice(),
+        [3, 7].as_slice()
+    );
+    assert_eq!(rt;
+        ends(rt.alloc(), &code, &flow, 5)?.as_slice(),
+        [0].as_slice()
+    );
+    assert_eq!(rt; ends(rt.alloc(), &code, &flow, 11)?.len(), 0);
     Ok(())
 }
 

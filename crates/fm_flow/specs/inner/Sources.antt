@@ -1,12 +1,12 @@
 -- Where the edges to an item come from: lists of items by item, and runs of items that have the same handlers.
-use Rattle.std.specs.Prelude.{◌≡◌, ℕ, ◌+◌, ◌-◌, ◌<◌, ◌≤◌, ◌⊎◌, ◌↔◌, Bool, true, false, List, [], ◌∷◌, ◌++◌, length, Contains, slice_set}
+use Rattle.std.specs.Prelude.{◌≡◌, ℕ, ◌+◌, ◌-◌, ◌<◌, ◌≤◌, ◌↔◌, Bool, false, List, [], ◌∷◌, ◌++◌, length, Contains, slice_set}
 use Rattle.std.specs.List.{flat_map, Any}
 use Rattle.fm_base.specs.Rows.{has}
 use Rattle.fm_code.specs.Edges.{Catches, IsNormalEdge}
 use Rattle.fm_code.specs.declared.code_array.Code.{Code}
 use Rattle.fm_flow.specs.declared.sources.Sources.{Sources}
 use Rattle.fm_flow.specs.inner.LiveWalks.{AddsToEach, AreListsBy, list_of}
-use Rattle.fm_flow.specs.inner.Walks.{AreHandlersAt, Marks}
+use Rattle.fm_flow.specs.inner.Walks.{AreHandlersAt, Covers, Marks}
 
 -- item j has the handler
 abbrev pub HasHandler : Code → ℕ → ℕ → Type 0
@@ -72,17 +72,6 @@ abbrev pub came_from : Sources → ℕ → List ℕ
 came_from s j = list_of s.own.items j ++ items_of s.runs.items.items (list_of s.runs.caught.items j)
 
 -- ---- the walk
-
--- all items of a run that is done are marked
-pub record Covers (items : List (List ℕ)) (done row : List Bool) : Type 0 where
-  pub one_each : length done ≡ length items
-  pub each : (run x : ℕ) → has done run ≡ true → Contains (list_of items run) x → has row x ≡ true
-
--- the items of a run are marked, and it is done
-pub record MarksRun (list : List ℕ) (run : ℕ) (old new : List Bool) (old_waiting waiting : List ℕ) (old_done done : List Bool) : Type 0 where
-  pub marks : Marks list old new old_waiting waiting
-  pub same_length : length done ≡ length old_done
-  pub only : (r : ℕ) → has done r ≡ true → (r ≡ run) ⊎ (has old_done r ≡ true)
 
 -- the items of runs are marked, and what is done still covers
 pub record MarksRuns (items : List (List ℕ)) (runs : List ℕ) (old new : List Bool) (old_waiting waiting : List ℕ) (done : List Bool) : Type 0 where

@@ -1,11 +1,18 @@
 -- The states of the walks over items.
-use Rattle.std.specs.Prelude.{◌≡◌, ℕ, ◌+◌, ◌≤◌, ◌⊎◌, Bool, true, false, not, List, length, Contains, count_by}
-use Rattle.std.specs.List.{AllByRecursion, Any}
+use Rattle.std.specs.Prelude.{◌≡◌, ℕ, ◌+◌, ◌≤◌, ◌⊎◌, ◌↔◌, Bool, true, false, not, List, [], length, Contains, count_by}
+use Rattle.std.specs.List.{AllByRecursion, Any, slice_index_or}
+use Rattle.std.specs.List.Sorted.{IsStrictlyIncreasing}
 use Rattle.fm_base.specs.Rows.{has}
 use Rattle.fm_code.specs.Edges.{Catches, IsEdge, IsReachable}
 use Rattle.fm_code.specs.declared.code_array.Code.{Code}
 use Rattle.fm_code.specs.declared.code_array.Handler.{Handler}
-use Rattle.fm_flow.specs.Tables.{IsRisingListOf}
+
+-- ---- lists of numbers
+
+-- the list has the numbers of which P holds and no others, each once, in rising order
+pub record IsRisingListOf (P : ℕ → Type 0) (xs : List ℕ) : Type 0 where
+  pub rising : IsStrictlyIncreasing xs
+  pub members : (x : ℕ) → Contains xs x ↔ P x
 
 -- ---- handlers
 
@@ -28,7 +35,7 @@ pub record AreMarked (count : ℕ) (handlers : List Handler) (ends : List Bool) 
   pub bits : length ends ≡ count + 1
   pub each : AllByRecursion (IsMarked ends) handlers
 
--- ---- reachable items
+-- ---- marks
 
 -- how many bits aren't set
 abbrev pub unset : List Bool → ℕ
@@ -43,6 +50,19 @@ pub record Marks (list : List ℕ) (old new : List Bool) (old_waiting waiting : 
   pub still_waiting : (j : ℕ) → Contains old_waiting j → Contains waiting j
   pub waiting_listed : (j : ℕ) → Contains waiting j → Contains old_waiting j ⊎ (Contains list j × (has old j ≡ false))
   pub work : unset new + length waiting ≡ unset old + length old_waiting
+
+-- what each run that is done has is marked
+pub record Covers (items : List (List ℕ)) (done row : List Bool) : Type 0 where
+  pub one_each : length done ≡ length items
+  pub each : (run x : ℕ) → has done run ≡ true → Contains (slice_index_or items run []) x → has row x ≡ true
+
+-- the items of a run are marked, and it is done
+pub record MarksRun (list : List ℕ) (run : ℕ) (old new : List Bool) (old_waiting waiting : List ℕ) (old_done done : List Bool) : Type 0 where
+  pub marks : Marks list old new old_waiting waiting
+  pub same_length : length done ≡ length old_done
+  pub only : (r : ℕ) → has done r ≡ true → (r ≡ run) ⊎ (has old_done r ≡ true)
+
+-- ---- reachable items
 
 -- a marked item is reachable; it waits, or the ends of its edges are marked
 pub record Reaching (code : Code) (reached : List Bool) (waiting : List ℕ) : Type 0 where

@@ -8,7 +8,7 @@ use Rattle.fm_code.specs.declared.code_array.Item.{Item}
 use Rattle.fm_flow.proofs.CodeFacts.{targets_inside}
 use Rattle.fm_flow.proofs.EdgesOfLemmas.{insn_of-get_or, IsRisingListOf-normal}
 use Rattle.fm_flow.proofs.OnwardLemmas.{Onward}
-use Rattle.fm_flow.specs.Tables.{IsRisingListOf}
+use Rattle.fm_flow.specs.inner.Walks.{IsRisingListOf}
 use Rattle.fm_flow.proofs.item_edges.normal_at.Goals as goal
 
 pub normal_edges-requires : goal.normal_edges-requires

@@ -1,5 +1,4 @@
 use Rattle.std.proofs.Common.{◌≡◌, ◌∙◌, ◌+◌, ◌<◌, [], List, Bool, ℕ, false, replicate, length, Contains, inl, ap, sym, subst, arith}
-use Rattle.std.proofs.lemmas.Bool.{false≢true}
 use Rattle.std.proofs.lemmas.List.{get_or_read, nil_from_length, length_push, length-replicate}
 use Rattle.fm_code.proofs.EdgesLemmas.{insn_inside}
 use Rattle.fm_code.specs.Edges.{IsEdge}
@@ -8,8 +7,8 @@ use Rattle.fm_code.specs.declared.operations.Reg.TheVariants as reg
 use Rattle.fm_code.specs.declared.instructions.Insn.TheVariants as insn
 use Rattle.fm_flow.proofs.LiveLemmas.{stored_inside, Tracing-first, Tracing-more, tracing_inside, IsLiveRow-all}
 use Rattle.fm_flow.proofs.ReachLemmas.{edge_from_item, Marks-append}
-use Rattle.fm_flow.proofs.RowFacts.{has-replicate}
-use Rattle.fm_flow.proofs.SourcesLemmas.{came_from-is, Covers-kept, Covers-none}
+use Rattle.fm_flow.proofs.RunLemmas.{Covers-kept, Covers-none}
+use Rattle.fm_flow.proofs.SourcesLemmas.{came_from-is}
 use Rattle.fm_flow.specs.inner.LiveWalks.{list_of, Tracing}
 use Rattle.fm_flow.specs.inner.Sources.{came_from, items_of}
 use Rattle.fm_flow.specs.inner.Walks.{Marks, unset}
@@ -76,8 +75,7 @@ loop-j-init c =
     record {
       tracing = tracing;
       covers = rw c.in_ok-done.ensures
-          (Covers-none c.args.sources.now.runs.items.items c.run_count.result seen c.run_count.ensures
-          (λ r is. false≢true (sym (has-replicate c.run_count.result r) ∙ is)));
+          (Covers-none c.args.sources.now.runs.items.items c.run_count.result seen c.run_count.ensures);
     }
 
 pub set-requires : goal.set-requires

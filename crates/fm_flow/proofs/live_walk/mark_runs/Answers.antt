@@ -3,7 +3,8 @@ use Rattle.std.proofs.lemmas.List.{get_or_read, take_all}
 use Rattle.std.proofs.lemmas.List.Elements.{Contains-get_or}
 use Rattle.fm_flow.proofs.SourcesLemmas.{MarksRuns-more, MarksRuns-none}
 use Rattle.fm_flow.specs.inner.LiveWalks.{list_of}
-use Rattle.fm_flow.specs.inner.Sources.{MarksRun, MarksRuns}
+use Rattle.fm_flow.specs.inner.Sources.{MarksRuns}
+use Rattle.fm_flow.specs.inner.Walks.{MarksRun}
 use Rattle.fm_flow.proofs.live_walk.mark_runs.Goals as goal
 
 pub index-requires-in-loop-run : goal.index-requires-in-loop-run

@@ -3,9 +3,8 @@ use Rattle.std.specs.List.{Any}
 use Rattle.fm_code.specs.Edges.{Catches}
 use Rattle.fm_code.specs.declared.code_array.Handler.{Handler}
 use Rattle.fm_flow.proofs.EdgesOfLemmas.{handler_inside}
-use Rattle.fm_flow.specs.Tables.{IsRisingListOf}
+use Rattle.fm_flow.specs.inner.Walks.{AreHandlersAt, IsRisingListOf}
 use Rattle.fm_flow.specs.inner.LiveWalks.{AddsToEach}
-use Rattle.fm_flow.specs.inner.Walks.{AreHandlersAt}
 use Rattle.fm_flow.proofs.sources.begin_run.Goals as goal
 
 pub add_to_each-requires : goal.add_to_each-requires

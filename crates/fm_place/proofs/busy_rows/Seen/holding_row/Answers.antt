@@ -1,12 +1,13 @@
 use Rattle.std.proofs.Common.{◌≡◌, ◌∙◌, ℕ, Bool, true, false, List, [], Contains, replicate, length, ap, sym, subst, arith}
 use Rattle.std.proofs.lemmas.List.{length-replicate, nil_from_length}
-use Rattle.fm_code.specs.Edges.{IsEdge}
-use Rattle.fm_flow.proofs.ReachLemmas.{edge_inside}
-use Rattle.fm_flow.specs.Tables.{IsRisingListOf}
+use Rattle.fm_flow.specs.Flow.{edges_at}
 use Rattle.fm_flow.specs.inner.Walks.{Marks}
 use Rattle.fm_place.proofs.HoldingLemmas.{following_first, following_inside, following_off, following_on, follows_all}
 use Rattle.fm_place.specs.inner.PlanRows.{count_of, Following, IsAfter}
 use Rattle.fm_place.proofs.busy_rows.Seen.holding_row.Goals as goal
+
+pub no_marks-requires : goal.no_marks-requires
+no_marks-requires c = c.requires.seen.flow_is.edges.within
 
 pub mark-requires : goal.mark-requires
 mark-requires c = λ j found.
@@ -29,62 +30,70 @@ loop-j-init c =
     let marks : Marks firsts (replicate (count_of s) false) row [] waiting =
     subst (λ (old : List Bool). Marks firsts old row [] waiting) row_is
     (subst (λ (items : List ℕ). Marks firsts c.in_ok-row.row row items waiting) c.new-waiting.ensures.items c.in_ok-mark.ensures) in
-    following_first s pair c.args.busy.now c.requires.busy c.args.freed.now row firsts waiting c.requires.wide first_is marks
+    record {
+      following = following_first s pair c.args.busy.now c.requires.busy c.args.freed.now row firsts waiting c.requires.wide first_is marks;
+      covered = c.in_ok-done.ensures row;
+    }
 
 pub get-requires : goal.get-requires
 get-requires c =
     let s = c.args.self.now in
     let before = subst (λ (waiting : List ℕ). Following s c.args.pair.now c.args.busy.now c.args.freed.now c.loop-j.row c.loop-j.freed waiting)
-    c.in-Some.ensures.items c.loop-j.invariant in
+    c.in-Some.ensures.items c.loop-j.invariant.following in
     let inside = following_inside s c.args.pair.now c.args.busy.now c.requires.busy c.args.freed.now c.loop-j.row c.loop-j.freed c.pop.new.self.items c.in-Some.j before in
     omega (arith, inside, c.requires.busy.wide)
 
-pub mark-requires-then-get : goal.mark-requires-then-get
-mark-requires-then-get c = λ x found.
+pub mark_edges-requires : goal.mark_edges-requires
+mark_edges-requires c =
     let s = c.args.self.now in
-    let code = s.method.code.now in
-    let j = c.in-Some.j in
     let before = subst (λ (waiting : List ℕ). Following s c.args.pair.now c.args.busy.now c.args.freed.now c.loop-j.row c.loop-j.freed waiting)
-    c.in-Some.ensures.items c.loop-j.invariant in
-    let inside = following_inside s c.args.pair.now c.args.busy.now c.requires.busy c.args.freed.now c.loop-j.row c.loop-j.freed c.pop.new.self.items j before in
-    let listed : IsRisingListOf (IsEdge code j) c.edges.result.now =
-    subst (IsRisingListOf (IsEdge code j)) (sym c.edges.ensures) (c.requires.seen.flow_is.edges.each j inside) in
-    let end = edge_inside code j x ((listed.members x).0 found) in
-    omega (arith, end, c.loop-j.invariant.bits)
+    c.in-Some.ensures.items c.loop-j.invariant.following in
+    let inside = following_inside s c.args.pair.now c.args.busy.now c.requires.busy c.args.freed.now c.loop-j.row c.loop-j.freed c.pop.new.self.items c.in-Some.j before in
+    let count = c.requires.seen.flow_is.edges.one_each in
+    record {
+      item = omega arith;
+      row = c.loop-j.invariant.following.bits ∙ sym count;
+      within = c.requires.seen.flow_is.edges.within;
+      marked = c.loop-j.invariant.covered;
+    }
 
 pub set-requires : goal.set-requires
 set-requires c =
     let s = c.args.self.now in
     let before = subst (λ (waiting : List ℕ). Following s c.args.pair.now c.args.busy.now c.args.freed.now c.loop-j.row c.loop-j.freed waiting)
-    c.in-Some.ensures.items c.loop-j.invariant in
+    c.in-Some.ensures.items c.loop-j.invariant.following in
     let inside = following_inside s c.args.pair.now c.args.busy.now c.requires.busy c.args.freed.now c.loop-j.row c.loop-j.freed c.pop.new.self.items c.in-Some.j before in
-    omega (arith, inside, c.loop-j.invariant.freed_bits)
+    omega (arith, inside, c.loop-j.invariant.following.freed_bits)
 
-pub loop-j-preserved-in-Continue-branch-4 : goal.loop-j-preserved-in-Continue-branch-4
-loop-j-preserved-in-Continue-branch-4 c =
+pub loop-j-preserved-in-Continue-branch-5 : goal.loop-j-preserved-in-Continue-branch-5
+loop-j-preserved-in-Continue-branch-5 c =
     let s = c.args.self.now in
-    let code = s.method.code.now in
     let j = c.in-Some.j in
     let before = subst (λ (waiting : List ℕ). Following s c.args.pair.now c.args.busy.now c.args.freed.now c.loop-j.row c.loop-j.freed waiting)
-    c.in-Some.ensures.items c.loop-j.invariant in
+    c.in-Some.ensures.items c.loop-j.invariant.following in
     let inside = following_inside s c.args.pair.now c.args.busy.now c.requires.busy c.args.freed.now c.loop-j.row c.loop-j.freed c.pop.new.self.items j before in
-    let listed : IsRisingListOf (IsEdge code j) c.edges.result.now =
-    subst (IsRisingListOf (IsEdge code j)) (sym c.edges.ensures) (c.requires.seen.flow_is.edges.each j inside) in
-    following_on s c.args.pair.now c.args.busy.now c.requires.busy c.args.freed.now c.loop-j.row c.loop-j.freed c.pop.new.self.items j before
-    c.edges.result.now c.mark-then-get.new.reached c.mark-then-get.new.waiting.items listed.members (sym c.get.ensures ∙ c.if-get.true) c.in_ok-mark-2.ensures
+    record {
+      following = following_on s c.args.pair.now c.args.busy.now c.requires.busy c.args.freed.now c.loop-j.row c.loop-j.freed c.pop.new.self.items j before
+          (edges_at s.flow.now j) c.mark_edges.new.row c.mark_edges.new.waiting.items (λ x. c.requires.seen.flow_is.edges.each j x inside)
+          (sym c.get.ensures ∙ c.if-get.true) c.in_ok-mark_edges.ensures.marks;
+      covered = c.in_ok-mark_edges.ensures.marked;
+    }
 
 pub loop-j-preserved : goal.loop-j-preserved
 loop-j-preserved c =
     let s = c.args.self.now in
     let before = subst (λ (waiting : List ℕ). Following s c.args.pair.now c.args.busy.now c.args.freed.now c.loop-j.row c.loop-j.freed waiting)
-    c.in-Some.ensures.items c.loop-j.invariant in
-    rw c.set.ensures
-    (following_off s c.args.pair.now c.args.busy.now c.requires.busy c.args.freed.now c.loop-j.row c.loop-j.freed c.pop.new.self.items c.in-Some.j before
-    (sym c.get.ensures ∙ c.if-get.false))
+    c.in-Some.ensures.items c.loop-j.invariant.following in
+    record {
+      following = rw c.set.ensures
+          (following_off s c.args.pair.now c.args.busy.now c.requires.busy c.args.freed.now c.loop-j.row c.loop-j.freed c.pop.new.self.items c.in-Some.j before
+          (sym c.get.ensures ∙ c.if-get.false));
+      covered = c.loop-j.invariant.covered;
+    }
 
 pub returns : goal.returns
 returns c =
     let s = c.args.self.now in
     let empty : c.loop-j.waiting.items ≡ [] = nil_from_length c.loop-j.waiting.items (let ok = c.loop-j.waiting.ok.0 in omega (arith, c.in_default.ensures.cases.0)) in
     follows_all s c.args.pair.now c.args.busy.now c.requires.busy c.args.freed.now c.loop-j.row c.loop-j.freed
-    (subst (λ (waiting : List ℕ). Following s c.args.pair.now c.args.busy.now c.args.freed.now c.loop-j.row c.loop-j.freed waiting) empty c.loop-j.invariant)
+    (subst (λ (waiting : List ℕ). Following s c.args.pair.now c.args.busy.now c.args.freed.now c.loop-j.row c.loop-j.freed waiting) empty c.loop-j.invariant.following)

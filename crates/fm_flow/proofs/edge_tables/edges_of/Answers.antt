@@ -2,7 +2,7 @@ use Rattle.std.proofs.Common.{ℕ, List, subst}
 use Rattle.fm_code.specs.declared.code_array.Handler.{Handler}
 use Rattle.fm_flow.proofs.CodeFacts.{ranges_within}
 use Rattle.fm_flow.specs.inner.Walks.{AreMarked}
-use Rattle.fm_flow.proofs.item_edges.edges_of.Goals as goal
+use Rattle.fm_flow.proofs.edge_tables.edges_of.Goals as goal
 
 pub range_ends-requires : goal.range_ends-requires
 range_ends-requires c = record {

@@ -1,6 +1,6 @@
 use Rattle.std.proofs.Common.{◌∙◌, sym}
-use Rattle.fm_flow.proofs.SourcesLemmas.{MarksRun-done, MarksRun-new}
-use Rattle.fm_flow.proofs.live_walk.mark_run.Goals as goal
+use Rattle.fm_flow.proofs.RunLemmas.{MarksRun-done, MarksRun-new}
+use Rattle.fm_flow.proofs.marking.mark_run.Goals as goal
 
 pub returns-then-get : goal.returns-then-get
 returns-then-get c =
