@@ -16,7 +16,7 @@ use Rattle.fm_place_weave.specs.declared.planned.Planned.{Planned}
 use Rattle.fm_place_weave.specs.declared.planned.Planned.TheVariants as planned
 use Rattle.fm_types.specs.Typings.{states_of}
 use Rattle.fm_audit.proofs.SafeLemmas.{are_safe, held_all}
-use Rattle.fm_audit.proofs.WholeLemmas.{insertions_by, whole}
+use Rattle.fm_audit.proofs.WholeLemmas.{insertions-plain, insertions_by, whole}
 use Rattle.fm_audit.specs.Parts.{planned_of}
 use Rattle.fm_audit.specs.SafePlans.{IsSafelyPlanned}
 use Rattle.fm_audit.specs.declared.plans.Judged.{Judged}
@@ -42,6 +42,7 @@ module _ (s : Seen) (summaries : Summaries) (sites : List Site)
     safe = λ facts told linked.
         are_safe s facts sites (pairs_of plan) plan.holders told
         (sites_are ∙ sym (sites_told facts (typed_seen s) s.classes.now summaries told.class linked)) is.listed is.checked;
+    plain = insertions-plain is.checked.held is.listed.before (count_of s);
   }
 
   safe_done : (done : Planned) → IsCheckedDone s sites done
@@ -56,6 +57,7 @@ module _ (s : Seen) (summaries : Summaries) (sites : List Site)
     insertions = None;
     listed = tt;
     safe = λ facts told linked. tt;
+    plain = tt;
   }
   safe_done (planned.Woven plan) is = safe_plan plan is
   safe_done (planned.TooLong bytes) is = absurd is

@@ -17,6 +17,7 @@ use Rattle.fm_place.proofs.GroupLemmas.{slice_get-mapped}
 use Rattle.fm_place.proofs.HolderLemmas.{flat_range_same}
 use Rattle.fm_place.specs.Insertions.{after_at, before_at, Holder, Insertions, numbers_of}
 use Rattle.fm_place.specs.PlansBy.{paired}
+use Rattle.fm_place.specs.Safe.{HoldsNoChain}
 use Rattle.fm_place.specs.declared.found_sites.Site.{Site}
 use Rattle.fm_place.specs.declared.plans.Plan.{Plan}
 use Rattle.fm_place_weave.specs.Laws.{IsWholePlan}
@@ -106,6 +107,11 @@ holder_at p = record { site = p.0; class = p.1; looped = false }
 -- these holders, and those that are freed before each of so many items
 abbrev pub insertions_by : List (ℕ × ℕ) → (before : ℕ → List ℕ) → (n : ℕ) → Insertions
 insertions_by held before n = record { holders = map holder_at held; before = map before (range_with_len 0 n) }
+
+-- no holder holds a chain
+pub insertions-plain : (held : List (ℕ × ℕ)) (before : ℕ → List ℕ) (n : ℕ) → HoldsNoChain (insertions_by held before n)
+insertions-plain [] before n = tt
+insertions-plain (p ∷ held) before n = (refl, insertions-plain held before n)
 
 pub before-is : (held : List (ℕ × ℕ)) (before : ℕ → List ℕ) (n j : ℕ) → j < n → before_at (insertions_by held before n) j ≡ before j
 before-is held before n j inside = get_or-map-range_with_len before 0 n j j [] inside (omega arith)

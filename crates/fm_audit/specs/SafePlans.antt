@@ -14,7 +14,7 @@ use Rattle.fm_flow.specs.LiveRows.{IsLiveRowsOf}
 use Rattle.fm_flow.specs.declared.live_rows.LiveRows.{LiveRows}
 use Rattle.fm_place.specs.Insertions.{Insertions}
 use Rattle.fm_place.specs.PlansBy.{IsToldBy}
-use Rattle.fm_place.specs.Safe.{AreSafe}
+use Rattle.fm_place.specs.Safe.{AreSafe, HoldsNoChain}
 use Rattle.fm_place.specs.declared.plans.Plan.{Plan}
 use Rattle.fm_place_weave.specs.Laws.{IsWholePlan}
 use Rattle.fm_place_weave.specs.declared.planned.Planned.{Planned}
@@ -60,3 +60,4 @@ pub record IsSafelyPlanned (p : Program) (summaries : Summaries) (method : ℕ) 
   pub listed : IsListedIn code insertions done
   pub safe : (facts : Facts) → IsToldBy facts method classes live → LinkAlike facts summaries
       → IfSome insertions (AreSafe facts (method_with p method code states))
+  pub plain : IfSome insertions HoldsNoChain
