@@ -82,7 +82,7 @@ module _ (calls : Calls) (code : Code) (plan : Insertions) (none : has_chain pla
   items_same anchors j [] = refl
   items_same anchors j (item ∷ items) = λ k. item_same anchors j item.insn k ++ items_same anchors (j + 1) items k
 
-  chained_same : chained calls code plan ≡ woven calls.free code plan
+  pub chained_same : chained calls code plan ≡ woven calls.free code plan
   chained_same =
       λ k. flat_map (λ h. null_stored (local_of code h)) (range_with_len 0 (length plan.holders)) ++ items_same (anchors_same k) 0 code.items k
 
@@ -124,14 +124,14 @@ module _ (plans : Plans) (none : (method : ℕ) → plan_has_chain (plans method
   none_among first zero = refl
   none_among first (suc n) = ap (λ b. b || list_any (λ method. plan_has_chain (plans method)) (range_with_len (first + 1) n)) (none first) ∙ none_among (first + 1) n
 
-  class_none : (first : ℕ) (c : ClassDef) → class_has_chain plans first c ≡ false
+  pub class_none : (first : ℕ) (c : ClassDef) → class_has_chain plans first c ≡ false
   class_none first c = none_among first (length c.methods)
 
   -- the entries of a class without chains
-  abbrev plain_calls : ClassDef → Calls
+  abbrev pub plain_calls : ClassDef → Calls
   plain_calls c = calls_for false c.pool.entries
 
-  calls_same : (first : ℕ) (c : ClassDef) → class_calls plans first c ≡ plain_calls c
+  pub calls_same : (first : ℕ) (c : ClassDef) → class_calls plans first c ≡ plain_calls c
   calls_same first c = ap (λ b. calls_for b c.pool.entries) (class_none first c)
 
   methods_same : (calls : Calls) (first : ℕ) (methods : List Member) → chained_methods plans calls first methods ≡ rewritten_methods plans calls.free first methods
