@@ -1,11 +1,12 @@
 -- What is to be done with the methods of a program by insertions that are safe, and what follows for its classes.
-use Rattle.std.proofs.Common.{◌≡◌, refl, sym, ◌∙◌, ap, subst, ℕ, ◌+◌, ◌<◌, ◌≤◌, ⊎_elim, Bool, List, [], length, drop, Contains, Option, Some, None, arith}
-use Rattle.std.specs.List.{AllByRecursion}
+use Rattle.std.proofs.Common.{◌≡◌, refl, sym, ◌∙◌, ap, subst, ℕ, ◌+◌, ◌<◌, ◌≤◌, ◌||◌, ⊎_elim, Bool, false, List, [], ◌∷◌, length, drop, Contains, Option, Some, None, arith}
+use Rattle.std.specs.List.{AllByRecursion, list_any}
 use Rattle.std.specs.Option.{option_map}
 use Rattle.std.proofs.lemmas.Bool.{cases_lt}
 use Rattle.std.proofs.lemmas.List.{get_or_past, length-drop}
 use Rattle.std.proofs.lemmas.Option.{same_Some, slice_get_within}
 use Rattle.fm_base.proofs.ContainsFacts.{Contains-none}
+use Rattle.fm_chain.specs.Chaining.{plan_has_chain}
 use Rattle.fm_code.specs.Members.{code_of, MethodIsValid}
 use Rattle.fm_code.specs.declared.class_file.ClassDef.{ClassDef}
 use Rattle.fm_code.specs.declared.class_file.Member.{Member}
@@ -13,7 +14,7 @@ use Rattle.fm_code.specs.declared.code_array.Code.{Code}
 use Rattle.fm_code.specs.declared.constant_pool.Entry.{Entry}
 use Rattle.fm_conn.specs.Links.{typed_method}
 use Rattle.fm_conn.specs.Nodes.{TypedMethod}
-use Rattle.fm_place.specs.Insertions.{before_at, Insertions}
+use Rattle.fm_place.specs.Insertions.{before_at, Holder, Insertions}
 use Rattle.fm_place.specs.Rewriting.{first_given, marks_with}
 use Rattle.fm_place.specs.Safe.{AreSafe}
 use Rattle.fm_place_weave.specs.declared.planned.Planned.{Planned}
@@ -36,6 +37,18 @@ use Rattle.fm_audit_classes.proofs.WovenClassLemmas.{classes_are, may_be_compare
 use Rattle.fm_audit_classes.specs.Audited.{AreSafelyWritten}
 use Rattle.fm_audit_classes.specs.inner.Compared.{MayBeComparedEach}
 use Rattle.fm_audit_classes.specs.inner.Inserted.{AreAllInserted, IsInserted}
+
+-- ---- holders
+
+none_looped : (holders : List Holder) → AllByRecursion (λ (h : Holder). h.looped ≡ false) holders → list_any (λ (h : Holder). h.looped) holders ≡ false
+none_looped [] all = refl
+none_looped (h ∷ holders) all = λ k. all.0 k || none_looped holders all.1 k
+
+no_chain : (p : Program) (done : List Planned) (are : AreSafelyInserted p done) (method : ℕ) → plan_has_chain (are.plans method) ≡ false
+no_chain p done are method = by_plan (are.plans method) refl where
+  by_plan : (o : Option Insertions) → are.plans method ≡ o → plan_has_chain o ≡ false
+  by_plan None is = refl
+  by_plan (Some ins) is = none_looped ins.holders (are.methods method ins is).plain
 
 -- ---- one method
 
@@ -67,7 +80,7 @@ module _ (p : Program) (done : List Planned) (may : AreAnalysable p) (old : HasO
         → IsInserted o d m
     with_code code is None planned.Same planned_is listed = tt
     with_code code is None (planned.Woven plan) planned_is listed = absurd listed
-    with_code code is None (planned.TooLong bytes) planned_is listed = absurd listed
+    with_code code is None (planned.TooLong bytes chains) planned_is listed = absurd listed
     with_code code is (Some ins) planned.Same planned_is listed = absurd listed
     with_code code is (Some ins) (planned.Woven plan) planned_is listed =
         let coded : code_of m ≡ Some code = sym at_number ∙ is in
@@ -77,12 +90,13 @@ module _ (p : Program) (done : List Planned) (may : AreAnalysable p) (old : HasO
           coded = coded;
           own = codes_own in_interface entries m code valid coded;
           whole = listed;
+          plain = sym (ap plan_has_chain planned_is) ∙ no_chain p done are method;
           old_items = old method code is;
           rules = (code_facts p method code may is).0.spelled;
           room = safe.room;
           before = freed_inside method code ins safe;
         }
-    with_code code is (Some ins) (planned.TooLong bytes) planned_is listed = absurd listed
+    with_code code is (Some ins) (planned.TooLong bytes chains) planned_is listed = absurd listed
 
     by_code : (o : Option Code) → code_at p method ≡ o → IsInserted (are.plans method) (planned_at done method) m
     by_code None is =
@@ -106,7 +120,7 @@ module _ (given : List ClassDef) (p : Program) (done : List Planned) (judged : A
   parts short = (
     counted,
     let left = length-drop first_given done in omega (arith, left, counted),
-    may_be_compared_each are.plans first_given (drop first_given done) given (judged_spelled given p judged) short all_inserted,
+    may_be_compared_each are.plans (no_chain p done are) first_given (drop first_given done) given (judged_spelled given p judged) short all_inserted,
   )
 
 -- the program that isn't narrowed
@@ -122,7 +136,9 @@ module _ (given : List ClassDef) (main : List ℕ) (done : List Planned) (judged
       exact = are.exact;
       plans = are.plans;
       methods = are.methods;
-      written_is = is ∙ classes_are are.plans first_given (drop first_given done) given (all_inserted given (program_of given main) done judged are);
+      written_is =
+          is ∙ classes_are are.plans (no_chain (program_of given main) done are) first_given (drop first_given done) given
+          (all_inserted given (program_of given main) done judged are);
       marks_are = refl;
     };
     least = are.least;

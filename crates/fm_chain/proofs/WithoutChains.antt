@@ -163,7 +163,7 @@ module _ (plans : Plans) (none : (method : ℕ) → plan_has_chain (plans method
         methods = methods_same (plain_calls c) first c.methods k;
       })
 
-  class_same : (first : ℕ) (c : ClassDef) → chained_class plans first c ≡ rewritten_class plans first c
+  pub class_same : (first : ℕ) (c : ClassDef) → chained_class plans first c ≡ rewritten_class plans first c
   class_same first c = by_test (changes plans first c) where
     by_test : (b : Bool) → cond b (changed_class plans first c) c ≡ by_change first c b
     by_test false = refl
