@@ -68,13 +68,13 @@ kept-same goes item None is = absurd (none-some item is)
 kept-same goes item (Some x) is = ap (λ (y : Item). with_targets goes y.insn) (sym (same_Some _ _ is))
 
 -- what a holder keeps after an old item
-for-behind : (calls : Calls) (old : Code) (plan : Insertions) (looped : Bool) (j h : ℕ) → Contains (after_at plan j) h
+for-behind : (calls : Calls) (old : Code) (plan : Insertions) (looped : Bool) (j h : ℕ) → looped_at plan h ≡ looped → Contains (after_at plan j) h
     → AreFor calls old plan (taken calls looped (local_of old h)) (roles_behind looped j h)
-for-behind calls old plan true j h found = (
+for-behind calls old plan true j h is found = (
   record { whole = refl; holder = found },
-  (record { whole = refl; holder = found }, (record { whole = refl; holder = found }, (record { whole = refl; holder = found }, tt))),
+  (record { whole = refl; holder = (found, is) }, (record { whole = refl; holder = (found, is) }, (record { whole = refl; holder = found }, tt))),
 )
-for-behind calls old plan false j h found = (record { whole = refl; holder = found }, (record { whole = refl; holder = found }, tt))
+for-behind calls old plan false j h is found = (record { whole = refl; holder = found }, (record { whole = refl; holder = found }, tt))
 
 for-item : (calls : Calls) (old : Code) (plan : Insertions) (j : ℕ) (item : Item) → slice_get old.items j ≡ Some item
     → AreFor calls old plan (chained_item calls old plan (anchors_of plan old.items) j item.insn) (item_roles plan j)
@@ -88,7 +88,7 @@ for-item calls old plan j item is =
     ))) (
       record { whole = kept-same (slice_index (anchors_of plan old.items)) item (slice_get old.items j) is; holder = tt },
       for-flat calls old plan (λ h. taken calls (looped_at plan h) (local_of old h)) (after_roles plan j) (after_at plan j)
-          (λ h found. for-behind calls old plan (looped_at plan h) j h found),
+          (λ h found. for-behind calls old plan (looped_at plan h) j h refl found),
     )
 
 for-from : (calls : Calls) (old : Code) (plan : Insertions) (j : ℕ) (items : List Item)

@@ -416,8 +416,8 @@ anchor_reached calls old plan rules j inside (path, leads) =
 -- what keeps an object comes after an item that goes on
 pub after_holder : (old : Code) (plan : Insertions) → CanStand old plan → (j : ℕ) (r : Role) → IsOf After (Some j) r → HasHolder plan r → FallsAt old j
 after_holder old plan can j (DupAfter i h) is holder = subst (λ n. FallsAt old n) (same_Some _ _ is.owner_is) (can.goes_on i h holder)
-after_holder old plan can j (LoadAfter i h) is holder = subst (λ n. FallsAt old n) (same_Some _ _ is.owner_is) (can.goes_on i h holder)
-after_holder old plan can j (LinkAfter i h) is holder = subst (λ n. FallsAt old n) (same_Some _ _ is.owner_is) (can.goes_on i h holder)
+after_holder old plan can j (LoadAfter i h) is holder = subst (λ n. FallsAt old n) (same_Some _ _ is.owner_is) (can.goes_on i h holder.0)
+after_holder old plan can j (LinkAfter i h) is holder = subst (λ n. FallsAt old n) (same_Some _ _ is.owner_is) (can.goes_on i h holder.0)
 after_holder old plan can j (StoreAfter i h) is holder = subst (λ n. FallsAt old n) (same_Some _ _ is.owner_is) (can.goes_on i h holder)
 after_holder old plan can j r is holder = absurd (false≢true (ap is_after is.phase_is))
 

@@ -89,7 +89,7 @@ HasInsn calls old plan (StoreAfter j h) i = i ≡ insn.Store reg.Ref (local_of o
 
 -- ---- which holders there are
 
--- the holder is there; before an item, or after one, it is one of those of that item
+-- the holder is there; before an item, or after one, it is one of those of that item; one that is linked holds a chain
 abbrev pub HasHolder : Insertions → Role → Type 0
 HasHolder plan (StartNull h) = h < length plan.holders
 HasHolder plan (StartStore h) = h < length plan.holders
@@ -100,8 +100,8 @@ HasHolder plan (StoreBefore j h) = Contains (before_at plan j) h
 HasHolder plan (Keep j) = Unit {0}
 HasHolder plan (JumpOf j) = Unit {0}
 HasHolder plan (DupAfter j h) = Contains (after_at plan j) h
-HasHolder plan (LoadAfter j h) = Contains (after_at plan j) h
-HasHolder plan (LinkAfter j h) = Contains (after_at plan j) h
+HasHolder plan (LoadAfter j h) = Contains (after_at plan j) h × (looped_at plan h ≡ true)
+HasHolder plan (LinkAfter j h) = Contains (after_at plan j) h × (looped_at plan h ≡ true)
 HasHolder plan (StoreAfter j h) = Contains (after_at plan j) h
 
 -- ---- what follows
