@@ -79,9 +79,11 @@ marked-from calls old plan j (item ∷ items) =
     let behind = flat_map (λ h. taken calls (looped_at plan h) (local_of old h)) (after_at plan j) in
     marked-append (chained_item calls old plan anchors j item.insn) (chained_items calls old plan anchors (j + 1) items) (item_roles plan j) (roles_from plan (j + 1) items)
     (marked-append front (kept anchors j item.insn ∷ behind) (flat_map (before_roles j) (before_at plan j)) (Keep j ∷ flat_map (after_roles plan j) (after_at plan j))
-    (marked-flat (λ h. released calls (looped_at plan h) (local_of old h)) (before_roles j) (before_at plan j) (λ h. (refl, (refl, (refl, (refl, tt))))))
-    (refl, marked-flat (λ h. taken calls (looped_at plan h) (local_of old h)) (after_roles plan j) (after_at plan j)
-    (λ h. marked-behind calls (looped_at plan h) (local_of old h) j h)))
+    (marked-flat (λ h. released calls (looped_at plan h) (local_of old h)) (before_roles j) (before_at plan j) (λ h. (refl, (refl, (refl, (refl, tt)))))) (
+      refl,
+      marked-flat (λ h. taken calls (looped_at plan h) (local_of old h)) (after_roles plan j) (after_at plan j)
+          (λ h. marked-behind calls (looped_at plan h) (local_of old h) j h),
+    ))
     (marked-from calls old plan (j + 1) items)
 
 news_marked : (calls : Calls) (old : Code) (plan : Insertions) → AreMarked (chained calls old plan) (new_roles old plan)
