@@ -10,7 +10,6 @@ pub mod KeptCosts
 pub mod StepsTogether
 pub mod NothingFreed
 pub mod HeldTwins
-pub mod OneKept
 pub mod FramesHeld
 pub mod QuietTodos
 pub mod StepHeld

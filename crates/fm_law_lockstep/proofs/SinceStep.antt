@@ -24,7 +24,7 @@ use Rattle.fm_law_holders.specs.Holding.{holder_value, Holding, HoldsFreeable}
 use Rattle.fm_law_lockstep.proofs.FramesHeld.{held_below, holders_same, news_held, waits_held}
 use Rattle.fm_law_lockstep.proofs.KeptSince.{busy_behind, class_on_top, on_top, top_node}
 use Rattle.fm_law_lockstep.proofs.NothingFreed.{FreesNothing}
-use Rattle.fm_law_lockstep.proofs.OneKept.{one_kept, safe_holders}
+use Rattle.fm_law_unwoven.proofs.OneKept.{one_kept, safe_holders}
 use Rattle.fm_law_lockstep.proofs.QuietTodos.{IsQuiet, keeps_quiet, quiet_areas, starts_quiet}
 use Rattle.fm_law_lockstep.proofs.Since.{FramesSince, HoldersSince, since_below, since_news, since_same, since_step, since_waits}
 use Rattle.fm_law_lockstep.proofs.WhatIsFreed.{all_back, frees_leave, IsFreedBy, nulled_or_same}
@@ -117,14 +117,14 @@ module _ (b : Both) (from : IsWovenFrom b.one b.other b.facts b.plans b.marks) (
     kept_values : (j : ℕ) → f.item ≡ j + 1 → (values : List Value) → HaveValues values → length values ≡ code.max_locals + length (inserted_by (b.plans g.method)).holders
         → ((h : ℕ) → Contains (after_at (inserted_by (b.plans g.method)) j) h → 0 < length g.stack)
         → HaveValues (all_locals_after code g.stack (map ToKeep (after_at (inserted_by (b.plans g.method)) j)) values)
-    kept_values j item values had width some = by_one (one_kept b from g.method code code_is j) where
+    kept_values j item values had width some = by_one (one_kept b.one b.other b.facts b.plans b.marks from g.method code code_is j) where
       Then : List ℕ → Type 0
       Then hs = HaveValues (all_locals_after code g.stack (map ToKeep hs) values)
 
       given : (only : ℕ) → after_at plan j ≡ only ∷ [] → (holder : Holder) → slice_get plan.holders only ≡ Some holder → HasValue only holder (word_at g.stack 0)
       given only one holder is =
           let among : Contains (after_at plan j) only = subst (λ hs. Contains hs only) (sym one) (Contains-first only [] only refl) in
-          let safe_ones = safe_holders b from g.method code code_is in
+          let safe_ones = safe_holders b.one b.other b.facts b.plans b.marks from g.method code code_is in
           IsGiven refl (some only among)
           (subst (λ n. b.facts.class g.method (Slot n (depth_at m n - 1)) ≡ holder.class) (sym item)
           (class_on_top b.one b.facts linked busy g.method code code_is plan safe_ones j only among holder is))
@@ -266,7 +266,7 @@ module _ (b : Both) (from : IsWovenFrom b.one b.other b.facts b.plans b.marks) (
           let v = word_at locals (local_of code fr.number) in
           let theirs : HoldsFreeable following.areas.store v object.birth =
           record { object = object; held = ap (object_at following.areas.store) fr.leads ∙ held; not_fixed = fr.loose; birth_is = refl } in
-          let safe_one : IsSafeHolder b.facts m holder = AllByRecursion-at (IsSafeHolder b.facts m) plan.holders fr.number holder (safe_holders b from g.method code code_is) is in
+          let safe_one : IsSafeHolder b.facts m holder = AllByRecursion-at (IsSafeHolder b.facts m) plan.holders fr.number holder (safe_holders b.one b.other b.facts b.plans b.marks from g.method code code_is) is in
           tells.retires g.method (length below) holder.class object.birth code code_is (captured_class b.facts m holder safe_one)
           (subst (IsOver b.one b.facts g.method (length below) holder.class) (sym are)
           (inr (

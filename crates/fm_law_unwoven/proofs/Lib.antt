@@ -17,6 +17,7 @@ pub mod KeptNext
 pub mod KeptSound
 pub mod KeptSplit
 pub mod KeptSteps
+pub mod OneKept
 pub mod TodoLocals
 pub mod TodoAreas
 pub mod TodoCounts
