@@ -402,6 +402,8 @@ module _ (w : Retyping) (f : CanRetype w) where
   has_state (Keep j) = own_reached j kept
   has_state (JumpOf j) = after_reached j kept
   has_state (DupAfter j h) = after_reached j kept
+  has_state (LoadAfter j h) = after_reached j (λ s. pushed (given_slot w h ∷ []) (kept s))
+  has_state (LinkAfter j h) = after_reached j (λ s. pushed (held_slot w h ∷ given_slot w h ∷ []) (kept s))
   has_state (StoreAfter j h) = after_reached j (λ s. pushed (held_slot w h ∷ []) (kept s))
 
   count : length (role_states w) ≡ length w.woven.items
