@@ -1,11 +1,12 @@
 -- What is to be done with the methods of a program by insertions that are safe, and what follows for its classes.
-use Rattle.std.proofs.Common.{◌≡◌, refl, sym, ◌∙◌, ap, subst, ℕ, ◌+◌, ◌<◌, ◌≤◌, ◌||◌, ⊎_elim, Bool, false, List, [], ◌∷◌, length, drop, Contains, Option, Some, None, arith}
-use Rattle.std.specs.List.{AllByRecursion, list_any}
+use Rattle.std.proofs.Common.{◌≡◌, refl, sym, ◌∙◌, ap, subst, ℕ, ◌+◌, ◌<◌, ◌≤◌, ⊎_elim, Bool, false, List, [], length, drop, Contains, Option, Some, None, arith}
+use Rattle.std.specs.List.{AllByRecursion}
 use Rattle.std.specs.Option.{option_map}
 use Rattle.std.proofs.lemmas.Bool.{cases_lt}
 use Rattle.std.proofs.lemmas.List.{get_or_past, length-drop}
 use Rattle.std.proofs.lemmas.Option.{same_Some, slice_get_within}
 use Rattle.fm_base.proofs.ContainsFacts.{Contains-none}
+use Rattle.fm_chain.proofs.WithoutChains.{none_looped}
 use Rattle.fm_chain.specs.Chaining.{plan_has_chain}
 use Rattle.fm_code.specs.Members.{code_of, MethodIsValid}
 use Rattle.fm_code.specs.declared.class_file.ClassDef.{ClassDef}
@@ -14,7 +15,7 @@ use Rattle.fm_code.specs.declared.code_array.Code.{Code}
 use Rattle.fm_code.specs.declared.constant_pool.Entry.{Entry}
 use Rattle.fm_conn.specs.Links.{typed_method}
 use Rattle.fm_conn.specs.Nodes.{TypedMethod}
-use Rattle.fm_place.specs.Insertions.{before_at, Holder, Insertions}
+use Rattle.fm_place.specs.Insertions.{before_at, Insertions}
 use Rattle.fm_place.specs.Rewriting.{first_given, marks_with}
 use Rattle.fm_place.specs.Safe.{AreSafe}
 use Rattle.fm_place_weave.specs.declared.planned.Planned.{Planned}
@@ -39,10 +40,6 @@ use Rattle.fm_audit_classes.specs.inner.Compared.{MayBeComparedEach}
 use Rattle.fm_audit_classes.specs.inner.Inserted.{AreAllInserted, IsInserted}
 
 -- ---- holders
-
-none_looped : (holders : List Holder) → AllByRecursion (λ (h : Holder). h.looped ≡ false) holders → list_any (λ (h : Holder). h.looped) holders ≡ false
-none_looped [] all = refl
-none_looped (h ∷ holders) all = λ k. all.0 k || none_looped holders all.1 k
 
 no_chain : (p : Program) (done : List Planned) (are : AreSafelyInserted p done) (method : ℕ) → plan_has_chain (are.plans method) ≡ false
 no_chain p done are method = by_plan (are.plans method) refl where

@@ -1,7 +1,7 @@
 -- Where no holder holds a chain, what is written is what is written without chains; and all that can be inserted is safe.
 use Rattle.std.proofs.Common.{◌≡◌, ℕ, zero, suc, ◌+◌, ◌*◌, ◌||◌, ◌++◌, Bool, true, false, cond, List, [], ◌∷◌, length, map, replicate, Option, Some, None, refl, ap, ◌∙◌, arith}
 use Rattle.std.specs.Prelude.{slice_get}
-use Rattle.std.specs.List.{flat_map, list_any, range_with_len, sum}
+use Rattle.std.specs.List.{AllByRecursion, flat_map, list_any, range_with_len, sum}
 use Rattle.fm_base.proofs.TestFacts.{or_left_fails, or_right_fails}
 use Rattle.fm_code.specs.FreeEntries.{with_free}
 use Rattle.fm_code.specs.Members.{code_of}
@@ -31,11 +31,16 @@ use Rattle.fm_chain.specs.declared.calls.Calls.{Calls}
 
 -- ---- holders
 
-none_in : (holders : List Holder) (number : ℕ) → list_any (λ (h : Holder). h.looped) holders ≡ false → holds_chain (slice_get holders number) ≡ false
+pub none_in : (holders : List Holder) (number : ℕ) → list_any (λ (h : Holder). h.looped) holders ≡ false → holds_chain (slice_get holders number) ≡ false
 none_in [] zero none = refl
 none_in [] (suc number) none = refl
 none_in (h ∷ holders) zero none = or_left_fails h.looped (list_any (λ (g : Holder). g.looped) holders) none
 none_in (h ∷ holders) (suc number) none = none_in holders number (or_right_fails h.looped (list_any (λ (g : Holder). g.looped) holders) none)
+
+-- so it is where each flag is unset
+pub none_looped : (holders : List Holder) → AllByRecursion (λ (h : Holder). h.looped ≡ false) holders → list_any (λ (h : Holder). h.looped) holders ≡ false
+none_looped [] all = refl
+none_looped (h ∷ holders) all = λ k. all.0 k || none_looped holders all.1 k
 
 -- ---- one code
 

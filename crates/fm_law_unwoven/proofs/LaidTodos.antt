@@ -115,7 +115,7 @@ module _ (calls : Calls) (old : Code) (plan : Insertions) where
   joined (Some o) = o
 
   -- the mark of an item by its role
-  mark_by : (n : ℕ) (r : Role) → slice_get (roles_of calls old plan) n ≡ Some r → mark_at marks n ≡ mark_of r
+  pub mark_by : (n : ℕ) (r : Role) → slice_get (roles_of calls old plan) n ≡ Some r → mark_at marks n ≡ mark_of r
   mark_by n r found =
       ap (λ xs. mark_at xs n) (marks_are calls old plan)
       ∙ ap joined (slice_get-map mark_of (roles_of calls old plan) n ∙ join_mark (slice_get (roles_of calls old plan) n) r found)

@@ -4,6 +4,7 @@ pub mod UnseenLocals
 pub mod RoleMarks
 pub mod LaidTodos
 pub mod LaidSame
+pub mod InsertedCalls
 pub mod InsertedSteps
 pub mod TodosDone
 pub mod NarrowedLinks
