@@ -11,6 +11,7 @@ pub mod StepsTogether
 pub mod NothingFreed
 pub mod HeldTwins
 pub mod FramesHeld
+pub mod PlainTodos
 pub mod QuietTodos
 pub mod StepHeld
 pub mod KeptHeld
