@@ -45,7 +45,7 @@ use Rattle.fm_place.specs.Safe.{AreSafe, HoldsNoChain, IsSafeHolder, method_in_f
 use Rattle.fm_place.specs.Sites.{is_captured, kind_of_site, new_item_at, site_class, site_kind}
 use Rattle.fm_law_linked.proofs.CodedMethods.{contains_at}
 use Rattle.fm_law_linked.specs.Laws.{IsLinkedWell, ProgramsAreLinkedWell, StepsAreLinked, StepsOfProgramsAreLinked}
-use Rattle.fm_law_retyped.proofs.FreeRow.{free_row}
+use Rattle.fm_law_retyped.proofs.FreeMeRows.{free_row}
 use Rattle.fm_law_retyped.proofs.KeptRows.{same_row}
 use Rattle.fm_law_retyped.proofs.Retypes.{retyped}
 use Rattle.fm_law_retyped.proofs.RoleStates.{AllGoOn, CanRetype, Frees, given_slot, held_slot, held_slots, IsHeld, Links, Retyping, role_states}
