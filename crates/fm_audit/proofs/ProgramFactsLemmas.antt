@@ -19,7 +19,7 @@ use Rattle.fm_flow.specs.LiveRows.{is_live, IsLiveRowsOf}
 use Rattle.fm_flow.specs.declared.live_rows.LiveRows.{LiveRows}
 use Rattle.fm_place.specs.Insertions.{Insertions}
 use Rattle.fm_place.specs.PlansBy.{IsToldBy}
-use Rattle.fm_place.specs.Safe.{AreSafe, IsSafeMethod}
+use Rattle.fm_place.specs.Safe.{AreSafe, HoldsNoChain, IsSafeMethod}
 use Rattle.fm_place_weave.specs.declared.planned.Planned.{Planned}
 use Rattle.fm_rewrite.specs.Plans.{LinkAlike}
 use Rattle.fm_summ.specs.Exact.{AreExact}
@@ -74,6 +74,7 @@ module _ (p : Program) (s : Summaries) (done : ℕ → Planned)
     pub class_is : (node : Node) → class node ≡ class_of classes node
     pub listed : IsListedIn code insertions (done method)
     pub safe : (told : Facts) → IsToldBy told method classes rows → LinkAlike told s → IfSome insertions (AreSafe told (method_with p method code states))
+    pub plain : IfSome insertions HoldsNoChain
 
   known_as : (method : ℕ) (o : Option Code) (is : code_at p method ≡ o) (code : Code) → o ≡ Some code
       → IsKnownAs method code (states_by method o is) (live_by method o is) (class_by method o is) (insertions_in method o is)
@@ -91,6 +92,7 @@ module _ (p : Program) (s : Summaries) (done : ℕ → Planned)
         class_is = λ node. refl;
         listed = by.listed;
         safe = by.safe;
+        plain = by.plain;
       })
 
   at_code : (method : ℕ) (code : Code) → code_at p method ≡ Some code
@@ -139,6 +141,7 @@ module _ (p : Program) (s : Summaries) (done : ℕ → Planned)
         safe =
             subst (λ o. IfSome o (AreSafe facts (typed_method p facts.typing method code))) found
             (own.safe facts (record { class = own.class_is; lives = own.live_is }) (λ m a b. refl));
+        plain = subst (λ o. IfSome o HoldsNoChain) found own.plain;
       }
 
   pub safe_methods : (method : ℕ) (plan : Insertions) → plans method ≡ Some plan → IsSafeMethod p facts method plan

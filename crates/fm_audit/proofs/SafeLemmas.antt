@@ -1,5 +1,5 @@
 -- What is checked of a method's pairs is that the insertions which they list are safe.
-use Rattle.std.proofs.Common.{◌≡◌, ℕ, ◌+◌, ◌<◌, not, true, false, List, [], length, map, Some, Contains, refl, sym, ap, subst, ◌∙◌, arith}
+use Rattle.std.proofs.Common.{◌≡◌, ℕ, ◌+◌, ◌<◌, not, true, false, List, [], length, map, Some, Contains, sym, ap, subst, ◌∙◌, arith}
 use Rattle.std.specs.Prelude.{nat_eq, slice_get}
 use Rattle.std.specs.List.{AllByRecursion, IsDistinct, range_with_len}
 use Rattle.std.proofs.lemmas.List.{length-map}
@@ -74,7 +74,7 @@ module _ (s : Seen) (facts : Facts) (sites : List Site) (pairs : Pairs) (holders
       let by = (held_each sites pairs.after 0 holders held checked.held_is).each k p there in
       let parts = held_parts sites pairs.after k p (sym (ap (held_by sites pairs.after) same) ∙ by) in
       let site = captured_at facts x p.0 p.1 (subst (λ (found : List Site). class_at found p.0 ≡ Some p.1) sites_are parts.class_is) in
-      record { captured = site.captured; class = site.class_is; single = refl }
+      record { captured = site.captured; class = site.class_is }
 
   all_safe : AllByRecursion (IsSafeHolder facts x) (map holder_at held)
   all_safe =

@@ -1,5 +1,6 @@
 -- A plan with pairs that were checked is safe, by all facts that agree with what is known of the method.
-use Rattle.std.proofs.Common.{◌≡◌, IfOk, Result, Ok, Err, List, Some, None, sym, ◌∙◌, refl}
+use Rattle.std.proofs.Common.{◌≡◌, IfOk, Result, Ok, Err, false, List, replicate, Some, None, sym, ◌∙◌, refl}
+use Rattle.fm_chain.specs.declared.plans.ChainPlan.{ChainPlan}
 use Rattle.fm_check.specs.Checking.{IsLeastTyping}
 use Rattle.fm_conn.specs.Classes.{AreClassesOf}
 use Rattle.fm_conn.specs.Summaries.{linked_by}
@@ -10,13 +11,12 @@ use Rattle.fm_place.specs.FactsBy.{facts_by}
 use Rattle.fm_place.specs.Sites.{sites_of}
 use Rattle.fm_place.specs.declared.busy_rows.Seen.{Seen}
 use Rattle.fm_place.specs.declared.found_sites.Site.{Site}
-use Rattle.fm_place.specs.declared.plans.Plan.{Plan}
 use Rattle.fm_place.specs.inner.PlanRows.{count_of, typed_seen}
 use Rattle.fm_place_weave.specs.declared.planned.Planned.{Planned}
 use Rattle.fm_place_weave.specs.declared.planned.Planned.TheVariants as planned
 use Rattle.fm_types.specs.Typings.{states_of}
 use Rattle.fm_audit.proofs.SafeLemmas.{are_safe, held_all}
-use Rattle.fm_audit.proofs.WholeLemmas.{insertions_by, whole}
+use Rattle.fm_audit.proofs.WholeLemmas.{insertions-plain, insertions_by, whole}
 use Rattle.fm_audit.specs.Parts.{planned_of}
 use Rattle.fm_audit.specs.SafePlans.{IsSafelyPlanned}
 use Rattle.fm_audit.specs.declared.plans.Judged.{Judged}
@@ -26,9 +26,9 @@ module _ (s : Seen) (summaries : Summaries) (sites : List Site)
     (least : IsLeastTyping s.method.program.now s.method.number.0 (states_of s.method.typing.now))
     (live_are : IsLiveRowsOf s.method.code.now s.live.now) (classes_are : AreClassesOf (linked_by summaries) (typed_seen s) s.classes.now)
     (sites_are : sites ≡ sites_of (facts_by s.classes.now summaries) (typed_seen s)) where
-  safe_plan : (plan : Plan) → IsCheckedPlan s sites plan
+  safe_plan : (plan : ChainPlan) → IsCheckedPlan s sites plan.plan → plan.looped ≡ replicate plan.plan.holders false
       → IsSafelyPlanned s.method.program.now summaries s.method.number.0 s.method.code.now (planned.Woven plan)
-  safe_plan plan is = record {
+  safe_plan plan is flags = record {
     states = states_of s.method.typing.now;
     live = s.live.now;
     classes = s.classes.now;
@@ -37,11 +37,12 @@ module _ (s : Seen) (summaries : Summaries) (sites : List Site)
     classes_are = classes_are;
     insertions = Some (insertions_by is.checked.held is.listed.before (count_of s));
     listed =
-        whole sites (count_of s) (pairs_of plan) is.checked.held is.listed (held_all s sites (pairs_of plan) plan.holders is.checked) is.checked.own
-        s.method.code.now plan refl (sym is.checked.count) refl refl;
+        whole sites (count_of s) (pairs_of plan.plan) is.checked.held is.listed (held_all s sites (pairs_of plan.plan) plan.plan.holders is.checked)
+        is.checked.own s.method.code.now plan refl (sym is.checked.count) refl refl flags;
     safe = λ facts told linked.
-        are_safe s facts sites (pairs_of plan) plan.holders told
+        are_safe s facts sites (pairs_of plan.plan) plan.plan.holders told
         (sites_are ∙ sym (sites_told facts (typed_seen s) s.classes.now summaries told.class linked)) is.listed is.checked;
+    plain = insertions-plain is.checked.held is.listed.before (count_of s);
   }
 
   safe_done : (done : Planned) → IsCheckedDone s sites done
@@ -56,9 +57,10 @@ module _ (s : Seen) (summaries : Summaries) (sites : List Site)
     insertions = None;
     listed = tt;
     safe = λ facts told linked. tt;
+    plain = tt;
   }
-  safe_done (planned.Woven plan) is = safe_plan plan is
-  safe_done (planned.TooLong bytes) is = absurd is
+  safe_done (planned.Woven plan) is = safe_plan plan is.0 is.1
+  safe_done (planned.TooLong bytes chains) is = absurd is
 
   -- the same of what the code returns
   pub safe_answers : {E : Type 0} (answer : Result Judged E) → IfOk answer (IsJudgedDone s sites)

@@ -1,5 +1,5 @@
 -- The insertions that the pairs of a method list: the plan is theirs, and no two holders are of one site.
-use Rattle.std.proofs.Common.{◌≡◌, ℕ, zero, suc, ◌+◌, ◌<◌, ◌≤◌, Bool, cond, true, false, List, [], ◌∷◌, length, map, Option, Some, None, Contains, refl, sym, ap, subst, ◌∙◌, arith, eqb-true, eq-eqb}
+use Rattle.std.proofs.Common.{◌≡◌, ℕ, zero, suc, ◌+◌, ◌<◌, ◌≤◌, Bool, cond, true, false, List, [], ◌∷◌, length, map, replicate, Option, Some, None, Contains, refl, sym, ap, subst, ◌∙◌, arith, eqb-true, eq-eqb}
 use Rattle.std.specs.Prelude.{nat_eq, slice_get}
 use Rattle.std.specs.List.{flat_map, IsDistinct, range_with_len}
 use Rattle.std.proofs.lemmas.Bool.{false≢true}
@@ -9,6 +9,7 @@ use Rattle.std.proofs.lemmas.Option.{none-some, same_Some, slice_get-map}
 use Rattle.fm_base.proofs.ContainsFacts.{Contains-flat_map, Contains-none}
 use Rattle.fm_base.proofs.OptionFacts.{option_map-some}
 use Rattle.fm_base.proofs.TestFacts.{apart-nat_eq}
+use Rattle.fm_chain.specs.declared.plans.ChainPlan.{ChainPlan}
 use Rattle.fm_code.proofs.EdgesLemmas.{Contains-first, Contains-from_map, Contains-map}
 use Rattle.fm_code.specs.declared.code_array.Code.{Code}
 use Rattle.fm_flow.proofs.SourcesLemmas.{Contains-from_flat_map}
@@ -17,9 +18,9 @@ use Rattle.fm_place.proofs.FullLemmas.{all-from}
 use Rattle.fm_place.proofs.GroupLemmas.{slice_get-mapped}
 use Rattle.fm_place.proofs.HolderLemmas.{flat_range_same}
 use Rattle.fm_place.specs.Insertions.{after_at, before_at, Holder, Insertions, numbers_of}
-use Rattle.fm_place.specs.PlansBy.{paired}
+use Rattle.fm_place.specs.PlansBy.{IsPlanOf, paired}
+use Rattle.fm_place.specs.Safe.{HoldsNoChain}
 use Rattle.fm_place.specs.declared.found_sites.Site.{Site}
-use Rattle.fm_place.specs.declared.plans.Plan.{Plan}
 use Rattle.fm_place_weave.specs.Laws.{IsWholePlan}
 use Rattle.fm_summ.proofs.BareLemmas.{all_pass}
 use Rattle.fm_world.proofs.ElementLemmas.{place_of}
@@ -108,6 +109,11 @@ holder_at p = record { site = p.0; class = p.1; looped = false }
 abbrev pub insertions_by : List (ℕ × ℕ) → (before : ℕ → List ℕ) → (n : ℕ) → Insertions
 insertions_by held before n = record { holders = map holder_at held; before = map before (range_with_len 0 n) }
 
+-- no holder holds a chain
+pub insertions-plain : (held : List (ℕ × ℕ)) (before : ℕ → List ℕ) (n : ℕ) → HoldsNoChain (insertions_by held before n)
+insertions-plain [] before n = tt
+insertions-plain (p ∷ held) before n = (refl, insertions-plain held before n)
+
 pub before-is : (held : List (ℕ × ℕ)) (before : ℕ → List ℕ) (n j : ℕ) → j < n → before_at (insertions_by held before n) j ≡ before j
 before-is held before n j inside = get_or-map-range_with_len before 0 n j j [] inside (omega arith)
 
@@ -173,11 +179,23 @@ module _ (sites : List Site) (n : ℕ) (pairs : Pairs) (held : List (ℕ × ℕ)
             (sym (slice_get-map (λ (h : Holder). h.site) (map holder_at held) i) ∙ there) in
             member x i site.0 site.1 (eq-eqb site.0.site x site.2)
 
+  -- no holder holds a chain
+  unlooped : (found : List (ℕ × ℕ)) → replicate (length found) false ≡ map (λ (h : Holder). h.looped) (map holder_at found)
+  unlooped [] = refl
+  unlooped (p ∷ found) = ap (λ rest. false ∷ rest) (unlooped found)
+
   -- the plan is that of the insertions
-  pub whole : (code : Code) (plan : Plan) → length code.items ≡ n → plan.holders ≡ length held → plan.before.items ≡ pairs.before
-      → plan.after.items ≡ pairs.after → IsWholePlan code ins plan
-  whole code plan count holders before after = record {
-    plan_is = record {
+  pub whole : (code : Code) (plan : ChainPlan) → length code.items ≡ n → plan.plan.holders ≡ length held → plan.plan.before.items ≡ pairs.before
+      → plan.plan.after.items ≡ pairs.after → plan.looped ≡ replicate plan.plan.holders false → IsWholePlan code ins plan
+  whole code plan count holders before after flags = record {
+    plan_is = record { plan_is = pairs_are; flags = flags ∙ ap (λ m. replicate m false) holders ∙ unlooped held };
+    whole = width ∙ sym count;
+  } where
+    width : length ins.before ≡ n
+    width = length-map-range_with_len listed.before 0 n
+
+    pairs_are : IsPlanOf ins plan.plan
+    pairs_are = record {
       holders = holders ∙ sym (length-map held holder_at);
       before =
           before ∙ listed.before_is
@@ -188,8 +206,4 @@ module _ (sites : List Site) (n : ℕ) (pairs : Pairs) (held : List (ℕ × ℕ)
           after ∙ listed.after_is
           ∙ flat_range_same (paired listed.after) (paired (after_at ins)) 0 n (λ j low high. ap (map (λ h. (j, h))) (sym (after-is j (omega arith))))
           ∙ ap (λ m. flat_map (paired (after_at ins)) (range_with_len 0 m)) (sym width);
-    };
-    whole = width ∙ sym count;
-  } where
-    width : length ins.before ≡ n
-    width = length-map-range_with_len listed.before 0 n
+    }

@@ -14,7 +14,7 @@ use Rattle.fm_flow.specs.LiveRows.{IsLiveRowsOf}
 use Rattle.fm_flow.specs.declared.live_rows.LiveRows.{LiveRows}
 use Rattle.fm_place.specs.Insertions.{Insertions}
 use Rattle.fm_place.specs.PlansBy.{IsToldBy}
-use Rattle.fm_place.specs.Safe.{AreSafe}
+use Rattle.fm_place.specs.Safe.{AreSafe, HoldsNoChain}
 use Rattle.fm_place.specs.declared.plans.Plan.{Plan}
 use Rattle.fm_place_weave.specs.Laws.{IsWholePlan}
 use Rattle.fm_place_weave.specs.declared.planned.Planned.{Planned}
@@ -33,8 +33,8 @@ read_of plan = record { starts = range_with_len 0 plan.holders; pairs = record {
 -- the new items of a method with this code are read so that no holder is null at the start, or exactly as this plan
 abbrev pub IsReadAs : (free : ℕ) → Code → (new : List Item) → Planned → Type 0
 IsReadAs free code new planned.Same = IsSomeAnd (read free code.max_locals code.items new) (λ found. found.starts ≡ [])
-IsReadAs free code new (planned.Woven plan) = read free code.max_locals code.items new ≡ Some (read_of plan)
-IsReadAs free code new (planned.TooLong bytes) = ⊥
+IsReadAs free code new (planned.Woven plan) = read free code.max_locals code.items new ≡ Some (read_of plan.plan)
+IsReadAs free code new (planned.TooLong bytes chains) = ⊥
 
 -- the same of what they are found to be; where they fail a part, that says nothing of how they are read
 abbrev pub IsReadIn : (free : ℕ) → Code → (new : List Item) → Judged → Type 0
@@ -60,3 +60,4 @@ pub record IsSafelyPlanned (p : Program) (summaries : Summaries) (method : ℕ) 
   pub listed : IsListedIn code insertions done
   pub safe : (facts : Facts) → IsToldBy facts method classes live → LinkAlike facts summaries
       → IfSome insertions (AreSafe facts (method_with p method code states))
+  pub plain : IfSome insertions HoldsNoChain

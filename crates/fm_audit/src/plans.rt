@@ -17,6 +17,7 @@ use crate::kept::are_kept;
 use crate::parts::Part;
 use crate::reading::{Found, read};
 use fm_base::{MethodId, NoMemory};
+use fm_chain::ChainPlan;
 use fm_code::{Code, Item};
 use fm_conn::{AnalysedMethod, Summaries, classes};
 use fm_flow::live;
@@ -130,11 +131,15 @@ fn judged_in(
     }
     let outcome = checked(alloc, seen, sites, &found)?;
     match outcome {
-        Outcome::Safe(holders) => Ok(Judged::Safe(Planned::Woven(Plan {
-            holders,
-            after: found.inserted.after,
-            before: found.inserted.before,
-        }))),
+        Outcome::Safe(holders) => {
+            let plan = Plan {
+                holders,
+                after: found.inserted.after,
+                before: found.inserted.before,
+            };
+            let plain = ChainPlan::plain(alloc, plan)?;
+            Ok(Judged::Safe(Planned::Woven(plain)))
+        }
         Outcome::Fails(part) => Ok(Judged::Fails(part)),
     }
 }

@@ -1,11 +1,13 @@
 -- What is to be done with the methods of a program by insertions that are safe, and what follows for its classes.
-use Rattle.std.proofs.Common.{◌≡◌, refl, sym, ◌∙◌, ap, subst, ℕ, ◌+◌, ◌<◌, ◌≤◌, ⊎_elim, Bool, List, [], length, drop, Contains, Option, Some, None, arith}
+use Rattle.std.proofs.Common.{◌≡◌, refl, sym, ◌∙◌, ap, subst, ℕ, ◌+◌, ◌<◌, ◌≤◌, ⊎_elim, Bool, false, List, [], length, drop, Contains, Option, Some, None, arith}
 use Rattle.std.specs.List.{AllByRecursion}
 use Rattle.std.specs.Option.{option_map}
 use Rattle.std.proofs.lemmas.Bool.{cases_lt}
 use Rattle.std.proofs.lemmas.List.{get_or_past, length-drop}
 use Rattle.std.proofs.lemmas.Option.{same_Some, slice_get_within}
 use Rattle.fm_base.proofs.ContainsFacts.{Contains-none}
+use Rattle.fm_chain.proofs.WithoutChains.{none_looped}
+use Rattle.fm_chain.specs.Chaining.{plan_has_chain}
 use Rattle.fm_code.specs.Members.{code_of, MethodIsValid}
 use Rattle.fm_code.specs.declared.class_file.ClassDef.{ClassDef}
 use Rattle.fm_code.specs.declared.class_file.Member.{Member}
@@ -37,6 +39,14 @@ use Rattle.fm_audit_classes.specs.Audited.{AreSafelyWritten}
 use Rattle.fm_audit_classes.specs.inner.Compared.{MayBeComparedEach}
 use Rattle.fm_audit_classes.specs.inner.Inserted.{AreAllInserted, IsInserted}
 
+-- ---- holders
+
+no_chain : (p : Program) (done : List Planned) (are : AreSafelyInserted p done) (method : ℕ) → plan_has_chain (are.plans method) ≡ false
+no_chain p done are method = by_plan (are.plans method) refl where
+  by_plan : (o : Option Insertions) → are.plans method ≡ o → plan_has_chain o ≡ false
+  by_plan None is = refl
+  by_plan (Some ins) is = none_looped ins.holders (are.methods method ins is).plain
+
 -- ---- one method
 
 module _ (p : Program) (done : List Planned) (may : AreAnalysable p) (old : HasOldItems p) (are : AreSafelyInserted p done) where
@@ -67,7 +77,7 @@ module _ (p : Program) (done : List Planned) (may : AreAnalysable p) (old : HasO
         → IsInserted o d m
     with_code code is None planned.Same planned_is listed = tt
     with_code code is None (planned.Woven plan) planned_is listed = absurd listed
-    with_code code is None (planned.TooLong bytes) planned_is listed = absurd listed
+    with_code code is None (planned.TooLong bytes chains) planned_is listed = absurd listed
     with_code code is (Some ins) planned.Same planned_is listed = absurd listed
     with_code code is (Some ins) (planned.Woven plan) planned_is listed =
         let coded : code_of m ≡ Some code = sym at_number ∙ is in
@@ -77,12 +87,13 @@ module _ (p : Program) (done : List Planned) (may : AreAnalysable p) (old : HasO
           coded = coded;
           own = codes_own in_interface entries m code valid coded;
           whole = listed;
+          plain = sym (ap plan_has_chain planned_is) ∙ no_chain p done are method;
           old_items = old method code is;
           rules = (code_facts p method code may is).0.spelled;
           room = safe.room;
           before = freed_inside method code ins safe;
         }
-    with_code code is (Some ins) (planned.TooLong bytes) planned_is listed = absurd listed
+    with_code code is (Some ins) (planned.TooLong bytes chains) planned_is listed = absurd listed
 
     by_code : (o : Option Code) → code_at p method ≡ o → IsInserted (are.plans method) (planned_at done method) m
     by_code None is =
@@ -106,7 +117,7 @@ module _ (given : List ClassDef) (p : Program) (done : List Planned) (judged : A
   parts short = (
     counted,
     let left = length-drop first_given done in omega (arith, left, counted),
-    may_be_compared_each are.plans first_given (drop first_given done) given (judged_spelled given p judged) short all_inserted,
+    may_be_compared_each are.plans (no_chain p done are) first_given (drop first_given done) given (judged_spelled given p judged) short all_inserted,
   )
 
 -- the program that isn't narrowed
@@ -122,7 +133,9 @@ module _ (given : List ClassDef) (main : List ℕ) (done : List Planned) (judged
       exact = are.exact;
       plans = are.plans;
       methods = are.methods;
-      written_is = is ∙ classes_are are.plans first_given (drop first_given done) given (all_inserted given (program_of given main) done judged are);
+      written_is =
+          is ∙ classes_are are.plans (no_chain (program_of given main) done are) first_given (drop first_given done) given
+          (all_inserted given (program_of given main) done judged are);
       marks_are = refl;
     };
     least = are.least;

@@ -3,7 +3,12 @@ use Rattle.std.proofs.Common.{◌≡◌, refl, sym, ◌∙◌, ap, subst, ℕ, �
 use Rattle.std.specs.Prelude.{nat_lt}
 use Rattle.std.specs.List.{AllByRecursion}
 use Rattle.std.proofs.lemmas.Bool.{ltb-false}
-use Rattle.fm_code.specs.Fits.{FitsTwo}
+use Rattle.fm_chain.proofs.PlanLaws.{plans_have_the_chains}
+use Rattle.fm_chain.proofs.WithoutChains.{chained_same}
+use Rattle.fm_chain.specs.Chained.{chained}
+use Rattle.fm_chain.specs.Laws.{CallsSuit}
+use Rattle.fm_chain.specs.declared.calls.Calls.{Calls}
+use Rattle.fm_chain.specs.declared.plans.ChainPlan.{ChainPlan}
 use Rattle.fm_code.specs.declared.class_file.Member.{Member}
 use Rattle.fm_code.specs.declared.class_file.MemberAttr.{MemberAttr}
 use Rattle.fm_code.specs.declared.class_file.MemberAttr.TheVariants as attribute
@@ -17,11 +22,10 @@ use Rattle.fm_place.proofs.WovenLemmas.{woven_is_laid_out}
 use Rattle.fm_place.specs.Insertions.{Insertions}
 use Rattle.fm_place.specs.Laws.{Suits}
 use Rattle.fm_place.specs.Woven.{null_stored_items, woven}
-use Rattle.fm_place.specs.declared.plans.Plan.{Plan}
 use Rattle.fm_place_weave.proofs.LengthLemmas.{number_by-is}
 use Rattle.fm_place_weave.proofs.PlanLemmas.{items-is, may-be-woven}
 use Rattle.fm_place_weave.specs.ByPlan.{items_by, number_by}
-use Rattle.fm_place_weave.specs.ClassByPlan.{long_attributes, long_code, long_method, MayDo, MayWeave}
+use Rattle.fm_place_weave.specs.ClassByPlan.{chains_in, long_attributes, long_code, long_method, MayDo, MayWeave}
 use Rattle.fm_place_weave.specs.ClassLaws.{IsAlike}
 use Rattle.fm_place_weave.specs.Conditions.{MayBeWoven}
 use Rattle.fm_place_weave.specs.declared.planned.Planned.{Planned}
@@ -30,6 +34,7 @@ use Rattle.fm_rewrite.proofs.ClassMeantLemmas.{or_first, or_rest}
 use Rattle.fm_rewrite.proofs.FullPlanLemmas.{number_few}
 use Rattle.fm_rewrite.proofs.MeantLemmas.{plans_in}
 use Rattle.fm_rewrite.specs.Alike.{IsOwnCode}
+use Rattle.fm_rewrite.specs.Plans.{CallsFit}
 use Rattle.fm_audit_classes.proofs.LowLemmas.{low_in}
 use Rattle.fm_audit_classes.specs.inner.Inserted.{HasInsertions, IsInserted}
 use Rattle.fm_audit_classes.specs.inner.Low.{is_low, IsLow}
@@ -45,81 +50,101 @@ within_limit long refused none = by_test (nat_lt MAX_CODE_BYTES long) refl none 
 
 -- ---- one method with its plan
 
-module _ (ins : Insertions) (plan : Plan) (m : Member) (has : HasInsertions ins plan m) (low : IsLow has.code plan) (free : ℕ) (fits : FitsTwo free) where
-  suits : Suits free has.code ins
-  suits = record { entry = fits; room = has.room; before = has.before }
+module _ (ins : Insertions) (plan : ChainPlan) (m : Member) (has : HasInsertions ins plan m) (low : IsLow has.code plan.plan) (calls : Calls)
+    (fit : CallsFit calls) where
+  suits : CallsSuit calls has.code ins
+  suits = record { free = fit.free; link = fit.link; free_chain = fit.free_chain; room = has.room; before = has.before }
 
-  few : length (woven free has.code ins) < MAX_NEW_ITEMS
+  few : length (chained calls has.code ins) < MAX_NEW_ITEMS
   few =
-      let same : number_by has.code plan ≡ length (woven free has.code ins) =
-      number_by-is free has.code plan ∙ ap length (items-is free has.code ins plan has.whole) in
-      let all = number_few (null_stored_items * plan.holders) 0 plan.before.items plan.after.items has.code.items in
+      let same : number_by has.code plan ≡ length (chained calls has.code ins) =
+      number_by-is calls has.code plan ∙ ap length (items-is calls has.code ins plan has.whole) in
+      let all = number_few plan.looped (null_stored_items * plan.plan.holders) 0 plan.plan.before.items plan.plan.after.items has.code.items in
       let items = (items_counted has.code has.rules).1 in
-      let holders : plan.holders ≡ length ins.holders = has.whole.plan_is.holders in
+      let holders : plan.plan.holders ≡ length ins.holders = has.whole.plan_is.plan_is.holders in
       omega (arith, same, all, items, holders, has.room, low.before, low.after)
 
-  may_be : MayBeWoven free has.code plan
-  may_be = may-be-woven free has.code ins plan has.whole has.old_items has.rules low.stack suits few
+  may_be : MayBeWoven calls has.code plan
+  may_be = may-be-woven calls has.code ins plan has.whole has.old_items has.rules low.stack suits few
 
   -- its attributes may be woven
-  may_all : (attributes : List MemberAttr) → AllByRecursion (IsOwnCode has.code) attributes → AllByRecursion (MayWeave free plan) attributes
+  may_all : (attributes : List MemberAttr) → AllByRecursion (IsOwnCode has.code) attributes → AllByRecursion (MayWeave calls plan) attributes
   may_all [] own = tt
-  may_all (attribute.Coded name code ∷ rest) own = (subst (λ c. MayBeWoven free c plan) (sym own.0) may_be, may_all rest own.1)
+  may_all (attribute.Coded name code ∷ rest) own = (subst (λ c. MayBeWoven calls c plan) (sym own.0) may_be, may_all rest own.1)
   may_all (attribute.Constant name value ∷ rest) own = (tt, may_all rest own.1)
   may_all (attribute.Other raw ∷ rest) own = (tt, may_all rest own.1)
 
-  pub may_method : MayDo free (planned.Woven plan) m
+  pub may_method : MayDo calls (planned.Woven plan) m
   may_method = may_all m.attributes has.own
 
+  -- no holder holds a chain: the new items are those without chains
+  plain_items : chained calls has.code ins ≡ woven calls.free has.code ins
+  plain_items = chained_same calls has.code ins has.plain
+
+  plain_suits : Suits calls.free has.code ins
+  plain_suits = record { entry = fit.free; room = has.room; before = has.before }
+
+  plain_few : length (woven calls.free has.code ins) < MAX_NEW_ITEMS
+  plain_few = let same = ap length plain_items in omega (arith, few, same)
+
   -- a code that isn't too long can be woven
-  can_code : long_code free plan has.code ≡ None → CanWeave free has.code ins
+  can_code : long_code calls plan has.code ≡ None → CanWeave calls.free has.code ins
   can_code none = record {
     old_items = has.old_items;
     stack = low.stack;
-    suits = suits;
-    new_items = woven_is_laid_out free has.code ins has.old_items suits few;
-    short = subst (λ (items : List NewItem). laid_length has.code.items items ≤ MAX_CODE_BYTES) (items-is free has.code ins plan has.whole)
-        (within_limit (laid_length has.code.items (items_by free has.code plan)) (refused_length has.code.items (items_by free has.code plan)) none);
+    suits = plain_suits;
+    new_items = woven_is_laid_out calls.free has.code ins has.old_items plain_suits plain_few;
+    short = subst (λ (items : List NewItem). laid_length has.code.items items ≤ MAX_CODE_BYTES) (items-is calls has.code ins plan has.whole ∙ plain_items)
+        (within_limit (laid_length has.code.items (items_by calls has.code plan)) (refused_length has.code.items (items_by calls has.code plan)) none);
   }
 
-  can_all : (attributes : List MemberAttr) → AllByRecursion (IsOwnCode has.code) attributes → long_attributes free plan attributes ≡ None
-      → AllByRecursion (AttributeCan free ins) attributes
+  can_all : (attributes : List MemberAttr) → AllByRecursion (IsOwnCode has.code) attributes → long_attributes calls plan attributes ≡ None
+      → AllByRecursion (AttributeCan calls.free ins) attributes
   can_all [] own none = tt
   can_all (attribute.Coded name code ∷ rest) own none =
-      let here : long_code free plan code ≡ None = or_first (long_code free plan code) (long_attributes free plan rest) none in (
-        subst (λ c. CanWeave free c ins) (sym own.0) (can_code (ap (long_code free plan) (sym own.0) ∙ here)),
-        can_all rest own.1 (or_rest (long_code free plan code) (long_attributes free plan rest) none),
+      let here : long_code calls plan code ≡ None = or_first (long_code calls plan code) (long_attributes calls plan rest) none in (
+        subst (λ c. CanWeave calls.free c ins) (sym own.0) (can_code (ap (long_code calls plan) (sym own.0) ∙ here)),
+        can_all rest own.1 (or_rest (long_code calls plan code) (long_attributes calls plan rest) none),
       )
   can_all (attribute.Constant name value ∷ rest) own none = (tt, can_all rest own.1 none)
   can_all (attribute.Other raw ∷ rest) own none = (tt, can_all rest own.1 none)
 
-  pub can_method : long_method free (planned.Woven plan) m ≡ None → MethodCan free (Some ins) m
+  pub can_method : long_method calls (planned.Woven plan) m ≡ None → MethodCan calls.free (Some ins) m
   can_method none = can_all m.attributes has.own none
 
 -- ---- by what is to be done
 
-pub may_do : (o : Option Insertions) (d : Planned) (m : Member) → IsInserted o d m → is_low d m ≡ true → (free : ℕ) → FitsTwo free → MayDo free d m
-may_do None planned.Same m is low free fits = tt
-may_do None (planned.Woven plan) m is low free fits = absurd is
-may_do None (planned.TooLong bytes) m is low free fits = absurd is
-may_do (Some ins) planned.Same m is low free fits = absurd is
-may_do (Some ins) (planned.Woven plan) m is low free fits = may_method ins plan m is (low_in plan m is.code is.coded low) free fits
-may_do (Some ins) (planned.TooLong bytes) m is low free fits = absurd is
+pub may_do : (o : Option Insertions) (d : Planned) (m : Member) → IsInserted o d m → is_low d m ≡ true → (calls : Calls) → CallsFit calls → MayDo calls d m
+may_do None planned.Same m is low calls fit = tt
+may_do None (planned.Woven plan) m is low calls fit = absurd is
+may_do None (planned.TooLong bytes chains) m is low calls fit = absurd is
+may_do (Some ins) planned.Same m is low calls fit = absurd is
+may_do (Some ins) (planned.Woven plan) m is low calls fit = may_method ins plan m is (low_in plan m is.code is.coded low) calls fit
+may_do (Some ins) (planned.TooLong bytes chains) m is low calls fit = absurd is
 
-pub can_do : (o : Option Insertions) (d : Planned) (m : Member) → IsInserted o d m → is_low d m ≡ true → (free : ℕ) → FitsTwo free → long_method free d m ≡ None
-    → MethodCan free o m
-can_do None planned.Same m is low free fits none = tt
-can_do None (planned.Woven plan) m is low free fits none = absurd is
-can_do None (planned.TooLong bytes) m is low free fits none = absurd is
-can_do (Some ins) planned.Same m is low free fits none = absurd is
-can_do (Some ins) (planned.Woven plan) m is low free fits none = can_method ins plan m is (low_in plan m is.code is.coded low) free fits none
-can_do (Some ins) (planned.TooLong bytes) m is low free fits none = absurd is
+pub can_do : (o : Option Insertions) (d : Planned) (m : Member) → IsInserted o d m → is_low d m ≡ true → (calls : Calls) → CallsFit calls
+    → long_method calls d m ≡ None → MethodCan calls.free o m
+can_do None planned.Same m is low calls fit none = tt
+can_do None (planned.Woven plan) m is low calls fit none = absurd is
+can_do None (planned.TooLong bytes chains) m is low calls fit none = absurd is
+can_do (Some ins) planned.Same m is low calls fit none = absurd is
+can_do (Some ins) (planned.Woven plan) m is low calls fit none = can_method ins plan m is (low_in plan m is.code is.coded low) calls fit none
+can_do (Some ins) (planned.TooLong bytes chains) m is low calls fit none = absurd is
 
 -- it is what the definitions insert
 pub alike_do : (o : Option Insertions) (d : Planned) (m : Member) → IsInserted o d m → IsAlike o d m
 alike_do None planned.Same m is = tt
 alike_do None (planned.Woven plan) m is = absurd is
-alike_do None (planned.TooLong bytes) m is = absurd is
+alike_do None (planned.TooLong bytes chains) m is = absurd is
 alike_do (Some ins) planned.Same m is = absurd is
-alike_do (Some ins) (planned.Woven plan) m is = plans_in is.code ins plan is.whole m.attributes is.own
-alike_do (Some ins) (planned.TooLong bytes) m is = absurd is
+alike_do (Some ins) (planned.Woven plan) m is = (is.whole.plan_is, plans_in is.code ins plan is.whole m.attributes is.own)
+alike_do (Some ins) (planned.TooLong bytes chains) m is = absurd is
+
+-- no holder of it holds a chain
+pub plain_do : (o : Option Insertions) (d : Planned) (m : Member) → IsInserted o d m → chains_in d ≡ false
+plain_do None planned.Same m is = refl
+plain_do None (planned.Woven plan) m is = absurd is
+plain_do None (planned.TooLong bytes chains) m is = absurd is
+plain_do (Some ins) planned.Same m is = absurd is
+plain_do (Some ins) (planned.Woven plan) m is = plans_have_the_chains ins plan is.whole.plan_is ∙ is.plain
+plain_do (Some ins) (planned.TooLong bytes chains) m is = absurd is

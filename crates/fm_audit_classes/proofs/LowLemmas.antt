@@ -2,6 +2,7 @@
 use Rattle.std.proofs.Common.{◌≡◌, refl, sym, ◌∙◌, ap, ℕ, ◌≤◌, not, Bool, true, false, cond, length, Some, arith}
 use Rattle.std.specs.Prelude.{nat_lt}
 use Rattle.std.proofs.lemmas.Bool.{ltb-false}
+use Rattle.fm_chain.specs.declared.plans.ChainPlan.{ChainPlan}
 use Rattle.fm_code.specs.Members.{code_of}
 use Rattle.fm_code.specs.declared.class_file.Member.{Member}
 use Rattle.fm_code.specs.declared.code_array.Code.{Code}
@@ -29,5 +30,5 @@ low_code code plan is =
       }
 
 -- there is room in the code of a method
-pub low_in : (plan : Plan) (m : Member) (code : Code) → code_of m ≡ Some code → is_low (planned.Woven plan) m ≡ true → IsLow code plan
-low_in plan m code coded is = low_code code plan (sym (ap (is_low_in plan) coded) ∙ is)
+pub low_in : (plan : ChainPlan) (m : Member) (code : Code) → code_of m ≡ Some code → is_low (planned.Woven plan) m ≡ true → IsLow code plan.plan
+low_in plan m code coded is = low_code code plan.plan (sym (ap (is_low_in plan.plan) coded) ∙ is)

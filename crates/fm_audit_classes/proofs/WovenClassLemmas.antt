@@ -4,22 +4,25 @@ use Rattle.std.specs.Prelude.{is_some}
 use Rattle.std.specs.List.{AllByRecursion, list_any, range_with_len}
 use Rattle.std.specs.Option.{option_map}
 use Rattle.std.proofs.lemmas.Bool.{and_parts}
-use Rattle.fm_code.specs.Fits.{FitsTwo}
+use Rattle.fm_chain.proofs.WithoutChains.{class_same}
+use Rattle.fm_chain.specs.Chaining.{calls_for, plan_has_chain}
+use Rattle.fm_chain.specs.declared.calls.Calls.{Calls}
 use Rattle.fm_code.specs.Spells.{HasSpelling}
 use Rattle.fm_code.specs.declared.class_file.ClassDef.{ClassDef}
 use Rattle.fm_code.specs.declared.class_file.Member.{Member}
 use Rattle.fm_law_spelled.proofs.ClassSpelled.{changed_spelled}
 use Rattle.fm_law_spelled.specs.Changed.{IsShort, MethodsCan}
 use Rattle.fm_place.specs.Insertions.{Insertions}
-use Rattle.fm_place.specs.Rewriting.{free_index, Plans, rewritten_class, rewritten_from}
-use Rattle.fm_place_weave.proofs.ClassLawLemmas.{by_change, classes_are_rewritten, rewritten-is}
-use Rattle.fm_place_weave.specs.ClassByPlan.{class_by, first_long, long_method, MayDoAll}
+use Rattle.fm_place.specs.Rewriting.{Plans, rewritten_class, rewritten_from}
+use Rattle.fm_place_weave.proofs.ClassLawLemmas.{by_change, classes_are_chained, rewritten-is}
+use Rattle.fm_place_weave.specs.ClassByPlan.{class_by, first_long, has_chains, long_method, MayDoAll}
 use Rattle.fm_place_weave.specs.ClassLaws.{AreAlike}
 use Rattle.fm_place_weave.specs.declared.planned.Planned.{Planned}
 use Rattle.fm_place_weave.specs.declared.planned.Planned.TheVariants as planned
 use Rattle.fm_rewrite.proofs.ClassMeantLemmas.{or_first, or_rest}
+use Rattle.fm_rewrite.specs.Plans.{CallsFit}
 use Rattle.fm_rewrite.specs.inner.ByPlans.{changes_by, classes_by, is_changed, others, own, rewritten_by}
-use Rattle.fm_audit_classes.proofs.InsertedLemmas.{alike_do, can_do, may_do}
+use Rattle.fm_audit_classes.proofs.InsertedLemmas.{alike_do, can_do, may_do, plain_do}
 use Rattle.fm_audit_classes.specs.inner.Compared.{MayBeCompared, MayBeComparedEach}
 use Rattle.fm_audit_classes.specs.inner.Inserted.{AreAllInserted, AreInserted, IsInserted}
 use Rattle.fm_audit_classes.specs.inner.Low.{are_low, is_low}
@@ -39,13 +42,20 @@ alike_all plans first (d ∷ done) [] are = absurd are
 alike_all plans first (d ∷ done) (m ∷ methods) are = (alike_do (plans first) d m are.0, alike_all plans (first + 1) done methods are.1)
 
 pub may_all : (plans : Plans) (first : ℕ) (done : List Planned) (methods : List Member) → AreInserted plans first done methods → are_low done methods ≡ true
-    → (free : ℕ) → FitsTwo free → MayDoAll free done methods
-may_all plans first [] [] are low free fits = tt
-may_all plans first [] (m ∷ methods) are low free fits = absurd are
-may_all plans first (d ∷ done) [] are low free fits = absurd are
-may_all plans first (d ∷ done) (m ∷ methods) are low free fits =
+    → (calls : Calls) → CallsFit calls → MayDoAll calls done methods
+may_all plans first [] [] are low calls fit = tt
+may_all plans first [] (m ∷ methods) are low calls fit = absurd are
+may_all plans first (d ∷ done) [] are low calls fit = absurd are
+may_all plans first (d ∷ done) (m ∷ methods) are low calls fit =
     let lows = and_parts (is_low d m) (are_low done methods) low in
-    (may_do (plans first) d m are.0 lows.0 free fits, may_all plans (first + 1) done methods are.1 lows.1 free fits)
+    (may_do (plans first) d m are.0 lows.0 calls fit, may_all plans (first + 1) done methods are.1 lows.1 calls fit)
+
+pub plain_all : (plans : Plans) (first : ℕ) (done : List Planned) (methods : List Member) → AreInserted plans first done methods → has_chains done ≡ false
+plain_all plans first [] [] are = refl
+plain_all plans first [] (m ∷ methods) are = absurd are
+plain_all plans first (d ∷ done) [] are = absurd are
+plain_all plans first (d ∷ done) (m ∷ methods) are =
+    λ k. plain_do (plans first) d m are.0 k || plain_all plans (first + 1) done methods are.1 k
 
 -- what there may be of a place and a length
 abbrev placed : ℕ → Option ℕ → Option (ℕ × ℕ)
@@ -56,16 +66,16 @@ none_placed n None none = refl
 none_placed n (Some bytes) none = absurd cc
 
 can_all : (plans : Plans) (first : ℕ) (done : List Planned) (methods : List Member) → AreInserted plans first done methods → are_low done methods ≡ true
-    → (free n : ℕ) → FitsTwo free → first_long free n done methods ≡ None → MethodsCan plans free first methods
-can_all plans first [] [] are low free n fits none = tt
-can_all plans first [] (m ∷ methods) are low free n fits none = absurd are
-can_all plans first (d ∷ done) [] are low free n fits none = absurd are
-can_all plans first (d ∷ done) (m ∷ methods) are low free n fits none =
-    let here = placed n (long_method free d m) in
-    let rest = first_long free (n + 1) done methods in
+    → (calls : Calls) (n : ℕ) → CallsFit calls → first_long calls n done methods ≡ None → MethodsCan plans calls.free first methods
+can_all plans first [] [] are low calls n fit none = tt
+can_all plans first [] (m ∷ methods) are low calls n fit none = absurd are
+can_all plans first (d ∷ done) [] are low calls n fit none = absurd are
+can_all plans first (d ∷ done) (m ∷ methods) are low calls n fit none =
+    let here = placed n (long_method calls d m) in
+    let rest = first_long calls (n + 1) done methods in
     let lows = and_parts (is_low d m) (are_low done methods) low in (
-      can_do (plans first) d m are.0 lows.0 free fits (none_placed n (long_method free d m) (or_first here rest none)),
-      can_all plans (first + 1) done methods are.1 lows.1 free (n + 1) fits (or_rest here rest none),
+      can_do (plans first) d m are.0 lows.0 calls fit (none_placed n (long_method calls d m) (or_first here rest none)),
+      can_all plans (first + 1) done methods are.1 lows.1 calls (n + 1) fit (or_rest here rest none),
     )
 
 -- ---- changed or not
@@ -73,10 +83,10 @@ can_all plans first (d ∷ done) (m ∷ methods) are low free n fits none =
 changed_do : (o : Option Insertions) (d : Planned) (m : Member) → IsInserted o d m → is_changed d ≡ is_some o
 changed_do None planned.Same m is = refl
 changed_do None (planned.Woven plan) m is = absurd is
-changed_do None (planned.TooLong bytes) m is = absurd is
+changed_do None (planned.TooLong bytes chains) m is = absurd is
 changed_do (Some ins) planned.Same m is = absurd is
 changed_do (Some ins) (planned.Woven plan) m is = refl
-changed_do (Some ins) (planned.TooLong bytes) m is = absurd is
+changed_do (Some ins) (planned.TooLong bytes chains) m is = absurd is
 
 changed_all : (plans : Plans) (first : ℕ) (done : List Planned) (methods : List Member) → AreInserted plans first done methods
     → changes_by done ≡ list_any (λ method. is_some (plans method)) (range_with_len first (length methods))
@@ -88,10 +98,13 @@ changed_all plans first (d ∷ done) (m ∷ methods) are =
 
 -- ---- the class
 
-module _ (plans : Plans) (first : ℕ) (done : List Planned) (c : ClassDef) (are : AreInserted plans first done c.methods) where
+module _ (plans : Plans) (plain : (method : ℕ) → plan_has_chain (plans method) ≡ false) (first : ℕ) (done : List Planned) (c : ClassDef)
+    (are : AreInserted plans first done c.methods) where
   -- a changed class is the rewritten one
   changed_class : changes_by done ≡ true → class_by done c ≡ rewritten_class plans first c
-  changed_class is = classes_are_rewritten plans first done c (alike_all plans first done c.methods are) (sym (changed_all plans first done c.methods are) ∙ is)
+  changed_class is =
+      classes_are_chained plans first done c (alike_all plans first done c.methods are) (sym (changed_all plans first done c.methods are) ∙ is)
+      ∙ class_same plans plain first c
 
   -- and so is each class
   pub class_is : rewritten_by done c ≡ rewritten_class plans first c
@@ -105,26 +118,29 @@ module _ (plans : Plans) (first : ℕ) (done : List Planned) (c : ClassDef) (are
   may_be_compared spelled short = record {
     one_each = one_each plans first done c.methods are;
     spelled = spelled;
+    plain = plain_all plans first done c.methods are;
     may = λ low. may_all plans first done c.methods are low;
     woven = λ low changed fits few none.
         let is : class_by done c ≡ by_change plans first c true =
         changed_class changed ∙ rewritten-is plans first c ∙ ap (by_change plans first c) (sym (changed_all plans first done c.methods are) ∙ changed) in
         subst HasSpelling (sym is)
-        (changed_spelled plans first c spelled short few (can_all plans first done c.methods are low (free_index c) 0 fits none));
+        (changed_spelled plans first c spelled short few
+        (can_all plans first done c.methods are low (calls_for false c.pool.entries) 0 (record { free = fits; link = omega arith; free_chain = omega arith }) none));
   }
 
 -- ---- all classes
 
-pub classes_are : (plans : Plans) (first : ℕ) (done : List Planned) (classes : List ClassDef) → AreAllInserted plans first done classes
-    → classes_by done classes ≡ rewritten_from plans first classes
-classes_are plans first done [] are = refl
-classes_are plans first done (c ∷ classes) are =
-    λ k. class_is plans first (own c done) c are.0 k ∷ classes_are plans (first + length c.methods) (others c done) classes are.1 k
+module _ (plans : Plans) (plain : (method : ℕ) → plan_has_chain (plans method) ≡ false) where
+  pub classes_are : (first : ℕ) (done : List Planned) (classes : List ClassDef) → AreAllInserted plans first done classes
+      → classes_by done classes ≡ rewritten_from plans first classes
+  classes_are first done [] are = refl
+  classes_are first done (c ∷ classes) are =
+      λ k. class_is plans plain first (own c done) c are.0 k ∷ classes_are (first + length c.methods) (others c done) classes are.1 k
 
-pub may_be_compared_each : (plans : Plans) (first : ℕ) (done : List Planned) (classes : List ClassDef) → AllByRecursion HasSpelling classes
-    → AllByRecursion IsShort classes → AreAllInserted plans first done classes → MayBeComparedEach done classes
-may_be_compared_each plans first done [] spelled short are = tt
-may_be_compared_each plans first done (c ∷ classes) spelled short are = (
-  may_be_compared plans first (own c done) c are.0 spelled.0 short.0,
-  may_be_compared_each plans (first + length c.methods) (others c done) classes spelled.1 short.1 are.1,
-)
+  pub may_be_compared_each : (first : ℕ) (done : List Planned) (classes : List ClassDef) → AllByRecursion HasSpelling classes
+      → AllByRecursion IsShort classes → AreAllInserted plans first done classes → MayBeComparedEach done classes
+  may_be_compared_each first done [] spelled short are = tt
+  may_be_compared_each first done (c ∷ classes) spelled short are = (
+    may_be_compared plans plain first (own c done) c are.0 spelled.0 short.0,
+    may_be_compared_each (first + length c.methods) (others c done) classes spelled.1 short.1 are.1,
+  )

@@ -13,7 +13,7 @@ use crate::others::{first_other, not_safe};
 use fm_audit::Part;
 use fm_base::{MethodId, NoMemory};
 use fm_code::ClassDef;
-use fm_place_weave::{FreePool, Planned, WeaveFail, woven_class};
+use fm_place_weave::{Planned, WeaveFail, pool_for, woven_class};
 use fm_pool::AddFail;
 use fm_write::write_class;
 use std::alloc::Global;
@@ -95,7 +95,7 @@ fn is_woven(
     if !are_low(planned, &class.methods) {
         return Ok(false);
     }
-    let pool = match FreePool::of(alloc, class) {
+    let pool = match pool_for(alloc, class, false) {
         Ok(pool) => pool,
         Err(AddFail::Full(_)) => return Ok(false),
         Err(AddFail::NoMemory) => return Err(NoMemory),

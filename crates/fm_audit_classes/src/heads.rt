@@ -6,7 +6,7 @@ ghost use Rattle.fm_code.specs.Spells.{HasSpelling};
 
 use fm_base::NoMemory;
 use fm_code::{ClassDef, Member, MemberAttr};
-use fm_place_weave::FreePool;
+use fm_place_weave::pool_for;
 use fm_pool::AddFail;
 use std::alloc::Global;
 
@@ -57,7 +57,7 @@ fn is_class_of(alloc: Global, class: &ClassDef, written: &ClassDef) -> Result<bo
 fn has_pool_of(alloc: Global, class: &ClassDef, written: &ClassDef) -> Result<bool, NoMemory>
     requires { HasSpelling class.now }
 {
-    match FreePool::of(alloc, class) {
+    match pool_for(alloc, class, false) {
         Ok(made) => Ok(made.pool == written.pool),
         Err(AddFail::Full(_)) => Ok(false),
         Err(AddFail::NoMemory) => Err(NoMemory),

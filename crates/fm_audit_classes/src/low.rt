@@ -30,10 +30,10 @@ pub(crate) fn is_low(planned: &Planned, method: &Member) -> bool
 {
     match planned {
         Planned::Woven(plan) => match method.code() {
-            Some(code) => is_low_code(code, plan),
+            Some(code) => is_low_code(code, &plan.plan),
             None => true,
         },
-        Planned::Same | Planned::TooLong(_) => true,
+        Planned::Same | Planned::TooLong(..) => true,
     }
 }
 

@@ -12,7 +12,7 @@ use crate::error::AuditFail;
 use fm_audit::{NewCode, Part};
 use fm_base::{ClassId, NoMemory};
 use fm_code::{ClassDef, Member};
-use fm_place_weave::FreePool;
+use fm_place_weave::pool_for;
 use fm_pool::AddFail;
 use std::alloc::Global;
 
@@ -52,8 +52,8 @@ pub(crate) fn new_codes<'a>(
 fn free_of(alloc: Global, class: &ClassDef) -> Result<u16, NoMemory>
     requires { HasSpelling class.now }
 {
-    match FreePool::of(alloc, class) {
-        Ok(pool) => Ok(pool.free),
+    match pool_for(alloc, class, false) {
+        Ok(pool) => Ok(pool.calls.free),
         Err(AddFail::Full(_)) => Ok(0),
         Err(AddFail::NoMemory) => Err(NoMemory),
     }

@@ -10,7 +10,7 @@ use crate::low::{are_low, is_low};
 use fm_audit::Part;
 use fm_base::{ClassId, MethodId, NoMemory};
 use fm_code::{ClassDef, Member};
-use fm_place_weave::{FreePool, Planned, WeaveFail, woven_class};
+use fm_place_weave::{Planned, WeaveFail, pool_for, woven_class};
 use fm_pool::AddFail;
 use std::alloc::Global;
 
@@ -30,7 +30,7 @@ pub(crate) fn first_other(
     if !are_low(planned, &class.methods) {
         return Ok(first_high(planned, &class.methods));
     }
-    let pool = match FreePool::of(alloc, class) {
+    let pool = match pool_for(alloc, class, false) {
         Ok(pool) => pool,
         Err(AddFail::Full(_)) => return Ok(None),
         Err(AddFail::NoMemory) => return Err(NoMemory),

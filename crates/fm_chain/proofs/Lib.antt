@@ -1,6 +1,7 @@
 pub mod SearchLemmas
 pub mod LoopLemmas
 pub mod EntriesLemmas
+pub mod ChainEntriesAdded
 pub mod PlanLemmas
 pub mod PlanLaws
 pub mod Replaced

@@ -74,7 +74,7 @@ flags_found code (p ∷ pairs) row n is = ⊎_elim (one_found (is_looped code p.
 
 -- ---- pairs by holders
 
-paired_found : (x : ℕ) (hs : List ℕ) (p : ℕ × ℕ) → Contains (map (λ h. (x, h)) hs) p → (p.0 ≡ x) × Contains hs p.1
+pub paired_found : (x : ℕ) (hs : List ℕ) (p : ℕ × ℕ) → Contains (map (λ h. (x, h)) hs) p → (p.0 ≡ x) × Contains hs p.1
 paired_found x [] p (i, inside, there) = absurd (omega arith)
 paired_found x (h ∷ hs) p found =
     ⊎_elim (λ (same : p ≡ (x, h)). (ap (λ (q : ℕ × ℕ). q.0) same, Contains-first h hs p.1 (ap (λ (q : ℕ × ℕ). q.1) same)))

@@ -1,7 +1,7 @@
 -- Where no holder holds a chain, what is written is what is written without chains; and all that can be inserted is safe.
 use Rattle.std.proofs.Common.{◌≡◌, ℕ, zero, suc, ◌+◌, ◌*◌, ◌||◌, ◌++◌, Bool, true, false, cond, List, [], ◌∷◌, length, map, replicate, Option, Some, None, refl, ap, ◌∙◌, arith}
 use Rattle.std.specs.Prelude.{slice_get}
-use Rattle.std.specs.List.{flat_map, list_any, range_with_len, sum}
+use Rattle.std.specs.List.{AllByRecursion, flat_map, list_any, range_with_len, sum}
 use Rattle.fm_base.proofs.TestFacts.{or_left_fails, or_right_fails}
 use Rattle.fm_code.specs.FreeEntries.{with_free}
 use Rattle.fm_code.specs.Members.{code_of}
@@ -31,11 +31,16 @@ use Rattle.fm_chain.specs.declared.calls.Calls.{Calls}
 
 -- ---- holders
 
-none_in : (holders : List Holder) (number : ℕ) → list_any (λ (h : Holder). h.looped) holders ≡ false → holds_chain (slice_get holders number) ≡ false
+pub none_in : (holders : List Holder) (number : ℕ) → list_any (λ (h : Holder). h.looped) holders ≡ false → holds_chain (slice_get holders number) ≡ false
 none_in [] zero none = refl
 none_in [] (suc number) none = refl
 none_in (h ∷ holders) zero none = or_left_fails h.looped (list_any (λ (g : Holder). g.looped) holders) none
 none_in (h ∷ holders) (suc number) none = none_in holders number (or_right_fails h.looped (list_any (λ (g : Holder). g.looped) holders) none)
+
+-- so it is where each flag is unset
+pub none_looped : (holders : List Holder) → AllByRecursion (λ (h : Holder). h.looped ≡ false) holders → list_any (λ (h : Holder). h.looped) holders ≡ false
+none_looped [] all = refl
+none_looped (h ∷ holders) all = λ k. all.0 k || none_looped holders all.1 k
 
 -- ---- one code
 
@@ -82,7 +87,7 @@ module _ (calls : Calls) (code : Code) (plan : Insertions) (none : has_chain pla
   items_same anchors j [] = refl
   items_same anchors j (item ∷ items) = λ k. item_same anchors j item.insn k ++ items_same anchors (j + 1) items k
 
-  chained_same : chained calls code plan ≡ woven calls.free code plan
+  pub chained_same : chained calls code plan ≡ woven calls.free code plan
   chained_same =
       λ k. flat_map (λ h. null_stored (local_of code h)) (range_with_len 0 (length plan.holders)) ++ items_same (anchors_same k) 0 code.items k
 
@@ -124,14 +129,14 @@ module _ (plans : Plans) (none : (method : ℕ) → plan_has_chain (plans method
   none_among first zero = refl
   none_among first (suc n) = ap (λ b. b || list_any (λ method. plan_has_chain (plans method)) (range_with_len (first + 1) n)) (none first) ∙ none_among (first + 1) n
 
-  class_none : (first : ℕ) (c : ClassDef) → class_has_chain plans first c ≡ false
+  pub class_none : (first : ℕ) (c : ClassDef) → class_has_chain plans first c ≡ false
   class_none first c = none_among first (length c.methods)
 
   -- the entries of a class without chains
-  abbrev plain_calls : ClassDef → Calls
+  abbrev pub plain_calls : ClassDef → Calls
   plain_calls c = calls_for false c.pool.entries
 
-  calls_same : (first : ℕ) (c : ClassDef) → class_calls plans first c ≡ plain_calls c
+  pub calls_same : (first : ℕ) (c : ClassDef) → class_calls plans first c ≡ plain_calls c
   calls_same first c = ap (λ b. calls_for b c.pool.entries) (class_none first c)
 
   methods_same : (calls : Calls) (first : ℕ) (methods : List Member) → chained_methods plans calls first methods ≡ rewritten_methods plans calls.free first methods
@@ -163,7 +168,7 @@ module _ (plans : Plans) (none : (method : ℕ) → plan_has_chain (plans method
         methods = methods_same (plain_calls c) first c.methods k;
       })
 
-  class_same : (first : ℕ) (c : ClassDef) → chained_class plans first c ≡ rewritten_class plans first c
+  pub class_same : (first : ℕ) (c : ClassDef) → chained_class plans first c ≡ rewritten_class plans first c
   class_same first c = by_test (changes plans first c) where
     by_test : (b : Bool) → cond b (changed_class plans first c) c ≡ by_change first c b
     by_test false = refl

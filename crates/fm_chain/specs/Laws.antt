@@ -1,9 +1,16 @@
 -- What follows of the definitions.
-use Rattle.std.specs.Prelude.{◌≡◌, ℕ, ◌+◌, ◌<◌, ◌≤◌, false, List, length, Option, Some, Contains, slice_get}
+use Rattle.std.specs.Prelude.{◌≡◌, ℕ, ◌+◌, ◌<◌, ◌≤◌, ◌^◌, false, List, length, Option, Some, Contains, slice_get}
+use Rattle.std.specs.List.{AllByRecursion}
 use Rattle.fm_base.specs.declared.limits.TheConstants.{MAX_LOCAL_WORDS}
+use Rattle.fm_code.specs.ClassBytes.{pool_bytes}
+use Rattle.fm_code.specs.ConstantPool.{method_ref_at, SpellsPool}
 use Rattle.fm_code.specs.Fits.{FitsTwo}
+use Rattle.fm_code.specs.FreeEntries.{free_method, sought_free}
+use Rattle.fm_code.specs.Profile.{EntryIsSupported}
 use Rattle.fm_code.specs.declared.class_file.ClassDef.{ClassDef}
 use Rattle.fm_code.specs.declared.code_array.Code.{Code}
+use Rattle.fm_code.specs.declared.constant_pool.Entry.{Entry}
+use Rattle.fm_code.specs.declared.constant_pool.Pool.{Pool}
 use Rattle.fm_layout.specs.Conditions.{AreNewItems, AreOldItems}
 use Rattle.fm_layout.specs.Laid.{laid_of}
 use Rattle.fm_layout.specs.Tables.{AreAnchors}
@@ -13,6 +20,7 @@ use Rattle.fm_place.specs.PlansBy.{IsPlanOf}
 use Rattle.fm_place.specs.declared.plans.Plan.{Plan}
 use Rattle.fm_place.specs.Rewriting.{marks_with, Plans, rewritten}
 use Rattle.fm_place.specs.Woven.{woven_code, woven_marks}
+use Rattle.fm_chain.specs.ChainEntries.{chain_method, link_method, sought_chain, sought_link, with_chains}
 use Rattle.fm_chain.specs.Chained.{anchors_of, chained, chained_code, chained_marks, has_chain}
 use Rattle.fm_chain.specs.Chaining.{chained_classes, chained_marks_with, plan_has_chain}
 use Rattle.fm_chain.specs.Planned.{chain_flags, IsChainPlanOf}
@@ -78,3 +86,25 @@ ChainPlansAreLooped =
 -- a plan has a holder of a chain where its insertions have one
 abbrev pub PlansHaveTheChains : Type 0
 PlansHaveTheChains = (insertions : Insertions) (p : ChainPlan) → IsChainPlanOf insertions p → planned.has_chain p ≡ has_chain insertions
+
+-- ---- pools
+
+-- with the entries that were missing the three indices name the methods of FreeMe
+pub record AreNamed (entries : List Entry) : Type 0 where
+  pub free : method_ref_at (with_chains entries) (sought_free entries).index ≡ Some free_method
+  pub link : method_ref_at (with_chains entries) (sought_link entries).index ≡ Some link_method
+  pub free_chain : method_ref_at (with_chains entries) (sought_chain entries).index ≡ Some chain_method
+
+-- so they do in each pool
+abbrev pub CallsAreNamed : Type 0
+CallsAreNamed = (entries : List Entry) → AreNamed entries
+
+-- none of them is of a sort that isn't supported
+abbrev pub EntriesAreSupported : Type 0
+EntriesAreSupported = (entries : List Entry) → AllByRecursion EntryIsSupported entries → AllByRecursion EntryIsSupported (with_chains entries)
+
+-- some bytes spell the pool with them, where it has room (JVMS 4.1)
+abbrev pub PoolsAreSpelled : Type 0
+PoolsAreSpelled =
+    (pool : Pool) → SpellsPool (pool_bytes pool) pool → length (with_chains pool.entries) < 2 ^ 16
+    → SpellsPool (pool_bytes (record { entries = with_chains pool.entries })) (record { entries = with_chains pool.entries })

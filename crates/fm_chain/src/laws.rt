@@ -5,7 +5,7 @@ ghost use Rattle.std.specs.List.{flat_map, range_with_len};
 ghost use Rattle.fm_chain.specs.Chained.{chained};
 ghost use Rattle.fm_chain.specs.Chaining.{chained_classes};
 ghost use Rattle.fm_chain.specs.ChainsExample.{list_calls, list_class, list_code, list_items, list_plan, list_plans, list_read, list_written};
-ghost use Rattle.fm_chain.specs.Laws.{ChainedAnchorsAreAnchors, ChainedIsLaidOut, ChainPlansAreLooped, ClassesAreRewritten, CodesAreWoven, FullChainsAreSafe, PlansHaveTheChains};
+ghost use Rattle.fm_chain.specs.Laws.{CallsAreNamed, ChainedAnchorsAreAnchors, ChainedIsLaidOut, ChainPlansAreLooped, ClassesAreRewritten, CodesAreWoven, EntriesAreSupported, FullChainsAreSafe, PlansHaveTheChains, PoolsAreSpelled};
 ghost use Rattle.fm_chain.specs.Loops.{LoopsAreByPaths, is_looped};
 ghost use Rattle.fm_chain.specs.LoopsExample.{retrying_code};
 ghost use Rattle.fm_chain.specs.SafeChains.{with_loops};
@@ -49,6 +49,14 @@ pub fn law_plans()
 /// what `SafeChains` names.
 pub fn law_full()
     ensures { FullChainsAreSafe }
+{}
+
+/// The entries of the methods of FreeMe name them in the pool that they are put into; each entry is supported, and
+/// some bytes spell the pool.
+pub fn law_entries()
+    ensures named { CallsAreNamed }
+    ensures supported { EntriesAreSupported }
+    ensures spelled { PoolsAreSpelled }
 {}
 
 /// A main that puts a thousand nodes before a list, gone over by hand: which items lie in its loop, the

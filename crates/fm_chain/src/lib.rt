@@ -15,7 +15,7 @@ mod plans;
 pub use calls::Calls;
 pub use entries::ChainPool;
 pub use laws::{
-    law_chains_example, law_example, law_full, law_laid_out, law_loops, law_plans,
+    law_chains_example, law_entries, law_example, law_full, law_laid_out, law_loops, law_plans,
     law_without_chains,
 };
 pub use loops::looped;

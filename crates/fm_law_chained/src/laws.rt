@@ -1,5 +1,6 @@
 // Laws of the definitions, each as the contract of a function that does nothing.
 
+ghost use Rattle.fm_law_chained.specs.Called.{ChainsFault, ChainsFree, LinksFault, LinksJoin, LinksPassOver};
 ghost use Rattle.fm_law_chained.specs.Laws.{ChainingKeepsPaired, ChainsAreFreed, ChainsAreLinked, ChainsAreWalked, ChainsStayLinked, LinksStay};
 
 /// The walk from the first cell of a chain finds the cells of all its objects, each once.
@@ -25,4 +26,19 @@ pub fn law_paired()
 /// frames stay paired, just the objects of the chain are gone, and all others stay where they are.
 pub fn law_freed()
     ensures { ChainsAreFreed }
+{}
+
+/// A step that calls FreeMe.link returns the chain where the other operand is null or lives for ever; it puts an
+/// object that may be freed before the chain, and returns that; and it ends in a fault at a cell that isn't held.
+pub fn law_link_called()
+    ensures passed { LinksPassOver }
+    ensures joined { LinksJoin }
+    ensures lost { LinksFault }
+{}
+
+/// A step that calls FreeMe.freeChain frees all cells that the walk along the chain finds, or ends in a fault at the
+/// first one where it finds none.
+pub fn law_chain_called()
+    ensures freed { ChainsFree }
+    ensures lost { ChainsFault }
 {}

@@ -5,4 +5,4 @@
 
 mod laws;
 
-pub use laws::{law_freed, law_linked, law_paired, law_walked};
+pub use laws::{law_chain_called, law_freed, law_link_called, law_linked, law_paired, law_walked};

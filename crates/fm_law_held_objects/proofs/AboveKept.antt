@@ -137,7 +137,7 @@ module _ (p : Program) (facts : Facts) (exact : AreFacts p facts) (ready : IsRes
   kept =
       let went = step_went p facts exact (holds_numbers p ready) choose z f callers stand covers s done in
       subst (λ (a : Areas). KeepsObjects z.areas.store a.store) (sym (done_areas p (lawful choose) z f callers s done))
-      (λ cell object held. let now = went.extends.kept cell object held in (now.now, now.is, now.birth, now.fixed))
+      (λ cell object held. let now = went.extends.kept cell object held in (now.now, now.is, now.birth, now.fixed, now.chain))
 
   abbrev acted : State
   acted = record y { areas = done.areas; input = done.input; steps = done.steps }

@@ -1,7 +1,6 @@
 -- A frame frees several holders, one after the other.
-use Rattle.std.proofs.Common.{◌≡◌, ◌+◌, ℕ, suc, List, [], ◌∷◌, ◌++◌, length, map, None, refl, ◌∙◌, subst, inl, inr, arith, slice_set, ⊎_elim}
+use Rattle.std.proofs.Common.{◌≡◌, ◌+◌, ℕ, List, [], ◌∷◌, ◌++◌, length, map, refl, ◌∙◌, subst, inl, inr, arith, slice_set, ⊎_elim}
 use Rattle.std.proofs.lemmas.List.{length-set}
-use Rattle.fm_cells.specs.Stores.{object_at}
 use Rattle.fm_code.proofs.EdgesLemmas.{Contains-first, Contains-later}
 use Rattle.fm_code.specs.declared.code_array.Code.{Code}
 use Rattle.fm_frames.specs.Acts.{cell_of}
@@ -13,7 +12,7 @@ use Rattle.fm_law_held_objects.specs.Held.{AreHeld}
 use Rattle.fm_law_held_objects.specs.Laws.{AreThere, FreesKeepHeld, NothingIsLost}
 use Rattle.fm_law_sound.specs.Sound.{Typings}
 use Rattle.fm_law_two_memories.specs.Pairing.{AreasPaired, Gone}
-use Rattle.fm_law_unwoven.specs.Doing.{all_areas_after, all_locals_after, freed_from}
+use Rattle.fm_law_unwoven.specs.Doing.{all_areas_after, all_locals_after, freed_from, Misses}
 use Rattle.fm_law_unwoven.specs.Laid.{Todo, ToFree}
 use Rattle.fm_place.specs.Insertions.{Insertions}
 use Rattle.fm_place.specs.Woven.{local_of}
@@ -74,25 +73,23 @@ module _ (o : Outline) (typings : Typings) (x : State) (colour : Colour) (depth 
 
   none_lost : (hs : List ℕ) (gone : Gone) (y : Areas) → AreasPaired gone o x.areas y → AreThere plan hs → (locals : List Value) → Wide locals
       → AreHeld typings x colour depth y.store code plan locals
-      → (before : List Todo) (holder : ℕ) (behind : List Todo) → map ToFree hs ≡ before ++ ToFree holder ∷ behind
-      → (cell : ℕ) → cell_of (word_at (all_locals_after code stack before locals) (local_of code holder)) ≡ suc cell
-      → object_at (all_areas_after code stack before locals y).store (suc cell) ≡ None → ⊥
-  none_lost [] gone y paired there locals width had [] holder behind is cell cell_is lost = absurd (cc)
-  none_lost [] gone y paired there locals width had (t ∷ before) holder behind is cell cell_is lost = absurd (cc)
-  none_lost (h ∷ hs) gone y paired there locals width had [] holder behind is cell cell_is lost =
-      let same : holder ≡ h = cc in
+      → (before : List Todo) (todo : Todo) (behind : List Todo) → map ToFree hs ≡ before ++ todo ∷ behind
+      → Misses code (all_areas_after code stack before locals y) stack (all_locals_after code stack before locals) todo → ⊥
+  none_lost [] gone y paired there locals width had [] todo behind is misses = absurd (cc)
+  none_lost [] gone y paired there locals width had (t ∷ before) todo behind is misses = absurd (cc)
+  none_lost (h ∷ hs) gone y paired there locals width had [] todo behind is misses =
+      let same : todo ≡ ToFree h = cc in
       let found = there h (Contains-first h hs h refl) in
-      not_lost gone o typings x colour depth y paired code plan locals had width h found.0 found.1 hs cell
-      (subst (λ n. cell_of (word_at locals (local_of code n)) ≡ suc cell) same cell_is) lost
-  none_lost (h ∷ hs) gone y paired there locals width had (t ∷ before) holder behind is cell cell_is lost =
+      let lost : Misses code y stack locals (ToFree h) = subst (Misses code y stack locals) same misses in
+      not_lost gone o typings x colour depth y paired code plan locals had width h found.0 found.1 hs lost.0 lost.1 lost.2
+  none_lost (h ∷ hs) gone y paired there locals width had (t ∷ before) todo behind is misses =
       let same : t ≡ ToFree h = cc in
-      let others : map ToFree hs ≡ before ++ ToFree holder ∷ behind = cc in
+      let others : map ToFree hs ≡ before ++ todo ∷ behind = cc in
       let found = there h (Contains-first h hs h refl) in
       let first = one_free gone o typings x colour depth y paired code plan locals had width h found.0 found.1 hs in
       none_lost hs first.more (freed_from y (cell_of (word_at locals (local_of code h)))) first.paired (λ k among. there k (Contains-later h hs k among))
-      (slice_set locals (local_of code h) null) (nulled h locals width) first.held before holder behind others cell
-      (subst (λ u. cell_of (word_at (all_locals_after code stack (u ∷ before) locals) (local_of code holder)) ≡ suc cell) same cell_is)
-      (subst (λ u. object_at (all_areas_after code stack (u ∷ before) locals y).store (suc cell) ≡ None) same lost)
+      (slice_set locals (local_of code h) null) (nulled h locals width) first.held before todo behind others
+      (subst (λ u. Misses code (all_areas_after code stack (u ∷ before) locals y) stack (all_locals_after code stack (u ∷ before) locals) todo) same misses)
 
 pub frees_keep_held : FreesKeepHeld
 frees_keep_held gone o typings x colour depth y paired code plan g hs there width had =
@@ -100,4 +97,4 @@ frees_keep_held gone o typings x colour depth y paired code plan g hs there widt
 
 pub nothing_is_lost : NothingIsLost
 nothing_is_lost gone o typings x colour depth y paired code plan g hs there width had l =
-    none_lost o typings x colour depth code plan g.stack hs gone y paired there g.locals width had l.before l.holder l.behind l.is l.cell l.cell_is l.lost
+    none_lost o typings x colour depth code plan g.stack hs gone y paired there g.locals width had l.before l.todo l.behind l.is l.misses

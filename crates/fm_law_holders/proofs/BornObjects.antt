@@ -153,6 +153,7 @@ put_goes store x made cell place element (Some old) held went =
       class = refl;
       birth = refl;
       fixed = refl;
+      chain = refl;
       births = refl;
     } in
     subst (λ s. Went store (record x { store = s }) made) (sym (put_by-some x.store cell place element old held))

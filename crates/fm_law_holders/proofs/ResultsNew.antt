@@ -185,7 +185,7 @@ module _ (p : Program) (facts : Facts) (exact : AreFacts p facts) (numbers : Hol
         below = below;
         frames_are = frames_are;
         kept = subst (λ (a : Areas). KeepsObjects store a.store) (sym areas_are)
-            (λ cell object held. let now = extends.kept cell object held in (now.now, now.is, now.birth, now.fixed));
+            (λ cell object held. let now = extends.kept cell object held in (now.now, now.is, now.birth, now.fixed, now.chain));
         new = subst (λ (a : Areas). IsNew y colour known f depth a.store (cell_of result)) (sym areas_are) new.new;
         apart = λ after after_is.
             subst (λ t. IsApart facts t (behind (result ∷ below)) (cell_of result)) (same_Some here.next after (sym here.next_is ∙ after_is)) apart;

@@ -71,11 +71,11 @@ pub data IsNew (x : State) (colour : Colour) (known : TypeState) (f : Frame) (de
       → IsNew x colour known f depth later cell
   IsBuilt : IsUnbuilt known f cell → IsNew x colour known f depth later cell
 
--- each object that is held stays in its cell
+-- each object that is held stays in its cell, with its chain
 abbrev pub KeepsObjects : (store later : Store) → Type 0
 KeepsObjects store later =
     (cell : ℕ) (object : Object) → object_at store cell ≡ Some object
-    → (now : Object) × (object_at later cell ≡ Some now) × (now.birth ≡ object.birth) × (now.fixed ≡ object.fixed)
+    → (now : Object) × (object_at later cell ≡ Some now) × (now.birth ≡ object.birth) × (now.fixed ≡ object.fixed) × (now.chain ≡ object.chain)
 
 -- the frame, with this stack, at the item behind its own
 abbrev pub frame_behind : Frame → List Value → Frame

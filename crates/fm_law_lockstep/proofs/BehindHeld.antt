@@ -18,7 +18,7 @@ use Rattle.fm_law_held_objects.specs.Laws.{KeepingKeepsHeld}
 use Rattle.fm_law_holders.specs.Laws.{KeptResultsAreOwn, SitesGiveNew}
 use Rattle.fm_law_holders.specs.NewResults.{GoesOnBehind, HasNewResult, IsDone, IsReturnedTo, KeepsObjects}
 use Rattle.fm_law_lockstep.proofs.KeptHeld.{known_at, result, result_kept}
-use Rattle.fm_law_lockstep.proofs.OneKept.{one_kept, safe_holders}
+use Rattle.fm_law_unwoven.proofs.OneKept.{one_kept, safe_holders}
 use Rattle.fm_law_lockstep.proofs.Seen.{retired_is_unseen}
 use Rattle.fm_law_lockstep.proofs.StepHeld.{still_retired}
 use Rattle.fm_law_lockstep.proofs.Uncounted.{effect_counted}
@@ -140,7 +140,7 @@ module _ (b : Both) (from : IsWovenFrom b.one b.other b.facts b.plans b.marks) (
       safe_there : AllByRecursion (IsSafeHolder b.facts (typed_method b.one b.facts.typing there.f.method code)) (inserted_by (b.plans g.method)).holders
       safe_there =
           subst (λ m. AllByRecursion (IsSafeHolder b.facts (typed_method b.one b.facts.typing m code)) plan.holders) there.method
-          (safe_holders b from g.method code code_is)
+          (safe_holders b.one b.other b.facts b.plans b.marks from g.method code code_is)
 
       among : Contains (after_at (inserted_by (b.plans g.method)) there.f.item) only
       among = subst (λ hs. Contains hs only) (sym (ap (after_at plan) there.item ∙ is)) (Contains-first only [] only refl)
@@ -173,7 +173,7 @@ module _ (b : Both) (from : IsWovenFrom b.one b.other b.facts b.plans b.marks) (
     -- so it is of all holders of the item
     pub keeps_held : (was : WasAt b.one b.marks y.frames g below j) → GoesPast b.one b.marks y was.above (inserted_by (b.plans g.method)) j
         → HeldThen (after_at (inserted_by (b.plans g.method)) j)
-    keeps_held was past = by_past (goes_past g below j was past) (one_kept b from g.method code code_is j) where
+    keeps_held was past = by_past (goes_past g below j was past) (one_kept b.one b.other b.facts b.plans b.marks from g.method code code_is j) where
       by_past : (after_at (inserted_by (b.plans g.method)) j ≡ []) ⊎ GoesThere g below j
           → (after_at (inserted_by (b.plans g.method)) j ≡ []) ⊎ ((only : ℕ) × (after_at (inserted_by (b.plans g.method)) j ≡ only ∷ []))
           → HeldThen (after_at (inserted_by (b.plans g.method)) j)

@@ -26,6 +26,7 @@ use Rattle.fm_law_lockstep.proofs.BehindHeld.{keeps_held}
 use Rattle.fm_law_lockstep.proofs.FramesHeld.{frames_go, held_alike, held_below, holders_same, news_held, nulls_held, waits_held}
 use Rattle.fm_law_lockstep.proofs.FreedTogether.{BeforeFrees, freed_together, FreeLaws, nothing_lost, state_freed}
 use Rattle.fm_law_lockstep.proofs.NothingFreed.{FreesNothing}
+use Rattle.fm_law_lockstep.proofs.PlainTodos.{ahead_plain, plain_ahead}
 use Rattle.fm_law_lockstep.proofs.QuietTodos.{IsQuiet, keeps_quiet, lost_behind, quiet_areas, starts_quiet}
 use Rattle.fm_law_lockstep.proofs.StepHeld.{frees_nothing, limits_on, step_held, still_retired}
 use Rattle.fm_law_lockstep.specs.Both.{Both}
@@ -45,8 +46,8 @@ use Rattle.fm_law_unwoven.proofs.KeptSites.{safe_at}
 use Rattle.fm_law_unwoven.proofs.TodoLocals.{after_both, length_after, old_after}
 use Rattle.fm_law_unwoven.specs.Doing.{all_areas_after, all_locals_after, all_steps_to, IsPassed, with_frame}
 use Rattle.fm_law_unwoven.specs.Kept.{Begins, BeginsOn, FrameGoes, FramesGo, GoesBefore, GoesBehind, GoesByJump, HasWaited, InMethod, IsAtKept, IsNew, KeptStepsAreSteps, old_frame, Resumes, StatesGo, WasAt}
-use Rattle.fm_law_unwoven.specs.Laid.{keeps_at, starts_of, Todo, ToFree}
-use Rattle.fm_law_unwoven.specs.Reached.{AllReached, FramesReachKept, IsReached, jumps_ahead, OneMissed, Reached, state_reached, todos_ahead}
+use Rattle.fm_law_unwoven.specs.Laid.{starts_of, Todo, ToFree, ToKeep}
+use Rattle.fm_law_unwoven.specs.Reached.{AllReached, FramesReachKept, IsReached, jumps_ahead, OneMissed, Reached, state_reached}
 use Rattle.fm_law_unwoven.specs.WovenFrom.{inserted_by, IsWovenFrom}
 use Rattle.fm_place.specs.Insertions.{after_at, before_at, Holder, Insertions}
 use Rattle.fm_place.specs.Safe as safe
@@ -268,12 +269,12 @@ module _ (laws : CatchLaws) (b : Both) (from : IsWovenFrom b.one b.other b.facts
 
     abbrev Goes : FrameGoes b.one b.other b.facts b.plans b.marks y f g below → Type 0
     Goes top =
-        Reached b.one b.other b.facts b.plans b.marks (lawful second) following f g below (todos_ahead b.one b.other b.facts b.plans b.marks y f g below top)
+        Reached b.one b.other b.facts b.plans b.marks (lawful second) following f g below (plain_ahead b.one b.other b.facts b.plans b.marks y f g below top)
         (jumps_ahead b.one b.other b.facts b.plans b.marks y f g below top)
 
     pub onwards : (top : FrameGoes b.one b.other b.facts b.plans b.marks y f g below) → Goes top → CatchesUpAt b second next following
     onwards (InMethod j old old_is w was (GoesBehind past item behind) edge stands) r =
-        catches_up (keeps_at plan j) (keeps_quiet (after_at plan j)) (before_at plan f.item) 0 r (may_free r.code r.code_is r.number r.number_is)
+        catches_up (map ToKeep (after_at plan j)) (keeps_quiet (after_at plan j)) (before_at plan f.item) 0 r (may_free r.code r.code_is r.number r.number_is)
         (keeps_held b from linked first second x y t on going other_going within laws.new laws.own laws.keeping laws.fresh stand covers
         next_stand still.keeps f g callers below paired go.stack r.code r.code_is r.width (was_held j was r.code r.code_is x t.colour y.areas.store t.held)
         (was_cleaned j was r.code r.code_is) j was past)
@@ -304,9 +305,13 @@ module _ (laws : CatchLaws) (b : Both) (from : IsWovenFrom b.one b.other b.facts
   both_frames (f ∷ callers) [] news paired sound go = absurd go
   both_frames (f ∷ callers) (g ∷ below) news paired sound go =
       onwards f g callers below news paired go go.top
+      (subst (λ todos.
+      Reached b.one b.other b.facts b.plans b.marks (lawful second) following f g below todos
+      (jumps_ahead b.one b.other b.facts b.plans b.marks y f g below go.top))
+      (ahead_plain b.one b.other b.facts b.plans b.marks from y following.areas.store f g below go.top)
       (laws.reach b.one b.other b.facts b.plans b.marks from linked.without.steps second y following f g callers below go
       (record { typed = sound.typed; areas = sound.areas; frames = sound.frames; running = λ goes. omega arith; within = sound.within })
-      (subst (λ n. n ≤ MAX_LIVE_WORDS) (sym (step_budget b.other (lawful second) y)) t.kept.words))
+      (subst (λ n. n ≤ MAX_LIVE_WORDS) (sym (step_budget b.other (lawful second) y)) t.kept.words)))
 
 pub programs_catch_up : CatchLaws → ProgramsCatchUp
 programs_catch_up laws b from linked first second x y t on frames going other_going within paired sound go =

@@ -19,6 +19,7 @@ use Rattle.fm_frames.specs.declared.values.Value.{Value}
 use Rattle.fm_law_held_objects.proofs.Holdings.{nothing_of_null}
 use Rattle.fm_law_holders.specs.Holding.{HoldsFreeable}
 use Rattle.fm_law_lockstep.proofs.NothingFreed.{FreesNothing, nothing_freed}
+use Rattle.fm_law_lockstep.proofs.PlainTodos.{ahead_plain, plain_ahead}
 use Rattle.fm_law_lockstep.proofs.Paced.{at_kept, first_goes, first_printed, goes_along, inserted, is_kept, keeps_pace, reached, second_goes, second_goes_on, second_printed, want}
 use Rattle.fm_law_lockstep.proofs.Since.{FramesSince}
 use Rattle.fm_law_lockstep.proofs.StepHeld.{frees_nothing}
@@ -42,7 +43,7 @@ use Rattle.fm_law_two_memories.specs.Whole.{NextEffectsAreAlike}
 use Rattle.fm_law_unwoven.specs.Doing.{all_steps_to, IsPassed, with_frame}
 use Rattle.fm_law_unwoven.specs.Kept.{KeptStepsAreSteps, StatesGo}
 use Rattle.fm_law_unwoven.specs.Laid.{Todo}
-use Rattle.fm_law_unwoven.specs.Reached.{AllReached, FramesReachKept, IsReached, jumps_ahead, OneMissed, Reached, state_reached, todos_ahead}
+use Rattle.fm_law_unwoven.specs.Reached.{AllReached, FramesReachKept, IsReached, jumps_ahead, OneMissed, Reached, state_reached}
 use Rattle.fm_law_unwoven.specs.WovenFrom.{inserted_by, IsWovenFrom}
 use Rattle.fm_place.specs.Sites.{is_captured}
 use Rattle.fm_same.specs.Laws.{SitesMakeBusy}
@@ -292,14 +293,18 @@ module _ (b : Both) (from : IsWovenFrom b.one b.other b.facts b.plans b.marks) (
       x_still : FreesNothing x.areas next.areas
       x_still = nothing_freed laws.alike b.one b.facts.typing linked.without never_choice x t.goes_on t.known.whole.sound first_going
 
-      r : Reached b.one b.other b.facts b.plans b.marks (lawful choose) following f g below (todos_ahead b.one b.other b.facts b.plans b.marks y f g below go.top)
+      r : Reached b.one b.other b.facts b.plans b.marks (lawful choose) following f g below (plain_ahead b.one b.other b.facts b.plans b.marks y f g below go.top)
           (jumps_ahead b.one b.other b.facts b.plans b.marks y f g below go.top)
       r =
-          laws.reach b.one b.other b.facts b.plans b.marks from linked.without.steps choose y following f g callers below go
+          subst (λ todos.
+          Reached b.one b.other b.facts b.plans b.marks (lawful choose) following f g below todos
+          (jumps_ahead b.one b.other b.facts b.plans b.marks y f g below go.top))
+          (ahead_plain b.one b.other b.facts b.plans b.marks from y following.areas.store f g below go.top)
+          (laws.reach b.one b.other b.facts b.plans b.marks from linked.without.steps choose y following f g callers below go
           (record { typed = sound.typed; areas = sound.areas; frames = sound.frames; running = λ goes. omega arith; within = sound.within })
-          (subst (λ n. n ≤ MAX_LIVE_WORDS) (sym (step_budget b.other (lawful choose) y)) t.kept.words)
+          (subst (λ n. n ≤ MAX_LIVE_WORDS) (sym (step_budget b.other (lawful choose) y)) t.kept.words))
 
-      same : state_reached r.code following g below (todos_ahead b.one b.other b.facts b.plans b.marks y f g below go.top)
+      same : state_reached r.code following g below (plain_ahead b.one b.other b.facts b.plans b.marks y f g below go.top)
           (jumps_ahead b.one b.other b.facts b.plans b.marks y f g below go.top) r.number ≡ z
       same = there_is f g below news _ _ r
 

@@ -10,8 +10,8 @@ pub mod KeptCosts
 pub mod StepsTogether
 pub mod NothingFreed
 pub mod HeldTwins
-pub mod OneKept
 pub mod FramesHeld
+pub mod PlainTodos
 pub mod QuietTodos
 pub mod StepHeld
 pub mod KeptHeld

@@ -126,7 +126,7 @@ module _ (alike : NextEffectsAreAlike) (p : Program) (typings : Typings) (withou
     at_frame : FreesNothing z.areas later.areas
     at_frame = record {
       keeps = subst (λ (a : Areas). KeepsObjects z.areas.store a.store) (sym (done_areas p (lawful choose) z f callers later done))
-          (λ cell object held. let now = went.extends.kept cell object held in (now.now, now.is, now.birth, now.fixed));
+          (λ cell object held. let now = went.extends.kept cell object held in (now.now, now.is, now.birth, now.fixed, now.chain));
       old = subst (λ (a : Areas). OldWereThere z.areas.store a.store) (sym (done_areas p (lawful choose) z f callers later done)) went.old;
       words = ap (λ (a : Areas). a.freed_words) (done_areas p (lawful choose) z f callers later done) ∙ freed_same;
     }

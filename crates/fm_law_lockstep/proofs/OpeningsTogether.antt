@@ -20,6 +20,7 @@ use Rattle.fm_law_held_objects.specs.Held.{AreHeld, FrameIsHeld, FramesAreHeld}
 use Rattle.fm_law_lockstep.proofs.FramesHeld.{news_held, nulls_held}
 use Rattle.fm_law_lockstep.proofs.NullsFreed.{nulls_areas, nulls_not_lost}
 use Rattle.fm_law_lockstep.proofs.OpeningWords.{IsFresh, opening_fresh}
+use Rattle.fm_law_lockstep.proofs.PlainTodos.{ahead_plain, plain_ahead}
 use Rattle.fm_law_lockstep.proofs.QuietTodos.{starts_quiet}
 use Rattle.fm_law_lockstep.specs.Both.{Both}
 use Rattle.fm_law_lockstep.specs.Known.{IsKnown, IsLinked}
@@ -44,8 +45,8 @@ use Rattle.fm_law_unwoven.proofs.KeptSites.{safe_at}
 use Rattle.fm_law_unwoven.proofs.TodoLocals.{after_both, length_after, null_after, old_after}
 use Rattle.fm_law_unwoven.specs.Doing.{all_areas_after, all_locals_after, all_steps_to, IsPassed, with_frame}
 use Rattle.fm_law_unwoven.specs.Kept.{Begins, BeginsOn, BothDo, BothFault, but_frames, FrameGoes, FramesGo, HasWaited, InMethod, IsAtKept, IsNew, old_frame, old_state, OpeningsAreOpenings, Resumes, StatesGo, StepsAlike}
-use Rattle.fm_law_unwoven.specs.Laid.{frees_at, starts_of, Todo}
-use Rattle.fm_law_unwoven.specs.Reached.{AllReached, FramesReachKept, IsReached, jumps_ahead, OneMissed, Reached, state_reached, todos_ahead}
+use Rattle.fm_law_unwoven.specs.Laid.{starts_of, Todo, ToFree}
+use Rattle.fm_law_unwoven.specs.Reached.{AllReached, FramesReachKept, IsReached, jumps_ahead, OneMissed, Reached, state_reached}
 use Rattle.fm_law_unwoven.specs.WovenFrom.{inserted_by, IsWovenFrom}
 use Rattle.fm_law_unwoven.proofs.Cleared.{none_at_first}
 use Rattle.fm_place.specs.Insertions.{before_at, Holder, Insertions}
@@ -197,12 +198,12 @@ module _ (laws : OpeningLaws) (b : Both) (from : IsWovenFrom b.one b.other b.fac
 
     module _ (go : FramesGo b.one b.other b.facts b.plans b.marks (but_frames z) f g callers below) (first_item : f.item ≡ 0)
         (news : AllByRecursion (λ (h : Frame). h.item ≡ 0) below)
-        (r : Reached b.one b.other b.facts b.plans b.marks (lawful second) z f g below (starts_of plan ++ frees_at plan f.item) 0) where
+        (r : Reached b.one b.other b.facts b.plans b.marks (lawful second) z f g below (starts_of plan ++ map ToFree (before_at plan f.item)) 0) where
       abbrev x_method : TypedMethod
       x_method = typed_method b.one b.facts.typing g.method r.code
 
       abbrev todos : List Todo
-      todos = starts_of plan ++ frees_at plan f.item
+      todos = starts_of plan ++ map ToFree (before_at plan f.item)
 
       abbrev started_locals : List Value
       started_locals = all_locals_after r.code g.stack (starts_of plan) g.locals
@@ -234,7 +235,7 @@ module _ (laws : OpeningLaws) (b : Both) (from : IsWovenFrom b.one b.other b.fac
 
       null_then : (h : ℕ) → h < length plan.holders → word_at top.locals (local_of r.code h) ≡ null
       null_then h few =
-          ap (λ ls. word_at ls (local_of r.code h)) (after_both r.code g.stack (starts_of plan) (frees_at plan f.item) g.locals)
+          ap (λ ls. word_at ls (local_of r.code h)) (after_both r.code g.stack (starts_of plan) (map ToFree (before_at plan f.item)) g.locals)
           ∙ null_after r.code g.stack h (before_at plan f.item) started_locals (inside h few) (all_null h few)
 
       top_held : FrameIsHeld b.one b.facts b.plans b.marks x colour (length below) z.areas.store top
@@ -322,7 +323,7 @@ module _ (laws : OpeningLaws) (b : Both) (from : IsWovenFrom b.one b.other b.fac
 
     abbrev Reaches : FrameGoes b.one b.other b.facts b.plans b.marks (but_frames z) f g below → Type 0
     Reaches way =
-        Reached b.one b.other b.facts b.plans b.marks (lawful second) z f g below (todos_ahead b.one b.other b.facts b.plans b.marks (but_frames z) f g below way)
+        Reached b.one b.other b.facts b.plans b.marks (lawful second) z f g below (plain_ahead b.one b.other b.facts b.plans b.marks (but_frames z) f g below way)
         (jumps_ahead b.one b.other b.facts b.plans b.marks (but_frames z) f g below way)
 
     -- none was there before
@@ -344,8 +345,12 @@ module _ (laws : OpeningLaws) (b : Both) (from : IsWovenFrom b.one b.other b.fac
     pub caught_up : FramesGo b.one b.other b.facts b.plans b.marks (but_frames z) f g callers below → CatchesUpEmpty
     caught_up go =
         onwards go go.top
+        (subst (λ todos.
+        Reached b.one b.other b.facts b.plans b.marks (lawful second) z f g below todos
+        (jumps_ahead b.one b.other b.facts b.plans b.marks (but_frames z) f g below go.top))
+        (ahead_plain b.one b.other b.facts b.plans b.marks from (but_frames z) z.areas.store f g below go.top)
         (laws.reach b.one b.other b.facts b.plans b.marks from linked.without.steps second (but_frames z) z f g callers below go held_sound
-        (subst (λ n. n ≤ MAX_LIVE_WORDS) (sym (opening_budget b.one (lawful second) job two)) other_few))
+        (subst (λ n. n ≤ MAX_LIVE_WORDS) (sym (opening_budget b.one (lawful second) job two)) other_few)))
 
   by_frames : AlikeStill none_gone b.one.outline b.words b.other_words (Some MAX_MADE_WORDS) x z → z.ended ≡ None → x.ended ≡ None → but_frames y ≡ but_frames z
       → (fs gs : List Frame) → z.frames ≡ fs → y.frames ≡ gs → StatesGo b.one b.other b.facts b.plans b.marks (but_frames z) fs gs → CatchesUpEmpty

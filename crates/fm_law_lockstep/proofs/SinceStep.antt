@@ -24,8 +24,9 @@ use Rattle.fm_law_holders.specs.Holding.{holder_value, Holding, HoldsFreeable}
 use Rattle.fm_law_lockstep.proofs.FramesHeld.{held_below, holders_same, news_held, waits_held}
 use Rattle.fm_law_lockstep.proofs.KeptSince.{busy_behind, class_on_top, on_top, top_node}
 use Rattle.fm_law_lockstep.proofs.NothingFreed.{FreesNothing}
-use Rattle.fm_law_lockstep.proofs.OneKept.{one_kept, safe_holders}
-use Rattle.fm_law_lockstep.proofs.QuietTodos.{IsQuiet, keeps_quiet, quiet_areas, starts_quiet}
+use Rattle.fm_law_unwoven.proofs.OneKept.{one_kept, safe_holders}
+use Rattle.fm_law_lockstep.proofs.PlainTodos.{plain_ahead}
+use Rattle.fm_law_lockstep.proofs.QuietTodos.{IsQuiet, keeps_quiet, plain_before, quiet_areas, starts_quiet}
 use Rattle.fm_law_lockstep.proofs.Since.{FramesSince, HoldersSince, since_below, since_news, since_same, since_step, since_waits}
 use Rattle.fm_law_lockstep.proofs.WhatIsFreed.{all_back, frees_leave, IsFreedBy, nulled_or_same}
 use Rattle.fm_law_lockstep.specs.Both.{Both}
@@ -39,8 +40,8 @@ use Rattle.fm_law_unwoven.proofs.KeptSites.{safe_at}
 use Rattle.fm_law_unwoven.proofs.TodoLocals.{after_both}
 use Rattle.fm_law_unwoven.specs.Doing.{all_areas_after, all_locals_after, MayDoAll}
 use Rattle.fm_law_unwoven.specs.Kept.{Begins, BeginsOn, FrameGoes, FramesGo, GoesBefore, GoesBehind, GoesByJump, HasWaited, InMethod, IsNew, old_frame, Resumes, WasAt}
-use Rattle.fm_law_unwoven.specs.Laid.{keeps_at, starts_of, Todo, ToFree, ToKeep}
-use Rattle.fm_law_unwoven.specs.Reached.{Reached, state_reached, todos_ahead, jumps_ahead}
+use Rattle.fm_law_unwoven.specs.Laid.{starts_of, Todo, ToFree, ToKeep}
+use Rattle.fm_law_unwoven.specs.Reached.{Reached, state_reached, jumps_ahead}
 use Rattle.fm_law_unwoven.specs.WovenFrom.{inserted_by, IsWovenFrom}
 use Rattle.fm_place.specs.Insertions.{after_at, before_at, Holder, Insertions}
 use Rattle.fm_place.specs.Places.{is_busy}
@@ -117,14 +118,14 @@ module _ (b : Both) (from : IsWovenFrom b.one b.other b.facts b.plans b.marks) (
     kept_values : (j : ℕ) → f.item ≡ j + 1 → (values : List Value) → HaveValues values → length values ≡ code.max_locals + length (inserted_by (b.plans g.method)).holders
         → ((h : ℕ) → Contains (after_at (inserted_by (b.plans g.method)) j) h → 0 < length g.stack)
         → HaveValues (all_locals_after code g.stack (map ToKeep (after_at (inserted_by (b.plans g.method)) j)) values)
-    kept_values j item values had width some = by_one (one_kept b from g.method code code_is j) where
+    kept_values j item values had width some = by_one (one_kept b.one b.other b.facts b.plans b.marks from g.method code code_is j) where
       Then : List ℕ → Type 0
       Then hs = HaveValues (all_locals_after code g.stack (map ToKeep hs) values)
 
       given : (only : ℕ) → after_at plan j ≡ only ∷ [] → (holder : Holder) → slice_get plan.holders only ≡ Some holder → HasValue only holder (word_at g.stack 0)
       given only one holder is =
           let among : Contains (after_at plan j) only = subst (λ hs. Contains hs only) (sym one) (Contains-first only [] only refl) in
-          let safe_ones = safe_holders b from g.method code code_is in
+          let safe_ones = safe_holders b.one b.other b.facts b.plans b.marks from g.method code code_is in
           IsGiven refl (some only among)
           (subst (λ n. b.facts.class g.method (Slot n (depth_at m n - 1)) ≡ holder.class) (sym item)
           (class_on_top b.one b.facts linked busy g.method code code_is plan safe_ones j only among holder is))
@@ -178,7 +179,7 @@ module _ (b : Both) (from : IsWovenFrom b.one b.other b.facts b.plans b.marks) (
       back : (v : Value) (birth : ℕ) → HoldsFreeable z.areas.store v birth → HoldsFreeable following.areas.store v birth
       back v birth theirs = record {
         object = theirs.object;
-        held = all_back code g.stack (quiet ++ map ToFree hs) g.locals following.areas (cell_of v) theirs.object theirs.held;
+        held = all_back code g.stack (quiet ++ map ToFree hs) (plain_before quiet all hs) g.locals following.areas (cell_of v) theirs.object theirs.held;
         not_fixed = theirs.not_fixed;
         birth_is = theirs.birth_is;
       }
@@ -266,7 +267,7 @@ module _ (b : Both) (from : IsWovenFrom b.one b.other b.facts b.plans b.marks) (
           let v = word_at locals (local_of code fr.number) in
           let theirs : HoldsFreeable following.areas.store v object.birth =
           record { object = object; held = ap (object_at following.areas.store) fr.leads ∙ held; not_fixed = fr.loose; birth_is = refl } in
-          let safe_one : IsSafeHolder b.facts m holder = AllByRecursion-at (IsSafeHolder b.facts m) plan.holders fr.number holder (safe_holders b from g.method code code_is) is in
+          let safe_one : IsSafeHolder b.facts m holder = AllByRecursion-at (IsSafeHolder b.facts m) plan.holders fr.number holder (safe_holders b.one b.other b.facts b.plans b.marks from g.method code code_is) is in
           tells.retires g.method (length below) holder.class object.birth code code_is (captured_class b.facts m holder safe_one)
           (subst (IsOver b.one b.facts g.method (length below) holder.class) (sym are)
           (inr (
@@ -316,13 +317,13 @@ module _ (b : Both) (from : IsWovenFrom b.one b.other b.facts b.plans b.marks) (
   -- what lies ahead of the frame, and the state that it leads to
   abbrev Ahead : FrameGoes b.one b.other b.facts b.plans b.marks y f g below → Type 0
   Ahead top =
-      Reached b.one b.other b.facts b.plans b.marks choose following f g below (todos_ahead b.one b.other b.facts b.plans b.marks y f g below top)
+      Reached b.one b.other b.facts b.plans b.marks choose following f g below (plain_ahead b.one b.other b.facts b.plans b.marks y f g below top)
       (jumps_ahead b.one b.other b.facts b.plans b.marks y f g below top)
 
-  some_word : (code : Code) (stack : List Value) (hs : List ℕ) (rest : List Todo) (locals : List Value) → MayDoAll code stack locals (map ToKeep hs ++ rest)
-      → (h : ℕ) → Contains hs h → 0 < length stack
-  some_word code stack [] rest _ may h among = absurd (Contains-none h among)
-  some_word code stack (k ∷ hs) rest _ may h among = may.0.0
+  some_word : (code : Code) (areas : Areas) (stack : List Value) (hs : List ℕ) (rest : List Todo) (locals : List Value)
+      → MayDoAll code areas stack locals (map ToKeep hs ++ rest) → (h : ℕ) → Contains hs h → 0 < length stack
+  some_word code areas stack [] rest _ may h among = absurd (Contains-none h among)
+  some_word code areas stack (k ∷ hs) rest _ may h among = may.0.0
 
   may_free : (code : Code) (code_is : code_at b.one g.method ≡ Some code) (n : ℕ) → kept_item b.marks g.method n ≡ Some f.item → (number : ℕ)
       → Contains (before_at (inserted_by (b.plans g.method)) f.item) number
@@ -358,14 +359,14 @@ module _ (b : Both) (from : IsWovenFrom b.one b.other b.facts b.plans b.marks) (
 
   module _ (fx : Frame) (cx : List Frame) (are : next.frames ≡ fx ∷ cx) where
     pub told_on : (top : FrameGoes b.one b.other b.facts b.plans b.marks y f g below) (r : Ahead top)
-        → GoTogetherAt b next (state_reached r.code following g below (todos_ahead b.one b.other b.facts b.plans b.marks y f g below top)
+        → GoTogetherAt b next (state_reached r.code following g below (plain_ahead b.one b.other b.facts b.plans b.marks y f g below top)
         (jumps_ahead b.one b.other b.facts b.plans b.marks y f g below top) r.number)
-        → Told (state_reached r.code following g below (todos_ahead b.one b.other b.facts b.plans b.marks y f g below top)
+        → Told (state_reached r.code following g below (plain_ahead b.one b.other b.facts b.plans b.marks y f g below top)
         (jumps_ahead b.one b.other b.facts b.plans b.marks y f g below top) r.number)
     told_on (InMethod j old old_is w was (GoesBehind past item behind) edge stands) r u =
-        both r.code r.code_is (keeps_at plan j) (keeps_quiet (after_at plan j)) (before_at plan f.item) r.number 0 r.number_is (may_free r.code r.code_is r.number r.number_is)
+        both r.code r.code_is (map ToKeep (after_at plan j)) (keeps_quiet (after_at plan j)) (before_at plan f.item) r.number 0 r.number_is (may_free r.code r.code_is r.number r.number_is)
         (kept_values r.code r.code_is j item g.locals (was_values r.code r.code_is j was) r.width
-        (some_word r.code g.stack (after_at plan j) (map ToFree (before_at plan f.item)) g.locals r.may))
+        (some_word r.code following.areas g.stack (after_at plan j) (map ToFree (before_at plan f.item)) g.locals r.may))
         u (others_at was.above was.was was.frames_are) (told_at was.above was.was was.frames_are) fx cx are
     told_on (InMethod j old old_is w was (GoesBefore at) edge stands) r u =
         both r.code r.code_is [] tt (before_at plan f.item) r.number 0 r.number_is (may_free r.code r.code_is r.number r.number_is) (was_values r.code r.code_is j was)

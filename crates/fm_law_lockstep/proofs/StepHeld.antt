@@ -12,7 +12,7 @@ use Rattle.fm_law_held_objects.specs.Held.{FramesAreHeld}
 use Rattle.fm_law_held_objects.specs.Laws.{StepsKeepHeld}
 use Rattle.fm_law_lockstep.proofs.FramesHeld.{frames_step}
 use Rattle.fm_law_lockstep.proofs.NothingFreed.{FreesNothing, nothing_freed}
-use Rattle.fm_law_lockstep.proofs.OneKept.{safe_holders}
+use Rattle.fm_law_unwoven.proofs.OneKept.{safe_holders}
 use Rattle.fm_law_lockstep.specs.Both.{Both}
 use Rattle.fm_law_lockstep.specs.Known.{IsKnownOn, IsLinked}
 use Rattle.fm_law_lockstep.specs.Stepping.{AreWithin}
@@ -110,5 +110,5 @@ module _ (b : Both) (from : IsWovenFrom b.one b.other b.facts b.plans b.marks) (
       (λ depth method code values there code_is had.
       keep b.one b.facts linked.resolved linked.without.steps linked.without.makes linked.cells linked.without.no_free first x t.made t.known.whole few
       t.known.made_at t.colour on.over y.areas.store (step b.other (lawful second) y).state.areas.store t.paired.areas.store.other_orderly orderly t.paired.areas.store.births still.keeps
-      depth method there code (inserted_by (b.plans method)) (safe_holders b from method code code_is) values had)
+      depth method there code (inserted_by (b.plans method)) (safe_holders b.one b.other b.facts b.plans b.marks from method code code_is) values had)
       x.frames y.frames t.paired.frames (λ depth method there. there) t.held

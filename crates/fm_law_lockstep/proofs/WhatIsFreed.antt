@@ -1,5 +1,6 @@
 -- What frees take away, and what they leave in holders.
 use Rattle.std.proofs.Common.{◌≡◌, ◌≢◌, ◌⊎◌, inl, inr, ℕ, zero, suc, ◌+◌, ◌<◌, Bool, true, false, cond, List, [], ◌∷◌, map, Option, Some, None, Contains, slice_set, refl, sym, ap, ◌∙◌, arith, ⊎_elim}
+use Rattle.std.specs.List.{AllByRecursion}
 use Rattle.std.proofs.lemmas.Bool.{cases_eq, eq-eqb}
 use Rattle.std.proofs.lemmas.Option.{none-some, same_Some}
 use Rattle.fm_cells.proofs.Calls.{object_at-freed_by_other}
@@ -14,8 +15,9 @@ use Rattle.fm_frames.specs.Acts.{cell_of, freed_object}
 use Rattle.fm_frames.specs.States.{Areas, null, word_at}
 use Rattle.fm_frames.specs.declared.values.Value.{Value}
 use Rattle.fm_frames.specs.declared.values.Value.TheVariants as value
+use Rattle.fm_law_lockstep.proofs.QuietTodos.{IsPlain}
 use Rattle.fm_law_unwoven.specs.Doing.{all_areas_after, all_locals_after, areas_after, freed_from, locals_after}
-use Rattle.fm_law_unwoven.specs.Laid.{Todo, ToFree, ToKeep, ToStart}
+use Rattle.fm_law_unwoven.specs.Laid.{Todo, ToFree, ToFreeAll, ToKeep, ToLink, ToStart}
 use Rattle.fm_place.specs.Woven.{local_of}
 use Rattle.fm_same.proofs.StoreChanges.{set_cases}
 
@@ -73,17 +75,19 @@ from_back x (suc cell) q object held = back_found x (suc cell) q object (object_
 -- ---- all that is to be done
 
 module _ (old : Code) (stack : List Value) where
-  one_back : (t : Todo) (locals : List Value) (x : Areas) (q : ℕ) (object : Object) → object_at (areas_after old locals t x).store q ≡ Some object
-      → object_at x.store q ≡ Some object
-  one_back (ToStart h) locals x q object held = held
-  one_back (ToKeep h) locals x q object held = held
-  one_back (ToFree h) locals x q object held = from_back x (cell_of (word_at locals (local_of old h))) q object held
+  one_back : (t : Todo) → IsPlain t → (locals : List Value) (x : Areas) (q : ℕ) (object : Object)
+      → object_at (areas_after old stack locals t x).store q ≡ Some object → object_at x.store q ≡ Some object
+  one_back (ToStart h) plain locals x q object held = held
+  one_back (ToKeep h) plain locals x q object held = held
+  one_back (ToLink h joins) plain locals x q object held = absurd plain
+  one_back (ToFreeAll h) plain locals x q object held = absurd plain
+  one_back (ToFree h) plain locals x q object held = from_back x (cell_of (word_at locals (local_of old h))) q object held
 
-  pub all_back : (todos : List Todo) (locals : List Value) (x : Areas) (q : ℕ) (object : Object)
+  pub all_back : (todos : List Todo) → AllByRecursion IsPlain todos → (locals : List Value) (x : Areas) (q : ℕ) (object : Object)
       → object_at (all_areas_after old stack todos locals x).store q ≡ Some object → object_at x.store q ≡ Some object
-  all_back [] locals x q object held = held
-  all_back (t ∷ todos) locals x q object held =
-      one_back t locals x q object (all_back todos (locals_after old stack t locals) (areas_after old locals t x) q object held)
+  all_back [] plain locals x q object held = held
+  all_back (t ∷ todos) plain locals x q object held =
+      one_back t plain.0 locals x q object (all_back todos plain.1 (locals_after old stack t locals) (areas_after old stack locals t x) q object held)
 
   -- a holder is null after frees, or has what it had
   pub nulled_or_same : (hs : List ℕ) (locals : List Value) (h : ℕ)

@@ -339,6 +339,7 @@ module _ (o : Outline) (store : Store) (locals stack : List Value) (types : List
         class = refl;
         birth = refl;
         fixed = refl;
+        chain = refl;
         births = refl;
       } in
       let more : Extends x.store later = changed-extends x.store later cell is.object now change in

@@ -31,6 +31,13 @@ free_method_number =
     length object_methods + length string_methods + length (builder_methods []) + length buffer_methods + length system_methods
     + length print_stream_methods + length input_stream_methods + length throwable_methods
 
+-- those of its methods link and freeChain, which follow it
+abbrev pub link_method_number : ℕ
+link_method_number = free_method_number + 1
+
+abbrev pub chain_method_number : ℕ
+chain_method_number = free_method_number + 2
+
 pub class_number_is : (given : List ClassDef) → class_number (classes_of given) free_class ≡ Some free_class_number
 unfolding classes_of built_in
 class_number_is given = position_from-zero (λ (c : DeclaredClass). bytes_eq c.name free_class) (built_in ++ declared_from 0 given)

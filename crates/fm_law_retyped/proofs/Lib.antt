@@ -10,5 +10,5 @@ pub mod Retypes
 pub mod SiteStates
 pub mod WrittenMethods
 pub mod WrittenUses
-pub mod FreeRow
+pub mod FreeMeRows
 pub mod SafeMethods

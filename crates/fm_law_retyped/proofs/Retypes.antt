@@ -1,13 +1,14 @@
 -- Typed code with insertions is typed: the states written out, by what each item is for, are a
 -- typing of it.
-use Rattle.std.proofs.Common.{◌≡◌, refl, sym, ◌∙◌, ap, subst, ℕ, zero, suc, ◌+◌, ◌<◌, ◌≤◌, ◌⊎◌, ◌↔◌, inl, inr, true, List, [], ◌∷◌, ◌++◌, length, length-append, map, replicate, Option, Some, None, is_some, option_and_then, option_map, IsSomeAnd, Contains, ⊎_elim, arith}
-use Rattle.std.specs.Prelude.{slice_get}
-use Rattle.std.specs.List.{AllByRecursion}
-use Rattle.std.proofs.lemmas.Bool.{false≢true}
+use Rattle.std.proofs.Common.{◌≡◌, refl, sym, ◌∙◌, ap, subst, ℕ, zero, suc, ◌+◌, ◌<◌, ◌≤◌, ◌⊎◌, ◌↔◌, ◌||◌, inl, inr, Bool, true, false, List, [], ◌∷◌, ◌++◌, length, length-append, map, replicate, Option, Some, None, is_some, option_and_then, option_map, IsSomeAnd, Contains, ⊎_elim, arith}
+use Rattle.std.specs.Prelude.{if◌then◌else◌, slice_get}
+use Rattle.std.specs.List.{AllByRecursion, list_any}
+use Rattle.std.proofs.lemmas.Bool.{false≢true, or_right}
 use Rattle.std.proofs.lemmas.List.{get_or_past, length-map}
 use Rattle.std.proofs.lemmas.Option.{get_or_from_slice_get, none-some, same_Some, slice_get-map, slice_get_within}
 use Rattle.fm_base.proofs.OptionFacts.{IsSomeAnd-from_some, IsSomeAnd-weaker, option_map-some, same_value, Some-from_some_and}
 use Rattle.fm_base.specs.declared.kinds.TypeRef.{TypeRef}
+use Rattle.fm_chain.specs.Chained.{added_words, has_chain, holds_chain, looped_at}
 use Rattle.fm_code.proofs.EdgesLemmas.{Contains-first, Contains-later}
 use Rattle.fm_code.specs.Edges.{Catches, falls_through, insn_of, IsEdge, IsFlowPath, IsNormalEdge, IsReachable}
 use Rattle.fm_code.specs.declared.code_array.Code.{Code}
@@ -17,12 +18,12 @@ use Rattle.fm_law_relinked.proofs.RowSteps.{whole_with}
 use Rattle.fm_law_relinked.specs.Rows.{slot_with}
 use Rattle.fm_check_walk.proofs.MergingLemmas.{fits-from, fits-parts, state-trans}
 use Rattle.fm_law_woven_flow.proofs.LaidItems.{falls-conditional}
-use Rattle.fm_law_woven_flow.specs.Roles.{DupAfter, FallsAt, Follows, FreeBefore, HasHolder, HasInsn, IsBranch, IsEntry, IsOwnerReached, JumpOf, Keep, LoadBefore, NullBefore, owner, Role, StartNull, StartStore, StoreAfter, StoreBefore}
+use Rattle.fm_law_woven_flow.specs.Roles.{DupAfter, FallsAt, Follows, FreeBefore, HasHolder, HasInsn, IsBranch, IsEntry, IsOwnerReached, JumpOf, Keep, LinkAfter, LoadAfter, LoadBefore, NullBefore, owner, Role, StartNull, StartStore, StoreAfter, StoreBefore}
 use Rattle.fm_place.proofs.SameTypings.{caught_same}
-use Rattle.fm_place.specs.Insertions.{after_at}
+use Rattle.fm_place.specs.Insertions.{after_at, Holder}
 use Rattle.fm_law_retyped.proofs.KeptRows.{branch_keeps, KeepsLocals}
-use Rattle.fm_law_retyped.proofs.RoleRows.{after_small, after_whole, dup_after, entered, entry_count, Fits, free_before, Goes, held_at, held_type, jump_of, keep, load_before, next_old, null_before, Old, old_at, old_state, start_null, start_store, state_after_is, store_after, store_before}
-use Rattle.fm_law_retyped.proofs.RoleStates.{AllGoOn, begun, CanRetype, held_slot, held_slots, kept_state, Retyping, role_state, role_states, start_state, state_after}
+use Rattle.fm_law_retyped.proofs.RoleRows.{after_small, after_whole, dup_after, entered, entry_count, Fits, free_before, given_type, Goes, held_at, held_type, jump_of, keep, link_after, load_after, load_before, next_old, null_before, Old, old_at, old_state, start_null, start_store, state_after_is, store_after, store_before}
+use Rattle.fm_law_retyped.proofs.RoleStates.{AllGoOn, begun, CanRetype, given_slot, held_slot, held_slots, kept_state, Retyping, role_state, role_states, start_state, state_after}
 use Rattle.fm_law_retyped.proofs.SlotLists.{begun_count, begun_none, entry_more, held_count}
 use Rattle.fm_types.proofs.Order.{fits-refl}
 use Rattle.fm_types.proofs.StateOrder.{Fitting}
@@ -160,7 +161,24 @@ module _ (w : Retyping) (f : CanRetype w) where
       let more = f.more_locals in
       omega (arith, both, mapped, holders, all, more, count)
 
-  kept_stack : (s : TypeState) → length s.stack ≤ w.code.max_stack → length (kept s).stack + 1 ≤ w.woven.max_stack
+  -- what is inserted takes a word of stack, and two where a holder holds a chain
+  some_words : (b : Bool) → 1 ≤ (if b then 2 else 1)
+  some_words true = omega arith
+  some_words false = omega arith
+
+  one_word : 1 ≤ added_words w.plan
+  one_word = some_words (has_chain w.plan)
+
+  chain_in : (holders : List Holder) (h : ℕ) → holds_chain (slice_get holders h) ≡ true → list_any (λ (g : Holder). g.looped) holders ≡ true
+  chain_in [] zero looped = absurd (false≢true looped)
+  chain_in [] (suc h) looped = absurd (false≢true looped)
+  chain_in (g ∷ holders) zero looped = ap (λ b. b || list_any (λ (x : Holder). x.looped) holders) looped
+  chain_in (g ∷ holders) (suc h) looped = or_right g.looped (list_any (λ (x : Holder). x.looped) holders) (chain_in holders h looped)
+
+  two_words : (h : ℕ) → looped_at w.plan h ≡ true → added_words w.plan ≡ 2
+  two_words h looped = ap (λ (b : Bool). if b then 2 else 1) (chain_in w.plan.holders h looped)
+
+  kept_stack : (s : TypeState) → length s.stack ≤ w.code.max_stack → length (kept s).stack + added_words w.plan ≤ w.woven.max_stack
   kept_stack s small = let mapped = length-map s.stack (slot_with w.numbers) in let more = f.more_stack in omega (arith, mapped, more, small)
 
   fine_start : (n h : ℕ) (r : Role) (stack : List Slot) → owner r ≡ None → length stack ≤ 1 → is_whole stack ≡ true → Goes w f n r (start_state w h stack)
@@ -173,7 +191,7 @@ module _ (w : Retyping) (f : CanRetype w) where
         let all = f.counted in
         let more = f.more_locals in
         omega (arith, count, holders, both, all, more);
-    stack = let more = f.more_stack in omega (arith, small, more);
+    stack = let more = f.more_stack in let one = one_word in omega (arith, small, more, one);
     whole = whole;
     goes = goes;
     caught = λ handler listed caught. absurd (subst (λ x. IsSomeAnd x (λ j. Catches j handler.handler handler)) none caught);
@@ -195,7 +213,7 @@ module _ (w : Retyping) (f : CanRetype w) where
       → Goes w f n r (pushed (top ∷ []) (kept x.s)) → Fine n r (pushed (top ∷ []) (kept x.s))
   fine_more n j x r top is same goes = record {
     locals = kept_locals x.s x.meets.locals;
-    stack = let small = kept_stack x.s x.meets.stack in omega (arith, small);
+    stack = let small = kept_stack x.s x.meets.stack in let one = one_word in omega (arith, small, one);
     whole = same ∙ whole_with w.numbers x.s.stack ∙ x.meets.whole;
     goes = goes;
     caught = λ h listed caught.
@@ -204,7 +222,7 @@ module _ (w : Retyping) (f : CanRetype w) where
 
   -- after an item that goes on
   fine_after : (n j : ℕ) (x : Old w f j) (r : Role) (more : List Slot) → owner r ≡ Some j → length x.after.locals ≡ length x.s.locals
-      → AllTake j x → FallsAt w.code j → length more ≤ 1
+      → AllTake j x → FallsAt w.code j → length more ≤ added_words w.plan
       → is_whole (more ++ map (slot_with w.numbers) x.after.stack) ≡ is_whole (map (slot_with w.numbers) x.after.stack)
       → Goes w f n r (pushed more (kept x.after)) → Fine n r (pushed more (kept x.after))
   fine_after n j x r more is count takes falls few same goes = record {
@@ -222,6 +240,9 @@ module _ (w : Retyping) (f : CanRetype w) where
 
   whole_ref : (h : ℕ) (stack : List Slot) → h < length w.plan.holders → is_whole (held_slot w h ∷ stack) ≡ is_whole stack
   whole_ref h stack within = ap (λ s. is_whole (s ∷ stack)) (held_type w f h within).1
+
+  whole_given : (h : ℕ) (stack : List Slot) → h < length w.plan.holders → is_whole (given_slot w h ∷ stack) ≡ is_whole stack
+  whole_given h stack within = ap (λ s. is_whole (s ∷ stack)) (given_type w f h within).1
 
   -- ---- by what an item is for
 
@@ -258,9 +279,9 @@ module _ (w : Retyping) (f : CanRetype w) where
 
   fine : (n : ℕ) (r : Role) (s : TypeState) → slice_get w.roles n ≡ Some r → role_state w r ≡ Some s → Fine n r s
   fine n r s there state = by_role r s state (f.stands.holders n r there) there
-      (Some-from_some_and (insn_of w.woven n) (HasInsn w.free w.code r) (f.stands.insns n r there)) where
+      (Some-from_some_and (insn_of w.woven n) (HasInsn w.calls w.code w.plan r) (f.stands.insns n r there)) where
         by_role : (r : Role) (s : TypeState) → role_state w r ≡ Some s → HasHolder w.plan r → slice_get w.roles n ≡ Some r
-            → (i : Insn) × (insn_of w.woven n ≡ Some i) × HasInsn w.free w.code r i → Fine n r s
+            → (i : Insn) × (insn_of w.woven n ≡ Some i) × HasInsn w.calls w.code w.plan r i → Fine n r s
         by_role (StartNull h) s state within there (i, is, has) =
             subst (Fine n (StartNull h)) (same_Some (start_state w h []) s state)
             (fine_start n h (StartNull h) [] refl (omega arith) refl (start_null w f n h i is has))
@@ -304,8 +325,23 @@ module _ (w : Retyping) (f : CanRetype w) where
             let found = after_of j (λ t. pushed (held_slot w h ∷ []) (kept t)) s state in
             subst (Fine n (StoreAfter j h)) found.1
             (fine_after n j found.0 (StoreAfter j h) (held_slot w h ∷ []) refl (held_at w f j h found.0 within).count (held_take j h found.0 within)
-            (f.can.goes_on j h within) (omega arith)
+            (f.can.goes_on j h within) one_word
             (whole_ref h (map (slot_with w.numbers) found.0.after.stack) (f.after j h within)) (store_after w f n j h found.0 i within is has))
+        by_role (LoadAfter j h) s state (within, looped) there (i, is, has) =
+            let found = after_of j (λ t. pushed (given_slot w h ∷ []) (kept t)) s state in
+            subst (Fine n (LoadAfter j h)) found.1
+            (fine_after n j found.0 (LoadAfter j h) (given_slot w h ∷ []) refl (held_at w f j h found.0 within).count (held_take j h found.0 within)
+            (f.can.goes_on j h within) one_word
+            (whole_given h (map (slot_with w.numbers) found.0.after.stack) (f.after j h within)) (load_after w f n j h found.0 i within is has))
+        by_role (LinkAfter j h) s state (within, looped) there (i, is, has) =
+            let found = after_of j (λ t. pushed (held_slot w h ∷ given_slot w h ∷ []) (kept t)) s state in
+            let stack = map (slot_with w.numbers) found.0.after.stack in
+            let two = two_words h looped in
+            subst (Fine n (LinkAfter j h)) found.1
+            (fine_after n j found.0 (LinkAfter j h) (held_slot w h ∷ given_slot w h ∷ []) refl (held_at w f j h found.0 within).count
+            (held_take j h found.0 within) (f.can.goes_on j h within) (omega (arith, two))
+            (whole_ref h (given_slot w h ∷ stack) (f.after j h within) ∙ whole_given h stack (f.after j h within))
+            (link_after w f n j h found.0 i there within looped is has))
 
   -- ---- the typing
 
@@ -366,6 +402,8 @@ module _ (w : Retyping) (f : CanRetype w) where
   has_state (Keep j) = own_reached j kept
   has_state (JumpOf j) = after_reached j kept
   has_state (DupAfter j h) = after_reached j kept
+  has_state (LoadAfter j h) = after_reached j (λ s. pushed (given_slot w h ∷ []) (kept s))
+  has_state (LinkAfter j h) = after_reached j (λ s. pushed (held_slot w h ∷ given_slot w h ∷ []) (kept s))
   has_state (StoreAfter j h) = after_reached j (λ s. pushed (held_slot w h ∷ []) (kept s))
 
   count : length (role_states w) ≡ length w.woven.items

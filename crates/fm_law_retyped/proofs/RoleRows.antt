@@ -1,6 +1,6 @@
 -- Each item of code with insertions meets its row at the state written out, and what it brings fits the states of those that follow.
-use Rattle.std.proofs.Common.{◌≡◌, refl, sym, ◌∙◌, ap, subst, ℕ, suc, ◌+◌, ◌<◌, ◌≤◌, ◌⊎◌, inl, inr, true, false, cond, List, [], ◌∷◌, ◌++◌, length, map, set, Option, Some, None, is_some, option_and_then, option_map, IsSomeAnd, Contains, arith}
-use Rattle.std.specs.Prelude.{nat_lt, slice_get}
+use Rattle.std.proofs.Common.{◌≡◌, refl, sym, ◌∙◌, ap, subst, ℕ, suc, ◌+◌, ◌<◌, ◌≤◌, ◌⊎◌, inl, inr, Bool, true, false, cond, List, [], ◌∷◌, ◌++◌, length, map, set, Option, Some, None, is_some, option_and_then, option_map, IsSomeAnd, Contains, arith}
+use Rattle.std.specs.Prelude.{if◌then◌else◌, nat_lt, slice_get}
 use Rattle.std.specs.List.{AllZip}
 use Rattle.std.proofs.lemmas.Bool.{cases_lt, le-ltb}
 use Rattle.std.proofs.lemmas.List.{length-map, set-get_or}
@@ -8,6 +8,7 @@ use Rattle.std.proofs.lemmas.List.Elements.{length_all_zip}
 use Rattle.std.proofs.lemmas.Option.{none-some}
 use Rattle.fm_base.proofs.OptionFacts.{IsSomeAnd-from_some, IsSomeAnd-weaker, Some-from_some_and}
 use Rattle.fm_base.specs.declared.kinds.TypeRef.{TypeRef}
+use Rattle.fm_chain.specs.Chained.{looped_at}
 use Rattle.fm_code.proofs.EdgesLemmas.{insn_inside}
 use Rattle.fm_code.specs.Edges.{falls_through, insn_of, IsNormalEdge, LeadsTo}
 use Rattle.fm_code.specs.SpellsCode.{LocalsFit, targets_of}
@@ -18,14 +19,14 @@ use Rattle.fm_law_relinked.proofs.FitsBlind.{states_fit}
 use Rattle.fm_law_relinked.proofs.RowsBlind.{rows_blind}
 use Rattle.fm_law_relinked.proofs.RowSteps.{whole_with}
 use Rattle.fm_law_relinked.specs.Rows.{slot_with}
-use Rattle.fm_law_woven_flow.specs.Roles.{DupAfter, FallsAt, Follows, FreeBefore, GoesOn, GoesTo, HasInsn, IsOpposite, IsRetargeted, IsEntry, JumpOf, Keep, LoadBefore, NullBefore, Role, StartNull, StartStore, StoreAfter, StoreBefore}
+use Rattle.fm_law_woven_flow.specs.Roles.{behind_dup, DupAfter, FallsAt, Follows, FreeBefore, GoesOn, GoesTo, HasInsn, IsOpposite, IsRetargeted, IsEntry, JumpOf, Keep, LinkAfter, LoadAfter, LoadBefore, NullBefore, Role, StartNull, StartStore, StoreAfter, StoreBefore}
 use Rattle.fm_check_walk.proofs.MergingLemmas.{built-refl, fits-from, fits-parts, state-refl, state-trans}
 use Rattle.fm_place.proofs.SameTypings.{made_by}
 use Rattle.fm_place.specs.Insertions.{after_at}
 use Rattle.fm_place.specs.Woven.{local_of}
 use Rattle.fm_law_retyped.proofs.HolderRows.{holder_loaded, holder_stored}
 use Rattle.fm_law_retyped.proofs.KeptRows.{IsSameRow, same_row}
-use Rattle.fm_law_retyped.proofs.RoleStates.{begun, CanRetype, held_slot, held_slots, IsHeld, kept_state, Retyping, role_state, start_state, state_after}
+use Rattle.fm_law_retyped.proofs.RoleStates.{begun, CanRetype, given_slot, held_slot, held_slots, IsHeld, kept_state, Retyping, role_state, start_state, state_after}
 use Rattle.fm_law_retyped.proofs.SlotLists.{begun_all, begun_count, begun_more, begun_short, entry_same, held_count, held_is, held_nulled, held_ready, held_short, no_insn, trimmed_still}
 use Rattle.fm_law_retyped.proofs.Trims.{locals_at}
 use Rattle.fm_law_retyped.proofs.Trimmed.{trimmed}
@@ -301,6 +302,9 @@ module _ (w : Retyping) (f : CanRetype w) where
   held_refers : (h : ℕ) → h < length w.plan.holders → is_reference (held_slot w h) ≡ true
   held_refers h within = ap is_reference (held_type h within).1
 
+  pub given_type : (h : ℕ) → h < length w.plan.holders → (t : TypeRef) × (given_slot w h ≡ slot.Ref t)
+  given_type h within = let all = f.given_counted in held_is w.gives h (omega (arith, within, all))
+
   pub load_before : (n j h : ℕ) (x : Old j) (i : Insn) → h < length w.plan.holders → insn_of w.woven n ≡ Some i
       → i ≡ insn.Load reg.Ref (local_of w.code h) → Goes n (LoadBefore j h) (kept x.s)
   load_before n j h x i within is load = record {
@@ -312,14 +316,18 @@ module _ (w : Retyping) (f : CanRetype w) where
         (same_at (FreeBefore j h) (pushed (held_slot w h ∷ []) (kept x.s)) (ap (option_map (λ s. pushed (held_slot w h ∷ []) (kept s))) x.at));
   }
 
-  pub free_before : (n j h : ℕ) (x : Old j) (i : Insn) → slice_get w.roles n ≡ Some (FreeBefore j h) → h < length w.plan.holders → insn_of w.woven n ≡ Some i → i ≡ insn.Static w.free
+  -- the entry of the method that frees what a holder holds
+  abbrev free_call : ℕ → ℕ
+  free_call h = if looped_at w.plan h then w.calls.free_chain else w.calls.free
+
+  pub free_before : (n j h : ℕ) (x : Old j) (i : Insn) → slice_get w.roles n ≡ Some (FreeBefore j h) → h < length w.plan.holders → insn_of w.woven n ≡ Some i → i ≡ insn.Static (free_call h)
       → Goes n (FreeBefore j h) (pushed (held_slot w h ∷ []) (kept x.s))
   free_before n j h x i there within is call = record {
     after = kept x.s;
     is =
         let t = held_type h within in
-        woven_row n (insn.Static w.free) (pushed (held_slot w h ∷ []) (kept x.s)) (is ∙ ap Some call)
-        ∙ ap (λ a. row_after o w.method n (made_at w.written w.method w.woven) (use_by w.written w.method (insn.Static w.free)) (insn.Static w.free)
+        woven_row n (insn.Static (free_call h)) (pushed (held_slot w h ∷ []) (kept x.s)) (is ∙ ap Some call)
+        ∙ ap (λ a. row_after o w.method n (made_at w.written w.method w.woven) (use_by w.written w.method (insn.Static (free_call h))) (insn.Static (free_call h))
         (pushed (a ∷ []) (kept x.s))) t.1
         ∙ f.frees n j h there n (made_at w.written w.method w.woven) t.0 (kept x.s);
     each = λ to follows. subst (λ r. Fits r (kept x.s)) (sym follows) (same_at (NullBefore j h) (kept x.s) (ap (option_map kept) x.at));
@@ -372,7 +380,7 @@ module _ (w : Retyping) (f : CanRetype w) where
         → option_and_then (made_by w.written w.method) (insn_of w.woven (w.numbers j)) ≡ option_and_then (made_by w.given w.method) (insn_of w.code j)
     by_place (inl within) =
         let at = f.stands.numbered j within in
-        let new = Some-from_some_and (insn_of w.woven (w.numbers j)) (HasInsn w.free w.code (Keep j)) (f.stands.insns (w.numbers j) (Keep j) at) in
+        let new = Some-from_some_and (insn_of w.woven (w.numbers j)) (HasInsn w.calls w.code w.plan (Keep j)) (f.stands.insns (w.numbers j) (Keep j) at) in
         let old = Some-from_some_and (insn_of w.code j) (λ i. IsRetargeted i new.0 ⊎ IsOpposite i new.0) new.2 in
         ap (option_and_then (made_by w.written w.method)) new.1 ∙ (same_row old.0 new.0 old.2).made w.written w.method ∙ f.made j old.0 old.1
         ∙ sym (ap (option_and_then (made_by w.given w.method)) old.1)
@@ -394,7 +402,7 @@ module _ (w : Retyping) (f : CanRetype w) where
       ∙ rows_blind w.numbers slots f.stands.apart (held_ready w.types) o m j news others same_news u old x.s fit
       ∙ ap (option_map kept) (sym (ap (option_and_then (λ i. row_after o m j news (use_by w.given m i) i x.s)) is) ∙ x.after_is)
 
-  pub keep : (n j : ℕ) (x : Old j) (new : Insn) → n ≡ w.numbers j → insn_of w.woven n ≡ Some new → HasInsn w.free w.code (Keep j) new → Goes n (Keep j) (kept x.s)
+  pub keep : (n j : ℕ) (x : Old j) (new : Insn) → n ≡ w.numbers j → insn_of w.woven n ≡ Some new → HasInsn w.calls w.code w.plan (Keep j) new → Goes n (Keep j) (kept x.s)
   keep n j x new number new_is has =
       let old = Some-from_some_and (insn_of w.code j) (λ i. IsRetargeted i new ⊎ IsOpposite i new) has in
       record { after = kept x.after; is = keep_row n j x old.0 new number old.1 new_is (same_row old.0 new old.2); each = each } where
@@ -404,7 +412,7 @@ module _ (w : Retyping) (f : CanRetype w) where
             subst (λ r. Fits r (kept x.after)) (sym jump) (same_at (JumpOf j) (kept x.after) (ap (option_map kept) (state_after_is j x)))
         each to (inr (inr (falls, on))) = goes_on j x to falls on
 
-  pub jump_of : (n j : ℕ) (x : Old j) (new : Insn) → insn_of w.woven n ≡ Some new → HasInsn w.free w.code (JumpOf j) new → Goes n (JumpOf j) (kept x.after)
+  pub jump_of : (n j : ℕ) (x : Old j) (new : Insn) → insn_of w.woven n ≡ Some new → HasInsn w.calls w.code w.plan (JumpOf j) new → Goes n (JumpOf j) (kept x.after)
   jump_of n j x new new_is has = record {
     after = kept x.after;
     is = jump_row n has.1.target new (kept x.after) new_is has.1.is;
@@ -418,9 +426,9 @@ module _ (w : Retyping) (f : CanRetype w) where
 
   -- what it leaves has the holder's object on top
   top_is : (j h : ℕ) (x : Old j) → h < length w.plan.holders → (a : IsHeld w j h x.s x.after)
-      → map (slot_with w.numbers) x.after.stack ≡ held_slot w h ∷ map (slot_with w.numbers) a.rest
+      → map (slot_with w.numbers) x.after.stack ≡ given_slot w h ∷ map (slot_with w.numbers) a.rest
   top_is j h x within a =
-      let t = held_type h within in
+      let t = given_type h within in
       ap (map (slot_with w.numbers)) a.top
       ∙ ap (λ s. s ∷ map (slot_with w.numbers) a.rest) (ap (slot_with w.numbers) t.1 ∙ sym t.1)
 
@@ -438,20 +446,71 @@ module _ (w : Retyping) (f : CanRetype w) where
       ∙ ap (λ b. cond b (Some (record s { stack = slot.Ref t ∷ slot.Ref t ∷ rest })) None) all
       ∙ ap (λ l. Some (record s { stack = slot.Ref t ∷ l })) (sym is)
 
+  -- what follows a dup, by whether the holder holds a chain
+  behind_dup_fits : (j h : ℕ) (x : Old j) → h < length w.plan.holders → (b : Bool) → looped_at w.plan h ≡ b
+      → Fits (behind_dup (looped_at w.plan h) j h) (pushed (given_slot w h ∷ []) (kept x.after))
+  behind_dup_fits j h x within true is =
+      subst (λ b. Fits (behind_dup b j h) (pushed (given_slot w h ∷ []) (kept x.after))) (sym is)
+      (same_at (LoadAfter j h) (pushed (given_slot w h ∷ []) (kept x.after))
+      (ap (option_map (λ s. pushed (given_slot w h ∷ []) (kept s))) (state_after_is j x)))
+  behind_dup_fits j h x within false is =
+      subst (λ b. Fits (behind_dup b j h) (pushed (given_slot w h ∷ []) (kept x.after))) (sym is)
+      (subst (λ s. Fits (StoreAfter j h) (pushed (s ∷ []) (kept x.after))) (f.plain h within is)
+      (same_at (StoreAfter j h) (pushed (held_slot w h ∷ []) (kept x.after))
+      (ap (option_map (λ s. pushed (held_slot w h ∷ []) (kept s))) (state_after_is j x))))
+
   pub dup_after : (n j h : ℕ) (x : Old j) (i : Insn) → Contains (after_at w.plan j) h → insn_of w.woven n ≡ Some i → i ≡ insn.Dup
       → Goes n (DupAfter j h) (kept x.after)
   dup_after n j h x i there is dup =
       let within = f.after j h there in
-      let t = held_type h within in
+      let t = given_type h within in
       let a = held_at j h x there in
       let top : map (slot_with w.numbers) x.after.stack ≡ slot.Ref t.0 ∷ map (slot_with w.numbers) a.rest =
       top_is j h x within a ∙ ap (λ s. s ∷ map (slot_with w.numbers) a.rest) t.1 in
       record {
-        after = pushed (held_slot w h ∷ []) (kept x.after);
+        after = pushed (given_slot w h ∷ []) (kept x.after);
         is =
             dup_row n i (kept x.after) is dup
             ∙ dup_of t.0 (kept x.after) (map (slot_with w.numbers) a.rest) top (whole_with w.numbers x.after.stack ∙ after_whole j x)
             ∙ ap (λ s. Some (pushed (s ∷ []) (kept x.after))) (sym t.1);
+        each = λ to follows. subst (λ r. Fits r (pushed (given_slot w h ∷ []) (kept x.after))) (sym follows) (behind_dup_fits j h x within (looped_at w.plan h) refl);
+      }
+
+  -- a holder of a chain has two words put on top, and what it had is loaded
+  pub load_after : (n j h : ℕ) (x : Old j) (i : Insn) → Contains (after_at w.plan j) h → insn_of w.woven n ≡ Some i
+      → i ≡ insn.Load reg.Ref (local_of w.code h) → Goes n (LoadAfter j h) (pushed (given_slot w h ∷ []) (kept x.after))
+  load_after n j h x i there is load =
+      let within = f.after j h there in
+      let a = held_at j h x there in
+      let count : length (own x.after) ≡ w.code.max_locals =
+      length-map x.after.locals (slot_with w.numbers) ∙ a.count ∙ x.meets.locals in
+      record {
+        after = pushed (held_slot w h ∷ given_slot w h ∷ []) (kept x.after);
+        is =
+            load_at n (local_of w.code h) i (pushed (given_slot w h ∷ []) (kept x.after)) is load
+            ∙ ap (λ m. load_row reg.Ref (m + h) (pushed (given_slot w h ∷ []) (kept x.after))) (sym count)
+            ∙ holder_loaded (own x.after) slots h (given_slot w h ∷ map (slot_with w.numbers) x.after.stack) x.after.built (held_within h within)
+            (held_refers h within);
+        each = λ to follows. subst (λ r. Fits r (pushed (held_slot w h ∷ given_slot w h ∷ []) (kept x.after))) (sym follows)
+            (same_at (LinkAfter j h) (pushed (held_slot w h ∷ given_slot w h ∷ []) (kept x.after))
+            (ap (option_map (λ s. pushed (held_slot w h ∷ given_slot w h ∷ []) (kept s))) (state_after_is j x)));
+      }
+
+  -- and linked
+  pub link_after : (n j h : ℕ) (x : Old j) (i : Insn) → slice_get w.roles n ≡ Some (LinkAfter j h) → Contains (after_at w.plan j) h → looped_at w.plan h ≡ true
+      → insn_of w.woven n ≡ Some i → i ≡ insn.Static w.calls.link → Goes n (LinkAfter j h) (pushed (held_slot w h ∷ given_slot w h ∷ []) (kept x.after))
+  link_after n j h x i at there looped is call =
+      let within = f.after j h there in
+      let held = held_type h within in
+      let site = given_type h within in
+      record {
+        after = pushed (held_slot w h ∷ []) (kept x.after);
+        is =
+            woven_row n (insn.Static w.calls.link) (pushed (held_slot w h ∷ given_slot w h ∷ []) (kept x.after)) (is ∙ ap Some call)
+            ∙ (λ k. row_after o w.method n (made_at w.written w.method w.woven) (use_by w.written w.method (insn.Static w.calls.link)) (insn.Static w.calls.link)
+            (pushed (held.1 k ∷ site.1 k ∷ []) (kept x.after)))
+            ∙ f.links n j h at n (made_at w.written w.method w.woven) held.0 site.0 (kept x.after)
+            ∙ ap (λ s. Some (pushed (s ∷ []) (kept x.after))) (sym (f.chained h within looped));
         each = λ to follows. subst (λ r. Fits r (pushed (held_slot w h ∷ []) (kept x.after))) (sym follows)
             (same_at (StoreAfter j h) (pushed (held_slot w h ∷ []) (kept x.after))
             (ap (option_map (λ s. pushed (held_slot w h ∷ []) (kept s))) (state_after_is j x)));

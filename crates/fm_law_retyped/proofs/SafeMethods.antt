@@ -1,5 +1,6 @@
 -- A method with safe insertions is typed again, and so are all methods of classes with such.
 use Rattle.std.proofs.Common.{◌≡◌, ◌≢◌, refl, sym, ◌∙◌, ap, subst, ℕ, zero, suc, ◌+◌, ◌<◌, ◌≤◌, ◌==◌, ◌⊎◌, inl, inr, Bool, true, false, cond, List, [], ◌∷◌, length, map, Option, Some, None, is_some, option_and_then, option_map, Contains, slice_get, ⊎_elim, arith}
+use Rattle.std.specs.Prelude.{if◌then◌else◌}
 use Rattle.std.specs.List.{AllByRecursion}
 use Rattle.std.proofs.lemmas.Bool.{cases_eq, cases_lt, eqb-true, false≢true}
 use Rattle.std.proofs.lemmas.List.{get_or_past, length-map}
@@ -15,6 +16,10 @@ use Rattle.fm_base.proofs.TestFacts.{and_left}
 use Rattle.fm_base.specs.declared.ids.MethodId.{MethodId}
 use Rattle.fm_base.specs.declared.ids.TypeId.{TypeId}
 use Rattle.fm_base.specs.declared.kinds.TypeRef.{TypeRef}
+use Rattle.fm_chain.proofs.WithoutChains.{codes_are_woven, none_in, none_looped}
+use Rattle.fm_chain.specs.Chained.{chained_code, has_chain, holds_chain, looped_at}
+use Rattle.fm_chain.specs.Chaining.{calls_for}
+use Rattle.fm_chain.specs.declared.calls.Calls.{Calls}
 use Rattle.fm_code.proofs.EdgesLemmas.{Contains-first, Contains-later, insn_inside, MeetsCodeRules-method}
 use Rattle.fm_code.specs.AccessFlags.{is_static}
 use Rattle.fm_code.specs.Edges.{falls_through, insn_of, MeetsCodeRules}
@@ -31,27 +36,27 @@ use Rattle.fm_conn.specs.Links.{typed_method}
 use Rattle.fm_conn.specs.Nodes.{TypedMethod}
 use Rattle.fm_conn.specs.Pairs.{depth_below}
 use Rattle.fm_law_woven_flow.specs.Laws.{CodesStand, HasRoles}
-use Rattle.fm_law_woven_flow.specs.Roles.{CanStand, FreeBefore, HasInsn, IsOpposite, IsRetargeted, Keep}
+use Rattle.fm_law_woven_flow.specs.Roles.{CanStand, FreeBefore, HasInsn, IsOpposite, IsRetargeted, Keep, LinkAfter}
 use Rattle.fm_place.proofs.FullLemmas.{numbers-found}
 use Rattle.fm_place.proofs.SameTypings.{made_same, other_typing, same_typing, used_same}
 use Rattle.fm_place.specs.Insertions.{after_at, before_at, Holder, Insertions}
 use Rattle.fm_place.specs.Rewriting.{free_index, Plans, rewritten, rewritten_class}
-use Rattle.fm_place.specs.Safe.{AreSafe, IsSafeHolder, method_in_facts, narrowed_to, SafeOf}
+use Rattle.fm_place.specs.Safe.{AreSafe, HoldsNoChain, IsSafeHolder, method_in_facts, narrowed_to, SafeOf}
 use Rattle.fm_place.specs.Sites.{is_captured, kind_of_site, new_item_at, site_class, site_kind}
-use Rattle.fm_place.specs.Woven.{woven_code}
 use Rattle.fm_law_linked.proofs.CodedMethods.{contains_at}
 use Rattle.fm_law_linked.specs.Laws.{IsLinkedWell, ProgramsAreLinkedWell, StepsAreLinked, StepsOfProgramsAreLinked}
-use Rattle.fm_law_retyped.proofs.FreeRow.{free_row}
+use Rattle.fm_law_retyped.proofs.FreeMeRows.{free_row}
 use Rattle.fm_law_retyped.proofs.KeptRows.{same_row}
 use Rattle.fm_law_retyped.proofs.Retypes.{retyped}
-use Rattle.fm_law_retyped.proofs.RoleStates.{AllGoOn, CanRetype, Frees, held_slots, IsHeld, Retyping, role_states}
+use Rattle.fm_law_retyped.proofs.RoleStates.{AllGoOn, CanRetype, Frees, given_slot, held_slot, held_slots, IsHeld, Links, Retyping, role_states}
 use Rattle.fm_law_retyped.proofs.SiteStates.{IsSameAt, leaves-if, LeavesObject, site-gives}
 use Rattle.fm_law_retyped.proofs.Trims.{all_trimmed, length_trimmed, locals_at, trimmed_at, trimmed_row, trimmed_twice, typings_trimmed}
 use Rattle.fm_law_retyped.proofs.WrittenMethods.{HasMember, IsWritten, written_method}
 use Rattle.fm_law_retyped.proofs.WrittenUses.{free_use, freed_use, handler_use, insn_use, outlines_same, program_outline, used_by_item}
 use Rattle.fm_law_retyped.specs.Retyped.{AreNoCopies, AreReadyAtHeld, EndsBehind, NoneUnready, receiver_new, SafeClassesAreTyped}
 use Rattle.fm_law_retyped.proofs.Trimmed.{trimmed, trimmed_state}
-use Rattle.fm_types.specs.Fits.{AreTree}
+use Rattle.fm_types.specs.Fits.{AreTree, object_of}
+use Rattle.fm_types.specs.Named.{object_slot}
 use Rattle.fm_types.specs.Rows.{row_after}
 use Rattle.fm_types.specs.States.{local_at, pushed, TypeState}
 use Rattle.fm_types.specs.Typed.{after_item, IsTyping, IsTypingOf, made_at, state_at, Typed, use_by}
@@ -88,6 +93,11 @@ held_of : (type : Holder → TypeRef) (holders : List Holder) (h : ℕ) (holder 
 held_of type [] h holder at = absurd (none-some holder at)
 held_of type (g ∷ holders) zero holder at = ap (λ (x : Holder). slot.Ref (type x)) (same_Some g holder at)
 held_of type (g ∷ holders) (suc h) holder at = held_of type holders h holder at
+
+holder_there : (holders : List Holder) (h : ℕ) → h < length holders → (holder : Holder) × (slice_get holders h ≡ Some holder)
+holder_there [] h within = absurd (omega (arith, within))
+holder_there (g ∷ holders) zero within = (g, refl)
+holder_there (g ∷ holders) (suc h) within = holder_there holders h (omega (arith, within))
 
 -- ---- sites
 
@@ -219,22 +229,31 @@ module _ (numbered : ClassTypesAreNumbered) (stand : CodesStand) (given : List C
   -- ---- with a plan
 
   module _ (plan : Insertions) (planned : plans method ≡ Some plan)
-      (safe : AreSafe facts (typed_method (narrowed_to (program_of given main) made) facts.typing method code) plan)
+      (safe : AreSafe facts (typed_method (narrowed_to (program_of given main) made) facts.typing method code) plan) (plain : HoldsNoChain plan)
       (ready : AreReadyAtHeld facts (typed_method (narrowed_to (program_of given main) made) facts.typing method code) plan) where
     abbrev t : TypedMethod
     t = typed_method p facts.typing method code
 
-    abbrev free : ℕ
-    free = free_index x.own
+    abbrev calls : Calls
+    calls = calls_for false x.own.pool.entries
+
+    -- no holder holds a chain
+    none_has : has_chain plan ≡ false
+    none_has = none_looped plan.holders plain
+
+    unlooped : (h : ℕ) → looped_at plan h ≡ false
+    unlooped h = none_in plan.holders h none_has
 
     abbrev new : Code
-    new = woven_code (free_index x.own) code plan
+    new = chained_code (calls_for false x.own.pool.entries) code plan
 
-    new_is : code_at (program_of (rewritten plans given) main) method ≡ Some (woven_code (free_index x.own) code plan)
-    new_is = x.new_is ∙ ap (λ o. code_with (free_index x.own) o (Some code)) planned
+    new_is : code_at (program_of (rewritten plans given) main) method ≡ Some (chained_code (calls_for false x.own.pool.entries) code plan)
+    new_is =
+        x.new_is ∙ ap (λ o. code_with (free_index x.own) o (Some code)) planned
+        ∙ ap (λ c. Some c) (sym (codes_are_woven (calls_for false x.own.pool.entries) code plan none_has).code_is)
 
-    member : HasMember (rewritten_class plans x.start x.own).methods (Some (woven_code (free_index x.own) code plan))
-    member = member_of (woven_code (free_index x.own) code plan) new_is
+    member : HasMember (rewritten_class plans x.start x.own).methods (Some (chained_code (calls_for false x.own.pool.entries) code plan))
+    member = member_of (chained_code (calls_for false x.own.pool.entries) code plan) new_is
 
     rules : MeetsCodeRules code
     rules = MeetsCodeRules-method x.own x.old.member code (spelled_at given x.place x.own spelled x.at) x.old.among x.old.code_is
@@ -248,24 +267,30 @@ module _ (numbered : ClassTypesAreNumbered) (stand : CodesStand) (given : List C
     can : CanStand code plan
     can = safe_can facts t plan safe
 
-    roles : HasRoles (free_index x.own) code plan
-    roles = stand (free_index x.own) code plan rules can
+    roles : HasRoles (calls_for false x.own.pool.entries) code plan
+    roles = stand (calls_for false x.own.pool.entries) code plan rules can
 
     -- the type of a holder's objects: what the site's row leaves on top
     abbrev type_of : Holder → TypeRef
     type_of h = top_type (option_and_then (after_item (program_of given main) method code h.site) (state_at (all_trimmed (facts.typing method)) h.site))
+
+    -- the type of what a holder holds: of a chain's objects it is Object
+    abbrev type_by : Bool → Holder → TypeRef
+    type_by true h = type_of_class (object_of (program_of given main).outline.classes)
+    type_by false h = type_of h
 
     abbrev w : Retyping
     w = record {
       given = program_of given main;
       written = program_of (rewritten plans given) main;
       method = method;
-      free = free_index x.own;
+      calls = calls_for false x.own.pool.entries;
       code = code;
       plan = plan;
-      woven = woven_code (free_index x.own) code plan;
+      woven = chained_code (calls_for false x.own.pool.entries) code plan;
       states = all_trimmed (facts.typing method);
-      types = map type_of plan.holders;
+      types = map (λ (h : Holder). type_by h.looped h) plan.holders;
+      gives = map type_of plan.holders;
       roles = roles.roles;
       numbers = roles.numbers;
       moved = roles.moved;
@@ -365,21 +390,51 @@ module _ (numbered : ClassTypesAreNumbered) (stand : CodesStand) (given : List C
     uses j i there =
         let stands = roles.stands in
         let within = insn_inside code j i there in
-        let kept = Some-from_some_and (insn_of new (roles.numbers j)) (HasInsn free code (Keep j)) (stands.insns (roles.numbers j) (Keep j) (stands.numbered j within)) in
+        let kept = Some-from_some_and (insn_of new (roles.numbers j)) (HasInsn calls code plan (Keep j)) (stands.insns (roles.numbers j) (Keep j) (stands.numbered j within)) in
         let old = Some-from_some_and (insn_of code j) (λ k. IsRetargeted k kept.0 ⊎ IsOpposite k kept.0) kept.2 in
         let same : old.0 ≡ i = same_value (insn_of code j) old.0 i old.1 there in
         insn_use numbered given main plans spelled method code x i kept.0 j (roles.numbers j) new
         ((same_row old.0 kept.0 old.2).operand ∙ ap pool_index same) there member kept.1
 
-    frees : (n j h : ℕ) → slice_get roles.roles n ≡ Some (FreeBefore j h) → Frees w
-    frees n j h there item news r s =
-        let call = Some-from_some_and (insn_of new n) (HasInsn free code (FreeBefore j h)) (roles.stands.insns n (FreeBefore j h) there) in
-        let used = used_by_item (rewritten_class plans x.start x.own) new member n (insn.Static free) free (call.1 ∙ ap Some call.2) refl in
+    abbrev free : ℕ
+    free = free_index x.own
+
+    -- the entry of the method that frees what a holder holds
+    abbrev free_call : Bool → ℕ
+    free_call looped = if looped then calls.free_chain else calls.free
+
+    frees_plain : (n j h : ℕ) → slice_get roles.roles n ≡ Some (FreeBefore j h) → Frees w free
+    frees_plain n j h there item news r s =
+        let call = Some-from_some_and (insn_of new n) (HasInsn calls code plan (FreeBefore j h)) (roles.stands.insns n (FreeBefore j h) there) in
+        let used = used_by_item (rewritten_class plans x.start x.own) new member n (insn.Static free) free
+        (call.1 ∙ ap Some (call.2 ∙ ap (λ b. insn.Static (free_call b)) (unlooped h))) refl in
         let use_is = freed_use numbered given main plans spelled method code x used in
         let tree = subst (λ (o : Outline). AreTree o.classes) (program_outline given main) linked.tree in
         ap (λ u. row_after (program_of given main).outline method item news u (insn.Static free) (pushed (slot.Ref r ∷ []) s)) use_is
         ∙ ap (λ (o : Outline). row_after o method item news free_use (insn.Static free) (pushed (slot.Ref r ∷ []) s)) (program_outline given main)
         ∙ free_row given main tree (has_free numbered given main) method item news free r s
+
+    frees : (n j h : ℕ) → slice_get roles.roles n ≡ Some (FreeBefore j h) → Frees w (if looped_at plan h then calls.free_chain else calls.free)
+    frees n j h there = subst (λ b. Frees w (free_call b)) (sym (unlooped h)) (frees_plain n j h there)
+
+    -- nothing is linked
+    links : (n j h : ℕ) → slice_get roles.roles n ≡ Some (LinkAfter j h) → Links w
+    links n j h there = absurd (false≢true (sym (unlooped h) ∙ (roles.stands.holders n (LinkAfter j h) there).1))
+
+    -- ---- what holders hold
+
+    held_by : (h : ℕ) (holder : Holder) → slice_get plan.holders h ≡ Some holder → held_slot w h ≡ slot.Ref (type_by (looped_at plan h) holder)
+    held_by h holder at =
+        held_of (λ (g : Holder). type_by g.looped g) plan.holders h holder at ∙ ap (λ b. slot.Ref (type_by b holder)) (sym (ap holds_chain at))
+
+    plain_slot : (h : ℕ) → h < length plan.holders → looped_at plan h ≡ false → held_slot w h ≡ given_slot w h
+    plain_slot h within is =
+        let found = holder_there plan.holders h within in
+        held_by h found.0 found.1 ∙ ap (λ b. slot.Ref (type_by b found.0)) is ∙ sym (held_of type_of plan.holders h found.0 found.1)
+
+    chain_slot : (h : ℕ) → h < length plan.holders → looped_at plan h ≡ true → held_slot w h ≡ object_slot (program_of given main).outline
+    chain_slot h within is =
+        let found = holder_there plan.holders h within in held_by h found.0 found.1 ∙ ap (λ b. slot.Ref (type_by b found.0)) is
 
     before : (j h : ℕ) → Contains (before_at plan j) h → h < length plan.holders
     before j h there = by_place (cases_lt j (length code.items)) where
@@ -407,7 +462,11 @@ module _ (numbered : ClassTypesAreNumbered) (stand : CodesStand) (given : List C
           handler_use numbered given main plans spelled method code x h (roles.moved h) new (roles.stands.catch_class h) listed member
           (subst (λ l. Contains l (roles.moved h)) (sym roles.stands.handlers_are) (contained_mapped roles.moved code.handlers h listed));
       frees = frees;
-      counted = length-map plan.holders type_of;
+      links = links;
+      counted = length-map plan.holders (λ (h : Holder). type_by h.looped h);
+      given_counted = length-map plan.holders type_of;
+      plain = plain_slot;
+      chained = chain_slot;
       before = before;
       after = λ j h there. let holder = holder_after facts t plan safe j h there in slice_get_within plan.holders h holder.holder holder.at;
       held = held;
@@ -440,7 +499,7 @@ typed_in numbered stand given main linked steps made written marks spelled safe 
           let same : own.x ≡ typed = same_value (method_in_facts p safe.facts method) own.x typed own.is there in
           let good = subst (λ z. AreSafe safe.facts z plan) same own.safe in (
             _,
-            planned_typed numbered stand given main safe.plans spelled linked steps made safe.facts safe.exact method code is plan so good (ready method plan typed so there),
+            planned_typed numbered stand given main safe.plans spelled linked steps made safe.facts safe.exact method code is plan so good own.plain (ready method plan typed so there),
           )
 
       by_code : (old : Option Code) → code_at (program_of given main) method ≡ old → code_at (program_of (rewritten safe.plans given) main) method ≡ Some new

@@ -4,6 +4,7 @@ use Rattle.std.specs.Prelude.{slice_get}
 use Rattle.std.specs.List.{range_with_len}
 use Rattle.std.proofs.lemmas.Bool.{false≢true}
 use Rattle.std.proofs.lemmas.Option.{none-some, same_Some}
+use Rattle.fm_chain.specs.declared.calls.Calls.{Calls}
 use Rattle.fm_code.specs.declared.code_array.Code.{Code}
 use Rattle.fm_conn.specs.Facts.{Facts}
 use Rattle.fm_conn.specs.Links.{typed_method}
@@ -20,10 +21,10 @@ use Rattle.fm_place.specs.Woven.{local_of}
 use Rattle.fm_world.specs.Programs.{code_at, Program}
 
 -- where something has to start, the first item is inserted
-first_inserted : (new : Code) (own : List (Option ℕ)) (free : ℕ) (old : Code) (count : ℕ) (rest : List Todo) (next : ℕ) → 0 < count
-    → LieInserted new own 0 (all_insns_to free old (map ToStart (range_with_len 0 count) ++ rest)) next → mark_at own 0 ≡ None
-first_inserted new own free old zero rest next some lies = absurd (omega (arith, some))
-first_inserted new own free old (suc count) rest next some lies = lies.1
+first_inserted : (new : Code) (own : List (Option ℕ)) (calls : Calls) (old : Code) (count : ℕ) (rest : List Todo) (next : ℕ) → 0 < count
+    → LieInserted new own 0 (all_insns_to calls old (map ToStart (range_with_len 0 count) ++ rest)) next → mark_at own 0 ≡ None
+first_inserted new own calls old zero rest next some lies = absurd (omega (arith, some))
+first_inserted new own calls old (suc count) rest next some lies = lies.1
 
 -- a list that has an element isn't empty
 has_some : (holders : List Holder) (h : ℕ) (holder : Holder) → slice_get holders h ≡ Some holder → 0 < length holders
@@ -55,7 +56,7 @@ module _ (p q : Program) (facts : Facts) (plans : Plans) (marks : Marks) (from :
       let w : HasInserted q marks method code (inserted_by (plans method)) = from.methods method code code_is in
       let plan : Insertions = inserted_by (plans method) in
       let first : mark_at (own_marks marks method) 0 ≡ None =
-      first_inserted w.new (own_marks marks method) w.free code (length plan.holders) (frees_at plan 0) (w.laid.numbers 0) (has_some plan.holders h holder is)
+      first_inserted w.new (own_marks marks method) w.calls code (length plan.holders) (frees_at plan 0) (w.laid.numbers 0) (has_some plan.holders h holder is)
       w.laid.start in
       none-some j (sym first ∙ item_is)
 

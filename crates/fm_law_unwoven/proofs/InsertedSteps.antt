@@ -24,10 +24,11 @@ use Rattle.fm_frames.specs.Uses.{by_type, on_method}
 use Rattle.fm_frames.specs.declared.ends.Ended.TheVariants as end
 use Rattle.fm_frames.specs.declared.values.Value.{Value}
 use Rattle.fm_frames.specs.declared.values.Value.TheVariants as value
+use Rattle.fm_frames.specs.declared.natives.Native.TheVariants.{FreeMeFree}
+use Rattle.fm_law_chained.specs.Called.{CallsNative}
 use Rattle.fm_law_sound.proofs.FramesStand.{target_in}
 use Rattle.fm_law_sound.specs.Sound.{IsReference}
 use Rattle.fm_law_unwoven.specs.Doing.{freed_from, with_frame}
-use Rattle.fm_law_unwoven.specs.WovenFrom.{CallsFree}
 use Rattle.fm_types.specs.Named.{class_of_method}
 use Rattle.fm_types.specs.Typed.{use_by, use_in}
 use Rattle.fm_world.specs.Programs.{Outline, Program}
@@ -65,17 +66,17 @@ free_effect s = on_held_of (words 1 []) 0 (Some s) (λ it. acting 1 (Free 0 ∷ 
 abbrev called : Outline → Option ℕ → List Sight → ℕ → TypeRef → Effect
 called o byte s m named = starting (class_of_method o m) (entered_as o (words_of_arguments o m) m byte s (native_of o m))
 
-free_is : (o : Outline) (method free : ℕ) (u : Use) → (calls : CallsFree o u) → (byte : Option ℕ) (s : Sight) (rest : List Sight)
+free_is : (o : Outline) (method free : ℕ) (u : Use) → (calls : CallsNative o FreeMeFree u) → (byte : Option ℕ) (s : Sight) (rest : List Sight)
     → effect_of o method u (insn.Static free) byte (s ∷ rest) ≡ starting (class_of_method o calls.method.0) (free_effect s)
 unfolding effect_of static_effect native_effect free_native
 free_is o method free u calls byte s rest =
     let m = calls.method.0 in
     ap (λ x. on_method o x (called o byte (s ∷ rest))) calls.use_is
     ∙ ap (λ t. by_type t (called o byte (s ∷ rest) m)) calls.type_is
-    ∙ ap (λ n. starting (class_of_method o m) (entered_as o (words_of_arguments o m) m byte (s ∷ rest) n)) calls.row
+    ∙ ap (λ n. starting (class_of_method o m) (entered_as o (words_of_arguments o m) m byte (s ∷ rest) n)) calls.row_is
 
 -- its class has started
-free_started : (o : Outline) (u : Use) (calls : CallsFree o u) (started : List Bool) (e : Effect)
+free_started : (o : Outline) (u : Use) (calls : CallsNative o FreeMeFree u) (started : List Bool) (e : Effect)
     → with_start o started (starting (class_of_method o calls.method.0) e) ≡ record e { starts = None }
 free_started o u calls started e = ap (λ classes. started_by o classes (starting (class_of_method o calls.method.0) e)) (calls.started started)
 
@@ -139,7 +140,7 @@ module _ (q : Program) (choose : Choose) where
       step_by y f callers (going 0 (Jumps 0)) (next_is y f callers (insn.Goto target) (going 0 (Jumps 0)) (going 0 (Jumps 0)) found refl refl)
       ∙ ap (λ n. goes_to (counted y) (record f { item = n }) callers) leads
 
-  module _ (y : State) (f : Frame) (callers : List Frame) (free : ℕ) (v : Value) (rest : List Value) (calls : CallsFree q.outline (use_in q f.method free))
+  module _ (y : State) (f : Frame) (callers : List Frame) (free : ℕ) (v : Value) (rest : List Value) (calls : CallsNative q.outline FreeMeFree (use_in q f.method free))
       (found : next_insn q f ≡ Some (insn.Static free)) where
     abbrev top : Frame
     top = record f { stack = v ∷ rest }

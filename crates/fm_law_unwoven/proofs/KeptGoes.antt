@@ -80,7 +80,7 @@ module _ (p q : Program) (facts : Facts) (plans : Plans) (marks : Marks) (from :
         ap (λ o. unwrap_or o 0) some
         ∙ by_start k some
         (lies_first w.new (own_marks marks method) 0 (w.laid.numbers 0)
-        (all_insns_to w.free code (starts_of (inserted_by (plans method)) ++ frees_at (inserted_by (plans method)) 0)) w.laid.start)
+        (all_insns_to w.calls code (starts_of (inserted_by (plans method)) ++ frees_at (inserted_by (plans method)) 0)) w.laid.start)
 
   -- ---- new frames
 

@@ -9,7 +9,7 @@ use Rattle.fm_code.specs.declared.instructions.Insn.TheVariants as insn
 use Rattle.fm_conn.specs.Facts.{Facts}
 use Rattle.fm_conn.specs.Links.{typed_method}
 use Rattle.fm_conn.specs.Nodes.{TypedMethod}
-use Rattle.fm_frames.specs.Acts.{Choose}
+use Rattle.fm_frames.specs.Acts.{cell_of, Choose}
 use Rattle.fm_frames.specs.States.{Frame, Moved, State, word_at}
 use Rattle.fm_frames.specs.Steps.{max_locals_of, next_insn, step}
 use Rattle.fm_frames.specs.declared.ends.Ended.{Ended}
@@ -26,9 +26,10 @@ use Rattle.fm_law_unwoven.proofs.InsertedSteps.{counted, goto_step}
 use Rattle.fm_law_unwoven.proofs.KeptGoes.{below_other}
 use Rattle.fm_law_unwoven.proofs.KeptReached.{coded, Holds, item_inside, reached_comes, reaches}
 use Rattle.fm_law_unwoven.proofs.KeptSites.{gives, safe_at}
+use Rattle.fm_law_unwoven.proofs.OneKept.{one_kept}
 use Rattle.fm_law_unwoven.proofs.TodoCounts.{frees_count, keeps_count, starts_count, steps_both, steps_few}
 use Rattle.fm_law_unwoven.proofs.TodosDone.{one_passed, passed-append}
-use Rattle.fm_law_unwoven.specs.Doing.{all_steps_to, IsPassed, state_after, with_frame}
+use Rattle.fm_law_unwoven.specs.Doing.{all_steps_to, IsPassed, joins_in, state_after, with_frame}
 use Rattle.fm_law_unwoven.specs.Kept.{Begins, BothDo, BothFault, but_frames, FrameGoes, GoesBefore, GoesBehind, GoesByJump, HoldersStand, InMethod, IsAtKept, KeptStepsAreSteps, old_frame, old_state, Resumes, StandsAtKept, StatesGo, StepsAlike}
 use Rattle.fm_law_unwoven.specs.Laid.{all_insns_to, frees_at, keeps_at, LieInserted, mark_at, starts_of, Todo}
 use Rattle.fm_law_unwoven.specs.Reached.{AllReached, FramesReachKept, IsReached, jumps_ahead, OneMissed, Reached, state_reached, todos_ahead}
@@ -63,9 +64,9 @@ module _ (p q : Program) (facts : Facts) (plans : Plans) (marks : Marks) (from :
 
       -- what is inserted lies from the frame's item on
       lies_from : (at : ℕ) → g.item ≡ at → (todos : List Todo) (next : ℕ)
-          → LieInserted w.new (own_marks marks g.method) at (all_insns_to w.free code todos) next
-          → LieInserted w.new (own_marks marks g.method) g.item (all_insns_to w.free code todos) next
-      lies_from at is todos next lies = subst (λ n. LieInserted w.new (own_marks marks g.method) n (all_insns_to w.free code todos) next) (sym is) lies
+          → LieInserted w.new (own_marks marks g.method) at (all_insns_to w.calls code todos) next
+          → LieInserted w.new (own_marks marks g.method) g.item (all_insns_to w.calls code todos) next
+      lies_from at is todos next lies = subst (λ n. LieInserted w.new (own_marks marks g.method) n (all_insns_to w.calls code todos) next) (sym is) lies
 
       pub frees_few : (j : ℕ) → f.item ≡ j → all_steps_to (frees_at (inserted_by (plans g.method)) j) ≤ 4 * length (inserted_by (plans g.method)).holders
       frees_few j is =
@@ -87,27 +88,30 @@ module _ (p q : Program) (facts : Facts) (plans : Plans) (marks : Marks) (from :
           (reaches p q facts plans marks from ready choose z f g callers below holds code code_is w (starts_of plan ++ frees_at plan 0) 0 old_first
           (start_stand facts x plan g.stack g.locals wide (w.laid.numbers 0) g.method (safe 0 old_first))
           (lies_from 0 first (starts_of plan ++ frees_at plan 0) (w.laid.numbers 0) w.laid.start)
-          (may_begin facts x plan g.stack g.locals wide (safe 0 old_first)) (omega (arith, both, one, two)))
+          (may_begin facts x plan g.stack g.locals wide z.areas (safe 0 old_first)) (omega (arith, both, one, two)))
 
       -- ---- it goes on behind an item
 
       module _ (j : ℕ) (stand : HoldersStand facts (typed_method p facts.typing g.method code) (inserted_by (plans g.method)) g j) where
         behind : SitesAreNodes → IsEdge code j f.item → f.item ≡ j + 1 → g.item ≡ w.laid.behind j
-            → ReachedBy (keeps_at (inserted_by (plans g.method)) j ++ frees_at (inserted_by (plans g.method)) f.item)
+            → ReachedBy (keeps_at (inserted_by (plans g.method)) (joins_in z.areas.store (cell_of (word_at g.stack 0))) j
+            ++ frees_at (inserted_by (plans g.method)) f.item)
         behind nodes edge old_next next =
             let on_top : (h : ℕ) → Contains (after_at plan j) h → (0 < length g.stack) × IsReference (word_at g.stack 0) =
             λ h among.
             subst (λ stack. (0 < length stack) × IsReference (word_at stack 0)) (sym holds.stack)
             (gives p q facts plans marks from g.method code code_is nodes ready holds.sound.typed j f holds.method old_next holds.sound.frames.0 h among) in
-            let both = steps_both (keeps_at plan j) (frees_at plan (j + 1)) in
-            let one = keeps_count plan j in
+            let joins = joins_in z.areas.store (cell_of (word_at g.stack 0)) in
+            let both = steps_both (keeps_at plan joins j) (frees_at plan (j + 1)) in
+            let one = keeps_count plan joins j (one_kept p q facts plans marks from g.method code code_is j) in
             let two = frees_few (j + 1) old_next in
-            subst (λ k. ReachedBy (keeps_at plan j ++ frees_at plan k)) (sym old_next)
-            (reaches p q facts plans marks from ready choose z f g callers below holds code code_is w (keeps_at plan j ++ frees_at plan (j + 1)) (j + 1) old_next
-            (behind_stand facts x plan g.stack g.locals stand.width stand.references j on_top (w.laid.numbers (j + 1)) g.method (safe (j + 1) old_next)
+            subst (λ k. ReachedBy (keeps_at plan joins j ++ frees_at plan k)) (sym old_next)
+            (reaches p q facts plans marks from ready choose z f g callers below holds code code_is w (keeps_at plan joins j ++ frees_at plan (j + 1)) (j + 1) old_next
+            (behind_stand facts x plan g.stack g.locals stand.width stand.references j on_top joins (w.laid.numbers (j + 1)) g.method (safe (j + 1) old_next)
             (goes_along facts x plan g j (j + 1) stand (subst (IsEdge code j) old_next edge)))
-            (lies_from (w.laid.behind j) next (keeps_at plan j ++ frees_at plan (j + 1)) (w.laid.numbers (j + 1)) (w.laid.left j (inside (j + 1) old_next)))
-            (may_behind facts x plan g.stack g.locals stand.width stand.references j on_top (safe (j + 1) old_next)) (omega (arith, both, one, two)))
+            (lies_from (w.laid.behind j) next (keeps_at plan joins j ++ frees_at plan (j + 1)) (w.laid.numbers (j + 1)) (w.laid.left joins j (inside (j + 1) old_next)))
+            (may_behind facts x plan g.stack g.locals stand.width stand.references j on_top joins z.areas refl (safe (j + 1) old_next))
+            (omega (arith, both, one, two)))
 
         -- ---- and before one
 
@@ -118,7 +122,7 @@ module _ (p q : Program) (facts : Facts) (plans : Plans) (marks : Marks) (from :
             (frees_stand facts x plan g.stack g.locals stand.width stand.references f.item (w.laid.numbers f.item) g.method (safe f.item refl)
             (goes_along facts x plan g j f.item stand edge))
             (lies_from (w.laid.entries f.item) next (frees_at plan f.item) (w.laid.numbers f.item) (w.laid.entered f.item (inside f.item refl)))
-            (may_frees facts x plan g.stack g.locals stand.width stand.references f.item (safe f.item refl)) (omega (arith, two))
+            (may_frees facts x plan g.stack g.locals stand.width stand.references z.areas f.item (safe f.item refl)) (omega (arith, two))
 
   -- ---- by where the frame goes
 
@@ -161,12 +165,10 @@ module _ (p q : Program) (facts : Facts) (plans : Plans) (marks : Marks) (from :
         OneMissed
         (record {
           before = lost.before;
-          holder = lost.holder;
+          todo = lost.todo;
           behind = lost.behind;
           is = lost.is;
-          cell = lost.cell;
-          cell_is = lost.cell_is;
-          lost = lost.lost;
+          misses = lost.misses;
         })
         (1 + count) last e (omega (arith, fewer))
         (passed-append q marks ch 1 count (1 + count) (with_frame z g below) (with_frame (counted q ch z) (record g { item = target }) below) last refl jump passed)
@@ -254,7 +256,7 @@ module _ (p q : Program) (facts : Facts) (plans : Plans) (marks : Marks) (from :
       }
 
     pub onwards : SitesAreNodes → (before_step : State) (go : FrameGoes p q facts plans marks before_step f g below)
-        → Reached p q facts plans marks (lawful choose) z f g below (todos_ahead p q facts plans marks before_step f g below go)
+        → Reached p q facts plans marks (lawful choose) z f g below (todos_ahead p q facts plans marks before_step z.areas.store f g below go)
         (jumps_ahead p q facts plans marks before_step f g below go)
     onwards nodes before_step (InMethod j code code_is w was (GoesBehind past old_next next) edge stand) =
         behind z f g callers below holds code code_is w j stand nodes edge old_next next

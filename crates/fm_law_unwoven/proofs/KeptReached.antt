@@ -121,8 +121,8 @@ module _ (p q : Program) (facts : Facts) (plans : Plans) (marks : Marks) (from :
           }
 
           -- what is inserted from the frame's item on leads there
-          pub reaches : LieInserted w.new (own_marks marks g.method) g.item (all_insns_to w.free code todos) (w.laid.numbers j)
-              → MayDoAll code g.stack g.locals todos → all_steps_to todos ≤ 6 * length (inserted_by (plans g.method)).holders + 2
+          pub reaches : LieInserted w.new (own_marks marks g.method) g.item (all_insns_to w.calls code todos) (w.laid.numbers j)
+              → MayDoAll code z.areas g.stack g.locals todos → all_steps_to todos ≤ 6 * length (inserted_by (plans g.method)).holders + 2
               → Reached p q facts plans marks (lawful choose) z f g below todos 0
           reaches lies may few = record {
             code = code;
@@ -133,7 +133,7 @@ module _ (p q : Program) (facts : Facts) (plans : Plans) (marks : Marks) (from :
             may = may;
             few = subst (λ n. n ≤ most_inserted_steps p q) count
                 (steps_few p q marks g.method code code_is (inserted_by (plans g.method)) w (all_steps_to todos) few);
-            done = by_done (todos_done q marks ch g code (inserted_by (plans g.method)) w todos (w.laid.numbers j) lies may z below);
+            done = by_done (todos_done q marks ch g code (inserted_by (plans g.method)) w todos (w.laid.numbers j) lies z below may);
           } where
             count : all_steps_to todos ≡ 0 + all_steps_to todos
             count = omega arith

@@ -1,5 +1,6 @@
 -- A code into which nothing is inserted is laid out as it was.
 use Rattle.std.proofs.Common.{◌≡◌, ℕ, ◌+◌, ◌<◌, List, [], ◌∷◌, length, map, Option, Some, refl, sym, ap, ◌∙◌, arith}
+use Rattle.fm_chain.specs.declared.calls.Calls.{Calls}
 use Rattle.fm_code.specs.SpellsCode.{with_targets}
 use Rattle.fm_code.specs.declared.code_array.Code.{Code}
 use Rattle.fm_code.specs.declared.code_array.Handler.{Handler}
@@ -26,16 +27,16 @@ same_handlers : (handlers : List Handler) → handlers ≡ map (moved_to (λ t. 
 same_handlers [] = refl
 same_handlers (h ∷ handlers) = ap (λ rest. h ∷ rest) (same_handlers handlers)
 
-pub same_laid : (free : ℕ) (old : Code) (marks : List (Option ℕ)) → ((j : ℕ) → j < length old.items → mark_at marks j ≡ Some j)
-    → ((n j : ℕ) → mark_at marks n ≡ Some j → (j < length old.items) × (n ≡ j)) → IsLaid free old nothing_inserted old marks
-same_laid free old marks marked once = record {
+pub same_laid : (calls : Calls) (old : Code) (marks : List (Option ℕ)) → ((j : ℕ) → j < length old.items → mark_at marks j ≡ Some j)
+    → ((n j : ℕ) → mark_at marks n ≡ Some j → (j < length old.items) × (n ≡ j)) → IsLaid calls old nothing_inserted old marks
+same_laid calls old marks marked once = record {
   locals = let same : old.max_locals ≡ old.max_locals + 0 = omega arith in same;
   numbers = λ j. j;
   entries = λ j. j;
   behind = λ j. j + 1;
   start = refl;
   entered = λ j inside. refl;
-  left = λ j more. refl;
+  left = λ joins j more. refl;
   kept = λ j i found. IsWhole (found ∙ ap Some (sym (same_insn i))) refl;
   marked = marked;
   once = once;

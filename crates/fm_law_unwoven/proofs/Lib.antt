@@ -4,6 +4,7 @@ pub mod UnseenLocals
 pub mod RoleMarks
 pub mod LaidTodos
 pub mod LaidSame
+pub mod InsertedCalls
 pub mod InsertedSteps
 pub mod TodosDone
 pub mod NarrowedLinks
@@ -17,6 +18,7 @@ pub mod KeptNext
 pub mod KeptSound
 pub mod KeptSplit
 pub mod KeptSteps
+pub mod OneKept
 pub mod TodoLocals
 pub mod TodoAreas
 pub mod TodoCounts

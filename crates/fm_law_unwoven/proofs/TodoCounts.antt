@@ -1,5 +1,5 @@
 -- How many steps inserted things take at most.
-use Rattle.std.proofs.Common.{◌≡◌, ℕ, ◌+◌, ◌-◌, ◌*◌, ◌<◌, ◌≤◌, Bool, true, false, List, [], ◌∷◌, ◌++◌, length, map, Some, None, Contains, ⊎_elim, refl, sym, ap, ◌∙◌, arith, if◌then◌else◌}
+use Rattle.std.proofs.Common.{◌≡◌, ℕ, ◌+◌, ◌-◌, ◌*◌, ◌<◌, ◌≤◌, ◌⊎◌, inl, inr, Bool, true, false, List, [], ◌∷◌, ◌++◌, length, map, Some, None, Contains, ⊎_elim, refl, sym, ap, ◌∙◌, arith, if◌then◌else◌}
 use Rattle.std.specs.Prelude.{nat_eq}
 use Rattle.std.specs.List.{IsDistinct, range_with_len}
 use Rattle.std.proofs.lemmas.Bool.{cases_lt, eqb-true}
@@ -9,12 +9,13 @@ use Rattle.std.proofs.lemmas.Map.Steps.{length-le_from_distinct_below}
 use Rattle.std.proofs.lemmas.Map.Views.{Contains-from_any}
 use Rattle.std.proofs.lemmas.Option.{none-some}
 use Rattle.fm_base.proofs.ContainsFacts.{Contains-cons_cases}
+use Rattle.fm_chain.specs.Chained.{looped_at}
 use Rattle.fm_code.specs.declared.code_array.Code.{Code}
 use Rattle.fm_code.proofs.EdgesLemmas.{Contains-map}
 use Rattle.fm_conn.proofs.ListLemmas.{Contains-range}
 use Rattle.fm_law_same_runs.specs.Beside.{greatest, Marks, most_added_locals, most_inserted_steps}
-use Rattle.fm_law_unwoven.specs.Doing.{all_steps_to}
-use Rattle.fm_law_unwoven.specs.Laid.{frees_at, keeps_at, starts_of, Todo, ToFree, ToKeep, ToStart}
+use Rattle.fm_law_unwoven.specs.Doing.{all_steps_to, steps_to}
+use Rattle.fm_law_unwoven.specs.Laid.{frees_at, keeps_at, starts_of, to_free, to_keep, Todo, ToStart}
 use Rattle.fm_law_unwoven.specs.WovenFrom.{HasInserted}
 use Rattle.fm_place.specs.Insertions.{after_at, before_at, Holder, Insertions, numbers_of}
 use Rattle.fm_frames.specs.Steps.{max_locals_of}
@@ -31,13 +32,17 @@ starts_steps : (hs : List ℕ) → all_steps_to (map ToStart hs) ≡ 2 * length 
 starts_steps [] = refl
 starts_steps (h ∷ hs) = let rest = starts_steps hs in omega (arith, rest)
 
-keeps_steps : (hs : List ℕ) → all_steps_to (map ToKeep hs) ≡ 2 * length hs
-keeps_steps [] = refl
-keeps_steps (h ∷ hs) = let rest = keeps_steps hs in omega (arith, rest)
+keep_steps : (looped joins : Bool) (h : ℕ) → steps_to (to_keep looped joins h) ≤ 4
+keep_steps true joins h = omega arith
+keep_steps false joins h = omega arith
 
-frees_steps : (hs : List ℕ) → all_steps_to (map ToFree hs) ≡ 4 * length hs
-frees_steps [] = refl
-frees_steps (h ∷ hs) = let rest = frees_steps hs in omega (arith, rest)
+free_steps : (looped : Bool) (h : ℕ) → steps_to (to_free looped h) ≡ 4
+free_steps true h = refl
+free_steps false h = refl
+
+frees_steps : (looped : ℕ → Bool) (hs : List ℕ) → all_steps_to (map (λ h. to_free (looped h) h) hs) ≡ 4 * length hs
+frees_steps looped [] = refl
+frees_steps looped (h ∷ hs) = let one = free_steps (looped h) h in let rest = frees_steps looped hs in omega (arith, one, rest)
 
 -- ---- by the number of holders
 
@@ -53,11 +58,19 @@ module _ (plan : Insertions) where
   pub starts_count : all_steps_to (starts_of plan) ≡ 2 * length plan.holders
   starts_count = let size = length-range_with_len 0 (length plan.holders) in let all = starts_steps (range_with_len 0 (length plan.holders)) in omega (arith, size, all)
 
-  pub keeps_count : (j : ℕ) → all_steps_to (keeps_at plan j) ≤ 2 * length plan.holders
-  keeps_count j =
+  -- one holder at most keeps what an item gave
+  pub keeps_count : (joins : Bool) (j : ℕ) → (after_at plan j ≡ []) ⊎ ((only : ℕ) × (after_at plan j ≡ only ∷ []))
+      → all_steps_to (keeps_at plan joins j) ≤ 2 * length plan.holders + 2
+  keeps_count joins j (inl none) =
+      let all : all_steps_to (keeps_at plan joins j) ≡ 0 = ap (λ hs. all_steps_to (map (λ h. to_keep (looped_at plan h) joins h) hs)) none in
+      omega (arith, all)
+  keeps_count joins j (inr (only, is)) =
+      let all : all_steps_to (keeps_at plan joins j) ≡ steps_to (to_keep (looped_at plan only) joins only) + 0 =
+      ap (λ hs. all_steps_to (map (λ h. to_keep (looped_at plan h) joins h) hs)) is in
+      let one = keep_steps (looped_at plan only) joins only in
       let few = numbers_few (λ h. nat_eq h.site j) 0 plan.holders in
-      let all = keeps_steps (after_at plan j) in
-      omega (arith, few, all)
+      let size : length (after_at plan j) ≡ 1 = ap length is in
+      omega (arith, all, one, few, size)
 
   -- each holder is freed once at most
   pub frees_count : (j : ℕ) → IsDistinct nat_eq (before_at plan j) → ((h : ℕ) → Contains (before_at plan j) h → h < length plan.holders)
@@ -65,7 +78,7 @@ module _ (plan : Insertions) where
   frees_count j once inside =
       let few = length-le_from_distinct_below (before_at plan j) (length plan.holders) once
       (λ h found. inside h (Contains-from_any (λ a b same. eqb-true a b same) h (before_at plan j) found)) in
-      let all = frees_steps (before_at plan j) in
+      let all = frees_steps (looped_at plan) (before_at plan j) in
       omega (arith, few, all)
 
 -- ---- by the locals that are added

@@ -1,9 +1,7 @@
 -- What is known of a program and of one that has more in its methods. All laws of the second program rest on it, and on nothing else of class files.
-use Rattle.std.specs.Prelude.{◌≡◌, ℕ, List, [], Option, Some, None, Bool, Contains, slice_get}
+use Rattle.std.specs.Prelude.{◌≡◌, ℕ, List, [], Option, Some, None, Contains}
 use Rattle.std.specs.List.{slice_index_or}
-use Rattle.fm_base.specs.declared.ids.MethodId.{MethodId}
-use Rattle.fm_base.specs.declared.ids.TypeId.{TypeId}
-use Rattle.fm_base.specs.declared.kinds.TypeRef.{TypeRef}
+use Rattle.fm_chain.specs.declared.calls.Calls.{Calls}
 use Rattle.fm_code.specs.Edges.{insn_of, MeetsCodeRules}
 use Rattle.fm_code.specs.declared.class_file.ClassDef.{ClassDef}
 use Rattle.fm_code.specs.declared.code_array.Code.{Code}
@@ -12,32 +10,19 @@ use Rattle.fm_code.specs.declared.instructions.Insn.{Insn}
 use Rattle.fm_code.specs.declared.instructions.Insn.TheVariants as insn
 use Rattle.fm_conn.specs.Facts.{Facts}
 use Rattle.fm_conn.specs.Links.{typed_method}
-use Rattle.fm_frames.specs.CallRows.{native_of}
-use Rattle.fm_frames.specs.declared.natives.Native.TheVariants.{FreeMeFree}
-use Rattle.fm_frames.specs.Starts.{to_start}
+use Rattle.fm_frames.specs.declared.natives.Native.{Native}
+use Rattle.fm_frames.specs.declared.natives.Native.TheVariants.{FreeMeFree, FreeMeFreeChain, FreeMeLink}
+use Rattle.fm_law_chained.specs.Called.{CallsNative}
 use Rattle.fm_law_same_runs.specs.Beside.{Marks}
 use Rattle.fm_law_same_runs.specs.Programs.{AreTaken}
 use Rattle.fm_law_unwoven.specs.Laid.{IsLaid, mark_at}
 use Rattle.fm_place.specs.Insertions.{Insertions}
 use Rattle.fm_place.specs.Rewriting.{Plans}
-use Rattle.fm_place.specs.Safe.{AreSafe, IsProgramOf, SafeOf}
-use Rattle.fm_types.specs.Named.{class_of_method}
+use Rattle.fm_place.specs.Safe.{AreSafe, HoldsNoChain, IsProgramOf, SafeOf}
 use Rattle.fm_types.specs.Typed.{use_by, use_in}
-use Rattle.fm_world.specs.Programs.{code_at, Outline, Program, program_of}
-use Rattle.fm_world.specs.declared.uses.Use.{Use}
-use Rattle.fm_world.specs.declared.uses.Use.TheVariants as resolved
+use Rattle.fm_world.specs.Programs.{code_at, Program, program_of}
 
 -- ---- one method
-
--- an index is resolved to the built-in method FreeMe.free, which starts no class
-pub record CallsFree (o : Outline) (u : Use) : Type 0 where
-  pub method : MethodId
-  pub number : TypeId
-  pub type : TypeRef
-  pub use_is : u ≡ resolved.OfMethod method number
-  pub type_is : slice_get o.types number.0 ≡ Some type
-  pub row : native_of o method.0 ≡ Some FreeMeFree
-  pub started : (started : List Bool) → to_start o started (class_of_method o method.0) ≡ []
 
 -- each instruction of the method's old code, and each catch type, is resolved in both programs to the same
 pub record NamesTheSame (p q : Program) (method : ℕ) (code : Code) : Type 0 where
@@ -57,17 +42,24 @@ abbrev pub inserted_by : Option Insertions → Insertions
 inserted_by None = nothing_inserted
 inserted_by (Some plan) = plan
 
--- in the second program the method has its old code with these insertions, whose calls are of FreeMe.free
+-- in this code an inserted call of the entry is one of this method
+abbrev pub AreCalls : Program → Marks → (method : ℕ) → Code → Native → (call : ℕ) → Type 0
+AreCalls q marks method new row call =
+    (n : ℕ) → insn_of new n ≡ Some (insn.Static call) → mark_at (own_marks marks method) n ≡ None → CallsNative q.outline row (use_in q method call)
+
+-- in the second program the method has its old code with these insertions, whose calls are of FreeMe's methods
 pub record HasInserted (q : Program) (marks : Marks) (method : ℕ) (old : Code) (plan : Insertions) : Type 0 where
-  pub free : ℕ
+  pub calls : Calls
   pub new : Code
   pub new_is : code_at q method ≡ Some new
-  pub laid : IsLaid free old plan new (own_marks marks method)
-  pub frees : (n : ℕ) → insn_of new n ≡ Some (insn.Static free) → mark_at (own_marks marks method) n ≡ None → CallsFree q.outline (use_in q method free)
+  pub laid : IsLaid calls old plan new (own_marks marks method)
+  pub frees : AreCalls q marks method new FreeMeFree calls.free
+  pub links : AreCalls q marks method new FreeMeLink calls.link
+  pub chains : AreCalls q marks method new FreeMeFreeChain calls.free_chain
 
 -- ---- two programs
 
--- the second program has the outline of the first one, and its methods with what these plans insert, which is safe
+-- the second program has the outline of the first one, and its methods with what these plans insert, which is safe; no holder holds a chain
 pub record IsWovenFrom (p q : Program) (facts : Facts) (plans : Plans) (marks : Marks) : Type 0 where
   pub outline : q.outline ≡ p.outline
   pub bare : (method : ℕ) → code_at p method ≡ None → code_at q method ≡ None
@@ -76,6 +68,7 @@ pub record IsWovenFrom (p q : Program) (facts : Facts) (plans : Plans) (marks : 
   pub methods : (method : ℕ) (code : Code) → code_at p method ≡ Some code → HasInserted q marks method code (inserted_by (plans method))
   pub safe : (method : ℕ) (code : Code) (plan : Insertions) → code_at p method ≡ Some code → plans method ≡ Some plan
       → AreSafe facts (typed_method p facts.typing method code) plan
+  pub plain : (method : ℕ) (plan : Insertions) → plans method ≡ Some plan → HoldsNoChain plan
 
 -- so do classes with safe insertions and the classes that were given, whose program may be narrowed
 abbrev pub SafeProgramsAreWoven : Type 0

@@ -1,17 +1,18 @@
 -- The roles of new items: which follows which, and where those of an old item are.
-use Rattle.std.proofs.Common.{◌≡◌, ℕ, zero, suc, ◌+◌, ◌-◌, ◌*◌, ◌<◌, ◌≤◌, ◌⊎◌, inl, inr, ⊎_elim, Bool, true, false, List, [], ◌∷◌, ◌++◌, length, Option, Some, None, refl, sym, ap, subst, ◌∙◌, arith, append_assoc, length-append}
+use Rattle.std.proofs.Common.{◌≡◌, ℕ, zero, suc, ◌+◌, ◌-◌, ◌*◌, ◌<◌, ◌≤◌, ◌⊎◌, inl, inr, ⊎_elim, Bool, true, false, List, [], ◌∷◌, ◌++◌, length, map, Option, Some, None, refl, sym, ap, subst, ◌∙◌, arith, append_assoc, length-append}
 use Rattle.std.specs.Prelude.{slice_get, slice_index}
-use Rattle.std.specs.List.{flat_map, range_with_len}
+use Rattle.std.specs.List.{AllByRecursion, flat_map, range_with_len, sum}
 use Rattle.std.proofs.lemmas.Bool.{cases_lt}
 use Rattle.std.proofs.lemmas.Option.{none-some, same_Some, slice_get_cases, slice_get_within}
-use Rattle.fm_base.proofs.ListFacts.{slice_get-append_right}
+use Rattle.fm_base.proofs.ListFacts.{AllByRecursion-append, AllByRecursion-at, slice_get-append_left, slice_get-append_right}
 use Rattle.fm_code.specs.declared.code_array.Code.{Code}
 use Rattle.fm_code.specs.declared.code_array.Item.{Item}
-use Rattle.fm_place.proofs.WovenLemmas.{anchor-first}
 use Rattle.fm_place.specs.Insertions.{after_at, before_at, Insertions}
-use Rattle.fm_place.specs.Woven.{anchors_from, anchors_of, count_at, freed_items, null_stored_items, top_stored_items}
-use Rattle.fm_law_woven_flow.specs.Roles.{DupAfter, FreeBefore, GoesOn, IsEntry, JumpOf, Keep, LoadBefore, NullBefore, owner, Role, StartNull, StartStore, StoreAfter, StoreBefore}
-use Rattle.fm_law_woven_flow.specs.inner.RolesOf.{after_roles, before_roles, item_roles, kept_new, new_roles, roles_from, start_roles}
+use Rattle.fm_chain.proofs.Replaced.{sum_cons}
+use Rattle.fm_chain.specs.Chained.{anchors_from, anchors_of, count_at, looped_at, taken_items}
+use Rattle.fm_place.specs.Woven.{freed_items, null_stored_items}
+use Rattle.fm_law_woven_flow.specs.Roles.{behind_dup, DupAfter, FreeBefore, GoesOn, IsEntry, JumpOf, Keep, LinkAfter, LoadAfter, LoadBefore, NullBefore, owner, Role, StartNull, StartStore, StoreAfter, StoreBefore}
+use Rattle.fm_law_woven_flow.specs.inner.RolesOf.{after_roles, before_roles, item_roles, kept_new, new_roles, roles_behind, roles_from, start_roles}
 
 -- ---- elements
 
@@ -42,7 +43,9 @@ Next old plan (NullBefore j h) = λ r. r ≡ StoreBefore j h
 Next old plan (StoreBefore j h) = λ r. IsEntry old j r
 Next old plan (Keep j) = λ r. GoesOn old j r
 Next old plan (JumpOf j) = λ r. GoesOn old j r
-Next old plan (DupAfter j h) = λ r. r ≡ StoreAfter j h
+Next old plan (DupAfter j h) = λ r. r ≡ behind_dup (looped_at plan h) j h
+Next old plan (LoadAfter j h) = λ r. r ≡ LinkAfter j h
+Next old plan (LinkAfter j h) = λ r. r ≡ StoreAfter j h
 Next old plan (StoreAfter j h) = λ r. GoesOn old j r
 
 -- the first one, if there is one
@@ -75,11 +78,17 @@ chain-before old plan j (h ∷ hs) rest inside head chain =
     ((inside, inl (h, refl)), (refl, (refl, (refl, (later.0, later.1)))))
 
 chain-after : (old : Code) (plan : Insertions) (j : ℕ) (hs : List ℕ) (rest : List Role) → HeadIs (λ r. IsEntry old (j + 1) r) rest → Chain old plan rest
-    → HeadIs (λ r. GoesOn old j r) (flat_map (after_roles j) hs ++ rest) × Chain old plan (flat_map (after_roles j) hs ++ rest)
+    → HeadIs (λ r. GoesOn old j r) (flat_map (after_roles plan j) hs ++ rest) × Chain old plan (flat_map (after_roles plan j) hs ++ rest)
 chain-after old plan j [] rest head chain = (head-weaker (λ r. IsEntry old (j + 1) r) (λ r. GoesOn old j r) (λ r entry. inr entry) rest head, chain)
 chain-after old plan j (h ∷ hs) rest head chain =
-    let later = chain-after old plan j hs rest head chain in
-    (inl (h, refl), (refl, (later.0, later.1)))
+    by_flag (looped_at plan h) refl (chain-after old plan j hs rest head chain) where
+      left : List Role
+      left = flat_map (after_roles plan j) hs
+
+      by_flag : (b : Bool) → looped_at plan h ≡ b → HeadIs (λ r. GoesOn old j r) (left ++ rest) × Chain old plan (left ++ rest)
+          → HeadIs (λ r. GoesOn old j r) ((roles_behind b j h ++ left) ++ rest) × Chain old plan ((roles_behind b j h ++ left) ++ rest)
+      by_flag true is later = (inl (h, refl), (sym (ap (λ b. behind_dup b j h) is), (refl, (refl, (later.0, later.1)))))
+      by_flag false is later = (inl (h, refl), (sym (ap (λ b. behind_dup b j h) is), (later.0, later.1)))
 
 chain-items : (old : Code) (plan : Insertions) (j : ℕ) (items : List Item) → j + length items ≡ length old.items
     → HeadIs (λ r. IsEntry old j r) (roles_from plan j items) × Chain old plan (roles_from plan j items)
@@ -87,7 +96,7 @@ chain-items old plan j [] count = (tt, tt)
 chain-items old plan j (item ∷ items) count =
     let rest = roles_from plan (j + 1) items in
     let before = flat_map (before_roles j) (before_at plan j) in
-    let after = flat_map (after_roles j) (after_at plan j) in
+    let after = flat_map (after_roles plan j) (after_at plan j) in
     let later = chain-items old plan (j + 1) items (omega arith) in
     let behind = chain-after old plan j (after_at plan j) rest later.0 later.1 in
     let inside : j < length old.items = omega arith in
@@ -122,9 +131,20 @@ pub length-before : (j : ℕ) (hs : List ℕ) → length (flat_map (before_roles
 length-before j [] = refl
 length-before j (h ∷ hs) = let rest = length-before j hs in omega (arith, rest)
 
-pub length-after : (j : ℕ) (hs : List ℕ) → length (flat_map (after_roles j) hs) ≡ top_stored_items * length hs
-length-after j [] = refl
-length-after j (h ∷ hs) = let rest = length-after j hs in omega (arith, rest)
+length-behind : (looped : Bool) (j h : ℕ) → length (roles_behind looped j h) ≡ taken_items looped
+length-behind true j h = refl
+length-behind false j h = refl
+
+-- by how many items the holders of an old item keep its object
+abbrev pub kept_items : Insertions → List ℕ → ℕ
+kept_items plan hs = sum (map (λ h. taken_items (looped_at plan h)) hs)
+
+pub length-after : (plan : Insertions) (j : ℕ) (hs : List ℕ) → length (flat_map (after_roles plan j) hs) ≡ kept_items plan hs
+length-after plan j [] = refl
+length-after plan j (h ∷ hs) =
+    length-append (after_roles plan j h) (flat_map (after_roles plan j) hs)
+    ∙ (λ k. length-behind (looped_at plan h) j h k + length-after plan j hs k)
+    ∙ sym (sum_cons (λ h. taken_items (looped_at plan h)) h hs)
 
 pub length-start : (h n : ℕ) → length (flat_map start_roles (range_with_len h n)) ≡ null_stored_items * n
 length-start h zero = refl
@@ -133,15 +153,20 @@ length-start h (suc n) = let rest = length-start (h + 1) n in omega (arith, rest
 length-item : (plan : Insertions) (j : ℕ) → length (item_roles plan j) ≡ count_at plan j
 length-item plan j =
     let before = length-before j (before_at plan j) in
-    let after = length-after j (after_at plan j) in
-    let both = length-append (flat_map (before_roles j) (before_at plan j)) (Keep j ∷ flat_map (after_roles j) (after_at plan j)) in
+    let after = length-after plan j (after_at plan j) in
+    let both = length-append (flat_map (before_roles j) (before_at plan j)) (Keep j ∷ flat_map (after_roles plan j) (after_at plan j)) in
     omega (arith, before, after, both)
+
+-- the first anchor is the number that they begin with
+anchor-first : (plan : Insertions) (n j : ℕ) (items : List Item) → slice_index (anchors_from plan n j items) 0 ≡ n
+anchor-first plan n j [] = refl
+anchor-first plan n j (item ∷ items) = refl
 
 -- the roles of item j are in the list from the anchor at an index on
 pub record Part (plan : Insertions) (whole : List Role) (anchors : List ℕ) (t j : ℕ) : Type 0 where
   pub front : List Role
   pub back : List Role
-  pub is : whole ≡ front ++ (flat_map (before_roles j) (before_at plan j) ++ (Keep j ∷ (flat_map (after_roles j) (after_at plan j) ++ back)))
+  pub is : whole ≡ front ++ (flat_map (before_roles j) (before_at plan j) ++ (Keep j ∷ (flat_map (after_roles plan j) (after_at plan j) ++ back)))
   pub at : length front ≡ slice_index anchors t
   pub next : slice_index anchors (suc t) ≡ slice_index anchors t + count_at plan j
 
@@ -153,7 +178,7 @@ part_here plan n j item items front whole is at = record {
   is =
       is
       ∙ ap (λ xs. front ++ xs)
-      (append_assoc (flat_map (before_roles j) (before_at plan j)) (Keep j ∷ flat_map (after_roles j) (after_at plan j)) (roles_from plan (j + 1) items));
+      (append_assoc (flat_map (before_roles j) (before_at plan j)) (Keep j ∷ flat_map (after_roles plan j) (after_at plan j)) (roles_from plan (j + 1) items));
   at = at;
   next = anchor-first plan (n + count_at plan j) (j + 1) items;
 }
@@ -202,12 +227,12 @@ pub next_anchor : (old : Code) (plan : Insertions) (j : ℕ) → j < length old.
 next_anchor old plan j inside = (part_of old plan j inside).next
 
 in_part : (plan : Insertions) (whole : List Role) (anchors : List ℕ) (t j : ℕ) (part : Part plan whole anchors t j) (k m : ℕ) → k ≡ slice_index anchors t + m
-    → slice_get whole k ≡ slice_get (flat_map (before_roles j) (before_at plan j) ++ (Keep j ∷ (flat_map (after_roles j) (after_at plan j) ++ part.back))) m
+    → slice_get whole k ≡ slice_get (flat_map (before_roles j) (before_at plan j) ++ (Keep j ∷ (flat_map (after_roles plan j) (after_at plan j) ++ part.back))) m
 in_part plan whole anchors t j part k m same =
     let at = part.at in
     let place : k ≡ length part.front + m = omega arith in
     (λ i. slice_get (part.is i) (place i))
-    ∙ slice_get-append_right part.front (flat_map (before_roles j) (before_at plan j) ++ (Keep j ∷ (flat_map (after_roles j) (after_at plan j) ++ part.back))) m
+    ∙ slice_get-append_right part.front (flat_map (before_roles j) (before_at plan j) ++ (Keep j ∷ (flat_map (after_roles plan j) (after_at plan j) ++ part.back))) m
 
 -- ---- the four kinds of places
 
@@ -229,6 +254,8 @@ phase (StoreBefore j h) = Before
 phase (Keep j) = Here
 phase (JumpOf j) = Behind
 phase (DupAfter j h) = After
+phase (LoadAfter j h) = After
+phase (LinkAfter j h) = After
 phase (StoreAfter j h) = After
 
 abbrev pub is_here : Phase → Bool
@@ -264,12 +291,25 @@ before-role j (h ∷ hs) rest (suc (suc (suc zero))) r inside found =
     of-same Before (Some j) (StoreBefore j h) r found (record { phase_is = refl; owner_is = refl })
 before-role j (h ∷ hs) rest (suc (suc (suc (suc k)))) r inside found = before-role j hs rest k r (omega arith) found
 
-after-role : (j : ℕ) (hs : List ℕ) (rest : List Role) (k : ℕ) (r : Role) → k < top_stored_items * length hs
-    → slice_get (flat_map (after_roles j) hs ++ rest) k ≡ Some r → IsOf After (Some j) r
-after-role j [] rest k r inside found = absurd (omega arith)
-after-role j (h ∷ hs) rest zero r inside found = of-same After (Some j) (DupAfter j h) r found (record { phase_is = refl; owner_is = refl })
-after-role j (h ∷ hs) rest (suc zero) r inside found = of-same After (Some j) (StoreAfter j h) r found (record { phase_is = refl; owner_is = refl })
-after-role j (h ∷ hs) rest (suc (suc k)) r inside found = after-role j hs rest k r (omega arith) found
+all-behind : (looped : Bool) (j h : ℕ) → AllByRecursion (IsOf After (Some j)) (roles_behind looped j h)
+all-behind true j h = (
+  record { phase_is = refl; owner_is = refl },
+  (record { phase_is = refl; owner_is = refl }, (record { phase_is = refl; owner_is = refl }, (record { phase_is = refl; owner_is = refl }, tt))),
+)
+all-behind false j h = (record { phase_is = refl; owner_is = refl }, (record { phase_is = refl; owner_is = refl }, tt))
+
+all-after : (plan : Insertions) (j : ℕ) (hs : List ℕ) → AllByRecursion (IsOf After (Some j)) (flat_map (after_roles plan j) hs)
+all-after plan j [] = tt
+all-after plan j (h ∷ hs) =
+    AllByRecursion-append (IsOf After (Some j)) (after_roles plan j h) (flat_map (after_roles plan j) hs) (all-behind (looped_at plan h) j h) (all-after plan j hs)
+
+after-role : (plan : Insertions) (j : ℕ) (hs : List ℕ) (rest : List Role) (k : ℕ) (r : Role) → k < kept_items plan hs
+    → slice_get (flat_map (after_roles plan j) hs ++ rest) k ≡ Some r → IsOf After (Some j) r
+after-role plan j hs rest k r inside found =
+    let size = length-after plan j hs in
+    let own = element_at (flat_map (after_roles plan j) hs) k (omega (arith, size, inside)) in
+    of-same After (Some j) own.0 r (sym (slice_get-append_left (flat_map (after_roles plan j) hs) rest k own.0 own.1) ∙ found)
+    (AllByRecursion-at (IsOf After (Some j)) (flat_map (after_roles plan j) hs) k own.0 (all-after plan j hs) own.1)
 
 -- where a new item is among those of its old item
 pub data StandsAt (old : Code) (plan : Insertions) (k : ℕ) (r : Role) : Type 0 where
@@ -285,7 +325,7 @@ pub kept_role : (old : Code) (plan : Insertions) (j : ℕ) → j < length old.it
 kept_role old plan j inside =
     let part = part_of old plan j inside in
     let before = flat_map (before_roles j) (before_at plan j) in
-    let rest = Keep j ∷ (flat_map (after_roles j) (after_at plan j) ++ part.back) in
+    let rest = Keep j ∷ (flat_map (after_roles plan j) (after_at plan j) ++ part.back) in
     let size = length-before j (before_at plan j) in
     let place : freed_items * length (before_at plan j) ≡ length before + 0 = omega (arith, size) in
     in_part plan (new_roles old plan) (anchors_of plan old.items) j j part (kept_new old plan j) (freed_items * length (before_at plan j)) refl
@@ -298,7 +338,7 @@ role_before old plan j k r inside low high found =
     let part = part_of old plan j inside in
     let m = k - slice_index (anchors_of plan old.items) j in
     let there = sym (in_part plan (new_roles old plan) (anchors_of plan old.items) j j part k m (omega arith)) ∙ found in
-    before-role j (before_at plan j) (Keep j ∷ (flat_map (after_roles j) (after_at plan j) ++ part.back)) m r (omega arith) there
+    before-role j (before_at plan j) (Keep j ∷ (flat_map (after_roles plan j) (after_at plan j) ++ part.back)) m r (omega arith) there
 
 -- and after it, up to the next anchor
 pub role_after : (old : Code) (plan : Insertions) (j k : ℕ) (r : Role) → j < length old.items → kept_new old plan j < k
@@ -306,7 +346,7 @@ pub role_after : (old : Code) (plan : Insertions) (j k : ℕ) (r : Role) → j <
 role_after old plan j k r inside low high found =
     let part = part_of old plan j inside in
     let before = flat_map (before_roles j) (before_at plan j) in
-    let after = flat_map (after_roles j) (after_at plan j) ++ part.back in
+    let after = flat_map (after_roles plan j) (after_at plan j) ++ part.back in
     let size = length-before j (before_at plan j) in
     let next = part.next in
     let m = k - slice_index (anchors_of plan old.items) j in
@@ -315,7 +355,7 @@ role_after old plan j k r inside low high found =
     let there : slice_get after rest ≡ Some r =
     sym (in_part plan (new_roles old plan) (anchors_of plan old.items) j j part k m (omega arith)
     ∙ ap (λ n. slice_get (before ++ (Keep j ∷ after)) n) place ∙ slice_get-append_right before (Keep j ∷ after) (suc rest)) ∙ found in
-    after-role j (after_at plan j) part.back rest r (omega (arith, next)) there
+    after-role plan j (after_at plan j) part.back rest r (omega (arith, next)) there
 
 -- what is at the start
 pub role_start : (old : Code) (plan : Insertions) (k : ℕ) (r : Role) → k < slice_index (anchors_of plan old.items) 0 → slice_get (new_roles old plan) k ≡ Some r
@@ -355,7 +395,7 @@ pub entry_at : (old : Code) (plan : Insertions) (j : ℕ) → j < length old.ite
 entry_at old plan j inside =
     let part = part_of old plan j inside in
     let there = in_part plan (new_roles old plan) (anchors_of plan old.items) j j part (slice_index (anchors_of plan old.items) j) 0 (omega arith) in
-    entered (before_at plan j) (flat_map (after_roles j) (after_at plan j) ++ part.back) there where
+    entered (before_at plan j) (flat_map (after_roles plan j) (after_at plan j) ++ part.back) there where
       entered : (hs : List ℕ) (rest : List Role)
           → slice_get (new_roles old plan) (slice_index (anchors_of plan old.items) j) ≡ slice_get (flat_map (before_roles j) hs ++ (Keep j ∷ rest)) 0
           → (r : Role) × (slice_get (new_roles old plan) (slice_index (anchors_of plan old.items) j) ≡ Some r) × IsEntry old j r

@@ -1,5 +1,7 @@
 -- What each item of code with insertions is for, and which items follow one another in it.
-use Rattle.std.specs.Prelude.{◌≡◌, ℕ, ◌+◌, ◌<◌, ◌≤◌, ◌==◌, ◌⊎◌, ◌↔◌, true, List, length, map, Option, Some, None, IsSomeAnd, Contains, slice_get}
+use Rattle.std.specs.Prelude.{◌≡◌, ℕ, ◌+◌, ◌<◌, ◌≤◌, ◌==◌, ◌⊎◌, ◌↔◌, Bool, true, false, List, length, map, Option, Some, None, IsSomeAnd, Contains, slice_get, if◌then◌else◌}
+use Rattle.fm_chain.specs.declared.calls.Calls.{Calls}
+use Rattle.fm_chain.specs.Chained.{looped_at}
 use Rattle.fm_code.specs.Edges.{Catches, falls_through, FallsOff, insn_of, IsNormalEdge, IsReachable}
 use Rattle.fm_code.specs.SpellsCode.{targets_of, with_targets}
 use Rattle.fm_code.specs.declared.code_array.Code.{Code}
@@ -25,6 +27,8 @@ pub data Role : Type 0 where
   Keep : (j : ℕ) → Role
   JumpOf : (j : ℕ) → Role
   DupAfter : (j holder : ℕ) → Role
+  LoadAfter : (j holder : ℕ) → Role
+  LinkAfter : (j holder : ℕ) → Role
   StoreAfter : (j holder : ℕ) → Role
 
 -- the old item that an item keeps, or before, behind or after which it is inserted; none at the start
@@ -38,6 +42,8 @@ owner (StoreBefore j holder) = Some j
 owner (Keep j) = Some j
 owner (JumpOf j) = Some j
 owner (DupAfter j holder) = Some j
+owner (LoadAfter j holder) = Some j
+owner (LinkAfter j holder) = Some j
 owner (StoreAfter j holder) = Some j
 
 -- ---- the instruction
@@ -67,21 +73,23 @@ pub record IsJump (i : Insn) : Type 0 where
   pub is : i ≡ insn.Goto target
 
 -- the instruction of an item, by what it is for
-abbrev pub HasInsn : (free : ℕ) → Code → Role → Insn → Type 0
-HasInsn free old (StartNull h) i = i ≡ insn.Null
-HasInsn free old (StartStore h) i = i ≡ insn.Store reg.Ref (local_of old h)
-HasInsn free old (LoadBefore j h) i = i ≡ insn.Load reg.Ref (local_of old h)
-HasInsn free old (FreeBefore j h) i = i ≡ insn.Static free
-HasInsn free old (NullBefore j h) i = i ≡ insn.Null
-HasInsn free old (StoreBefore j h) i = i ≡ insn.Store reg.Ref (local_of old h)
-HasInsn free old (Keep j) i = IsSomeAnd (insn_of old j) (λ kept. IsRetargeted kept i ⊎ IsOpposite kept i)
-HasInsn free old (JumpOf j) i = IsSomeAnd (insn_of old j) IsBranch × IsJump i
-HasInsn free old (DupAfter j h) i = i ≡ insn.Dup
-HasInsn free old (StoreAfter j h) i = i ≡ insn.Store reg.Ref (local_of old h)
+abbrev pub HasInsn : Calls → Code → Insertions → Role → Insn → Type 0
+HasInsn calls old plan (StartNull h) i = i ≡ insn.Null
+HasInsn calls old plan (StartStore h) i = i ≡ insn.Store reg.Ref (local_of old h)
+HasInsn calls old plan (LoadBefore j h) i = i ≡ insn.Load reg.Ref (local_of old h)
+HasInsn calls old plan (FreeBefore j h) i = i ≡ insn.Static (if looped_at plan h then calls.free_chain else calls.free)
+HasInsn calls old plan (NullBefore j h) i = i ≡ insn.Null
+HasInsn calls old plan (StoreBefore j h) i = i ≡ insn.Store reg.Ref (local_of old h)
+HasInsn calls old plan (Keep j) i = IsSomeAnd (insn_of old j) (λ kept. IsRetargeted kept i ⊎ IsOpposite kept i)
+HasInsn calls old plan (JumpOf j) i = IsSomeAnd (insn_of old j) IsBranch × IsJump i
+HasInsn calls old plan (DupAfter j h) i = i ≡ insn.Dup
+HasInsn calls old plan (LoadAfter j h) i = i ≡ insn.Load reg.Ref (local_of old h)
+HasInsn calls old plan (LinkAfter j h) i = i ≡ insn.Static calls.link
+HasInsn calls old plan (StoreAfter j h) i = i ≡ insn.Store reg.Ref (local_of old h)
 
 -- ---- which holders there are
 
--- the holder is there; before an item, or after one, it is one of those of that item
+-- the holder is there; before an item, or after one, it is one of those of that item; one that is linked holds a chain
 abbrev pub HasHolder : Insertions → Role → Type 0
 HasHolder plan (StartNull h) = h < length plan.holders
 HasHolder plan (StartStore h) = h < length plan.holders
@@ -92,6 +100,8 @@ HasHolder plan (StoreBefore j h) = Contains (before_at plan j) h
 HasHolder plan (Keep j) = Unit {0}
 HasHolder plan (JumpOf j) = Unit {0}
 HasHolder plan (DupAfter j h) = Contains (after_at plan j) h
+HasHolder plan (LoadAfter j h) = Contains (after_at plan j) h × (looped_at plan h ≡ true)
+HasHolder plan (LinkAfter j h) = Contains (after_at plan j) h × (looped_at plan h ≡ true)
 HasHolder plan (StoreAfter j h) = Contains (after_at plan j) h
 
 -- ---- what follows
@@ -112,6 +122,11 @@ GoesTo old j r = IsSomeAnd (insn_of old j) (λ i. (t : ℕ) × (Contains (target
 abbrev pub FallsAt : Code → ℕ → Type 0
 FallsAt old j = IsSomeAnd (insn_of old j) (λ i. falls_through i ≡ true)
 
+-- what follows the dup after an old item: for a holder of a chain that is loaded, for another one the store
+abbrev pub behind_dup : (looped : Bool) → (j holder : ℕ) → Role
+behind_dup true j h = LoadAfter j h
+behind_dup false j h = StoreAfter j h
+
 -- what an item leads to where it ends as usual
 abbrev pub Follows : Code → Insertions → Role → Role → Type 0
 Follows old plan (StartNull h) r = r ≡ StartStore h
@@ -122,7 +137,9 @@ Follows old plan (NullBefore j h) r = r ≡ StoreBefore j h
 Follows old plan (StoreBefore j h) r = IsEntry old j r
 Follows old plan (Keep j) r = GoesTo old j r ⊎ (r ≡ JumpOf j) ⊎ (FallsAt old j × GoesOn old j r)
 Follows old plan (JumpOf j) r = GoesTo old j r
-Follows old plan (DupAfter j h) r = r ≡ StoreAfter j h
+Follows old plan (DupAfter j h) r = r ≡ behind_dup (looped_at plan h) j h
+Follows old plan (LoadAfter j h) r = r ≡ LinkAfter j h
+Follows old plan (LinkAfter j h) r = r ≡ StoreAfter j h
 Follows old plan (StoreAfter j h) r = GoesOn old j r
 
 -- ---- the code
@@ -149,9 +166,9 @@ IsOwnerReached old (Some j) = IsReachable old j
 
 -- the code is old code with these insertions, by the roles of its items, the numbers of the kept
 -- ones, and how entries of the exception table move
-pub record StandsFor (free : ℕ) (old : Code) (plan : Insertions) (new : Code) (roles : List Role) (numbers : ℕ → ℕ) (moved : Handler → Handler) : Type 0 where
+pub record StandsFor (calls : Calls) (old : Code) (plan : Insertions) (new : Code) (roles : List Role) (numbers : ℕ → ℕ) (moved : Handler → Handler) : Type 0 where
   pub one_each : length roles ≡ length new.items
-  pub insns : (n : ℕ) (r : Role) → slice_get roles n ≡ Some r → IsSomeAnd (insn_of new n) (HasInsn free old r)
+  pub insns : (n : ℕ) (r : Role) → slice_get roles n ≡ Some r → IsSomeAnd (insn_of new n) (HasInsn calls old plan r)
   pub holders : (n : ℕ) (r : Role) → slice_get roles n ≡ Some r → HasHolder plan r
   pub edges : (n next : ℕ) → IsNormalEdge new n next → RolesFollow old plan roles n next
   pub handlers_are : new.handlers ≡ map moved old.handlers

@@ -16,7 +16,7 @@ use Rattle.fm_place.proofs.PathLemmas.{places_are_by_paths}
 use Rattle.fm_place.specs.Insertions.{all_holders, all_insertions, before_at, full_insertions, Holder, Insertions, numbers_of}
 use Rattle.fm_place.specs.Laws.{FullIsSafe}
 use Rattle.fm_place.specs.Places.{is_busy, is_place, MayHold}
-use Rattle.fm_place.specs.Safe.{AreSafe, full_plans, IsSafeAt, IsSafeHolder, IsSafeMethod, MayFree, method_in_facts}
+use Rattle.fm_place.specs.Safe.{AreSafe, full_plans, HoldsNoChain, IsSafeAt, IsSafeHolder, IsSafeMethod, MayFree, method_in_facts}
 use Rattle.fm_place.specs.Sites.{captured_sites, held_sites, is_captured_site, site_class}
 use Rattle.fm_place.specs.declared.limits.TheConstants.{MAX_HOLDING_STACK_WORDS}
 
@@ -164,7 +164,7 @@ holder-safe facts x h found = of_site (Contains-from_map made (held_sites facts 
 
   of_site : (j : ℕ) × Contains (held_sites facts x) j × (made j ≡ h) → IsSafeHolder facts x h
   of_site (j, held, same) =
-      subst (IsSafeHolder facts x) same (record { captured = held-captured facts x j held; class = refl; single = refl })
+      subst (IsSafeHolder facts x) same (record { captured = held-captured facts x j held; class = refl })
 
 pub before-is : (facts : Facts) (x : TypedMethod) (j : ℕ) → j < length x.code.items
     → before_at (all_insertions facts x) j ≡ numbers_of (λ h. is_place facts x h.site h.class j) 0 (all_holders facts x)
@@ -226,10 +226,26 @@ full-safe facts x plan found = of_sites (held_sites facts x) refl found where
   of_sites (site ∷ sites) same there =
       subst (AreSafe facts x) (same_Some _ _ there) (plan-safe facts x (subst (λ xs. 0 < length xs) (sym same) (omega arith)))
 
+-- and no holder holds a chain
+holders-plain : (facts : Facts) (x : TypedMethod) (sites : List ℕ)
+    → AllByRecursion (λ (h : Holder). h.looped ≡ false) (map (λ j. record { site = j; class = site_class facts x j; looped = false }) sites)
+holders-plain facts x [] = tt
+holders-plain facts x (j ∷ sites) = (refl, holders-plain facts x sites)
+
+full-plain : (facts : Facts) (x : TypedMethod) (plan : Insertions) → full_insertions facts x ≡ Some plan → HoldsNoChain plan
+full-plain facts x plan found = of_sites (held_sites facts x) found where
+  plan_of : List ℕ → Option Insertions
+  plan_of [] = None
+  plan_of (site ∷ sites) = Some (all_insertions facts x)
+
+  of_sites : (sites : List ℕ) → plan_of sites ≡ Some plan → HoldsNoChain plan
+  of_sites [] there = absurd (none-some plan there)
+  of_sites (site ∷ sites) there = subst HoldsNoChain (same_Some _ _ there) (holders-plain facts x (held_sites facts x))
+
 pub method-safe : (p : Program) (facts : Facts) (method : ℕ) (plan : Insertions) → full_plans p facts method ≡ Some plan → IsSafeMethod p facts method plan
 method-safe p facts method plan found =
     option_and_then_some (full_insertions facts) (method_in_facts p facts method) plan found
-    (λ x is there. record { x = x; is = is; safe = full-safe facts x plan there })
+    (λ x is there. record { x = x; is = is; safe = full-safe facts x plan there; plain = full-plain facts x plan there })
 
 pub full_is_safe : FullIsSafe
 full_is_safe p given written marks full = record {

@@ -28,7 +28,6 @@ IsProgramOf given main p = p ≡ narrowed_to (program_of given main) p.made
 pub record IsSafeHolder (facts : Facts) (x : TypedMethod) (h : Holder) : Type 0 where
   pub captured : is_captured_site facts x h.site ≡ true
   pub class : h.class ≡ site_class facts x h.site
-  pub single : h.looped ≡ false
 
 -- a holder that is freed before item j is there, and its class isn't busy at j
 pub record MayFree (facts : Facts) (x : TypedMethod) (plan : Insertions) (j number : ℕ) : Type 0 where
@@ -59,11 +58,16 @@ pub record AreSafe (facts : Facts) (x : TypedMethod) (plan : Insertions) : Type 
 abbrev pub method_in_facts : Program → Facts → ℕ → Option TypedMethod
 method_in_facts p facts method = option_map (typed_method p facts.typing method) (code_at p method)
 
--- a method that is changed has code, and what is inserted is safe
+-- no holder holds a chain
+abbrev pub HoldsNoChain : Insertions → Type 0
+HoldsNoChain plan = AllByRecursion (λ (h : Holder). h.looped ≡ false) plan.holders
+
+-- a method that is changed has code, and what is inserted is safe, without chains
 pub record IsSafeMethod (p : Program) (facts : Facts) (method : ℕ) (plan : Insertions) : Type 0 where
   pub x : TypedMethod
   pub is : method_in_facts p facts method ≡ Some x
   pub safe : AreSafe facts x plan
+  pub plain : HoldsNoChain plan
 
 -- The classes written are those given with insertions that are safe in this program of the classes given, and the marks say which items are inserted.
 pub record SafeOf (p : Program) (given written : List ClassDef) (marks : List (List (Option ℕ))) : Type 0 where

@@ -1,6 +1,11 @@
 -- The new items of a method and its new code, by the pairs of its plan.
-use Rattle.std.specs.Prelude.{ℕ, ◌+◌, ◌*◌, ◌==◌, List, [], ◌∷◌, ◌++◌, take, drop, Some, nat_lt, if◌then◌else◌}
-use Rattle.std.specs.List.{flat_map, range_with_len}
+use Rattle.std.specs.Prelude.{ℕ, ◌+◌, ◌*◌, ◌==◌, Bool, List, [], ◌∷◌, ◌++◌, map, take, drop, Some, nat_lt, if◌then◌else◌}
+use Rattle.std.specs.List.{flat_map, range_with_len, sum}
+use Rattle.fm_base.specs.Rows.{has}
+use Rattle.fm_chain.specs.Chained.{released, taken, taken_items}
+use Rattle.fm_chain.specs.Planned.{added_words, has_chain}
+use Rattle.fm_chain.specs.declared.calls.Calls.{Calls}
+use Rattle.fm_chain.specs.declared.plans.ChainPlan.{ChainPlan}
 use Rattle.fm_code.specs.declared.code_array.Code.{Code}
 use Rattle.fm_code.specs.declared.code_array.Item.{Item}
 use Rattle.fm_code.specs.declared.code_array.TheConstants.{MAX_CODE_BYTES}
@@ -9,8 +14,7 @@ use Rattle.fm_layout.specs.Laid.{laid_of}
 use Rattle.fm_layout.specs.Rooms.{end_from, room_of, rooms_of, size_at}
 use Rattle.fm_layout.specs.Tables.{moved_tables}
 use Rattle.fm_layout.specs.declared.new_items.NewItem.{NewItem}
-use Rattle.fm_place.specs.Woven.{freed, freed_items, kept, null_stored, null_stored_items, top_stored, top_stored_items}
-use Rattle.fm_place.specs.declared.plans.Plan.{Plan}
+use Rattle.fm_place.specs.Woven.{freed_items, kept, null_stored, null_stored_items}
 use Rattle.fm_place_weave.specs.declared.planned.Planned.{Planned}
 use Rattle.fm_place_weave.specs.declared.planned.Planned.TheVariants as planned
 
@@ -32,29 +36,37 @@ later j pairs = drop (leading j pairs) pairs
 -- ---- anchors
 
 -- how many new items an old one becomes, by the number of holders that are freed before it, and of
--- those that take its object
+-- the items by which holders take its object
 abbrev pub count_by : ℕ → ℕ → ℕ
-count_by freed stored = freed_items * freed + 1 + top_stored_items * stored
+count_by freed taken = freed_items * freed + 1 + taken
+
+-- by how many items the holders of these pairs take an object, where these hold chains
+abbrev pub taken_count : (looped : List Bool) → List (ℕ × ℕ) → ℕ
+taken_count looped pairs = sum (map (λ p. taken_items (has looped p.1)) pairs)
+
+-- how many new items this old one becomes
+abbrev pub count_here : (looped : List Bool) → (j : ℕ) → (before after : List (ℕ × ℕ)) → ℕ
+count_here looped j before after = count_by (leading j before) (taken_count looped (here j after))
 
 -- the anchors of these items, from an item and the number of a new item on
-abbrev pub anchors_after : (number j : ℕ) → (before after : List (ℕ × ℕ)) → List Item → List ℕ
-anchors_after number j before after [] = number ∷ []
-anchors_after number j before after (item ∷ items) =
-    number ∷ anchors_after (number + count_by (leading j before) (leading j after)) (j + 1) (later j before) (later j after) items
+abbrev pub anchors_after : (looped : List Bool) → (number j : ℕ) → (before after : List (ℕ × ℕ)) → List Item → List ℕ
+anchors_after looped number j before after [] = number ∷ []
+anchors_after looped number j before after (item ∷ items) =
+    number ∷ anchors_after looped (number + count_here looped j before after) (j + 1) (later j before) (later j after) items
 
 -- the number of all new items, by the same way
-abbrev pub number_after : (number j : ℕ) → (before after : List (ℕ × ℕ)) → List Item → ℕ
-number_after number j before after [] = number
-number_after number j before after (item ∷ items) =
-    number_after (number + count_by (leading j before) (leading j after)) (j + 1) (later j before) (later j after) items
+abbrev pub number_after : (looped : List Bool) → (number j : ℕ) → (before after : List (ℕ × ℕ)) → List Item → ℕ
+number_after looped number j before after [] = number
+number_after looped number j before after (item ∷ items) =
+    number_after looped (number + count_here looped j before after) (j + 1) (later j before) (later j after) items
 
 -- the anchors of a method
-abbrev pub anchors_by : Code → Plan → List ℕ
-anchors_by code plan = anchors_after (null_stored_items * plan.holders) 0 plan.before.items plan.after.items code.items
+abbrev pub anchors_by : Code → ChainPlan → List ℕ
+anchors_by code p = anchors_after p.looped (null_stored_items * p.plan.holders) 0 p.plan.before.items p.plan.after.items code.items
 
 -- the number of all its new items
-abbrev pub number_by : Code → Plan → ℕ
-number_by code plan = number_after (null_stored_items * plan.holders) 0 plan.before.items plan.after.items code.items
+abbrev pub number_by : Code → ChainPlan → ℕ
+number_by code p = number_after p.looped (null_stored_items * p.plan.holders) 0 p.plan.before.items p.plan.after.items code.items
 
 -- ---- new items
 
@@ -63,43 +75,43 @@ abbrev pub nulls_by : (first holders : ℕ) → List NewItem
 nulls_by first holders = flat_map (λ h. null_stored (first + h)) (range_with_len 0 holders)
 
 -- the holders of these pairs are freed
-abbrev pub freed_by : (free first : ℕ) → List (ℕ × ℕ) → List NewItem
-freed_by free first pairs = flat_map (λ p. freed free (first + p.1)) pairs
+abbrev pub released_by : Calls → (looped : List Bool) → (first : ℕ) → List (ℕ × ℕ) → List NewItem
+released_by calls looped first pairs = flat_map (λ p. released calls (has looped p.1) (first + p.1)) pairs
 
 -- they take the object on top of the stack
-abbrev pub stored_by : (first : ℕ) → List (ℕ × ℕ) → List NewItem
-stored_by first pairs = flat_map (λ p. top_stored (first + p.1)) pairs
+abbrev pub taken_by : Calls → (looped : List Bool) → (first : ℕ) → List (ℕ × ℕ) → List NewItem
+taken_by calls looped first pairs = flat_map (λ p. taken calls (has looped p.1) (first + p.1)) pairs
 
 -- one old item with what is inserted before and after it
-abbrev pub step_by : (free first : ℕ) → List ℕ → (j : ℕ) → (before after : List (ℕ × ℕ)) → Insn → List NewItem
-step_by free first anchors j before after i = freed_by free first before ++ kept anchors j i ∷ stored_by first after
+abbrev pub step_by : Calls → (looped : List Bool) → (first : ℕ) → List ℕ → (j : ℕ) → (before after : List (ℕ × ℕ)) → Insn → List NewItem
+step_by calls looped first anchors j before after i = released_by calls looped first before ++ kept anchors j i ∷ taken_by calls looped first after
 
 -- these old items, from a number on
-abbrev pub woven_after : (free first : ℕ) → List ℕ → (j : ℕ) → (before after : List (ℕ × ℕ)) → List Item → List NewItem
-woven_after free first anchors j before after [] = []
-woven_after free first anchors j before after (item ∷ items) =
-    step_by free first anchors j (here j before) (here j after) item.insn
-    ++ woven_after free first anchors (j + 1) (later j before) (later j after) items
+abbrev pub woven_after : Calls → (looped : List Bool) → (first : ℕ) → List ℕ → (j : ℕ) → (before after : List (ℕ × ℕ)) → List Item → List NewItem
+woven_after calls looped first anchors j before after [] = []
+woven_after calls looped first anchors j before after (item ∷ items) =
+    step_by calls looped first anchors j (here j before) (here j after) item.insn
+    ++ woven_after calls looped first anchors (j + 1) (later j before) (later j after) items
 
 -- all new items of a method, by its anchors
-abbrev pub woven_by : (free : ℕ) → Code → Plan → List ℕ → List NewItem
-woven_by free code plan anchors =
-    nulls_by code.max_locals plan.holders
-    ++ woven_after free code.max_locals anchors 0 plan.before.items plan.after.items code.items
+abbrev pub woven_by : Calls → Code → ChainPlan → List ℕ → List NewItem
+woven_by calls code p anchors =
+    nulls_by code.max_locals p.plan.holders
+    ++ woven_after calls p.looped code.max_locals anchors 0 p.plan.before.items p.plan.after.items code.items
 
 -- ---- code
 
 -- the new items of a method
-abbrev pub items_by : (free : ℕ) → Code → Plan → List NewItem
-items_by free code plan = woven_by free code plan (anchors_by code plan)
+abbrev pub items_by : Calls → Code → ChainPlan → List NewItem
+items_by calls code plan = woven_by calls code plan (anchors_by code plan)
 
--- these new items laid out by their anchors: one more word of stack and a local for each holder; tables follow their items
-abbrev pub code_with : Code → (holders : ℕ) → List NewItem → List ℕ → Code
-code_with code holders items anchors =
+-- these new items laid out by their anchors: so many words more of stack and a local for each holder; tables follow their items
+abbrev pub code_with : Code → (words holders : ℕ) → List NewItem → List ℕ → Code
+code_with code words holders items anchors =
     let laid = laid_of code.items items in
     let tables = moved_tables code laid anchors in
     record {
-      max_stack = code.max_stack + 1;
+      max_stack = code.max_stack + words;
       max_locals = code.max_locals + holders;
       items = laid.items;
       length = laid.length;
@@ -108,8 +120,8 @@ code_with code holders items anchors =
     }
 
 -- the new code
-abbrev pub code_by : (free : ℕ) → Code → Plan → Code
-code_by free code plan = code_with code plan.holders (items_by free code plan) (anchors_by code plan)
+abbrev pub code_by : Calls → Code → ChainPlan → Code
+code_by calls code p = code_with code (added_words p) p.plan.holders (items_by calls code p) (anchors_by code p)
 
 -- ---- how long it is
 
@@ -117,28 +129,32 @@ code_by free code plan = code_with code plan.holders (items_by free code plan) (
 abbrev pub inserted_end : ℕ → List NewItem → ℕ
 inserted_end end items = end_from end (rooms_of [] items)
 
+-- how many bytes a call takes doesn't depend on its entry
+abbrev pub no_calls : Calls
+no_calls = record { free = 0; link = 0; free_chain = 0 }
+
 -- where an old item ends, while no branch is widened, with what is inserted before and after it
-abbrev pub step_end : (first end : ℕ) → (before after : List (ℕ × ℕ)) → Item → ℕ
-step_end first end before after item =
-    let start = inserted_end end (freed_by 0 first before) in
-    inserted_end (start + size_at start (room_of (Some item) item.insn)) (stored_by first after)
+abbrev pub step_end : (looped : List Bool) → (first end : ℕ) → (before after : List (ℕ × ℕ)) → Item → ℕ
+step_end looped first end before after item =
+    let start = inserted_end end (released_by no_calls looped first before) in
+    inserted_end (start + size_at start (room_of (Some item) item.insn)) (taken_by no_calls looped first after)
 
 -- where these old items end, from a number on
-abbrev pub end_after : (first end j : ℕ) → (before after : List (ℕ × ℕ)) → List Item → ℕ
-end_after first end j before after [] = end
-end_after first end j before after (item ∷ items) =
-    end_after first (step_end first end (here j before) (here j after) item) (j + 1) (later j before) (later j after) items
+abbrev pub end_after : (looped : List Bool) → (first end j : ℕ) → (before after : List (ℕ × ℕ)) → List Item → ℕ
+end_after looped first end j before after [] = end
+end_after looped first end j before after (item ∷ items) =
+    end_after looped first (step_end looped first end (here j before) (here j after) item) (j + 1) (later j before) (later j after) items
 
 -- how many bytes a method's new items take, while no branch is widened
-abbrev pub narrow_by : Code → Plan → ℕ
-narrow_by code plan =
-    end_after code.max_locals (inserted_end 0 (nulls_by code.max_locals plan.holders)) 0 plan.before.items plan.after.items code.items
+abbrev pub narrow_by : Code → ChainPlan → ℕ
+narrow_by code p =
+    end_after p.looped code.max_locals (inserted_end 0 (nulls_by code.max_locals p.plan.holders)) 0 p.plan.before.items p.plan.after.items code.items
 
 -- ---- what is to be done
 
 -- by a method's plan: nothing where no site is held; else it is woven, if it isn't too long already while no branch is widened
-abbrev pub planned_by : Code → Plan → Planned
+abbrev pub planned_by : Code → ChainPlan → Planned
 planned_by code plan =
-    if plan.holders == 0 then planned.Same else
-    if nat_lt MAX_CODE_BYTES (narrow_by code plan) then planned.TooLong (narrow_by code plan) else
+    if plan.plan.holders == 0 then planned.Same else
+    if nat_lt MAX_CODE_BYTES (narrow_by code plan) then planned.TooLong (narrow_by code plan) (has_chain plan) else
     planned.Woven plan

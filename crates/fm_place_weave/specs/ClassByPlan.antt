@@ -1,9 +1,8 @@
 -- A class with what is inserted into its methods, by their plans; and the first method that would
 -- be too long.
-use Rattle.std.specs.Prelude.{◌≡◌, ℕ, ◌+◌, ◌<◌, List, [], ◌∷◌, length, map, Option, Some, None, nat_lt, if◌then◌else◌}
-use Rattle.std.specs.List.{AllByRecursion}
+use Rattle.std.specs.Prelude.{◌≡◌, ℕ, ◌+◌, ◌<◌, Bool, false, List, [], ◌∷◌, length, map, Option, Some, None, nat_lt, if◌then◌else◌}
+use Rattle.std.specs.List.{AllByRecursion, list_any}
 use Rattle.std.specs.Option.{option_map, option_or}
-use Rattle.fm_code.specs.FreeEntries.{sought_free, with_free}
 use Rattle.fm_code.specs.declared.class_file.ClassDef.{ClassDef}
 use Rattle.fm_code.specs.declared.class_file.Member.{Member}
 use Rattle.fm_code.specs.declared.class_file.MemberAttr.{MemberAttr}
@@ -15,9 +14,12 @@ use Rattle.fm_layout.specs.Laid.{laid_length, refused_length}
 use Rattle.fm_layout.specs.declared.error.LayFail.{LayFail}
 use Rattle.fm_layout.specs.declared.error.LayFail.TheVariants as fail
 use Rattle.fm_place.specs.Rewriting.{rewritten_major}
-use Rattle.fm_place.specs.declared.plans.Plan.{Plan}
 use Rattle.fm_pool.specs.declared.error.AddFail.{AddFail}
 use Rattle.fm_pool.specs.declared.error.AddFail.TheVariants as add_fail
+use Rattle.fm_chain.specs.Chaining.{calls_for, entries_for}
+use Rattle.fm_chain.specs.Planned.{has_chain}
+use Rattle.fm_chain.specs.declared.calls.Calls.{Calls}
+use Rattle.fm_chain.specs.declared.plans.ChainPlan.{ChainPlan}
 use Rattle.fm_place_weave.specs.ByPlan.{code_by, items_by}
 use Rattle.fm_place_weave.specs.Conditions.{MayBeWoven}
 use Rattle.fm_place_weave.specs.declared.error.WeaveFail.{WeaveFail}
@@ -28,29 +30,39 @@ use Rattle.fm_place_weave.specs.declared.planned.Planned.TheVariants as planned
 -- ---- methods
 
 -- an attribute of a method that is woven: its code is
-abbrev pub attribute_by : (free : ℕ) → Plan → MemberAttr → MemberAttr
-attribute_by free plan (attribute.Coded name code) = attribute.Coded name (code_by free code plan)
-attribute_by free plan a = a
+abbrev pub attribute_by : Calls → ChainPlan → MemberAttr → MemberAttr
+attribute_by calls plan (attribute.Coded name code) = attribute.Coded name (code_by calls code plan)
+attribute_by calls plan a = a
 
 -- a method by what is to be done with it
-abbrev pub method_by : (free : ℕ) → Planned → Member → Member
-method_by free (planned.Woven plan) m = record m { attributes = map (attribute_by free plan) m.attributes }
-method_by free p m = m
+abbrev pub method_by : Calls → Planned → Member → Member
+method_by calls (planned.Woven plan) m = record m { attributes = map (attribute_by calls plan) m.attributes }
+method_by calls p m = m
 
 -- the methods of a class
-abbrev pub methods_by : (free : ℕ) → List Planned → List Member → List Member
-methods_by free (p ∷ plans) (m ∷ methods) = method_by free p m ∷ methods_by free plans methods
-methods_by free plans methods = []
+abbrev pub methods_by : Calls → List Planned → List Member → List Member
+methods_by calls (p ∷ plans) (m ∷ methods) = method_by calls p m ∷ methods_by calls plans methods
+methods_by calls plans methods = []
 
 -- ---- classes
 
--- a changed class: with the entries of FreeMe.free in its pool, and with what is inserted into its methods
+-- a method that is woven, or would be too long, has a holder of a chain
+abbrev pub chains_in : Planned → Bool
+chains_in planned.Same = false
+chains_in (planned.Woven plan) = has_chain plan
+chains_in (planned.TooLong bytes chains) = chains
+
+-- so has one of these methods
+abbrev pub has_chains : List Planned → Bool
+has_chains plans = list_any chains_in plans
+
+-- a changed class: with the entries of FreeMe's methods in its pool, and with what is inserted into its methods
 abbrev pub class_by : List Planned → ClassDef → ClassDef
 class_by plans c = record c {
   minor = 0;
   major = rewritten_major;
-  pool = record { entries = with_free c.pool.entries };
-  methods = methods_by (sought_free c.pool.entries).index plans c.methods;
+  pool = record { entries = entries_for (has_chains plans) c.pool.entries };
+  methods = methods_by (calls_for (has_chains plans) c.pool.entries) plans c.methods;
 }
 
 -- why the entries aren't put into a pool: with them it has more than 65,535 indices, and this is their number (JVMS 4.1)
@@ -61,32 +73,32 @@ IsFull entries add_fail.NoMemory = Unit {0}
 -- ---- methods that would be too long
 
 -- how long the code would be, where that is too long
-abbrev pub long_code : (free : ℕ) → Plan → Code → Option ℕ
-long_code free plan code =
-    if nat_lt MAX_CODE_BYTES (laid_length code.items (items_by free code plan))
-    then Some (refused_length code.items (items_by free code plan)) else None
+abbrev pub long_code : Calls → ChainPlan → Code → Option ℕ
+long_code calls plan code =
+    if nat_lt MAX_CODE_BYTES (laid_length code.items (items_by calls code plan))
+    then Some (refused_length code.items (items_by calls code plan)) else None
 
 -- the same of an attribute that may be the code
-abbrev pub long_attribute : (free : ℕ) → Plan → MemberAttr → Option ℕ
-long_attribute free plan (attribute.Coded name code) = long_code free plan code
-long_attribute free plan a = None
+abbrev pub long_attribute : Calls → ChainPlan → MemberAttr → Option ℕ
+long_attribute calls plan (attribute.Coded name code) = long_code calls plan code
+long_attribute calls plan a = None
 
 -- of the first of these attributes of which it is something
-abbrev pub long_attributes : (free : ℕ) → Plan → List MemberAttr → Option ℕ
-long_attributes free plan [] = None
-long_attributes free plan (a ∷ attributes) = option_or (long_attribute free plan a) (long_attributes free plan attributes)
+abbrev pub long_attributes : Calls → ChainPlan → List MemberAttr → Option ℕ
+long_attributes calls plan [] = None
+long_attributes calls plan (a ∷ attributes) = option_or (long_attribute calls plan a) (long_attributes calls plan attributes)
 
 -- the same of a method
-abbrev pub long_method : (free : ℕ) → Planned → Member → Option ℕ
-long_method free planned.Same m = None
-long_method free (planned.TooLong bytes) m = Some bytes
-long_method free (planned.Woven plan) m = long_attributes free plan m.attributes
+abbrev pub long_method : Calls → Planned → Member → Option ℕ
+long_method calls planned.Same m = None
+long_method calls (planned.TooLong bytes chains) m = Some bytes
+long_method calls (planned.Woven plan) m = long_attributes calls plan m.attributes
 
 -- the place of the first one, from a place on, and how long it would be
-abbrev pub first_long : (free place : ℕ) → List Planned → List Member → Option (ℕ × ℕ)
-first_long free place (p ∷ plans) (m ∷ methods) =
-    option_or (option_map (λ bytes. (place, bytes)) (long_method free p m)) (first_long free (place + 1) plans methods)
-first_long free place plans methods = None
+abbrev pub first_long : Calls → (place : ℕ) → List Planned → List Member → Option (ℕ × ℕ)
+first_long calls place (p ∷ plans) (m ∷ methods) =
+    option_or (option_map (λ bytes. (place, bytes)) (long_method calls p m)) (first_long calls (place + 1) plans methods)
+first_long calls place plans methods = None
 
 -- the length in a refusal is this one
 abbrev pub IsLong : Option ℕ → LayFail → Type 0
@@ -101,17 +113,17 @@ IsFirstLong long weave_fail.NoMemory = Unit {0}
 -- ---- what is required
 
 -- an attribute that is code may be woven
-abbrev pub MayWeave : (free : ℕ) → Plan → MemberAttr → Type 0
-MayWeave free plan (attribute.Coded name code) = MayBeWoven free code plan
-MayWeave free plan a = Unit {0}
+abbrev pub MayWeave : Calls → ChainPlan → MemberAttr → Type 0
+MayWeave calls plan (attribute.Coded name code) = MayBeWoven calls code plan
+MayWeave calls plan a = Unit {0}
 
 -- what is to be done with the method may be done
-abbrev pub MayDo : (free : ℕ) → Planned → Member → Type 0
-MayDo free (planned.Woven plan) m = AllByRecursion (MayWeave free plan) m.attributes
-MayDo free p m = Unit {0}
+abbrev pub MayDo : Calls → Planned → Member → Type 0
+MayDo calls (planned.Woven plan) m = AllByRecursion (MayWeave calls plan) m.attributes
+MayDo calls p m = Unit {0}
 
 -- the same of all methods, one plan for each
-abbrev pub MayDoAll : (free : ℕ) → List Planned → List Member → Type 0
-MayDoAll free [] [] = Unit {0}
-MayDoAll free (p ∷ plans) (m ∷ methods) = MayDo free p m × MayDoAll free plans methods
-MayDoAll free plans methods = ⊥
+abbrev pub MayDoAll : Calls → List Planned → List Member → Type 0
+MayDoAll calls [] [] = Unit {0}
+MayDoAll calls (p ∷ plans) (m ∷ methods) = MayDo calls p m × MayDoAll calls plans methods
+MayDoAll calls plans methods = ⊥

@@ -1,5 +1,5 @@
 -- What weaving requires of a method's code and its plan.
-use Rattle.std.specs.Prelude.{◌+◌, ℕ, ◌<◌, ◌≤◌, List}
+use Rattle.std.specs.Prelude.{◌+◌, ℕ, ◌<◌, ◌≤◌, Bool, List, length}
 use Rattle.std.specs.List.{AllByRecursion}
 use Rattle.fm_base.specs.declared.limits.TheConstants.{MAX_LOCAL_WORDS}
 use Rattle.fm_code.specs.Edges.{MeetsCodeRules}
@@ -8,7 +8,8 @@ use Rattle.fm_layout.specs.Conditions.{AreNewItems, AreOldItems}
 use Rattle.fm_layout.specs.Laid.{laid_of}
 use Rattle.fm_layout.specs.Tables.{AreAnchors}
 use Rattle.fm_place.specs.declared.limits.TheConstants.{MAX_HOLDING_STACK_WORDS}
-use Rattle.fm_place.specs.declared.plans.Plan.{Plan}
+use Rattle.fm_chain.specs.declared.calls.Calls.{Calls}
+use Rattle.fm_chain.specs.declared.plans.ChainPlan.{ChainPlan}
 use Rattle.fm_place_weave.specs.ByPlan.{anchors_by, items_by}
 
 -- the holder of a pair has a local, which is this many after the first one that is added
@@ -19,18 +20,29 @@ IsLocal first p = first + p.1 < MAX_LOCAL_WORDS
 abbrev pub AreLocals : ℕ → List (ℕ × ℕ) → Type 0
 AreLocals first pairs = AllByRecursion (IsLocal first) pairs
 
--- there are locals for all holders, and those of the pairs are among them
-pub record HasRoom (code : Code) (plan : Plan) : Type 0 where
-  pub holders : code.max_locals + plan.holders ≤ MAX_LOCAL_WORDS
-  pub before : AreLocals code.max_locals plan.before.items
-  pub after : AreLocals code.max_locals plan.after.items
+-- there is a flag for the holder of a pair
+abbrev pub IsFlagged : List Bool → (ℕ × ℕ) → Type 0
+IsFlagged looped p = p.1 < length looped
 
--- the code may be woven by the plan: its result may be laid out, and there is room for one more
--- word on its stack
-pub record MayBeWoven (free : ℕ) (code : Code) (plan : Plan) : Type 0 where
+-- there is one for the holders of all pairs
+abbrev pub AreFlagged : List Bool → List (ℕ × ℕ) → Type 0
+AreFlagged looped pairs = AllByRecursion (IsFlagged looped) pairs
+
+-- there are locals and flags for all holders, and those of the pairs are among them
+pub record HasRoom (code : Code) (p : ChainPlan) : Type 0 where
+  pub holders : code.max_locals + p.plan.holders ≤ MAX_LOCAL_WORDS
+  pub flags : p.plan.holders ≤ length p.looped
+  pub before : AreLocals code.max_locals p.plan.before.items
+  pub after : AreLocals code.max_locals p.plan.after.items
+  pub freed : AreFlagged p.looped p.plan.before.items
+  pub taken : AreFlagged p.looped p.plan.after.items
+
+-- the code may be woven by the plan: its result may be laid out, and there is room for two more
+-- words on its stack
+pub record MayBeWoven (calls : Calls) (code : Code) (plan : ChainPlan) : Type 0 where
   pub old_items : AreOldItems code.items
   pub rules : MeetsCodeRules code
   pub room : HasRoom code plan
   pub stack : code.max_stack ≤ MAX_HOLDING_STACK_WORDS
-  pub new_items : AreNewItems code.items (items_by free code plan)
-  pub anchors : AreAnchors code (laid_of code.items (items_by free code plan)) (anchors_by code plan)
+  pub new_items : AreNewItems code.items (items_by calls code plan)
+  pub anchors : AreAnchors code (laid_of code.items (items_by calls code plan)) (anchors_by code plan)

@@ -4,67 +4,69 @@ ghost use Rattle.std.specs.Prelude.{◌≡◌, ◌≤◌, None, IfErr, IfOk, OnO
 ghost use Rattle.std.specs.List.{AllByRecursion};
 ghost use Rattle.fm_code.specs.ClassBytes.{pool_bytes};
 ghost use Rattle.fm_code.specs.ConstantPool.{SpellsPool};
-ghost use Rattle.fm_code.specs.FreeEntries.{sought_free, with_free};
-ghost use Rattle.fm_place_weave.specs.ClassByPlan.{IsFirstLong, IsFull, IsLong, MayDo, MayDoAll, MayWeave, attribute_by, class_by, first_long, long_attribute, long_attributes, long_method, method_by, methods_by};
+ghost use Rattle.fm_chain.specs.Chaining.{calls_for, entries_for};
+ghost use Rattle.fm_place_weave.specs.ClassByPlan.{has_chains, IsFirstLong, IsFull, IsLong, MayDo, MayDoAll, MayWeave, attribute_by, class_by, first_long, long_attribute, long_attributes, long_method, method_by, methods_by};
 
 use crate::error::WeaveFail;
 use crate::planned::Planned;
 use crate::woven::woven_code;
 use fm_base::Seq;
+use fm_chain::{Calls, ChainPlan, ChainPool};
 use fm_code::{ClassDef, Member, MemberAttr, Pool};
 use fm_layout::LayFail;
-use fm_place::Plan;
 use fm_pool::{AddFail, find_or_add_free};
 use std::alloc::Global;
 
 /// The version of a changed class.
 const REWRITTEN_MAJOR: u16 = 49;
 
-/// A pool with the entries of FreeMe.free.
-#[derive(Debug, Drop)]
-pub struct FreePool {
-    pub pool: Pool,
-    /// The index of its Methodref.
-    pub free: u16,
-}
-
-impl FreePool {
-    /// The pool of the class with what is missing. `Full` comes exactly where it would have more than
-    /// 65,535 indices.
-    pub fn of(alloc: Global, class: &ClassDef) -> Result<FreePool, AddFail>
-        requires { SpellsPool (pool_bytes class.now.pool) class.now.pool }
-        ensures pool { IfOk result (λ made. made.pool.entries ≡ with_free class.now.pool.entries) }
-        ensures free { IfOk result (λ made. made.free ≡ (sought_free class.now.pool.entries).index) }
-        ensures fits { OnOk result (length (with_free class.now.pool.entries) ≤ 65535) }
-        ensures refused { IfErr result (IsFull (with_free class.now.pool.entries)) }
-    {
-        let mut pool = class.pool.copy(alloc)?;
-        match find_or_add_free(alloc, &mut pool) {
-            Ok(free) => Ok(FreePool { pool, free }),
-            Err(fail) => Err(fail),
+/// The pool of the class with what is missing of the entries of FreeMe.free, and where `chains` is set of
+/// those of FreeMe's other methods. `Full` comes exactly where it would have more than 65,535 indices.
+pub fn pool_for(alloc: Global, class: &ClassDef, chains: bool) -> Result<ChainPool, AddFail>
+    requires { SpellsPool (pool_bytes class.now.pool) class.now.pool }
+    ensures pool { IfOk result (λ made. made.pool.entries ≡ entries_for chains class.now.pool.entries) }
+    ensures calls { IfOk result (λ made. made.calls ≡ calls_for chains class.now.pool.entries) }
+    ensures fits { OnOk result (length (entries_for chains class.now.pool.entries) ≤ 65535) }
+    ensures refused { IfErr result (IsFull (entries_for chains class.now.pool.entries)) }
+{
+    if chains {
+        return ChainPool::of(alloc, class);
+    }
+    let mut pool = class.pool.copy(alloc)?;
+    match find_or_add_free(alloc, &mut pool) {
+        Ok(free) => {
+            Ok(ChainPool {
+                pool,
+                calls: Calls {
+                    free,
+                    link: 0,
+                    free_chain: 0,
+                },
+            })
         }
+        Err(fail) => Err(fail),
     }
 }
 
-/// The changed class: with this pool, which is its own with the entries of FreeMe.free, and with what is
+/// The changed class: with this pool, which is its own with the entries of FreeMe's methods, and with what is
 /// inserted into its methods, one plan for each. `TooLong` names the first method that is too long.
 pub fn woven_class(
     alloc: Global,
     class: &ClassDef,
-    pool: FreePool,
+    pool: ChainPool,
     planned: &[Planned],
 ) -> Result<ClassDef, WeaveFail>
-    requires pool { pool.pool.entries ≡ with_free class.now.pool.entries }
-    requires free { pool.free ≡ (sought_free class.now.pool.entries).index }
+    requires pool { pool.pool.entries ≡ entries_for (has_chains planned.now) class.now.pool.entries }
+    requires calls { pool.calls ≡ calls_for (has_chains planned.now) class.now.pool.entries }
     requires one_each { length planned.now ≡ length class.now.methods }
-    requires may { MayDoAll pool.free planned.now class.now.methods }
+    requires may { MayDoAll pool.calls planned.now class.now.methods }
     ensures woven { IfOk result (λ new. new ≡ class_by planned.now class.now) }
-    ensures fits { OnOk result (first_long pool.free 0 planned.now class.now.methods ≡ None) }
+    ensures fits { OnOk result (first_long pool.calls 0 planned.now class.now.methods ≡ None) }
     ensures refused { IfErr result
-        (IsFirstLong (first_long pool.free 0 planned.now class.now.methods)) }
+        (IsFirstLong (first_long pool.calls 0 planned.now class.now.methods)) }
 {
-    let FreePool { pool, free } = pool;
-    let methods = woven_methods(alloc, free, &class.methods, planned)?;
+    let ChainPool { pool, calls } = pool;
+    let methods = woven_methods(alloc, calls, &class.methods, planned)?;
     let copy = class.copy(alloc)?;
     Ok(ClassDef {
         minor: 0,
@@ -83,19 +85,19 @@ pub fn woven_class(
 /// The methods, each by its plan.
 fn woven_methods(
     alloc: Global,
-    free: u16,
+    calls: Calls,
     methods: &[Member],
     planned: &[Planned],
 ) -> Result<Vec<Member>, WeaveFail>
     requires one_each { length planned.now ≡ length methods.now }
-    requires may { MayDoAll free planned.now methods.now }
-    ensures woven { IfOk result (λ new. new.items ≡ methods_by free planned.now methods.now) }
-    ensures fits { OnOk result (first_long free 0 planned.now methods.now ≡ None) }
-    ensures refused { IfErr result (IsFirstLong (first_long free 0 planned.now methods.now)) }
+    requires may { MayDoAll calls planned.now methods.now }
+    ensures woven { IfOk result (λ new. new.items ≡ methods_by calls planned.now methods.now) }
+    ensures fits { OnOk result (first_long calls 0 planned.now methods.now ≡ None) }
+    ensures refused { IfErr result (IsFirstLong (first_long calls 0 planned.now methods.now)) }
 {
     let mut woven = Vec::new(alloc);
     for place in 0..methods.len() {
-        match woven_method(alloc, free, &methods[place], &planned[place]) {
+        match woven_method(alloc, calls, &methods[place], &planned[place]) {
             Ok(method) => woven.push(method)?,
             Err(LayFail::TooLong(length)) => return Err(WeaveFail::TooLong(place, length)),
             Err(LayFail::NoMemory) => return Err(WeaveFail::NoMemory),
@@ -107,34 +109,39 @@ fn woven_methods(
 /// A method by its plan.
 fn woven_method(
     alloc: Global,
-    free: u16,
+    calls: Calls,
     method: &Member,
     planned: &Planned,
 ) -> Result<Member, LayFail>
-    requires { MayDo free planned.now method.now }
-    ensures woven { IfOk result (λ new. new ≡ method_by free planned.now method.now) }
-    ensures fits { OnOk result (long_method free planned.now method.now ≡ None) }
-    ensures refused { IfErr result (IsLong (long_method free planned.now method.now)) }
+    requires { MayDo calls planned.now method.now }
+    ensures woven { IfOk result (λ new. new ≡ method_by calls planned.now method.now) }
+    ensures fits { OnOk result (long_method calls planned.now method.now ≡ None) }
+    ensures refused { IfErr result (IsLong (long_method calls planned.now method.now)) }
 {
     match planned {
         Planned::Same => Ok(method.copy(alloc)?),
-        Planned::Woven(plan) => woven_member(alloc, free, method, plan),
-        Planned::TooLong(length) => Err(LayFail::TooLong(*length)),
+        Planned::Woven(plan) => woven_member(alloc, calls, method, plan),
+        Planned::TooLong(length, _) => Err(LayFail::TooLong(*length)),
     }
 }
 
 /// A method whose code is woven.
-fn woven_member(alloc: Global, free: u16, method: &Member, plan: &Plan) -> Result<Member, LayFail>
-    requires { AllByRecursion (MayWeave free plan.now) method.now.attributes }
+fn woven_member(
+    alloc: Global,
+    calls: Calls,
+    method: &Member,
+    plan: &ChainPlan,
+) -> Result<Member, LayFail>
+    requires { AllByRecursion (MayWeave calls plan.now) method.now.attributes }
     ensures woven { IfOk result (λ new. new ≡ record method.now {
-      attributes = map (attribute_by free plan.now) method.now.attributes;
+      attributes = map (attribute_by calls plan.now) method.now.attributes;
     }) }
     ensures fits { OnOk result
-        (long_attributes free plan.now method.now.attributes ≡ None) }
+        (long_attributes calls plan.now method.now.attributes ≡ None) }
     ensures refused { IfErr result
-        (IsLong (long_attributes free plan.now method.now.attributes)) }
+        (IsLong (long_attributes calls plan.now method.now.attributes)) }
 {
-    let attributes = woven_attributes(alloc, free, &method.attributes, plan)?;
+    let attributes = woven_attributes(alloc, calls, &method.attributes, plan)?;
     Ok(Member {
         flags: method.flags,
         name: method.name,
@@ -146,21 +153,21 @@ fn woven_member(alloc: Global, free: u16, method: &Member, plan: &Plan) -> Resul
 /// The attributes, the code woven.
 fn woven_attributes(
     alloc: Global,
-    free: u16,
+    calls: Calls,
     attributes: &[MemberAttr],
-    plan: &Plan,
+    plan: &ChainPlan,
 ) -> Result<Vec<MemberAttr>, LayFail>
-    requires { AllByRecursion (MayWeave free plan.now) attributes.now }
+    requires { AllByRecursion (MayWeave calls plan.now) attributes.now }
     ensures woven { IfOk result
-        (λ new. new.items ≡ map (attribute_by free plan.now) attributes.now) }
+        (λ new. new.items ≡ map (attribute_by calls plan.now) attributes.now) }
     ensures fits { OnOk result
-        (long_attributes free plan.now attributes.now ≡ None) }
+        (long_attributes calls plan.now attributes.now ≡ None) }
     ensures refused { IfErr result
-        (IsLong (long_attributes free plan.now attributes.now)) }
+        (IsLong (long_attributes calls plan.now attributes.now)) }
 {
     let mut woven = Vec::new(alloc);
     for attribute in attributes {
-        let new = woven_attribute(alloc, free, attribute, plan)?;
+        let new = woven_attribute(alloc, calls, attribute, plan)?;
         woven.push(new)?;
     }
     Ok(woven)
@@ -169,18 +176,18 @@ fn woven_attributes(
 /// The attribute, woven where it is the code.
 fn woven_attribute(
     alloc: Global,
-    free: u16,
+    calls: Calls,
     attribute: &MemberAttr,
-    plan: &Plan,
+    plan: &ChainPlan,
 ) -> Result<MemberAttr, LayFail>
-    requires { MayWeave free plan.now attribute.now }
-    ensures woven { IfOk result (λ new. new ≡ attribute_by free plan.now attribute.now) }
-    ensures fits { OnOk result (long_attribute free plan.now attribute.now ≡ None) }
-    ensures refused { IfErr result (IsLong (long_attribute free plan.now attribute.now)) }
+    requires { MayWeave calls plan.now attribute.now }
+    ensures woven { IfOk result (λ new. new ≡ attribute_by calls plan.now attribute.now) }
+    ensures fits { OnOk result (long_attribute calls plan.now attribute.now ≡ None) }
+    ensures refused { IfErr result (IsLong (long_attribute calls plan.now attribute.now)) }
 {
     match attribute {
         MemberAttr::Coded(name, code) => {
-            let code = woven_code(alloc, free, code, plan)?;
+            let code = woven_code(alloc, calls, code, plan)?;
             Ok(MemberAttr::Coded(*name, code))
         }
         MemberAttr::Constant(..) | MemberAttr::Other(_) => Ok(attribute.copy(alloc)?),

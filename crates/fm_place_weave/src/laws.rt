@@ -1,6 +1,6 @@
 // Laws of the definitions, each as the contract of a function that does nothing.
 
-ghost use Rattle.fm_place_weave.specs.ClassLaws.{ClassesAreRewritten};
+ghost use Rattle.fm_place_weave.specs.ClassLaws.{ClassesAreChained};
 ghost use Rattle.fm_place_weave.specs.Laws.{BytesAreCounted, PlansAreInsertions, PlansMayBeWoven};
 
 /// By its plan a method becomes what it becomes by the insertions that the plan lists; and what
@@ -15,7 +15,7 @@ pub fn law_bytes()
     ensures { BytesAreCounted }
 {}
 
-/// A changed class by the plans of its methods is the rewritten one.
+/// A changed class by the plans of its methods is the one that the definitions give.
 pub fn law_classes()
-    ensures { ClassesAreRewritten }
+    ensures { ClassesAreChained }
 {}

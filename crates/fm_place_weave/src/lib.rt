@@ -1,7 +1,7 @@
 // Methods and classes with what is inserted into them, by plans that are given.
 //
 // A plan lists a method's holders and where they are freed. Here it becomes a list of new items,
-// which is laid out; and changed classes get the entries of FreeMe.free. The layer above makes the
+// which is laid out; and changed classes get the entries of FreeMe's methods. The layer above makes the
 // plans.
 #![tactic(auto)]
 
@@ -9,6 +9,7 @@ mod anchors;
 mod classes;
 mod counting;
 mod error;
+mod holders;
 mod laws;
 mod pairs;
 mod planned;
@@ -16,7 +17,7 @@ mod sizes;
 mod weaving;
 mod woven;
 
-pub use classes::{FreePool, woven_class};
+pub use classes::{pool_for, woven_class};
 pub use error::WeaveFail;
 pub use laws::{law_bytes, law_classes, law_plans};
 pub use pairs::{here, later};

@@ -6,8 +6,8 @@ ghost use Rattle.fm_place_weave.specs.ByPlan.{narrow_by, planned_by};
 ghost use Rattle.fm_place_weave.specs.Conditions.{HasRoom};
 
 use crate::counting::narrow_length;
+use fm_chain::ChainPlan;
 use fm_code::{Code, MAX_CODE_BYTES};
-use fm_place::Plan;
 
 /// What is to be done with a method.
 #[derive(Debug, Drop)]
@@ -15,27 +15,27 @@ pub enum Planned {
     /// It stays as it is.
     Same,
     /// It is woven by this plan.
-    Woven(Plan),
+    Woven(ChainPlan),
     /// It would have this many bytes of code already while no branch is widened, which are too
-    /// many.
-    TooLong(u32),
+    /// many; and whether a holder would hold a chain.
+    TooLong(u32, bool),
 }
 
 impl Planned {
     /// By the plan of a method with this code. Takes no memory.
-    pub fn of(code: &Code, plan: Plan) -> Planned
+    pub fn of(code: &Code, plan: ChainPlan) -> Planned
         requires room { HasRoom code.now plan }
         requires short { AreShort code.now.items }
         requires few { length code.now.items < 2 ^ 32 }
         requires fits { narrow_by code.now plan < 2 ^ 32 }
         ensures { result ≡ planned_by code.now plan }
     {
-        if plan.holders == 0 {
+        if plan.plan.holders == 0 {
             return Planned::Same;
         }
         let narrow = narrow_length(code, &plan);
         if narrow > MAX_CODE_BYTES {
-            Planned::TooLong(narrow)
+            Planned::TooLong(narrow, plan.has_chain())
         } else {
             Planned::Woven(plan)
         }

@@ -12,7 +12,7 @@ use Rattle.fm_base.proofs.ListFacts.{AllByRecursion-append, AllByRecursion-weake
 use Rattle.fm_base.proofs.OptionFacts.{IsSomeAnd-from_some, IsSome-from_some}
 use Rattle.fm_base.proofs.TextsLemmas.{IsModifiedUtf8-plain}
 use Rattle.fm_code.specs.ClassBytes.{pool_bytes}
-use Rattle.fm_code.specs.ConstantPool.{entry_at, utf8_at, class_name_at, named_and_typed_at, method_ref_at, EntryIsValid, SpellsPool}
+use Rattle.fm_code.specs.ConstantPool.{entry_at, utf8_at, class_name_at, named_and_typed_at, method_ref_at, EntryIsValid, IsMethodPair, SpellsPool}
 use Rattle.fm_code.specs.Fits.{EntryFits}
 use Rattle.fm_code.specs.FreeEntries.{Content, of_utf8, of_class, of_name_and_type, of_method, has_content, is_some_text, is_some_pair, index_of, Sought, placed, sought_class_text, sought_class, sought_name, sought_descriptor, sought_pair, sought_free, with_free, free_class, free_name, free_descriptor, free_method}
 use Rattle.fm_code.specs.Names.{object, IsFieldType, IsMethodDescriptor, FieldType}
@@ -26,7 +26,7 @@ use Rattle.fm_pool.proofs.FreeEntriesLemmas.{class_text_is, class_is, name_is, d
 -- ---- what an entry means
 
 -- an entry has the content in a pool
-abbrev Has : List Entry → Content → Entry → Type 0
+abbrev pub Has : List Entry → Content → Entry → Type 0
 Has all (of_utf8 text) (entry.Utf8 name) = name ≡ text
 Has all (of_class text) (entry.Class name) = utf8_at all name ≡ Some text
 Has all (of_name_and_type n d) (entry.NameAndType name descriptor) = (utf8_at all name ≡ Some n) × (utf8_at all descriptor ≡ Some d)
@@ -65,7 +65,7 @@ tested all content e t = absurd (false≢true t)
 
 -- ---- what is at an index
 
-abbrev Stands : List Entry → Content → ℕ → Type 0
+abbrev pub Stands : List Entry → Content → ℕ → Type 0
 Stands all (of_utf8 text) i = utf8_at all i ≡ Some text
 Stands all (of_class text) i = class_name_at all i ≡ Some text
 Stands all (of_name_and_type n d) i = named_and_typed_at all i ≡ Some (n, d)
@@ -95,19 +95,21 @@ found_stands entries more content i is =
 
 -- ---- what is added
 
--- an entry of the six, in a pool
+-- an entry of a method of FreeMe, in a pool
 abbrev pub IsAdded : List Entry → Entry → Type 0
 IsAdded all (entry.Utf8 name) = EntryFits (entry.Utf8 name) × IsModifiedUtf8 name
 IsAdded all (entry.Class name) = utf8_at all name ≡ Some free_class
-IsAdded all (entry.NameAndType name descriptor) = (utf8_at all name ≡ Some free_name) × (utf8_at all descriptor ≡ Some free_descriptor)
-IsAdded all (entry.Method class member) = (class_name_at all class ≡ Some free_class) × (named_and_typed_at all member ≡ Some (free_name, free_descriptor))
+IsAdded all (entry.NameAndType name descriptor) =
+    (pair : List ℕ × List ℕ) × (utf8_at all name ≡ Some pair.0) × (utf8_at all descriptor ≡ Some pair.1) × IsMethodPair pair
+IsAdded all (entry.Method class member) =
+    (pair : List ℕ × List ℕ) × (class_name_at all class ≡ Some free_class) × (named_and_typed_at all member ≡ Some pair) × IsMethodPair pair
 IsAdded all e = ⊥
 
 added_kept : (all more : List Entry) (e : Entry) → IsAdded all e → IsAdded (all ++ more) e
 added_kept all more (entry.Utf8 name) h = h
 added_kept all more (entry.Class name) h = text_kept all more name free_class h
-added_kept all more (entry.NameAndType name descriptor) h = (text_kept all more name free_name h.0, text_kept all more descriptor free_descriptor h.1)
-added_kept all more (entry.Method class member) h = (class_kept all more class free_class h.0, pair_kept all more member (free_name, free_descriptor) h.1)
+added_kept all more (entry.NameAndType name descriptor) h = (h.0, text_kept all more name h.0.0 h.1, text_kept all more descriptor h.0.1 h.2, h.3)
+added_kept all more (entry.Method class member) h = (h.0, class_kept all more class free_class h.1, pair_kept all more member h.0 h.2, h.3)
 added_kept all more e h = absurd h
 
 takes_one : (all : List Entry) (e : Entry) → IsAdded all e → TakesOne e
@@ -120,8 +122,8 @@ takes_one all e h = absurd h
 fits : (all : List Entry) → length all < 2 ^ 16 → (e : Entry) → IsAdded all e → EntryFits e
 fits all few (entry.Utf8 name) h = h.0
 fits all few (entry.Class name) h = omega (arith, text_within all name free_class h)
-fits all few (entry.NameAndType name descriptor) h = (omega (arith, text_within all name free_name h.0), omega (arith, text_within all descriptor free_descriptor h.1))
-fits all few (entry.Method class member) h = (omega (arith, class_within all class free_class h.0), omega (arith, pair_within all member (free_name, free_descriptor) h.1))
+fits all few (entry.NameAndType name descriptor) h = (omega (arith, text_within all name h.0.0 h.1), omega (arith, text_within all descriptor h.0.1 h.2))
+fits all few (entry.Method class member) h = (omega (arith, class_within all class free_class h.1), omega (arith, pair_within all member h.0 h.2))
 fits all few e h = absurd h
 
 supported : (all : List Entry) (e : Entry) → IsAdded all e → EntryIsSupported e
@@ -130,26 +132,26 @@ supported all (entry.MethodType descriptor) h = absurd h
 supported all (entry.InvokeDynamic bootstrap member) h = absurd h
 supported all e h = refl
 
-abbrev object_type : FieldType
+abbrev pub object_type : FieldType
 object_type = record { dimensions = 0; base = object (codes "java/lang/Object") }
 
-is_object : IsFieldType object_type
+pub is_object : IsFieldType object_type
 is_object = record { dimensions = omega arith; base = refl }
 
-is_descriptor : IsMethodDescriptor 0 free_descriptor
+pub is_descriptor : IsMethodDescriptor 0 free_descriptor
 is_descriptor = (record { parameters = object_type ∷ []; result = None }, (record { parameters = (is_object, tt); result = tt }, (refl, omega arith)))
 
 valid : (all : List Entry) (e : Entry) → IsAdded all e → EntryIsValid all e
 valid all (entry.Utf8 name) h = h.1
 valid all (entry.Class name) h = IsSomeAnd-from_some (utf8_at all name) _ free_class h (inl refl)
 valid all (entry.NameAndType name descriptor) h =
-    IsSomeAnd-from_some (utf8_at all name) _ free_name h.0 (IsSomeAnd-from_some (utf8_at all descriptor) _ free_descriptor h.1 (inr (refl, is_descriptor)))
+    IsSomeAnd-from_some (utf8_at all name) _ h.0.0 h.1 (IsSomeAnd-from_some (utf8_at all descriptor) _ h.0.1 h.2 (inr h.3))
 valid all (entry.Method class member) h =
-    (IsSome-from_some (class_name_at all class) free_class h.0, IsSomeAnd-from_some (named_and_typed_at all member) _ (free_name, free_descriptor) h.1 (refl, is_descriptor))
+    (IsSome-from_some (class_name_at all class) free_class h.1, IsSomeAnd-from_some (named_and_typed_at all member) _ h.0 h.2 h.3)
 valid all e h = absurd h
 
 -- some bytes spell the pool with them
-spelled : (entries more : List Entry) → SpellsPool (pool_bytes (record { entries = entries })) (record { entries = entries }) → AllByRecursion (IsAdded (entries ++ more)) more → length (entries ++ more) < 2 ^ 16
+pub spelled : (entries more : List Entry) → SpellsPool (pool_bytes (record { entries = entries })) (record { entries = entries }) → AllByRecursion (IsAdded (entries ++ more)) more → length (entries ++ more) < 2 ^ 16
     → SpellsPool (pool_bytes (record { entries = entries ++ more })) (record { entries = entries ++ more })
 spelled entries more spells added few =
     let all = entries ++ more in
@@ -164,18 +166,18 @@ spelled entries more spells added few =
 
 -- ---- one entry after the other
 
--- an entry was placed: it is at its index, and all that is missing is among the six
-record Step (entries before : List Entry) (content : Content) (s : Sought) : Type 0 where
-  more : List Entry
-  goes_on : s.missing ≡ before ++ more
-  stands : Stands (entries ++ s.missing) content s.index
-  added : AllByRecursion (IsAdded (entries ++ s.missing)) s.missing
+-- an entry was placed: it is at its index, and all that is missing is of methods of FreeMe
+pub record Step (entries before : List Entry) (content : Content) (s : Sought) : Type 0 where
+  pub more : List Entry
+  pub goes_on : s.missing ≡ before ++ more
+  pub stands : Stands (entries ++ s.missing) content s.index
+  pub added : AllByRecursion (IsAdded (entries ++ s.missing)) s.missing
 
 all_kept : (entries before more : List Entry) → AllByRecursion (IsAdded (entries ++ before)) before → AllByRecursion (IsAdded (entries ++ (before ++ more))) before
 all_kept entries before more added =
     subst (λ (all : List Entry). AllByRecursion (IsAdded all) before) (append_assoc entries before more) (AllByRecursion-weaker (IsAdded (entries ++ before)) (IsAdded ((entries ++ before) ++ more)) (added_kept (entries ++ before) more) before added)
 
-step : (entries before : List Entry) (content : Content) (e : Entry) → AllByRecursion (IsAdded (entries ++ before)) before → Has (entries ++ before) content e → IsAdded (entries ++ before) e
+pub step : (entries before : List Entry) (content : Content) (e : Entry) → AllByRecursion (IsAdded (entries ++ before)) before → Has (entries ++ before) content e → IsAdded (entries ++ before) e
     → Step entries before content (placed (length entries) before e (index_of entries content))
 step entries before content e added has is_added = by (index_of entries content) refl where
   by : (found : Option ℕ) → index_of entries content ≡ found → Step entries before content (placed (length entries) before e found)
@@ -195,7 +197,7 @@ step entries before content e added has is_added = by (index_of entries content)
 
 -- ---- the three texts
 
-abbrev is_plain : ℕ → Bool
+abbrev pub is_plain : ℕ → Bool
 is_plain b = ltb 0 b && ltb b 128
 
 all_plain : (bytes : List ℕ) → list_all is_plain bytes ≡ true → AllByRecursion (λ b. (0 < b) × (b < 128)) bytes
@@ -206,30 +208,38 @@ all_plain (b ∷ bytes) t =
     ((ltb-true 0 b bounds.0, ltb-true b 128 bounds.1), all_plain bytes both.1)
 
 -- a short text in ASCII may be added
-text_added : (all : List Entry) (text : List ℕ) → list_all is_plain text ≡ true → length text < 2 ^ 16 → IsAdded all (entry.Utf8 text)
+pub text_added : (all : List Entry) (text : List ℕ) → list_all is_plain text ≡ true → length text < 2 ^ 16 → IsAdded all (entry.Utf8 text)
 text_added all text plain few =
     let each = all_plain text plain in ((few, AllByRecursion-weaker (λ b. (0 < b) × (b < 128)) (λ b. b < 256) (λ b h. omega (arith, h.1)) text each), IsModifiedUtf8-plain text each)
 
 -- ---- the six
 
-record Steps (entries : List Entry) : Type 0 where
+-- the class, the descriptor and the method are there at the end, too
+pub record Steps (entries : List Entry) : Type 0 where
   class_text : Step entries [] (of_utf8 free_class) (sought_class_text entries)
   class : Step entries (sought_class_text entries).missing (of_class free_class) (sought_class entries)
   name : Step entries (sought_class entries).missing (of_utf8 free_name) (sought_name entries)
   descriptor : Step entries (sought_name entries).missing (of_utf8 free_descriptor) (sought_descriptor entries)
   pair : Step entries (sought_descriptor entries).missing (of_name_and_type free_name free_descriptor) (sought_pair entries)
-  method : Step entries (sought_pair entries).missing (of_method free_method) (sought_free entries)
+  pub method : Step entries (sought_pair entries).missing (of_method free_method) (sought_free entries)
+  pub class_left : class_name_at (with_free entries) (sought_class entries).index ≡ Some free_class
+  pub descriptor_left : utf8_at (with_free entries) (sought_descriptor entries).index ≡ Some free_descriptor
 
 -- what was there before a step is there after it
-class_carried : (entries before : List Entry) (content : Content) (s : Sought) (i : ℕ) → Step entries before content s → class_name_at (entries ++ before) i ≡ Some free_class → class_name_at (entries ++ s.missing) i ≡ Some free_class
+pub class_carried : (entries before : List Entry) (content : Content) (s : Sought) (i : ℕ) → Step entries before content s → class_name_at (entries ++ before) i ≡ Some free_class → class_name_at (entries ++ s.missing) i ≡ Some free_class
 class_carried entries before content s i w h =
     subst (λ (all : List Entry). class_name_at all i ≡ Some free_class) (append_assoc entries before w.more ∙ ap (λ (m : List Entry). entries ++ m) (sym w.goes_on)) (class_kept (entries ++ before) w.more i free_class h)
 
-name_carried : (entries before : List Entry) (content : Content) (s : Sought) (i : ℕ) → Step entries before content s → utf8_at (entries ++ before) i ≡ Some free_name → utf8_at (entries ++ s.missing) i ≡ Some free_name
-name_carried entries before content s i w h =
-    subst (λ (all : List Entry). utf8_at all i ≡ Some free_name) (append_assoc entries before w.more ∙ ap (λ (m : List Entry). entries ++ m) (sym w.goes_on)) (text_kept (entries ++ before) w.more i free_name h)
+pub text_carried : (entries before : List Entry) (content : Content) (s : Sought) (i : ℕ) (text : List ℕ) → Step entries before content s
+    → utf8_at (entries ++ before) i ≡ Some text → utf8_at (entries ++ s.missing) i ≡ Some text
+text_carried entries before content s i text w h =
+    subst (λ (all : List Entry). utf8_at all i ≡ Some text) (append_assoc entries before w.more ∙ ap (λ (m : List Entry). entries ++ m) (sym w.goes_on)) (text_kept (entries ++ before) w.more i text h)
 
-steps : (entries : List Entry) → Steps entries
+-- the name and the descriptor of FreeMe.free are those of a method
+free_pair : IsMethodPair (free_name, free_descriptor)
+free_pair = (refl, is_descriptor)
+
+pub steps : (entries : List Entry) → Steps entries
 steps entries =
     let s1 : Step entries [] (of_utf8 free_class) (sought_class_text entries) =
     subst (Step entries [] (of_utf8 free_class)) (sym (class_text_is entries)) (step entries [] (of_utf8 free_class) (entry.Utf8 free_class) tt refl (text_added (entries ++ []) free_class refl (omega arith))) in
@@ -246,10 +256,10 @@ steps entries =
     (step entries m3 (of_utf8 free_descriptor) (entry.Utf8 free_descriptor) s3.added refl (text_added (entries ++ m3) free_descriptor refl (omega arith))) in
     let m4 = (sought_descriptor entries).missing in
     let e5 = entry.NameAndType (sought_name entries).index (sought_descriptor entries).index in
-    let both : Has (entries ++ m4) (of_name_and_type free_name free_descriptor) e5 = (name_carried entries m3 (of_utf8 free_descriptor) (sought_descriptor entries) (sought_name entries).index s4 s3.stands, s4.stands) in
+    let both : Has (entries ++ m4) (of_name_and_type free_name free_descriptor) e5 = (text_carried entries m3 (of_utf8 free_descriptor) (sought_descriptor entries) (sought_name entries).index free_name s4 s3.stands, s4.stands) in
     let s5 : Step entries m4 (of_name_and_type free_name free_descriptor) (sought_pair entries) =
     subst (Step entries m4 (of_name_and_type free_name free_descriptor)) (sym (pair_is entries (sought_name entries) (sought_descriptor entries) refl refl))
-    (step entries m4 (of_name_and_type free_name free_descriptor) e5 s4.added both both) in
+    (step entries m4 (of_name_and_type free_name free_descriptor) e5 s4.added both ((free_name, free_descriptor), both.0, both.1, free_pair)) in
     let m5 = (sought_pair entries).missing in
     let e6 = entry.Method (sought_class entries).index (sought_pair entries).index in
     let i = (sought_class entries).index in
@@ -258,8 +268,19 @@ steps entries =
     let class5 = class_carried entries m4 (of_name_and_type free_name free_descriptor) (sought_pair entries) i s5 class4 in
     let named : Has (entries ++ m5) (of_method free_method) e6 = (class5, s5.stands) in
     let s6 : Step entries m5 (of_method free_method) (sought_free entries) =
-    subst (Step entries m5 (of_method free_method)) (sym (method_is entries (sought_class entries) (sought_pair entries) refl refl)) (step entries m5 (of_method free_method) e6 s5.added named named) in
-    record { class_text = s1; class = s2; name = s3; descriptor = s4; pair = s5; method = s6 }
+    subst (Step entries m5 (of_method free_method)) (sym (method_is entries (sought_class entries) (sought_pair entries) refl refl)) (step entries m5 (of_method free_method) e6 s5.added named ((free_name, free_descriptor), named.0, named.1, free_pair)) in
+    let j = (sought_descriptor entries).index in
+    let descriptor5 = text_carried entries m4 (of_name_and_type free_name free_descriptor) (sought_pair entries) j free_descriptor s5 s4.stands in
+    record {
+      class_text = s1;
+      class = s2;
+      name = s3;
+      descriptor = s4;
+      pair = s5;
+      method = s6;
+      class_left = class_carried entries m5 (of_method free_method) (sought_free entries) i s6 class5;
+      descriptor_left = text_carried entries m5 (of_method free_method) (sought_free entries) j free_descriptor s6 descriptor5;
+    }
 
 -- the pool that the code makes
 made_entries : (entries added missing : List Entry) (index : ℕ) → sought_free entries ≡ record { index = index; missing = missing } → added ≡ entries ++ missing → added ≡ with_free entries
@@ -270,12 +291,16 @@ pub free_named : (entries added missing : List Entry) (index : ℕ) → sought_f
 free_named entries added missing index is e =
     subst (λ (all : List Entry). method_ref_at all index ≡ Some free_method) (sym (made_entries entries added missing index is e)) (subst (λ (i : ℕ). method_ref_at (with_free entries) i ≡ Some free_method) (ap (λ (s : Sought). s.index) is) (steps entries).method.stands)
 
--- each entry is supported with them, where it is without
-pub free_supported : (entries : List Entry) → AllByRecursion EntryIsSupported entries → AllByRecursion EntryIsSupported (with_free entries)
-free_supported entries own =
-    let missing = (sought_free entries).missing in
+-- each entry is supported with what is added, where it is without
+pub all_supported : (entries missing : List Entry) → AllByRecursion (IsAdded (entries ++ missing)) missing → AllByRecursion EntryIsSupported entries
+    → AllByRecursion EntryIsSupported (entries ++ missing)
+all_supported entries missing added own =
     AllByRecursion-append EntryIsSupported entries missing own
-    (AllByRecursion-weaker (IsAdded (with_free entries)) EntryIsSupported (supported (with_free entries)) missing (steps entries).method.added)
+    (AllByRecursion-weaker (IsAdded (entries ++ missing)) EntryIsSupported (supported (entries ++ missing)) missing added)
+
+-- so it is with those of FreeMe.free
+pub free_supported : (entries : List Entry) → AllByRecursion EntryIsSupported entries → AllByRecursion EntryIsSupported (with_free entries)
+free_supported entries own = all_supported entries (sought_free entries).missing (steps entries).method.added own
 
 pub free_spelled : (pool made : Pool) (missing : List Entry) (index : ℕ) → SpellsPool (pool_bytes pool) pool → length (with_free pool.entries) < 2 ^ 16 → sought_free pool.entries ≡ record { index = index; missing = missing } → made.entries ≡ pool.entries ++ missing
     → SpellsPool (pool_bytes made) made

@@ -4,6 +4,7 @@ use Rattle.std.specs.Prelude.{option_and_then}
 use Rattle.std.specs.List.{AllByRecursion}
 use Rattle.std.proofs.lemmas.Bool.{cases_lt}
 use Rattle.std.proofs.lemmas.List.{get_or_past, get_or_append_left}
+use Rattle.std.proofs.lemmas.Option.{same_Some}
 use Rattle.fm_base.proofs.OptionFacts.{Some-from_is_some, IsSome-from_some, Some-from_some_and, IsSomeAnd-from_some}
 use Rattle.fm_code.specs.ConstantPool.{takes_two, AreSlots, entry_at, utf8_at, class_name_at, named_and_typed_at, method_ref_at, MemberName, EntryIsValid, NamesMember}
 use Rattle.fm_code.specs.declared.constant_pool.Entry.{Entry}
@@ -59,6 +60,37 @@ pub method_from : (entries : List Entry) (i class member : ℕ) (m : MemberName)
     → method_ref_at entries i ≡ Some m
 method_from entries i class member m is h k = rw (is, h, k) refl
 
+-- ---- the entry behind a method
+
+abbrev some_method : MemberName → Option MemberName
+some_method m = Some m
+
+no_method : (m : MemberName) → None ≡ some_method m → ⊥
+no_method m e = cc
+
+abbrev named_by : Option (List ℕ × List ℕ) → List ℕ → Option MemberName
+named_by pair class = option_and_then (λ p. some_method (record { class = class; name = p.0; descriptor = p.1 })) pair
+
+member_parts : (class : Option (List ℕ)) (pair : Option (List ℕ × List ℕ)) (m : MemberName) → option_and_then (named_by pair) class ≡ some_method m
+    → (class ≡ Some m.class) × (pair ≡ Some (m.name, m.descriptor))
+member_parts None pair m h = absurd (no_method m h)
+member_parts (Some class) None m h = absurd (no_method m h)
+member_parts (Some class) (Some (name, descriptor)) m h =
+    let same = same_Some (record { class = class; name = name; descriptor = descriptor }) m h in
+    (ap (λ (n : MemberName). Some n.class) same, ap (λ (n : MemberName). Some (n.name, n.descriptor)) same)
+
+-- what it leads to
+method_parts : (entries : List Entry) (i : ℕ) (m : MemberName) → method_ref_at entries i ≡ Some m
+    → (class : ℕ) × (member : ℕ) × (entry_at entries i ≡ entry.Method class member) × (class_name_at entries class ≡ Some m.class)
+    × (named_and_typed_at entries member ≡ Some (m.name, m.descriptor))
+method_parts entries i m h = by (entry_at entries i) refl where
+  by : (e : Entry) → entry_at entries i ≡ e
+      → (class : ℕ) × (member : ℕ) × (entry_at entries i ≡ entry.Method class member) × (class_name_at entries class ≡ Some m.class)
+      × (named_and_typed_at entries member ≡ Some (m.name, m.descriptor))
+  by (entry.Method class member) is =
+      let parts = member_parts (class_name_at entries class) (named_and_typed_at entries member) m (rw is at h) in (class, member, is, parts.0, parts.1)
+  by e is = absurd (no_method m (rw is at h))
+
 -- ---- more entries
 
 pub within : (entries : List Entry) (i : ℕ) (e : Entry) → entry_at entries i ≡ e → (entry.Second ≡ e → ⊥) → i < length entries
@@ -90,6 +122,12 @@ pub pair_kept : (entries more : List Entry) (i : ℕ) (pair : List ℕ × List �
 pair_kept entries more i pair h =
     let p = pair_entry entries i pair h in
     pair_from (entries ++ more) i p.0 p.1 pair.0 pair.1 (entry_kept entries more i (entry.NameAndType p.0 p.1) p.2 (λ e. cc)) (text_kept entries more p.0 pair.0 p.3) (text_kept entries more p.1 pair.1 p.4)
+
+pub method_kept : (entries more : List Entry) (i : ℕ) (m : MemberName) → method_ref_at entries i ≡ Some m → method_ref_at (entries ++ more) i ≡ Some m
+method_kept entries more i m h =
+    let p = method_parts entries i m h in
+    method_from (entries ++ more) i p.0 p.1 m (entry_kept entries more i (entry.Method p.0 p.1) p.2 (λ e. cc)) (class_kept entries more p.0 m.class p.3)
+    (pair_kept entries more p.1 (m.name, m.descriptor) p.4)
 
 -- ---- the rules of entries
 

@@ -13,7 +13,7 @@ use Rattle.fm_link_supers.proofs.ParentRefusals.{length-declared}
 use Rattle.fm_place.proofs.SameTypings.{other_typing}
 use Rattle.fm_place.specs.Rewriting.{first_given}
 use Rattle.fm_place.specs.Safe.{IsProgramOf, narrowed_to}
-use Rattle.fm_rewrite.proofs.MayDoLemmas.{have_counts, may_do_each}
+use Rattle.fm_rewrite.proofs.MayDoLemmas.{have_counts, have_flags, may_do_each}
 use Rattle.fm_rewrite.proofs.OldItemsLemmas.{have_old_items}
 use Rattle.fm_rewrite.proofs.ProgramMeantLemmas.{all_planned, given_counted, methods_counted}
 use Rattle.fm_rewrite.specs.Plans.{ArePlanned, HasOldItems}
@@ -21,7 +21,7 @@ use Rattle.fm_rewrite.specs.Rewritten.{AreJudged}
 use Rattle.fm_rewrite.specs.declared.error.RewriteFail.{RewriteFail}
 use Rattle.fm_rewrite.specs.declared.error.RewriteFail.TheVariants as fail
 use Rattle.fm_rewrite.specs.declared.rewriting.Rewritten.{Rewritten}
-use Rattle.fm_rewrite.specs.inner.ByPlans.{ComesBy, first_full_by, first_long_by, HaveCounts, IsFullBy, IsLongBy, MayDoEach, method_count}
+use Rattle.fm_rewrite.specs.inner.ByPlans.{ComesBy, first_full_by, first_long_by, HaveCounts, HaveFlags, IsFullBy, IsLongBy, MayDoEach, method_count}
 use Rattle.fm_place_weave.specs.declared.planned.Planned.{Planned}
 use Rattle.fm_types.specs.States.{TypeState}
 use Rattle.fm_types.specs.Typed.{IsTypingOf}
@@ -84,6 +84,7 @@ pub record AreParts (given : List ClassDef) (p : Program) (done : List Planned) 
   pub planned : length done ≡ first_given + method_count given
   pub one_each : length (drop first_given done) ≡ method_count given
   pub may : MayDoEach (drop first_given done) given
+  pub flags : HaveFlags (drop first_given done) given
   pub counts : HaveCounts (drop first_given done) given
 
 all_classes : (given : List ClassDef) (main : List ℕ) → length (program_of given main).outline.classes ≡ length built_in + length given
@@ -95,20 +96,21 @@ pub classes_counted : (given : List ClassDef) (main : List ℕ) (p : Program) �
     → length p.outline.classes ≡ length built_in + length given
 classes_counted given main p program_is = ap (λ (z : Program). length z.outline.classes) program_is ∙ all_classes given main
 
-pub parts_of : (given : List ClassDef) (p : Program) (done : List Planned) → AreJudged given p → ArePlanned p done → AreParts given p done
-parts_of given p done judged are =
+pub parts_of : (given : List ClassDef) (p : Program) (done : List Planned) → AreJudged given p → (chains : Bool) × ArePlanned p chains done → AreParts given p done
+parts_of given p done judged (chains, are) =
     let spelled = judged_spelled given p judged in
     let may = judged_analysable given p judged in
     let old = judged_old given p judged in
     let counted = methods_counted given judged.main p judged.program_is in
-    let planned = all_planned given judged.main p judged.program_is done are in
+    let planned = all_planned given judged.main p judged.program_is chains done are in
     record {
       classes = classes_counted given judged.main p judged.program_is;
       methods = counted;
       planned = are.one_each ∙ counted;
-      one_each = given_counted given judged.main p judged.program_is done are;
-      may = may_do_each p are.facts may old first_given (drop first_given done) given spelled planned;
-      counts = have_counts p are.facts may old first_given (drop first_given done) given spelled planned;
+      one_each = given_counted given judged.main p judged.program_is chains done are;
+      may = may_do_each p are.facts may old chains first_given (drop first_given done) given spelled planned;
+      flags = have_flags p are.facts may old chains first_given (drop first_given done) given planned;
+      counts = have_counts p are.facts may old chains first_given (drop first_given done) given spelled planned;
     }
 
 -- ---- what comes behind the methods of the built-in classes

@@ -13,6 +13,7 @@ pub mod ProgramByLemmas
 pub mod MayDoLemmas
 pub mod CallOffsetLemmas
 pub mod OutcomeLemmas
+pub mod WithoutChains
 pub mod JudgedLemmas
 pub mod StepLemmas
 pub mod WovenLemmas

@@ -1,16 +1,17 @@
 -- What becomes of the class files by what is to be done with all methods is what becomes of them by the definitions.
-use Rattle.std.proofs.Common.{◌≡◌, refl, sym, ◌∙◌, ap, ℕ, List, drop, length, None, Result, Ok, Err}
+use Rattle.std.proofs.Common.{◌≡◌, sym, ◌∙◌, ap, ℕ, Bool, List, drop, length, None, Result, Ok, Err}
 use Rattle.std.specs.List.{AllByRecursion}
 use Rattle.std.specs.Option.{option_map, option_or}
 use Rattle.fm_code.specs.Spells.{HasSpelling}
 use Rattle.fm_code.specs.declared.class_file.ClassDef.{ClassDef}
-use Rattle.fm_place.specs.Rewriting.{first_given, marks_with, Plans}
-use Rattle.fm_place.specs.Safe.{full_plans, IsProgramOf}
+use Rattle.fm_place.specs.Rewriting.{first_given, Plans}
+use Rattle.fm_place.specs.Safe.{IsProgramOf}
 use Rattle.fm_rewrite.proofs.ProgramByLemmas.{all_counts, all_full, all_long, all_rewritten}
 use Rattle.fm_rewrite.proofs.ProgramMeantLemmas.{all_meant, all_planned}
 use Rattle.fm_rewrite.specs.FreeCalls.{first_call}
 use Rattle.fm_rewrite.specs.Plans.{ArePlanned}
-use Rattle.fm_rewrite.specs.Rewritten.{ComesOfRewritingOf, first_full, first_long, method_too_long, pool_full}
+use Rattle.fm_rewrite.specs.Rewritten.{method_too_long, pool_full}
+use Rattle.fm_rewrite.specs.RewrittenWithChains.{ComesOfWeaving, full_from, long_from, plans_for}
 use Rattle.fm_rewrite.specs.declared.error.RewriteFail.{RewriteFail}
 use Rattle.fm_rewrite.specs.declared.error.RewriteFail.TheVariants as fail
 use Rattle.fm_rewrite.specs.declared.rewriting.Rewritten.{Rewritten}
@@ -20,35 +21,31 @@ use Rattle.fm_place_weave.specs.declared.planned.Planned.{Planned}
 use Rattle.fm_world.specs.BuiltIns.{built_in}
 use Rattle.fm_world.specs.Programs.{Program}
 
-module _ (given : List ClassDef) (main : List ℕ) (p : Program) (program_is : IsProgramOf given main p) (done : List Planned)
-    (spelled : AllByRecursion HasSpelling given) (are : ArePlanned p done) where
+module _ (given : List ClassDef) (main : List ℕ) (p : Program) (program_is : IsProgramOf given main p) (chains : Bool) (done : List Planned)
+    (spelled : AllByRecursion HasSpelling given) (are : ArePlanned p chains done) where
   abbrev plans : Plans
-  plans = full_plans p are.facts
+  plans = plans_for chains p are.facts
 
   abbrev own_done : List Planned
   own_done = drop first_given done
 
   meant : AreAllMeant plans first_given own_done given
-  meant = all_meant p are.facts first_given own_done given spelled (all_planned given main p program_is done are)
+  meant = all_meant p are.facts chains first_given own_done given spelled (all_planned given main p program_is chains done are)
 
-  full_is : first_full_by (length built_in) own_done given ≡ first_full plans given
+  full_is : first_full_by (length built_in) own_done given ≡ full_from plans (length built_in) first_given given
   full_is = all_full plans (length built_in) first_given own_done given meant
 
-  long_is : first_long_by first_given own_done given ≡ first_long plans given
+  long_is : first_long_by first_given own_done given ≡ long_from plans first_given given
   long_is = all_long plans first_given own_done given meant
 
   pub comes_of : first_call p ≡ None → (result : Result Rewritten RewriteFail)
-      → ComesBy (length built_in) first_given own_done given result → ComesOfRewritingOf p given result
+      → ComesBy (length built_in) first_given own_done given result → ComesOfWeaving chains p given result
   comes_of no_call (Ok made) by = record {
     no_call = no_call;
-    marks = marks_with plans given;
-    full = record {
-      facts = are.facts;
-      exact = are.exact;
-      written_is = by.classes ∙ all_rewritten plans first_given own_done given meant by.short;
-      marks_are = refl;
-    };
+    facts = are.facts;
+    exact = are.exact;
     least = are.least;
+    written_is = by.classes ∙ all_rewritten plans first_given own_done given meant by.short;
     no_cause = λ k. option_or (option_map pool_full ((sym full_is ∙ by.fit) k)) (option_map method_too_long ((sym long_is ∙ by.short) k));
     counts_are = by.counts ∙ all_counts plans first_given own_done given meant by.short;
   }
@@ -58,7 +55,7 @@ module _ (given : List ClassDef) (main : List ℕ) (p : Program) (program_is : I
     facts = are.facts;
     exact = are.exact;
     least = are.least;
-    first = ap (λ o. option_or (option_map pool_full o) (option_map method_too_long (first_long plans given))) (sym full_is ∙ by);
+    first = ap (λ o. option_or (option_map pool_full o) (option_map method_too_long (long_from plans first_given given))) (sym full_is ∙ by);
   }
   comes_of no_call (Err (fail.MethodTooLong method bytes)) by = record {
     no_call = no_call;

@@ -1,7 +1,10 @@
 -- What the plan of one method asks for is there.
-use Rattle.std.proofs.Common.{◌≡◌, ℕ, ◌<◌, ◌^◌, [], Some, refl}
+use Rattle.std.proofs.Common.{◌≡◌, ℕ, ◌<◌, ◌^◌, Bool, false, List, [], replicate, Some, IfOk, Result, Ok, Err, refl, sym, subst, if◌then◌else◌}
 use Rattle.fm_summ_shapes.proofs.ShapesLemmas.{code_facts}
 use Rattle.fm_summ_shapes.specs.Analysed.{AreAnalysable}
+use Rattle.std.specs.List.{AllByRecursion}
+use Rattle.fm_chain.specs.Planned.{chain_flags, IsSiteIn}
+use Rattle.fm_chain.specs.declared.plans.ChainPlan.{ChainPlan}
 use Rattle.fm_code.specs.declared.code_array.Code.{Code}
 use Rattle.fm_conn.specs.Classes.{class_of}
 use Rattle.fm_conn.specs.Facts.{Facts}
@@ -14,8 +17,8 @@ use Rattle.fm_flow.specs.declared.live_rows.LiveRows.{LiveRows}
 use Rattle.fm_place.specs.Insertions.{all_insertions}
 use Rattle.fm_place.specs.PlansBy.{IsPlanOf}
 use Rattle.fm_place.specs.declared.plans.Plan.{Plan}
-use Rattle.fm_rewrite.proofs.FullPlanLemmas.{bytes_fit, has_room}
-use Rattle.fm_rewrite.specs.Plans.{HasOldItems, IsFullPlan}
+use Rattle.fm_rewrite.proofs.FullPlanLemmas.{bytes_fit, has_room, sites_in}
+use Rattle.fm_rewrite.specs.Plans.{HasOldItems, IsChainPlan, IsFullPlan}
 use Rattle.fm_place_weave.specs.ByPlan.{narrow_by}
 use Rattle.fm_place_weave.specs.Conditions.{HasRoom}
 use Rattle.fm_world.specs.Programs.{code_at, Program}
@@ -35,14 +38,27 @@ module _ (p : Program) (summaries : Summaries) (method : ℕ) (code : Code) (pla
   by_facts =
       full.plan_is (told_facts summaries full.live full.classes) (record { class = λ node. refl; lives = λ k j. refl }) (λ method a b. refl)
 
-  pub full_room : HasRoom code plan
-  full_room =
+  pub full_room : (chains : Bool) (held : ChainPlan) → IsChainPlan code chains plan held → HasRoom code held
+  full_room chains held same =
       let own = code_facts p method code may is in
-      has_room (told_facts summaries full.live full.classes) (method_with p method code full.states) plan by_facts (old method code is) own.0.spelled
-      own.1.locals
+      subst (HasRoom code) (sym same)
+      (has_room (told_facts summaries full.live full.classes) (method_with p method code full.states) plan by_facts chains (old method code is) own.0.spelled
+      own.1.locals)
 
-  pub full_fits : narrow_by code plan < 2 ^ 32
-  full_fits =
+  pub full_fits : (chains : Bool) (held : ChainPlan) → IsChainPlan code chains plan held → narrow_by code held < 2 ^ 32
+  full_fits chains held same =
       let own = code_facts p method code may is in
-      bytes_fit (told_facts summaries full.live full.classes) (method_with p method code full.states) plan by_facts (old method code is) own.0.spelled
-      own.1.locals
+      subst (λ (h : ChainPlan). narrow_by code h < 2 ^ 32) (sym same)
+      (bytes_fit (told_facts summaries full.live full.classes) (method_with p method code full.states) plan by_facts chains (old method code is) own.0.spelled
+      own.1.locals)
+
+  -- its pairs are of items and holders
+  pub full_sites : AllByRecursion (IsSiteIn code plan.holders) plan.after.items
+  full_sites = sites_in (told_facts summaries full.live full.classes) (method_with p method code full.states) plan by_facts
+
+-- a plan with these flags is the one that is asked for, with chains or without
+pub plan_made : {E : Type 0} (code : Code) (chains : Bool) (plan : Plan) (answer : Result ChainPlan E) → IfOk answer (λ (made : ChainPlan). made.plan ≡ plan)
+    → IfOk answer (λ (made : ChainPlan). made.looped ≡ (if chains then chain_flags code plan else replicate plan.holders false))
+    → IfOk answer (IsChainPlan code chains plan)
+plan_made code chains plan (Ok held) same flags = λ k. record { plan = same k; looped = flags k }
+plan_made code chains plan (Err e) same flags = tt

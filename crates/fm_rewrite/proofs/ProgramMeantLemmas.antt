@@ -1,5 +1,5 @@
 -- The methods of the classes of a program are planned by its facts, each at its number.
-use Rattle.std.proofs.Common.{◌≡◌, refl, sym, ◌∙◌, ap, subst, ℕ, suc, ◌+◌, ◌<◌, ◌≤◌, List, [], ◌∷◌, ◌++◌, length, map, take, drop, get_or, replicate, Option, Some, None, arith}
+use Rattle.std.proofs.Common.{◌≡◌, refl, sym, ◌∙◌, ap, subst, ℕ, suc, ◌+◌, ◌<◌, ◌≤◌, Bool, List, [], ◌∷◌, ◌++◌, length, map, take, drop, get_or, replicate, Option, Some, None, arith}
 use Rattle.std.specs.List.{AllByRecursion, flat_map}
 use Rattle.std.proofs.Math.Seq.{drop-cons}
 use Rattle.std.proofs.lemmas.List.{drop-drop, get_or-append-add, get_or_append_left, length-append, length-drop, length-map, length-replicate}
@@ -11,12 +11,13 @@ use Rattle.fm_code.specs.declared.class_file.Member.{Member}
 use Rattle.fm_code.specs.declared.code_array.Code.{Code}
 use Rattle.fm_conn.specs.Facts.{Facts}
 use Rattle.fm_place.specs.Rewriting.{first_given}
-use Rattle.fm_place.specs.Safe.{full_plans, IsProgramOf}
+use Rattle.fm_place.specs.Safe.{IsProgramOf}
 use Rattle.fm_link_records.proofs.CodeLaws.{AreCodes-all}
 use Rattle.fm_rewrite.proofs.AlikeLemmas.{members_meant}
 use Rattle.fm_rewrite.specs.Alike.{ArePlannedFrom}
 use Rattle.fm_rewrite.specs.Plans.{ArePlanned, IsPlannedByFacts, planned_at}
 use Rattle.fm_rewrite.specs.inner.ByPlans.{method_count, others, own}
+use Rattle.fm_rewrite.specs.RewrittenWithChains.{plans_for}
 use Rattle.fm_rewrite.specs.inner.Meant.{AreAllMeant, AreAllPlanned}
 use Rattle.fm_place_weave.specs.declared.planned.Planned.{Planned}
 use Rattle.fm_place_weave.specs.declared.planned.Planned.TheVariants as planned
@@ -26,12 +27,12 @@ use Rattle.fm_world.specs.Programs.{code_at, codes_of, outline_of, Program, prog
 
 -- ---- methods at their numbers
 
-module _ (p : Program) (facts : Facts) (done : List Planned)
-    (coded : (method : ℕ) (code : Code) → code_at p method ≡ Some code → IsPlannedByFacts p facts method code (planned_at done method))
+module _ (p : Program) (facts : Facts) (chains : Bool) (done : List Planned)
+    (coded : (method : ℕ) (code : Code) → code_at p method ≡ Some code → IsPlannedByFacts p facts method code chains (planned_at done method))
     (bare : (method : ℕ) → code_at p method ≡ None → planned_at done method ≡ planned.Same) where
   told_methods : (first : ℕ) (methods : List Member)
       → ((i : ℕ) → i < length methods → code_at p (first + i) ≡ get_or (map code_of methods) i None) → first + length methods ≤ length done
-      → ArePlannedFrom p facts first (take (length methods) (drop first done)) methods
+      → ArePlannedFrom p facts chains first (take (length methods) (drop first done)) methods
   told_methods first [] codes within = tt
   told_methods first (m ∷ methods) codes within =
       let next : first + 1 ≡ suc first = omega arith in
@@ -40,14 +41,14 @@ module _ (p : Program) (facts : Facts) (done : List Planned)
       let rest = told_methods (first + 1) methods
       (λ i inside. let place : first + 1 + i ≡ first + suc i = omega arith in ap (code_at p) place ∙ codes (suc i) (omega (arith, inside)))
       (omega (arith, within)) in
-      subst (λ l. ArePlannedFrom p facts first (take (suc (length methods)) l) (m ∷ methods)) (sym front) (
+      subst (λ l. ArePlannedFrom p facts chains first (take (suc (length methods)) l) (m ∷ methods)) (sym front) (
         record { coded = ap (code_at p) here ∙ codes 0 (omega arith); by = coded first; others = bare first },
-        subst (λ k. ArePlannedFrom p facts (first + 1) (take (length methods) (drop k done)) methods) next rest,
+        subst (λ k. ArePlannedFrom p facts chains (first + 1) (take (length methods) (drop k done)) methods) next rest,
       )
 
   told_classes : (first : ℕ) (classes : List ClassDef)
       → ((i : ℕ) → i < method_count classes → code_at p (first + i) ≡ get_or (flat_map (λ (c : ClassDef). map code_of c.methods) classes) i None)
-      → first + method_count classes ≤ length done → AreAllPlanned p facts first (drop first done) classes
+      → first + method_count classes ≤ length done → AreAllPlanned p facts chains first (drop first done) classes
   told_classes first [] codes within = tt
   told_classes first (c ∷ classes) codes within =
       let n = length c.methods in
@@ -62,7 +63,7 @@ module _ (p : Program) (facts : Facts) (done : List Planned)
         told_methods first c.methods
             (λ i inside. codes i (omega (arith, inside)) ∙ get_or_append_left (map code_of c.methods) later None i (omega (arith, inside, count)))
             (omega (arith, within)),
-        subst (λ l. AreAllPlanned p facts (first + n) l classes) (sym (drop-drop n first done)) rest,
+        subst (λ l. AreAllPlanned p facts chains (first + n) l classes) (sym (drop-drop n first done)) rest,
       )
 
 -- ---- the methods of given classes
@@ -101,7 +102,7 @@ module _ (given : List ClassDef) (main : List ℕ) (p : Program) (program_is : I
   pub code_given : (i : ℕ) → code_at p (first_given + i) ≡ get_or (flat_map (λ (c : ClassDef). map code_of c.methods) given) i None
   code_given i = ap (λ (z : Program). code_at z (first_given + i)) program_is ∙ code_of_given given main i
 
-  module _ (done : List Planned) (are : ArePlanned p done) where
+  module _ (chains : Bool) (done : List Planned) (are : ArePlanned p chains done) where
     counted : length done ≡ first_given + method_count given
     counted = are.one_each ∙ methods_counted
 
@@ -109,14 +110,14 @@ module _ (given : List ClassDef) (main : List ℕ) (p : Program) (program_is : I
     pub given_counted : length (drop first_given done) ≡ method_count given
     given_counted = let left = length-drop first_given done in omega (arith, left, counted)
 
-    pub all_planned : AreAllPlanned p are.facts first_given (drop first_given done) given
-    all_planned = told_classes p are.facts done are.coded are.others first_given given (λ i inside. code_given i) (omega (arith, counted))
+    pub all_planned : AreAllPlanned p are.facts chains first_given (drop first_given done) given
+    all_planned = told_classes p are.facts chains done are.coded are.others first_given given (λ i inside. code_given i) (omega (arith, counted))
 
 -- what is planned for the methods of class files is what the definitions insert
-pub all_meant : (p : Program) (facts : Facts) (first : ℕ) (done : List Planned) (classes : List ClassDef) → AllByRecursion HasSpelling classes
-    → AreAllPlanned p facts first done classes → AreAllMeant (full_plans p facts) first done classes
-all_meant p facts first done [] spelled are = tt
-all_meant p facts first done (c ∷ classes) spelled are = (
-  members_meant (is_interface c.flags) c.pool.entries p facts first (own c done) c.methods spelled.0.1.methods are.0,
-  all_meant p facts (first + length c.methods) (others c done) classes spelled.1 are.1,
+pub all_meant : (p : Program) (facts : Facts) (chains : Bool) (first : ℕ) (done : List Planned) (classes : List ClassDef) → AllByRecursion HasSpelling classes
+    → AreAllPlanned p facts chains first done classes → AreAllMeant (plans_for chains p facts) first done classes
+all_meant p facts chains first done [] spelled are = tt
+all_meant p facts chains first done (c ∷ classes) spelled are = (
+  members_meant (is_interface c.flags) c.pool.entries p facts chains first (own c done) c.methods spelled.0.1.methods are.0,
+  all_meant p facts chains (first + length c.methods) (others c done) classes spelled.1 are.1,
 )

@@ -5,7 +5,7 @@ use Rattle.std.proofs.lemmas.List.{length-drop}
 use Rattle.fm_base.proofs.ListFacts.{drop_here}
 use Rattle.fm_code.specs.declared.class_file.ClassDef.{ClassDef}
 use Rattle.fm_rewrite.specs.inner.ByPlans.{classes_by, first_full_by, first_long_by, full_by, long_by, method_count, others, own, pool_by, pools_by, rewritten_by}
-use Rattle.fm_place_weave.specs.declared.classes.FreePool.{FreePool}
+use Rattle.fm_chain.specs.declared.entries.ChainPool.{ChainPool}
 use Rattle.fm_place_weave.specs.declared.planned.Planned.{Planned}
 
 -- ---- the next class
@@ -29,14 +29,14 @@ module _ (classes : List ClassDef) (place : ℕ) (class : ClassDef) (within : pl
     -- ---- pools
 
     -- the next pool is that of the next class, and the others are those of later classes
-    pub pool_taken : (pool : Option FreePool) (pools : List (Option FreePool)) → pool ∷ pools ≡ pools_by done (drop place classes)
+    pub pool_taken : (pool : Option ChainPool) (pools : List (Option ChainPool)) → pool ∷ pools ≡ pools_by done (drop place classes)
         → (pool ≡ pool_by (own class done) class) × (pools ≡ pools_by (others class done) (drop (place + 1) classes))
     pool_taken pool pools is =
         let same : pool ∷ pools ≡ pool_by (own class done) class ∷ pools_by (others class done) (drop (place + 1) classes) =
         is ∙ ap (λ cs. pools_by done cs) next in
         (cc, cc)
 
-    pub pools_more : (front : List (Option FreePool)) (pool : Option FreePool) (total : List (Option FreePool)) → pool ≡ pool_by (own class done) class
+    pub pools_more : (front : List (Option ChainPool)) (pool : Option ChainPool) (total : List (Option ChainPool)) → pool ≡ pool_by (own class done) class
         → front ++ pools_by done (drop place classes) ≡ total
         → (front ++ pool ∷ []) ++ pools_by (others class done) (drop (place + 1) classes) ≡ total
     pools_more front pool total pool_is so_far =
@@ -81,7 +81,7 @@ module _ (classes : List ClassDef) (place : ℕ) (class : ClassDef) (within : pl
 -- ---- classes that are left, by their pools
 
 -- where a pool is left, so is a class
-pub pool_left : (classes : List ClassDef) (place : ℕ) (done : List Planned) (pool : Option FreePool) (pools : List (Option FreePool))
+pub pool_left : (classes : List ClassDef) (place : ℕ) (done : List Planned) (pool : Option ChainPool) (pools : List (Option ChainPool))
     → pool ∷ pools ≡ pools_by done (drop place classes) → place < length classes
 pool_left classes place done pool pools is = by_left (drop place classes) refl where
   by_left : (left : List ClassDef) → drop place classes ≡ left → place < length classes

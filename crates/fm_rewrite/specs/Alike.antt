@@ -8,8 +8,8 @@ use Rattle.fm_code.specs.declared.class_file.MemberAttr.TheVariants as attribute
 use Rattle.fm_code.specs.declared.code_array.Code.{Code}
 use Rattle.fm_code.specs.declared.constant_pool.Entry.{Entry}
 use Rattle.fm_conn.specs.Facts.{Facts}
-use Rattle.fm_place.specs.Safe.{full_plans}
 use Rattle.fm_rewrite.specs.Plans.{IsPlannedByFacts}
+use Rattle.fm_rewrite.specs.RewrittenWithChains.{plans_for}
 use Rattle.fm_place_weave.specs.ClassLaws.{AreAlike, IsAlike}
 use Rattle.fm_place_weave.specs.declared.planned.Planned.{Planned}
 use Rattle.fm_place_weave.specs.declared.planned.Planned.TheVariants as planned
@@ -22,30 +22,30 @@ IsOwnCode code a = Unit {0}
 
 -- what is planned isn't that the method is too long
 abbrev pub IsShortEnough : Planned → Type 0
-IsShortEnough (planned.TooLong bytes) = ⊥
+IsShortEnough (planned.TooLong bytes chains) = ⊥
 IsShortEnough done = Unit {0}
 
 -- a method of a class file has this number in the program, and is planned by its facts
-pub record IsPlannedAt (p : Program) (facts : Facts) (method : ℕ) (done : Planned) (m : Member) : Type 0 where
+pub record IsPlannedAt (p : Program) (facts : Facts) (chains : Bool) (method : ℕ) (done : Planned) (m : Member) : Type 0 where
   pub coded : code_at p method ≡ code_of m
-  pub by : (code : Code) → code_at p method ≡ Some code → IsPlannedByFacts p facts method code done
+  pub by : (code : Code) → code_at p method ≡ Some code → IsPlannedByFacts p facts method code chains done
   pub others : code_at p method ≡ None → done ≡ planned.Same
 
 -- the same of the methods of a class, from a number on
-abbrev pub ArePlannedFrom : Program → Facts → ℕ → List Planned → List Member → Type 0
-ArePlannedFrom p facts first [] [] = Unit {0}
-ArePlannedFrom p facts first (d ∷ done) (m ∷ methods) = IsPlannedAt p facts first d m × ArePlannedFrom p facts (first + 1) done methods
-ArePlannedFrom p facts first done methods = ⊥
+abbrev pub ArePlannedFrom : Program → Facts → (chains : Bool) → (first : ℕ) → List Planned → List Member → Type 0
+ArePlannedFrom p facts chains first [] [] = Unit {0}
+ArePlannedFrom p facts chains first (d ∷ done) (m ∷ methods) = IsPlannedAt p facts chains first d m × ArePlannedFrom p facts chains (first + 1) done methods
+ArePlannedFrom p facts chains first done methods = ⊥
 
 -- a method of a class file, with code or without, that isn't too long already while no branch is widened, is planned as the definitions say
 abbrev pub MembersArePlannedAlike : Type 0
 MembersArePlannedAlike =
-    (in_interface : Bool) (entries : List Entry) (p : Program) (facts : Facts) (method : ℕ) (done : Planned) (m : Member) → MethodIsValid in_interface entries m
-    → IsPlannedAt p facts method done m → IsShortEnough done → IsAlike (full_plans p facts method) done m
+    (in_interface : Bool) (entries : List Entry) (p : Program) (facts : Facts) (chains : Bool) (method : ℕ) (done : Planned) (m : Member) → MethodIsValid in_interface entries m
+    → IsPlannedAt p facts chains method done m → IsShortEnough done → IsAlike (plans_for chains p facts method) done m
 
 -- all methods of a class are
 abbrev pub ClassesArePlannedAlike : Type 0
 ClassesArePlannedAlike =
-    (in_interface : Bool) (entries : List Entry) (p : Program) (facts : Facts) (first : ℕ) (done : List Planned) (methods : List Member)
-    → AllByRecursion (MethodIsValid in_interface entries) methods → ArePlannedFrom p facts first done methods → AllByRecursion IsShortEnough done
-    → AreAlike (full_plans p facts) first done methods
+    (in_interface : Bool) (entries : List Entry) (p : Program) (facts : Facts) (chains : Bool) (first : ℕ) (done : List Planned) (methods : List Member)
+    → AllByRecursion (MethodIsValid in_interface entries) methods → ArePlannedFrom p facts chains first done methods → AllByRecursion IsShortEnough done
+    → AreAlike (plans_for chains p facts) first done methods

@@ -2,4 +2,5 @@ pub mod FreeCalls
 pub mod Plans
 pub mod Alike
 pub mod Rewritten
+pub mod RewrittenWithChains
 pub mod inner

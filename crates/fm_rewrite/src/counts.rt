@@ -69,9 +69,9 @@ fn sites_of_one(planned: &Planned) -> u32
     ensures { result ≡ sites_of_one planned.now }
 {
     match planned {
-        Planned::Woven(plan) => u32::from(plan.holders),
+        Planned::Woven(plan) => u32::from(plan.plan.holders),
         Planned::Same => 0,
-        Planned::TooLong(_) => 0,
+        Planned::TooLong(_, _) => 0,
     }
 }
 
@@ -93,8 +93,8 @@ fn frees_of_one(planned: &Planned) -> u32
     ensures { result ≡ frees_of_one planned.now }
 {
     match planned {
-        Planned::Woven(plan) => plan.before.len() as u32,
+        Planned::Woven(plan) => plan.plan.before.len() as u32,
         Planned::Same => 0,
-        Planned::TooLong(_) => 0,
+        Planned::TooLong(_, _) => 0,
     }
 }

@@ -19,4 +19,4 @@ pub use error::RewriteFail;
 pub use free_calls::first_free_call;
 pub use laws::{law_alike, law_full_plans, law_old_items};
 pub use plans::{full_plan, planned_by, planned_code, planned_method, planned_methods};
-pub use rewriting::{Rewritten, rewrite};
+pub use rewriting::{Rewritten, rewrite, rewrite_chains};

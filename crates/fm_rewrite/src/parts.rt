@@ -1,7 +1,9 @@
 // What is to be done with the methods of one class after the other.
 
 ghost use Rattle.std.specs.Prelude.{◌≡◌, ◌+◌, ◌≤◌, ◌<◌, ◌^◌, length};
-ghost use Rattle.fm_rewrite.specs.inner.ByPlans.{changes_by, is_changed, method_count, others, own};
+ghost use Rattle.std.specs.List.{AllByRecursion};
+ghost use Rattle.fm_place_weave.specs.ClassByPlan.{chains_in, has_chains};
+ghost use Rattle.fm_rewrite.specs.inner.ByPlans.{HasFlags, changes_by, is_changed, method_count, others, own};
 
 use fm_code::ClassDef;
 use fm_place_weave::Planned;
@@ -53,6 +55,31 @@ fn is_changed(planned: &Planned) -> bool
     match planned {
         Planned::Same => false,
         Planned::Woven(_) => true,
-        Planned::TooLong(_) => true,
+        Planned::TooLong(_, _) => true,
+    }
+}
+
+/// Whether one of the methods is woven with a holder of a chain.
+pub(crate) fn has_chains(planned: &[Planned]) -> bool
+    requires { AllByRecursion HasFlags planned.now }
+    ensures { result ≡ has_chains planned.now }
+{
+    for method in planned {
+        if has_chain(method) {
+            return true;
+        }
+    }
+    false
+}
+
+/// Whether the method is woven with a holder of a chain.
+fn has_chain(planned: &Planned) -> bool
+    requires { HasFlags planned.now }
+    ensures { result ≡ chains_in planned.now }
+{
+    match planned {
+        Planned::Woven(plan) => plan.has_chain(),
+        Planned::Same => false,
+        Planned::TooLong(_, chains) => *chains,
     }
 }

@@ -1,10 +1,11 @@
 // The classes of a program, written again.
 
-ghost use Rattle.std.specs.Prelude.{◌≡◌, drop, length};
+ghost use Rattle.std.specs.Prelude.{◌≡◌, Bool, drop, length};
 ghost use Rattle.fm_code.specs.Fits.{FitsTwo};
 ghost use Rattle.fm_place.specs.Rewriting.{first_given};
 ghost use Rattle.fm_rewrite.specs.Plans.{ArePlanned};
 ghost use Rattle.fm_rewrite.specs.Rewritten.{AreJudged, ComesOfRewritingOf};
+ghost use Rattle.fm_rewrite.specs.RewrittenWithChains.{ComesOfChainingOf, ComesOfWeaving};
 ghost use Rattle.fm_rewrite.specs.inner.ByPlans.{ComesBy};
 ghost use Rattle.fm_world.specs.BuiltIns.{built_in};
 
@@ -43,10 +44,36 @@ pub fn rewrite(
     requires { AreJudged classes.now program.now }
     ensures { ComesOfRewritingOf program.now classes.now result }
 {
+    rewrite_with(alloc, program, classes, false)
+}
+
+/// The same, where the holder of a site in a loop holds a chain of all objects that the site gave, which are
+/// freed together. `PoolFull` and `MethodTooLong` are by what is inserted so.
+pub fn rewrite_chains(
+    alloc: Global,
+    program: &Program,
+    classes: &[ClassDef],
+) -> Result<Rewritten, RewriteFail>
+    requires { AreJudged classes.now program.now }
+    ensures { ComesOfChainingOf program.now classes.now result }
+{
+    rewrite_with(alloc, program, classes, true)
+}
+
+/// The same with chains or without.
+fn rewrite_with(
+    alloc: Global,
+    program: &Program,
+    classes: &[ClassDef],
+    chains: bool,
+) -> Result<Rewritten, RewriteFail>
+    requires { AreJudged classes.now program.now }
+    ensures { ComesOfWeaving chains program.now classes.now result }
+{
     if let Some((method, offset)) = first_free_call(program) {
         return Err(calls_free(method, offset));
     }
-    let planned = planned_methods(alloc, program)?;
+    let planned = planned_methods(alloc, program, chains)?;
     rewritten_by(alloc, program, classes, planned.as_slice())
 }
 
@@ -66,7 +93,7 @@ fn rewritten_by(
     planned: &[Planned],
 ) -> Result<Rewritten, RewriteFail>
     requires judged { AreJudged classes.now program.now }
-    requires planned { ArePlanned program.now planned.now }
+    requires planned { (chains : Bool) × ArePlanned program.now chains planned.now }
     ensures { ComesBy (length built_in) first_given (drop first_given planned.now) classes.now result }
 {
     let methods = program.methods();

@@ -1,15 +1,17 @@
 // The classes, each by what is to be done with its methods.
 
 ghost use Rattle.std.specs.Prelude.{◌≡◌, ◌+◌, ◌<◌, ◌^◌, ℕ, None, IfErr, IfOk, OnOk, length};
-ghost use Rattle.fm_code.specs.Fits.{FitsTwo};
+ghost use Rattle.fm_chain.specs.declared.calls.Calls.{Calls};
+ghost use Rattle.fm_rewrite.specs.Plans.{CallsFit};
 ghost use Rattle.fm_rewrite.specs.inner.ByPlans.{IsLongBy, MayDoEach, classes_by, first_long_by, long_by, method_count, pool_by, pools_by, rewritten_by};
 ghost use Rattle.fm_place_weave.specs.ClassByPlan.{MayDoAll};
 
 use crate::error::RewriteFail;
 use crate::parts::{later, own};
 use fm_base::MethodId;
+use fm_chain::ChainPool;
 use fm_code::ClassDef;
-use fm_place_weave::{FreePool, Planned, WeaveFail, woven_class};
+use fm_place_weave::{Planned, WeaveFail, woven_class};
 use std::alloc::Global;
 
 /// The classes, each with its pool where it has a changed method. The first method has this number.
@@ -17,7 +19,7 @@ use std::alloc::Global;
 pub(crate) fn woven_classes(
     alloc: Global,
     classes: &[ClassDef],
-    pools: Vec<Option<FreePool>>,
+    pools: Vec<Option<ChainPool>>,
     first: u32,
     planned: &[Planned],
 ) -> Result<Vec<ClassDef>, RewriteFail>
@@ -48,13 +50,13 @@ pub(crate) fn woven_classes(
 fn class_with(
     alloc: Global,
     class: &ClassDef,
-    pool: Option<FreePool>,
+    pool: Option<ChainPool>,
     first: u32,
     planned: &[Planned],
 ) -> Result<ClassDef, RewriteFail>
     requires one_each { length planned.now ≡ length class.now.methods }
     requires numbers { first + length class.now.methods < 2 ^ 32 }
-    requires may { (free : ℕ) → FitsTwo free → MayDoAll free planned.now class.now.methods }
+    requires may { (calls : Calls) → CallsFit calls → MayDoAll calls planned.now class.now.methods }
     requires pool { pool ≡ pool_by planned.now class.now }
     ensures woven { IfOk result (λ new. new ≡ rewritten_by planned.now class.now) }
     ensures fits { OnOk result (long_by first planned.now class.now ≡ None) }

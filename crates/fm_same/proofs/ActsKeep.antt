@@ -438,6 +438,7 @@ module _ (o : Outline) (store : Store) (colour : Colour) (home : Region) (new : 
         class = refl;
         birth = refl;
         fixed = refl;
+        chain = refl;
         births = refl;
       } in
       let more : Extends x.store later = changed-extends x.store later cell old object is in

@@ -13,13 +13,14 @@ use Rattle.fm_same.specs.Regions.{Region}
 
 -- ---- objects stay
 
--- the object of a cell, as it is later
+-- the object of a cell, as it is later; no program without calls of FreeMe changes its chain
 pub record IsKept (later : Store) (cell : ℕ) (object : Object) : Type 0 where
   pub now : Object
   pub is : object_at later cell ≡ Some now
   pub class : now.class ≡ object.class
   pub birth : now.birth ≡ object.birth
   pub fixed : now.fixed ≡ object.fixed
+  pub chain : now.chain ≡ object.chain
 
 pub record Extends (store later : Store) : Type 0 where
   pub kept : (cell : ℕ) (object : Object) → object_at store cell ≡ Some object → IsKept later cell object
@@ -27,7 +28,7 @@ pub record Extends (store later : Store) : Type 0 where
 
 pub extends-refl : (store : Store) → Extends store store
 extends-refl store = record {
-  kept = λ cell object held. record { now = object; is = held; class = refl; birth = refl; fixed = refl };
+  kept = λ cell object held. record { now = object; is = held; class = refl; birth = refl; fixed = refl; chain = refl };
   births = omega arith;
 }
 
@@ -42,6 +43,7 @@ extends-then store middle later first second = record {
         class = two.class ∙ one.class;
         birth = two.birth ∙ one.birth;
         fixed = two.fixed ∙ one.fixed;
+        chain = two.chain ∙ one.chain;
       };
   births = let a = first.births in let b = second.births in omega arith;
 }
@@ -136,7 +138,7 @@ pub made-extends : (store later : Store) (cell : ℕ) (object : Object) → IsMa
 made-extends store later cell object h = record {
   kept = λ q old held.
       let apart : q ≢ cell = λ same. none-some old (sym h.free ∙ ap (λ c. object_at store c) (sym same) ∙ held) in
-      record { now = old; is = put_elsewhere store later cell object q h.puts apart ∙ held; class = refl; birth = refl; fixed = refl };
+      record { now = old; is = put_elsewhere store later cell object q h.puts apart ∙ held; class = refl; birth = refl; fixed = refl; chain = refl };
   births = let more = h.births in omega (arith, more);
 }
 
@@ -147,6 +149,7 @@ pub record IsChanged (store later : Store) (cell : ℕ) (old object : Object) : 
   pub class : object.class ≡ old.class
   pub birth : object.birth ≡ old.birth
   pub fixed : object.fixed ≡ old.fixed
+  pub chain : object.chain ≡ old.chain
   pub births : later.births ≡ store.births
 
 pub changed-extends : (store later : Store) (cell : ℕ) (old object : Object) → IsChanged store later cell old object → Extends store later
@@ -160,6 +163,7 @@ changed-extends store later cell old object h = record {
         class = h.class;
         birth = h.birth;
         fixed = h.fixed;
+        chain = h.chain;
       }))
       (λ (apart : q ≢ cell). record {
         now = found;
@@ -167,6 +171,7 @@ changed-extends store later cell old object h = record {
         class = refl;
         birth = refl;
         fixed = refl;
+        chain = refl;
       })
       (cases_eq q cell);
   births = let same = h.births in omega (arith, same);

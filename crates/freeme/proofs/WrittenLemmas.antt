@@ -9,6 +9,7 @@ use Rattle.fm_summ_shapes.proofs.ShapesLemmas.{code_facts}
 use Rattle.fm_summ_shapes.specs.Analysed.{AreAnalysable, IsAccepted}
 use Rattle.fm_base.proofs.ListFacts.{AllByRecursion-weaker}
 use Rattle.fm_base.proofs.OptionFacts.{Some-from_some_and}
+use Rattle.fm_chain.specs.declared.calls.Calls.{Calls}
 use Rattle.fm_code.specs.AccessFlags.{is_interface}
 use Rattle.fm_code.specs.ConstantPool.{class_name_at, entry_at, method_ref_at}
 use Rattle.fm_code.specs.FreeEntries.{free_method, sought_free, with_free}
@@ -30,6 +31,7 @@ use Rattle.fm_flow.proofs.CodeFacts.{items_counted}
 use Rattle.fm_layout.specs.Laid.{laid_length, refused_length}
 use Rattle.fm_place.proofs.WovenLemmas.{woven_is_laid_out}
 use Rattle.fm_place.specs.Insertions.{all_insertions, full_insertions, Insertions}
+use Rattle.fm_place.specs.Laws.{Suits}
 use Rattle.fm_place.specs.Rewriting.{changes, first_given, free_index, Plans, rewritten_class, rewritten_from}
 use Rattle.fm_place.specs.Safe.{full_plans}
 use Rattle.fm_place.specs.Sites.{held_sites}
@@ -134,7 +136,9 @@ module _ (p : Program) (facts : Facts) (may : AreAnalysable p) (old : HasOldItem
       let own = is_all facts x plan full in
       let known = code_facts p method code may is in
       let rules = known.0.spelled in
-      let suits = all_suits facts x free fits known.1.locals in
+      let calls : Calls = record { free = free; link = 0; free_chain = 0 } in
+      let room = all_suits facts x false calls (record { free = fits; link = omega arith; free_chain = omega arith }) known.1.locals in
+      let suits : Suits free code (all_insertions facts x) = record { entry = room.free; room = room.room; before = room.before } in
       let few = few_items facts x free (items_counted code rules).1 in
       let test = not_refused (nat_lt MAX_CODE_BYTES (laid_length code.items (woven free code plan))) (refused_length code.items (woven free code plan)) short in
       subst (λ (ins : Insertions). laid_length code.items (woven free code ins) ≤ MAX_CODE_BYTES → CanWeave free code ins) (sym own.all)

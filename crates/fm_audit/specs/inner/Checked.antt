@@ -1,5 +1,5 @@
 -- What is checked of the pairs that a method's new items are read as, by what is known of the method.
-use Rattle.std.specs.Prelude.{◌≡◌, ◌+◌, ◌<◌, ◌≤◌, ℕ, true, false, List, length, Some, Contains, IsSomeAnd, nat_eq, slice_get, ⊤}
+use Rattle.std.specs.Prelude.{◌≡◌, ◌+◌, ◌<◌, ◌≤◌, ℕ, true, false, List, length, replicate, Some, Contains, IsSomeAnd, nat_eq, slice_get, ⊤}
 use Rattle.std.specs.List.{flat_map, IsDistinct, range_with_len}
 use Rattle.fm_base.specs.declared.limits.TheConstants.{MAX_LOCAL_WORDS}
 use Rattle.fm_place.specs.PlansBy.{paired}
@@ -54,11 +54,11 @@ pub record IsCheckedPlan (s : Seen) (sites : List Site) (plan : Plan) : Type 0 w
   pub listed : AreListed 0 (count_of s) (pairs_of plan)
   pub checked : IsChecked s sites (pairs_of plan) plan.holders
 
--- the method stays as it is, or it is woven by such a plan
+-- the method stays as it is, or it is woven by such a plan, in which no holder holds a chain
 abbrev pub IsCheckedDone : Seen → List Site → Planned → Type 0
 IsCheckedDone s sites planned.Same = ⊤
-IsCheckedDone s sites (planned.Woven plan) = IsCheckedPlan s sites plan
-IsCheckedDone s sites (planned.TooLong bytes) = ⊥
+IsCheckedDone s sites (planned.Woven plan) = IsCheckedPlan s sites plan.plan × (plan.looped ≡ replicate plan.plan.holders false)
+IsCheckedDone s sites (planned.TooLong bytes chains) = ⊥
 
 -- ---- as the code finds it
 

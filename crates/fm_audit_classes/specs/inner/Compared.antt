@@ -1,22 +1,26 @@
 -- When a class can be woven by what is to be done with its methods and compared with a written one.
-use Rattle.std.specs.Prelude.{◌≡◌, ℕ, ◌≤◌, true, List, [], ◌∷◌, length, None}
+use Rattle.std.specs.Prelude.{◌≡◌, ◌≤◌, true, false, List, [], ◌∷◌, length, None}
+use Rattle.fm_chain.specs.Chaining.{calls_for}
+use Rattle.fm_chain.specs.declared.calls.Calls.{Calls}
 use Rattle.fm_code.specs.Fits.{FitsTwo}
 use Rattle.fm_code.specs.FreeEntries.{with_free}
 use Rattle.fm_code.specs.Spells.{HasSpelling}
 use Rattle.fm_code.specs.declared.class_file.ClassDef.{ClassDef}
 use Rattle.fm_place.specs.Rewriting.{free_index}
-use Rattle.fm_place_weave.specs.ClassByPlan.{class_by, first_long, MayDoAll}
+use Rattle.fm_place_weave.specs.ClassByPlan.{class_by, first_long, has_chains, MayDoAll}
 use Rattle.fm_place_weave.specs.declared.planned.Planned.{Planned}
+use Rattle.fm_rewrite.specs.Plans.{CallsFit}
 use Rattle.fm_rewrite.specs.inner.ByPlans.{changes_by, others, own}
 use Rattle.fm_audit_classes.specs.inner.Low.{are_low}
 
--- where there is room in the methods the class may be woven, and is one that bytes spell, as long as its pool isn't full and no method is too long
+-- no holder holds a chain; where there is room in the methods the class may be woven, and is one that bytes spell, as long as its pool isn't full and no method is too long
 pub record MayBeCompared (done : List Planned) (c : ClassDef) : Type 0 where
   pub one_each : length done ≡ length c.methods
   pub spelled : HasSpelling c
-  pub may : are_low done c.methods ≡ true → (free : ℕ) → FitsTwo free → MayDoAll free done c.methods
+  pub plain : has_chains done ≡ false
+  pub may : are_low done c.methods ≡ true → (calls : Calls) → CallsFit calls → MayDoAll calls done c.methods
   pub woven : are_low done c.methods ≡ true → changes_by done ≡ true → FitsTwo (free_index c) → length (with_free c.pool.entries) ≤ 65535
-      → first_long (free_index c) 0 done c.methods ≡ None → HasSpelling (class_by done c)
+      → first_long (calls_for false c.pool.entries) 0 done c.methods ≡ None → HasSpelling (class_by done c)
 
 -- the same of each class
 abbrev pub MayBeComparedEach : List Planned → List ClassDef → Type 0

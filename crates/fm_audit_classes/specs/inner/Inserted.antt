@@ -1,7 +1,9 @@
 -- What is to be done with methods by insertions that have room.
-use Rattle.std.specs.Prelude.{◌≡◌, ℕ, ◌+◌, ◌<◌, ◌≤◌, List, [], ◌∷◌, length, Contains, Option, Some, None}
+use Rattle.std.specs.Prelude.{◌≡◌, ℕ, ◌+◌, ◌<◌, ◌≤◌, false, List, [], ◌∷◌, length, Contains, Option, Some, None}
 use Rattle.std.specs.List.{AllByRecursion}
 use Rattle.fm_base.specs.declared.limits.TheConstants.{MAX_LOCAL_WORDS}
+use Rattle.fm_chain.specs.Chained.{has_chain}
+use Rattle.fm_chain.specs.declared.plans.ChainPlan.{ChainPlan}
 use Rattle.fm_code.specs.Edges.{MeetsCodeRules}
 use Rattle.fm_code.specs.Members.{code_of}
 use Rattle.fm_code.specs.declared.class_file.ClassDef.{ClassDef}
@@ -10,19 +12,19 @@ use Rattle.fm_code.specs.declared.code_array.Code.{Code}
 use Rattle.fm_layout.specs.Conditions.{AreOldItems}
 use Rattle.fm_place.specs.Insertions.{before_at, Insertions}
 use Rattle.fm_place.specs.Rewriting.{Plans}
-use Rattle.fm_place.specs.declared.plans.Plan.{Plan}
 use Rattle.fm_place_weave.specs.Laws.{IsWholePlan}
 use Rattle.fm_place_weave.specs.declared.planned.Planned.{Planned}
 use Rattle.fm_place_weave.specs.declared.planned.Planned.TheVariants as planned
 use Rattle.fm_rewrite.specs.Alike.{IsOwnCode}
 use Rattle.fm_rewrite.specs.inner.ByPlans.{others, own}
 
--- the plan lists the insertions, for which there is room, in the only code of the method
-pub record HasInsertions (ins : Insertions) (plan : Plan) (m : Member) : Type 0 where
+-- the plan lists the insertions, of which no holder holds a chain and for which there is room, in the only code of the method
+pub record HasInsertions (ins : Insertions) (plan : ChainPlan) (m : Member) : Type 0 where
   pub code : Code
   pub coded : code_of m ≡ Some code
   pub own : AllByRecursion (IsOwnCode code) m.attributes
   pub whole : IsWholePlan code ins plan
+  pub plain : has_chain ins ≡ false
   pub old_items : AreOldItems code.items
   pub rules : MeetsCodeRules code
   pub room : code.max_locals + length ins.holders ≤ MAX_LOCAL_WORDS

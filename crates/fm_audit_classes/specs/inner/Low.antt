@@ -23,7 +23,7 @@ is_low_in plan (Some code) = is_low_code code plan
 
 -- of a method by what is to be done with it
 abbrev pub is_low : Planned → Member → Bool
-is_low (planned.Woven plan) m = is_low_in plan (code_of m)
+is_low (planned.Woven p) m = is_low_in p.plan (code_of m)
 is_low d m = true
 
 -- of all methods of a class

@@ -1,19 +1,19 @@
 -- Classes by what is to be done with their methods, one after the other: the plans of a class's
 -- methods come first, and the others follow.
-use Rattle.std.specs.Prelude.{◌≡◌, ℕ, ◌+◌, ◌&&◌, ◌<◌, ◌^◌, Bool, true, false, List, [], ◌∷◌, length, take, drop, Option, Some, None, nat_lt, Result, Ok, Err, if◌then◌else◌}
-use Rattle.std.specs.List.{list_any}
+use Rattle.std.specs.Prelude.{◌≡◌, ℕ, ◌+◌, ◌&&◌, ◌<◌, ◌≤◌, ◌^◌, Bool, true, false, List, [], ◌∷◌, length, take, drop, Option, Some, None, nat_lt, Result, Ok, Err, if◌then◌else◌}
+use Rattle.std.specs.List.{AllByRecursion, list_any}
 use Rattle.std.specs.Option.{option_map, option_or}
-use Rattle.fm_code.specs.Fits.{FitsTwo}
-use Rattle.fm_code.specs.FreeEntries.{sought_free, with_free}
 use Rattle.fm_code.specs.declared.class_file.ClassDef.{ClassDef}
-use Rattle.fm_place.specs.Rewriting.{free_index}
 use Rattle.fm_rewrite.specs.Rewritten.{max_pool_indices}
 use Rattle.fm_rewrite.specs.declared.counts.Count.{Count}
 use Rattle.fm_rewrite.specs.declared.error.RewriteFail.{RewriteFail}
 use Rattle.fm_rewrite.specs.declared.error.RewriteFail.TheVariants as fail
 use Rattle.fm_rewrite.specs.declared.rewriting.Rewritten.{Rewritten}
-use Rattle.fm_place_weave.specs.ClassByPlan.{class_by, first_long, MayDoAll}
-use Rattle.fm_place_weave.specs.declared.classes.FreePool.{FreePool}
+use Rattle.fm_chain.specs.Chaining.{calls_for, entries_for}
+use Rattle.fm_chain.specs.declared.calls.Calls.{Calls}
+use Rattle.fm_chain.specs.declared.entries.ChainPool.{ChainPool}
+use Rattle.fm_place_weave.specs.ClassByPlan.{class_by, first_long, has_chains, MayDoAll}
+use Rattle.fm_rewrite.specs.Plans.{CallsFit}
 use Rattle.fm_place_weave.specs.declared.planned.Planned.{Planned}
 use Rattle.fm_place_weave.specs.declared.planned.Planned.TheVariants as planned
 
@@ -44,18 +44,22 @@ changes_by done = list_any is_changed done
 -- ---- pools
 
 -- the pool of a changed class
-abbrev pub pool_by : List Planned → ClassDef → Option FreePool
+abbrev pub pool_by : List Planned → ClassDef → Option ChainPool
 pool_by done c =
-    if changes_by done then Some (record { pool = record { entries = with_free c.pool.entries }; free = (sought_free c.pool.entries).index }) else None
+    let chains = has_chains done in
+    if changes_by done
+    then Some (record { pool = record { entries = entries_for chains c.pool.entries }; calls = calls_for chains c.pool.entries }) else None
 
 -- of each class
-abbrev pub pools_by : List Planned → List ClassDef → List (Option FreePool)
+abbrev pub pools_by : List Planned → List ClassDef → List (Option ChainPool)
 pools_by done [] = []
 pools_by done (c ∷ classes) = pool_by (own c done) c ∷ pools_by (others c done) classes
 
 -- how many indices it would have, where these are too many
 abbrev pub full_by : List Planned → ClassDef → Option ℕ
-full_by done c = if changes_by done && nat_lt max_pool_indices (length (with_free c.pool.entries)) then Some (length (with_free c.pool.entries)) else None
+full_by done c =
+    let entries = entries_for (has_chains done) c.pool.entries in
+    if changes_by done && nat_lt max_pool_indices (length entries) then Some (length entries) else None
 
 -- the first such class by its number, of which the first is this
 abbrev pub first_full_by : (class : ℕ) → List Planned → List ClassDef → Option (ℕ × ℕ)
@@ -82,7 +86,7 @@ classes_by done (c ∷ classes) = rewritten_by (own c done) c ∷ classes_by (ot
 
 -- the first method of a changed class that would be too long, by its number, and how many bytes it would have
 abbrev pub long_by : (method : ℕ) → List Planned → ClassDef → Option (ℕ × ℕ)
-long_by method done c = if changes_by done then first_long (free_index c) method done c.methods else None
+long_by method done c = if changes_by done then first_long (calls_for (has_chains done) c.pool.entries) method done c.methods else None
 
 -- of all classes
 abbrev pub first_long_by : (method : ℕ) → List Planned → List ClassDef → Option (ℕ × ℕ)
@@ -95,21 +99,31 @@ IsLongBy long (fail.MethodTooLong method bytes) = long ≡ Some (method.0, bytes
 IsLongBy long fail.NoMemory = Unit {0}
 IsLongBy long e = ⊥
 
--- what is to be done with the methods of each class may be done, whatever the index of FreeMe.free is
+-- there is a flag for each holder of a method that is woven
+abbrev pub HasFlags : Planned → Type 0
+HasFlags (planned.Woven p) = p.plan.holders ≤ length p.looped
+HasFlags p = Unit {0}
+
+-- so there is in each class
+abbrev pub HaveFlags : List Planned → List ClassDef → Type 0
+HaveFlags done [] = Unit {0}
+HaveFlags done (c ∷ classes) = AllByRecursion HasFlags (own c done) × HaveFlags (others c done) classes
+
+-- what is to be done with the methods of each class may be done, by whichever entries
 abbrev pub MayDoEach : List Planned → List ClassDef → Type 0
 MayDoEach done [] = Unit {0}
-MayDoEach done (c ∷ classes) = ((free : ℕ) → FitsTwo free → MayDoAll free (own c done) c.methods) × MayDoEach (others c done) classes
+MayDoEach done (c ∷ classes) = ((calls : Calls) → CallsFit calls → MayDoAll calls (own c done) c.methods) × MayDoEach (others c done) classes
 
 -- ---- counts
 
 -- how many sites are held in a method
 abbrev pub sites_of_one : Planned → ℕ
-sites_of_one (planned.Woven plan) = plan.holders
+sites_of_one (planned.Woven p) = p.plan.holders
 sites_of_one p = 0
 
 -- how many frees are inserted in it
 abbrev pub frees_of_one : Planned → ℕ
-frees_of_one (planned.Woven plan) = length plan.before.items
+frees_of_one (planned.Woven p) = length p.plan.before.items
 frees_of_one p = 0
 
 -- the sites of methods

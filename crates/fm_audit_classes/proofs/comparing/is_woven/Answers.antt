@@ -1,4 +1,6 @@
-use Rattle.std.proofs.Common.{rules, ◌≡◌, ◌∙◌, sym, ap, subst, true, None}
+use Rattle.std.proofs.Common.{rules, ◌≡◌, ◌∙◌, sym, ap, subst, Bool, true, false, None}
+use Rattle.fm_chain.specs.Chaining.{calls_for, entries_for}
+use Rattle.fm_chain.specs.declared.calls.Calls.{Calls}
 use Rattle.fm_code.specs.Fits.{FitsTwo}
 use Rattle.fm_code.specs.Spells.{HasSpelling}
 use Rattle.fm_place.specs.Rewriting.{free_index}
@@ -6,13 +8,26 @@ use Rattle.fm_place_weave.specs.ClassByPlan.{first_long}
 use Rattle.fm_audit_classes.specs.inner.Low.{are_low}
 use Rattle.fm_audit_classes.proofs.comparing.is_woven.Goals as goal
 
+pub woven_class-requires-clause-pool : goal.woven_class-requires-clause-pool
+woven_class-requires-clause-pool c =
+    c.in-Ok.ensures.pool ∙ ap (λ (chains : Bool). entries_for chains c.args.class.now.pool.entries) (sym c.requires.class.plain)
+
+pub woven_class-requires-clause-calls : goal.woven_class-requires-clause-calls
+woven_class-requires-clause-calls c =
+    c.in-Ok.ensures.calls ∙ ap (λ (chains : Bool). calls_for chains c.args.class.now.pool.entries) (sym c.requires.class.plain)
+
+pub woven_class-requires-clause-may : goal.woven_class-requires-clause-may
+woven_class-requires-clause-may c =
+    let low : are_low c.args.planned.now c.args.class.now.methods ≡ true = search rules in
+    c.requires.class.may low c.in-Ok.pool.calls (record { free = search rules; link = search rules; free_chain = search rules })
+
 pub is_same-requires-clause-second : goal.is_same-requires-clause-second
 is_same-requires-clause-second c =
     let class = c.args.class.now in
     let done = c.args.planned.now in
     let low : are_low done class.methods ≡ true = search rules in
     let made = c.in-Ok.ensures in
-    let fits : FitsTwo (free_index class) = subst FitsTwo made.free (search rules) in
-    let none : first_long (free_index class) 0 done class.methods ≡ None =
-    sym (ap (λ n. first_long n 0 done class.methods) made.free) ∙ c.in-Ok-woven_class.ensures.fits in
+    let fits : FitsTwo (free_index class) = subst FitsTwo (ap (λ (calls : Calls). calls.free) made.calls) (search rules) in
+    let none : first_long (calls_for false class.pool.entries) 0 done class.methods ≡ None =
+    sym (ap (λ (calls : Calls). first_long calls 0 done class.methods) made.calls) ∙ c.in-Ok-woven_class.ensures.fits in
     subst HasSpelling (sym c.in-Ok-woven_class.ensures.woven) (c.requires.class.woven low c.requires.changed fits made.fits none)

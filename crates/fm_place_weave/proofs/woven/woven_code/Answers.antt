@@ -4,6 +4,6 @@ use Rattle.fm_place_weave.proofs.woven.woven_code.Goals as goal
 
 pub anchors_of-requires : goal.anchors_of-requires
 anchors_of-requires c =
-    let count = number_by-is c.args.free c.args.code.now c.args.plan.now in
+    let count = number_by-is c.args.calls c.args.code.now c.args.plan.now in
     let few = c.requires.new_items.few in
     omega (arith, count, few)

@@ -9,18 +9,18 @@ use Rattle.fm_types.specs.Typings.{states_of}
 use Rattle.fm_rewrite.proofs.plans.full_plan.Goals as goal
 
 pub live-requires : goal.live-requires
-live-requires c = c.in_ok-typed.ensures.flow.spelled
+live-requires c = c.requires.flow.spelled
 
 pub places-requires-clause-few : goal.places-requires-clause-few
 places-requires-clause-few c =
     let found = c.as_slice.ensures.value ∙ c.in_ok-sites.ensures c.args.code.now c.requires.code in
     subst (λ sites. length (holders_in sites) ≤ MAX_LOCAL_WORDS) (sym found)
     (holders_few (facts_by c.in_ok-classes.classes c.args.summaries.now)
-    (method_with c.args.program.now c.args.method.0 c.args.code.now (states_of c.in_ok-typed.typed.typing)))
+    (method_with c.args.program.now c.args.method.0 c.args.code.now (states_of c.args.typed.now.typing)))
 
 pub returns : goal.returns
 returns c =
-    full_plan_is c.args.program.now c.args.summaries.now c.args.method.0 c.args.code.now (states_of c.in_ok-typed.typed.typing) c.in_ok-rows.rows
-    c.in_ok-classes.classes c.in_ok-typed.ensures.typing c.in_ok-rows.ensures (c.in_ok-classes.ensures c.args.code.now c.requires.code)
+    full_plan_is c.args.program.now c.args.summaries.now c.args.method.0 c.args.code.now (states_of c.args.typed.now.typing) c.in_ok-rows.rows
+    c.in_ok-classes.classes c.requires.typing c.in_ok-rows.ensures (c.in_ok-classes.ensures c.args.code.now c.requires.code)
     c.as_slice.result.now (c.as_slice.ensures.value ∙ c.in_ok-sites.ensures c.args.code.now c.requires.code) c.places.result
     (λ facts told are. c.places.ensures c.args.code.now facts c.requires.code told are)

@@ -5,7 +5,7 @@ use Rattle.fm_rewrite.proofs.plans.planned_by.Goals as goal
 
 pub loop-number-preserved : goal.loop-number-preserved
 loop-number-preserved c =
-    planned_more c.args.program.now c.args.summaries.now c.loop-number.number c.loop-number.planned.items c.push.new.self.items c.in_ok-made.made
+    planned_more c.args.program.now c.args.summaries.now c.args.chains c.loop-number.number c.loop-number.planned.items c.push.new.self.items c.in_ok-made.made
     c.loop-number.invariant.0 c.in_ok-push.ensures.items c.loop-number.invariant.1 c.in_ok-made.ensures
 
 pub returns : goal.returns

@@ -2,13 +2,13 @@ use Rattle.std.proofs.Common.{arith}
 use Rattle.fm_summ_shapes.proofs.ShapesLemmas.{code_facts}
 use Rattle.fm_flow.proofs.CodeFacts.{items_counted}
 use Rattle.fm_layout.proofs.BoundsLemmas.{old_short}
-use Rattle.fm_rewrite.proofs.PlannedLemmas.{full_fits, full_room}
+use Rattle.fm_rewrite.proofs.PlannedLemmas.{full_fits, full_room, full_sites}
 use Rattle.fm_rewrite.proofs.plans.planned_code.Goals as goal
 
 pub of-requires-clause-room : goal.of-requires-clause-room
 of-requires-clause-room c =
     full_room c.args.program.now c.args.summaries.now c.args.method.0 c.args.code.now c.in_ok-plan.plan c.requires.analysable c.requires.old
-    c.requires.code c.in_ok-plan.ensures
+    c.requires.code c.in_ok-plan.ensures c.args.chains c.in_ok-held.held c.in_ok-held.ensures
 
 pub of-requires-clause-short : goal.of-requires-clause-short
 of-requires-clause-short c = old_short c.args.code.now.items (c.requires.old c.args.method.0 c.args.code.now c.requires.code)
@@ -22,4 +22,9 @@ of-requires-clause-few c =
 pub of-requires-clause-fits : goal.of-requires-clause-fits
 of-requires-clause-fits c =
     full_fits c.args.program.now c.args.summaries.now c.args.method.0 c.args.code.now c.in_ok-plan.plan c.requires.analysable c.requires.old
+    c.requires.code c.in_ok-plan.ensures c.args.chains c.in_ok-held.held c.in_ok-held.ensures
+
+pub chain_plan-requires-clause-sites : goal.chain_plan-requires-clause-sites
+chain_plan-requires-clause-sites c =
+    full_sites c.args.program.now c.args.summaries.now c.args.method.0 c.args.code.now c.in_ok-plan.plan c.requires.analysable c.requires.old
     c.requires.code c.in_ok-plan.ensures

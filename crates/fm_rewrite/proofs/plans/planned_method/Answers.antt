@@ -12,10 +12,10 @@ planned_code-requires-clause-code c =
 pub returns-in-Coded : goal.returns-in-Coded
 returns-in-Coded c =
     let code_is = coded_at c.args.program.now c.args.method.0 c.in-Coded.code (ap (λ (m : MethodInfo). m.body) (sym c.method.ensures) ∙ c.in-Coded.is) in
-    planned_with_code c.args.program.now c.args.summaries.now c.args.method.0 c.in-Coded.code code_is c.planned_code.result c.planned_code.ensures
+    planned_with_code c.args.program.now c.args.summaries.now c.args.chains c.args.method.0 c.in-Coded.code code_is c.planned_code.result c.planned_code.ensures
 
 pub returns-in_default : goal.returns-in_default
 returns-in_default c =
-    planned_without_code c.args.program.now c.args.summaries.now c.args.method.0
+    planned_without_code c.args.program.now c.args.summaries.now c.args.chains c.args.method.0
     (no_code c.args.program.now c.args.method.0 c.method.result.now.body c.requires.analysable (ap (λ (m : MethodInfo). m.body) c.method.ensures)
     c.in_default.not-Coded)

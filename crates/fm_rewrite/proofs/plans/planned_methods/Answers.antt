@@ -17,7 +17,7 @@ returns c =
     let shapes = c.in_ok-shapes.ensures in
     let exact = c.in_ok-summaries.ensures shapes.typings
     (subst (AreShapesOf c.args.program.now shapes.typings) (sym c.as_slice.ensures.value) shapes.are) in
-    IfOk-weaker c.planned_by.result (λ planned. ArePlannedBy c.args.program.now c.in_ok-summaries.summaries planned.items)
-    (λ planned. ArePlanned c.args.program.now planned.items)
-    (λ planned by. are_planned c.args.program.now c.in_ok-summaries.summaries planned.items c.requires.analysable by shapes.typings shapes.least exact)
+    IfOk-weaker c.planned_by.result (λ planned. ArePlannedBy c.args.program.now c.in_ok-summaries.summaries c.args.chains planned.items)
+    (λ planned. ArePlanned c.args.program.now c.args.chains planned.items)
+    (λ planned by. are_planned c.args.program.now c.in_ok-summaries.summaries c.args.chains planned.items c.requires.analysable by shapes.typings shapes.least exact)
     c.planned_by.ensures

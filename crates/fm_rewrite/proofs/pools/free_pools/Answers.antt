@@ -1,10 +1,18 @@
-use Rattle.std.proofs.Common.{◌≡◌, ◌∙◌, sym, ap, ◌+◌, ◌++◌, List, None, drop, length, arith}
+use Rattle.std.proofs.Common.{◌≡◌, ◌∙◌, sym, ap, subst, ◌+◌, ◌++◌, List, None, drop, length, arith}
 use Rattle.std.specs.List.{AllByRecursion}
 use Rattle.fm_code.specs.Spells.{HasSpelling}
+use Rattle.fm_code.specs.declared.class_file.ClassDef.{ClassDef}
 use Rattle.fm_rewrite.proofs.StepLemmas.{full_more, left, others_counted, pools_more}
-use Rattle.fm_rewrite.specs.inner.ByPlans.{first_full_by, full_by, own, pool_by, pools_by}
+use Rattle.fm_rewrite.specs.inner.ByPlans.{first_full_by, full_by, HasFlags, HaveFlags, own, pool_by, pools_by}
 use Rattle.fm_place_weave.specs.declared.planned.Planned.{Planned}
 use Rattle.fm_rewrite.proofs.pools.free_pools.Goals as goal
+
+pub free_pool-requires-clause-flags : goal.free_pool-requires-clause-flags
+free_pool-requires-clause-flags c =
+    let here = c.loop-place in
+    subst (AllByRecursion HasFlags) (sym c.own.ensures)
+    (left c.args.classes.now here.place c.index-classes-place.result c.loop-place-test.true c.index-classes-place.is
+    (λ (cs : List ClassDef). HaveFlags here.rest.now cs) here.invariant.flags).0
 
 pub loop-place-preserved : goal.loop-place-preserved
 loop-place-preserved c =
@@ -22,6 +30,9 @@ loop-place-preserved c =
     record {
       spelled = (left classes place class within is (AllByRecursion HasSpelling) here.invariant.spelled).1;
       one_each = ap length after ∙ others_counted classes place class within is done here.invariant.one_each;
+      flags =
+          subst (λ (d : List Planned). HaveFlags d rest) (sym after)
+          (left classes place class within is (λ (cs : List ClassDef). HaveFlags done cs) here.invariant.flags).1;
       made =
           (λ k. c.in_ok-push.ensures.items k ++ pools_by (after k) rest)
           ∙ pools_more classes place class within is done here.pools.items c.in_ok-pool.pool (pools_by c.args.planned.now classes) pool_is here.invariant.made;

@@ -2,7 +2,7 @@ use Rattle.std.proofs.Common.{rules, ◌≡◌, ◌∙◌, sym, ap, subst, ℕ, 
 use Rattle.fm_place.specs.Rewriting.{first_given}
 use Rattle.fm_rewrite.proofs.JudgedLemmas.{comes_as, comes_full, comes_long, judged_spelled, own_done, parts_of}
 use Rattle.fm_rewrite.specs.declared.rewriting.Rewritten.{Rewritten}
-use Rattle.fm_rewrite.specs.inner.ByPlans.{AreMadeBy, ComesBy, HaveCounts, MayDoEach}
+use Rattle.fm_rewrite.specs.inner.ByPlans.{AreMadeBy, ComesBy, HaveCounts, HaveFlags, MayDoEach}
 use Rattle.fm_place_weave.specs.declared.planned.Planned.{Planned}
 use Rattle.fm_world.specs.BuiltIns.{built_in}
 use Rattle.fm_rewrite.proofs.rewriting.rewritten_by.Goals as goal
@@ -40,6 +40,14 @@ free_pools-requires-clause-one_each c =
     let all = parts.methods in
     let first : c.methods-methods.result - c.method_count.result ≡ first_given = omega (arith, all, c.methods-methods.ensures, c.method_count.ensures) in
     ap length (own_done c.args.planned.now (c.methods-methods.result - c.method_count.result) first) ∙ parts.one_each
+
+pub free_pools-requires-clause-flags : goal.free_pools-requires-clause-flags
+free_pools-requires-clause-flags c =
+    let parts = parts_of c.args.classes.now c.args.program.now c.args.planned.now c.requires.judged c.requires.planned in
+    let all = parts.methods in
+    let first : c.methods-methods.result - c.method_count.result ≡ first_given = omega (arith, all, c.methods-methods.ensures, c.method_count.ensures) in
+    subst (λ (d : List Planned). HaveFlags d c.args.classes.now)
+    (sym (own_done c.args.planned.now (c.methods-methods.result - c.method_count.result) first)) parts.flags
 
 pub free_pools-requires-clause-numbers : goal.free_pools-requires-clause-numbers
 free_pools-requires-clause-numbers c =

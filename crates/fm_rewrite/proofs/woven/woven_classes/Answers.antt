@@ -4,11 +4,11 @@ use Rattle.std.proofs.lemmas.List.{append-nil}
 use Rattle.fm_code.specs.declared.class_file.ClassDef.{ClassDef}
 use Rattle.fm_rewrite.proofs.StepLemmas.{classes_more, left, long_more, none_left, others_counted, pool_left, pool_taken}
 use Rattle.fm_rewrite.specs.inner.ByPlans.{classes_by, first_long_by, long_by, MayDoEach, method_count, own, pools_by, rewritten_by}
-use Rattle.fm_place_weave.specs.declared.classes.FreePool.{FreePool}
+use Rattle.fm_chain.specs.declared.entries.ChainPool.{ChainPool}
 use Rattle.fm_place_weave.specs.declared.planned.Planned.{Planned}
 use Rattle.fm_rewrite.proofs.woven.woven_classes.Goals as goal
 
-nothing_left : (xs : List (Option FreePool)) → 0 ≡ length xs → xs ≡ []
+nothing_left : (xs : List (Option ChainPool)) → 0 ≡ length xs → xs ≡ []
 nothing_left [] e = refl
 nothing_left (x ∷ xs) e = absurd (omega arith)
 

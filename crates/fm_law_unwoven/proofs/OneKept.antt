@@ -4,12 +4,14 @@ use Rattle.std.specs.Prelude.{nat_eq}
 use Rattle.std.specs.List.{AllByRecursion, IsDistinct}
 use Rattle.std.proofs.lemmas.Bool.{cases_Bool, eq-eqb, eqb-true, false≢true}
 use Rattle.fm_code.specs.declared.code_array.Code.{Code}
+use Rattle.fm_conn.specs.Facts.{Facts}
 use Rattle.fm_conn.specs.Links.{typed_method}
-use Rattle.fm_law_lockstep.specs.Both.{Both}
+use Rattle.fm_law_same_runs.specs.Beside.{Marks}
 use Rattle.fm_law_unwoven.specs.WovenFrom.{inserted_by, IsWovenFrom}
 use Rattle.fm_place.specs.Insertions.{after_at, Holder, Insertions, numbers_of}
+use Rattle.fm_place.specs.Rewriting.{Plans}
 use Rattle.fm_place.specs.Safe.{IsSafeHolder}
-use Rattle.fm_world.specs.Programs.{code_at}
+use Rattle.fm_world.specs.Programs.{code_at, Program}
 
 module _ (j : ℕ) where
   -- the holders of the item among these, numbered from here on
@@ -45,20 +47,21 @@ module _ (j : ℕ) where
 
 -- ---- a method's insertions
 
-module _ (b : Both) (from : IsWovenFrom b.one b.other b.facts b.plans b.marks) (method : ℕ) (code : Code) (code_is : code_at b.one method ≡ Some code) where
-  one_kept_by : (o : Option Insertions) → b.plans method ≡ o → (j : ℕ)
+module _ (p q : Program) (facts : Facts) (plans : Plans) (marks : Marks) (from : IsWovenFrom p q facts plans marks) (method : ℕ) (code : Code)
+    (code_is : code_at p method ≡ Some code) where
+  one_kept_by : (o : Option Insertions) → plans method ≡ o → (j : ℕ)
       → (after_at (inserted_by o) j ≡ []) ⊎ ((only : ℕ) × (after_at (inserted_by o) j ≡ only ∷ []))
   one_kept_by None is j = inl refl
   one_kept_by (Some plan) is j = one_at_most j 0 plan.holders (from.safe method code plan code_is is).own_sites
 
-  pub one_kept : (j : ℕ) → (after_at (inserted_by (b.plans method)) j ≡ []) ⊎ ((only : ℕ) × (after_at (inserted_by (b.plans method)) j ≡ only ∷ []))
-  one_kept = one_kept_by (b.plans method) refl
+  pub one_kept : (j : ℕ) → (after_at (inserted_by (plans method)) j ≡ []) ⊎ ((only : ℕ) × (after_at (inserted_by (plans method)) j ≡ only ∷ []))
+  one_kept = one_kept_by (plans method) refl
 
-  safe_by : (o : Option Insertions) → b.plans method ≡ o
-      → AllByRecursion (IsSafeHolder b.facts (typed_method b.one b.facts.typing method code)) (inserted_by o).holders
+  safe_by : (o : Option Insertions) → plans method ≡ o
+      → AllByRecursion (IsSafeHolder facts (typed_method p facts.typing method code)) (inserted_by o).holders
   safe_by None is = tt
   safe_by (Some plan) is = (from.safe method code plan code_is is).holders
 
   -- all its holders are safe
-  pub safe_holders : AllByRecursion (IsSafeHolder b.facts (typed_method b.one b.facts.typing method code)) (inserted_by (b.plans method)).holders
-  safe_holders = safe_by (b.plans method) refl
+  pub safe_holders : AllByRecursion (IsSafeHolder facts (typed_method p facts.typing method code)) (inserted_by (plans method)).holders
+  safe_holders = safe_by (plans method) refl

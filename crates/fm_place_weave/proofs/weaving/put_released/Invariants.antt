@@ -1,0 +1,7 @@
+use Rattle.std.proofs.Common.{◌≡◌, ◌++◌, drop}
+use Rattle.fm_place_weave.specs.ByPlan.{released_by}
+use Rattle.fm_place_weave.proofs.weaving.put_released.Given as goal
+
+abbrev pub invariant-loop-pair : goal.invariant-loop-pair
+invariant-loop-pair l =
+    l.out.items ++ released_by l.holders.calls l.holders.looped.now l.holders.first (drop l.pair-index l.pairs) ≡ l.fn.out.items ++ released_by l.holders.calls l.holders.looped.now l.holders.first l.pairs
