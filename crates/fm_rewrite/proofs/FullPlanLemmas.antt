@@ -24,8 +24,9 @@ use Rattle.fm_code.specs.Edges.{MeetsCodeRules}
 use Rattle.fm_code.specs.declared.code_array.Item.{Item}
 use Rattle.fm_conn.specs.Facts.{Facts}
 use Rattle.fm_conn.specs.Nodes.{TypedMethod}
-use Rattle.fm_conn.proofs.ListLemmas.{Contains-from_flat_map, Contains-from_range}
+use Rattle.fm_conn.proofs.ListLemmas.{Contains-from_range}
 use Rattle.fm_flow.proofs.CodeFacts.{items_counted}
+use Rattle.fm_flow.proofs.SourcesLemmas.{Contains-from_flat_map}
 use Rattle.fm_layout.proofs.LayoutLemmas.{narrow_fits}
 use Rattle.fm_layout.specs.Conditions.{AreOldItems}
 use Rattle.fm_layout.specs.Laid.{narrow_length}
