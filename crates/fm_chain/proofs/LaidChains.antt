@@ -30,7 +30,7 @@ twos : (hs : List ℕ) → sum (map (λ (h : ℕ). 2) hs) ≡ null_stored_items 
 twos [] = refl
 twos (h ∷ hs) = let rest = twos hs in let sum = sum_cons (λ (h : ℕ). 2) h hs in omega (arith, rest, sum)
 
-taken_size : (calls : Calls) (looped : Bool) (local : ℕ) → length (taken calls looped local) ≡ taken_items looped
+pub taken_size : (calls : Calls) (looped : Bool) (local : ℕ) → length (taken calls looped local) ≡ taken_items looped
 taken_size calls false local = refl
 taken_size calls true local = refl
 

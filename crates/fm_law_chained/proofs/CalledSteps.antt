@@ -8,7 +8,7 @@ use Rattle.fm_code.specs.declared.instructions.Insn.TheVariants as insn
 use Rattle.fm_frames.proofs.StepCounts.{step_going}
 use Rattle.fm_frames.specs.Acts.{all_freed, cell_of, chain_freed, chain_from, chained, Choose, Did, performed}
 use Rattle.fm_frames.specs.CallRows.{entered_as, native_of, static_effect, words_of_arguments}
-use Rattle.fm_frames.specs.Effects.{acting, Effect, faulty, FreeChain, OfOperand, SetChain, words}
+use Rattle.fm_frames.specs.Effects.{acting, Effect, faulty, OfOperand, SetChain, words}
 use Rattle.fm_frames.specs.NativeRows.{free_native, linked, native_effect}
 use Rattle.fm_frames.specs.ObjectRows.{starting}
 use Rattle.fm_frames.specs.Operands.{on_held_of}
@@ -22,8 +22,9 @@ use Rattle.fm_frames.specs.declared.natives.Native.{Native}
 use Rattle.fm_frames.specs.declared.natives.Native.TheVariants.{FreeMeFreeChain, FreeMeLink}
 use Rattle.fm_frames.specs.declared.values.Value.{Value}
 use Rattle.fm_frames.specs.declared.values.Value.TheVariants as value
-use Rattle.fm_law_chained.specs.Called.{called, CallsNative, ChainsFault, ChainsFree, HasFaulted, IsCalled, LinksFault, LinksJoin, LinksPassOver, on_top, with_stack}
+use Rattle.fm_law_chained.specs.Called.{called, CallsNative, ChainsFault, ChainsFree, HasFaulted, IsCalled, LinksFault, LinksJoin, LinksPassOver, with_frame, with_stack}
 use Rattle.fm_law_sound.specs.Sound.{IsReference}
+use Rattle.fm_native.proofs.FreeRows.{chain-is, freeing_chain}
 use Rattle.fm_types.specs.Named.{class_of_method}
 use Rattle.fm_types.specs.Typed.{use_in}
 use Rattle.fm_world.specs.Programs.{Outline, Program}
@@ -60,11 +61,8 @@ link_effect s = on_held_of (words 2 (OfOperand 0 ∷ [])) 1 (Some s) linked
 abbrev joined : Effect
 joined = record (acting 2 (SetChain 1 0 ∷ [])) { gives = OfOperand 1 ∷ [] }
 
--- of freeChain
-abbrev chain_effect : Effect
-chain_effect = acting 1 (FreeChain 0 ∷ [])
-
-abbrev entered_by : Outline → Option ℕ → List Sight → ℕ → TypeRef → Effect
+-- what the call of a method does, by what is seen of its operands
+abbrev pub entered_by : Outline → Option ℕ → List Sight → ℕ → TypeRef → Effect
 entered_by o byte s m named = starting (class_of_method o m) (entered_as o (words_of_arguments o m) m byte s (native_of o m))
 
 call_is : (o : Outline) (row : Native) (method call : ℕ) (u : Use) (calls : CallsNative o row u) (byte : Option ℕ) (s : List Sight)
@@ -81,10 +79,6 @@ link_row : (o : Outline) (byte : Option ℕ) (chain first : Sight) (rest : List 
 unfolding native_effect free_native
 link_row o byte chain first rest = refl
 
-chain_row : (o : Outline) (byte : Option ℕ) (s : List Sight) → native_effect o FreeMeFreeChain byte s ≡ chain_effect
-unfolding native_effect free_native
-chain_row o byte s = refl
-
 -- its class has started
 call_started : (o : Outline) (row : Native) (u : Use) (calls : CallsNative o row u) (started : List Bool) (e : Effect)
     → with_start o started (starting (class_of_method o calls.method.0) e) ≡ record e { starts = None }
@@ -96,20 +90,20 @@ module _ (p : Program) (choose : Choose) (x : State) (f : Frame) (callers : List
   -- by the effect of the method's row over what is seen of a stack
   call_next : (row : Native) (is : IsCalled p row f call) (stack : List Value) (e : Effect)
       → native_effect p.outline row (slice_get x.input 0) (sights p.outline x.areas.store stack) ≡ e
-      → next_effect p (on_top x (with_stack f stack) callers) ≡ record e { starts = None }
+      → next_effect p (with_frame x (with_stack f stack) callers) ≡ record e { starts = None }
   unfolding next_effect
   call_next row is stack e e_is =
       let class = class_of_method p.outline is.calls.method.0 in
-      ap (λ o. with_start p.outline x.areas.started (effect_by p (on_top x (with_stack f stack) callers) (with_stack f stack) o)) is.next
+      ap (λ o. with_start p.outline x.areas.started (effect_by p (with_frame x (with_stack f stack) callers) (with_stack f stack) o)) is.next
       ∙ ap (with_start p.outline x.areas.started)
       (call_is p.outline row f.method call (use_in p f.method call) is.calls (slice_get x.input 0) (sights p.outline x.areas.store stack)
       ∙ ap (starting class) e_is)
       ∙ call_started p.outline row (use_in p f.method call) is.calls x.areas.started e
 
-  step_by : (stack : List Value) (e : Effect) → next_effect p (on_top x (with_stack f stack) callers) ≡ e
-      → step p choose (on_top x (with_stack f stack) callers) ≡ attempted p choose (on_top x (with_stack f stack) callers) e
+  step_by : (stack : List Value) (e : Effect) → next_effect p (with_frame x (with_stack f stack) callers) ≡ e
+      → step p choose (with_frame x (with_stack f stack) callers) ≡ attempted p choose (with_frame x (with_stack f stack) callers) e
   step_by stack e is =
-      step_going p choose (on_top x (with_stack f stack) callers) refl ∙ ap (attempted p choose (on_top x (with_stack f stack) callers)) is
+      step_going p choose (with_frame x (with_stack f stack) callers) refl ∙ ap (attempted p choose (with_frame x (with_stack f stack) callers)) is
 
   -- ---- link
 
@@ -117,14 +111,14 @@ module _ (p : Program) (choose : Choose) (x : State) (f : Frame) (callers : List
     abbrev stack : List Value
     stack = chain ∷ first ∷ rest
 
-    link_by : (s : Sight) → sight p.outline x.areas.store first ≡ s → next_effect p (on_top x (with_stack f stack) callers) ≡ record (link_effect s) { starts = None }
+    link_by : (s : Sight) → sight p.outline x.areas.store first ≡ s → next_effect p (with_frame x (with_stack f stack) callers) ≡ record (link_effect s) { starts = None }
     link_by s s_is =
         call_next FreeMeLink is stack (link_effect s)
         (link_row p.outline (slice_get x.input 0) (sight p.outline x.areas.store chain) (sight p.outline x.areas.store first) (sights p.outline x.areas.store rest)
         ∙ ap link_effect s_is)
 
     pub null_passed : sight p.outline x.areas.store first ≡ Null
-        → step p choose (on_top x (with_stack f stack) callers) ≡ called x f callers x.areas (chain ∷ rest)
+        → step p choose (with_frame x (with_stack f stack) callers) ≡ called x f callers x.areas (chain ∷ rest)
     unfolding performed continued
     null_passed s_is = step_by stack (words 2 (OfOperand 0 ∷ [])) (link_by Null s_is)
 
@@ -133,27 +127,27 @@ module _ (p : Program) (choose : Choose) (x : State) (f : Frame) (callers : List
     linked_by fixed = if fixed then words 2 (OfOperand 0 ∷ []) else joined
 
     thing_by : (it : Looks) (fixed : Bool) → sight p.outline x.areas.store first ≡ Thing it → it.fixed ≡ fixed
-        → next_effect p (on_top x (with_stack f stack) callers) ≡ record (linked_by fixed) { starts = None }
+        → next_effect p (with_frame x (with_stack f stack) callers) ≡ record (linked_by fixed) { starts = None }
     thing_by it fixed s_is fixed_is = link_by (Thing it) s_is ∙ ap (λ b. record (linked_by b) { starts = None }) fixed_is
 
     pub fixed_passed : (it : Looks) → sight p.outline x.areas.store first ≡ Thing it → it.fixed ≡ true
-        → step p choose (on_top x (with_stack f stack) callers) ≡ called x f callers x.areas (chain ∷ rest)
+        → step p choose (with_frame x (with_stack f stack) callers) ≡ called x f callers x.areas (chain ∷ rest)
     unfolding performed continued
     fixed_passed it s_is fixed = step_by stack (words 2 (OfOperand 0 ∷ [])) (thing_by it true s_is fixed)
 
     pub object_joined : (it : Looks) → sight p.outline x.areas.store first ≡ Thing it → it.fixed ≡ false
-        → step p choose (on_top x (with_stack f stack) callers) ≡ called x f callers (chained x.areas (cell_of first) (cell_of chain)) (first ∷ rest)
+        → step p choose (with_frame x (with_stack f stack) callers) ≡ called x f callers (chained x.areas (cell_of first) (cell_of chain)) (first ∷ rest)
     unfolding performed continued
     object_joined it s_is loose = step_by stack joined (thing_by it false s_is loose)
 
     abbrev faulted : Moved
-    faulted = attempted p choose (on_top x (with_stack f stack) callers) (faulty 1)
+    faulted = attempted p choose (with_frame x (with_stack f stack) callers) (faulty 1)
 
     fault_is : HasFaulted p f (cell_of first) faulted
     unfolding performed continued
     fault_is = record { ended = refl; printed = refl }
 
-    pub lost_faulted : sight p.outline x.areas.store first ≡ Gone → HasFaulted p f (cell_of first) (step p choose (on_top x (with_stack f stack) callers))
+    pub lost_faulted : sight p.outline x.areas.store first ≡ Gone → HasFaulted p f (cell_of first) (step p choose (with_frame x (with_stack f stack) callers))
     lost_faulted s_is = subst (HasFaulted p f (cell_of first)) (sym (step_by stack (faulty 1) (link_by Gone s_is))) fault_is
 
   -- ---- freeChain
@@ -162,34 +156,34 @@ module _ (p : Program) (choose : Choose) (x : State) (f : Frame) (callers : List
     abbrev chain_stack : List Value
     chain_stack = chain ∷ rest
 
-    chain_by : next_effect p (on_top x (with_stack f chain_stack) callers) ≡ chain_effect
-    chain_by = call_next FreeMeFreeChain is chain_stack chain_effect (chain_row p.outline (slice_get x.input 0) (sights p.outline x.areas.store chain_stack))
+    chain_by : next_effect p (with_frame x (with_stack f chain_stack) callers) ≡ freeing_chain
+    chain_by = call_next FreeMeFreeChain is chain_stack freeing_chain (chain-is p.outline (slice_get x.input 0) (sights p.outline x.areas.store chain_stack))
 
     -- by what the walk finds
     walked : (found : Option (List ℕ)) → chain_from x.areas.store (cell_of chain) ≡ found
-        → attempted p choose (on_top x (with_stack f chain_stack) callers) chain_effect
-        ≡ done_by p 1 chain_effect (on_top x (with_stack f chain_stack) callers) (chain_freed x.areas chain found (λ y. Did y []))
+        → attempted p choose (with_frame x (with_stack f chain_stack) callers) freeing_chain
+        ≡ done_by p 1 freeing_chain (with_frame x (with_stack f chain_stack) callers) (chain_freed x.areas chain found (λ y. Did y []))
     unfolding performed
     walked found found_is =
-        ap (λ o. done_by p 1 chain_effect (on_top x (with_stack f chain_stack) callers) (chain_freed x.areas chain o (λ y. Did y []))) found_is
+        ap (λ o. done_by p 1 freeing_chain (with_frame x (with_stack f chain_stack) callers) (chain_freed x.areas chain o (λ y. Did y []))) found_is
 
-    done_is : (cells : List ℕ) → done_by p 1 chain_effect (on_top x (with_stack f chain_stack) callers) (Did (all_freed x.areas cells) [])
+    done_is : (cells : List ℕ) → done_by p 1 freeing_chain (with_frame x (with_stack f chain_stack) callers) (Did (all_freed x.areas cells) [])
         ≡ called x f callers (all_freed x.areas cells) rest
     unfolding continued
     done_is cells = refl
 
     pub chain_freed_is : (cells : List ℕ) → chain_from x.areas.store (cell_of chain) ≡ Some cells
-        → step p choose (on_top x (with_stack f chain_stack) callers) ≡ called x f callers (all_freed x.areas cells) rest
-    chain_freed_is cells found = step_by chain_stack chain_effect chain_by ∙ walked (Some cells) found ∙ done_is cells
+        → step p choose (with_frame x (with_stack f chain_stack) callers) ≡ called x f callers (all_freed x.areas cells) rest
+    chain_freed_is cells found = step_by chain_stack freeing_chain chain_by ∙ walked (Some cells) found ∙ done_is cells
 
     abbrev unwalked : Moved
-    unwalked = done_by p 1 chain_effect (on_top x (with_stack f chain_stack) callers) (chain_freed x.areas chain None (λ y. Did y []))
+    unwalked = done_by p 1 freeing_chain (with_frame x (with_stack f chain_stack) callers) (chain_freed x.areas chain None (λ y. Did y []))
 
     unwalked_faulted : HasFaulted p f (cell_of chain) unwalked
     unwalked_faulted = record { ended = refl; printed = refl }
 
-    pub chain_faulted : chain_from x.areas.store (cell_of chain) ≡ None → HasFaulted p f (cell_of chain) (step p choose (on_top x (with_stack f chain_stack) callers))
-    chain_faulted none = subst (HasFaulted p f (cell_of chain)) (sym (step_by chain_stack chain_effect chain_by ∙ walked None none)) unwalked_faulted
+    pub chain_faulted : chain_from x.areas.store (cell_of chain) ≡ None → HasFaulted p f (cell_of chain) (step p choose (with_frame x (with_stack f chain_stack) callers))
+    chain_faulted none = subst (HasFaulted p f (cell_of chain)) (sym (step_by chain_stack freeing_chain chain_by ∙ walked None none)) unwalked_faulted
 
 -- ---- the laws
 
@@ -207,7 +201,7 @@ links_join p choose x f callers call cell first chain rest object is reference c
 
 pub links_fault : LinksFault
 links_fault p choose x f callers call cell first chain rest is reference cell_is none =
-    subst (λ n. HasFaulted p f n (step p choose (on_top x (with_stack f (chain ∷ first ∷ rest)) callers))) cell_is
+    subst (λ n. HasFaulted p f n (step p choose (with_frame x (with_stack f (chain ∷ first ∷ rest)) callers))) cell_is
     (lost_faulted p choose x f callers call first chain rest is (sees_cell p.outline x.areas first cell None reference cell_is none))
 
 pub chains_free : ChainsFree

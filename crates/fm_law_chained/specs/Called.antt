@@ -46,13 +46,13 @@ abbrev pub with_stack : Frame → List Value → Frame
 with_stack f stack = record f { stack = stack }
 
 -- the run goes on with this frame on top of these
-abbrev pub on_top : State → Frame → List Frame → State
-on_top x f callers = record x { frames = f ∷ callers; ended = None }
+abbrev pub with_frame : State → Frame → List Frame → State
+with_frame x f callers = record x { frames = f ∷ callers; ended = None }
 
 -- one step more was done, which printed nothing: the areas are these, and the frame is at its next item with this stack
 abbrev pub called : State → Frame → List Frame → Areas → List Value → Moved
 called x f callers areas stack = record {
-  state = on_top (record x { areas = areas; steps = x.steps + 1 }) (record f { item = f.item + 1; stack = stack }) callers;
+  state = with_frame (record x { areas = areas; steps = x.steps + 1 }) (record f { item = f.item + 1; stack = stack }) callers;
   printed = [];
 }
 
@@ -72,14 +72,14 @@ abbrev pub LinksPassOver : Type 0
 LinksPassOver =
     (p : Program) (choose : Choose) (x : State) (f : Frame) (callers : List Frame) (call : ℕ) (first chain : Value) (rest : List Value)
     → IsCalled p FreeMeLink f call → IsReference first → JoinsNone x.areas.store (cell_of first)
-    → step p choose (on_top x (with_stack f (chain ∷ first ∷ rest)) callers) ≡ called x f callers x.areas (chain ∷ rest)
+    → step p choose (with_frame x (with_stack f (chain ∷ first ∷ rest)) callers) ≡ called x f callers x.areas (chain ∷ rest)
 
 -- an object that may be freed is put before the chain, and is the result
 abbrev pub LinksJoin : Type 0
 LinksJoin =
     (p : Program) (choose : Choose) (x : State) (f : Frame) (callers : List Frame) (call cell : ℕ) (first chain : Value) (rest : List Value) (object : Object)
     → IsCalled p FreeMeLink f call → IsReference first → cell_of first ≡ suc cell → object_at x.areas.store (suc cell) ≡ Some object → object.fixed ≡ false
-    → step p choose (on_top x (with_stack f (chain ∷ first ∷ rest)) callers)
+    → step p choose (with_frame x (with_stack f (chain ∷ first ∷ rest)) callers)
     ≡ called x f callers (chained x.areas (cell_of first) (cell_of chain)) (first ∷ rest)
 
 -- a cell that isn't held faults
@@ -87,7 +87,7 @@ abbrev pub LinksFault : Type 0
 LinksFault =
     (p : Program) (choose : Choose) (x : State) (f : Frame) (callers : List Frame) (call cell : ℕ) (first chain : Value) (rest : List Value)
     → IsCalled p FreeMeLink f call → IsReference first → cell_of first ≡ suc cell → object_at x.areas.store (suc cell) ≡ None
-    → HasFaulted p f (suc cell) (step p choose (on_top x (with_stack f (chain ∷ first ∷ rest)) callers))
+    → HasFaulted p f (suc cell) (step p choose (with_frame x (with_stack f (chain ∷ first ∷ rest)) callers))
 
 -- ---- freeChain
 
@@ -96,11 +96,11 @@ abbrev pub ChainsFree : Type 0
 ChainsFree =
     (p : Program) (choose : Choose) (x : State) (f : Frame) (callers : List Frame) (call : ℕ) (chain : Value) (rest : List Value) (cells : List ℕ)
     → IsCalled p FreeMeFreeChain f call → chain_from x.areas.store (cell_of chain) ≡ Some cells
-    → step p choose (on_top x (with_stack f (chain ∷ rest)) callers) ≡ called x f callers (all_freed x.areas cells) rest
+    → step p choose (with_frame x (with_stack f (chain ∷ rest)) callers) ≡ called x f callers (all_freed x.areas cells) rest
 
 -- where the walk finds none, it faults at the first one
 abbrev pub ChainsFault : Type 0
 ChainsFault =
     (p : Program) (choose : Choose) (x : State) (f : Frame) (callers : List Frame) (call : ℕ) (chain : Value) (rest : List Value)
     → IsCalled p FreeMeFreeChain f call → chain_from x.areas.store (cell_of chain) ≡ None
-    → HasFaulted p f (cell_of chain) (step p choose (on_top x (with_stack f (chain ∷ rest)) callers))
+    → HasFaulted p f (cell_of chain) (step p choose (with_frame x (with_stack f (chain ∷ rest)) callers))

@@ -15,6 +15,7 @@ use Rattle.fm_frames.specs.Acts.{Choose}
 use Rattle.fm_frames.specs.States.{Frame, State}
 use Rattle.fm_frames.specs.Steps.{max_locals_of, step}
 use Rattle.fm_frames.specs.declared.values.Value.{Value}
+use Rattle.fm_law_chained.specs.Called.{with_frame}
 use Rattle.fm_law_held_objects.proofs.Holdings.{held_by, own_of}
 use Rattle.fm_law_held_objects.specs.Above.{NewResultsAreInitialised}
 use Rattle.fm_law_held_objects.specs.Held.{AreHeld, FrameIsHeld, FramesAreHeld}
@@ -44,7 +45,7 @@ use Rattle.fm_law_two_memories.specs.Whole.{NextEffectsAreAlike}
 use Rattle.fm_law_unwoven.proofs.HoldersGo.{started_null}
 use Rattle.fm_law_unwoven.proofs.KeptSites.{safe_at}
 use Rattle.fm_law_unwoven.proofs.TodoLocals.{after_both, length_after, old_after}
-use Rattle.fm_law_unwoven.specs.Doing.{all_areas_after, all_locals_after, all_steps_to, IsPassed, with_frame}
+use Rattle.fm_law_unwoven.specs.Doing.{all_areas_after, all_locals_after, all_steps_to, IsPassed}
 use Rattle.fm_law_unwoven.specs.Kept.{Begins, BeginsOn, FrameGoes, FramesGo, GoesBefore, GoesBehind, GoesByJump, HasWaited, InMethod, IsAtKept, IsNew, KeptStepsAreSteps, old_frame, Resumes, StatesGo, WasAt}
 use Rattle.fm_law_unwoven.specs.Laid.{starts_of, Todo, ToFree, ToKeep}
 use Rattle.fm_law_unwoven.specs.Reached.{AllReached, FramesReachKept, IsReached, jumps_ahead, OneMissed, Reached, state_reached}

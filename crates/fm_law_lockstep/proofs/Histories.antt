@@ -16,6 +16,7 @@ use Rattle.fm_frames.specs.States.{Frame, Moved, State}
 use Rattle.fm_frames.specs.Steps.{step}
 use Rattle.fm_frames.specs.declared.ends.Ended.TheVariants as end
 use Rattle.fm_frames.specs.declared.values.Value.{Value}
+use Rattle.fm_law_chained.specs.Called.{with_frame}
 use Rattle.fm_law_held_objects.proofs.Holdings.{nothing_of_null}
 use Rattle.fm_law_holders.specs.Holding.{HoldsFreeable}
 use Rattle.fm_law_lockstep.proofs.NothingFreed.{FreesNothing, nothing_freed}
@@ -40,7 +41,7 @@ use Rattle.fm_law_sound.specs.Sound.{IsSoundBy}
 use Rattle.fm_law_two_memories.specs.Pairing.{FramesPaired, StatesPaired}
 use Rattle.fm_law_two_memories.specs.Runs.{LacksWords}
 use Rattle.fm_law_two_memories.specs.Whole.{NextEffectsAreAlike}
-use Rattle.fm_law_unwoven.specs.Doing.{all_steps_to, IsPassed, with_frame}
+use Rattle.fm_law_unwoven.specs.Doing.{all_steps_to, IsPassed}
 use Rattle.fm_law_unwoven.specs.Kept.{KeptStepsAreSteps, StatesGo}
 use Rattle.fm_law_unwoven.specs.Laid.{Todo}
 use Rattle.fm_law_unwoven.specs.Reached.{AllReached, FramesReachKept, IsReached, jumps_ahead, OneMissed, Reached, state_reached}

@@ -15,6 +15,7 @@ use Rattle.fm_frames.specs.Steps.{max_locals_of}
 use Rattle.fm_frames.specs.declared.ends.Ended.{Ended}
 use Rattle.fm_frames.specs.declared.ends.Ended.TheVariants as end
 use Rattle.fm_frames.specs.declared.values.Value.{Value}
+use Rattle.fm_law_chained.specs.Called.{with_frame}
 use Rattle.fm_law_held_objects.specs.Clean.{cleaned, ColoursAreCleaned, IsClean}
 use Rattle.fm_law_held_objects.specs.Held.{AreHeld, FrameIsHeld, FramesAreHeld}
 use Rattle.fm_law_lockstep.proofs.FramesHeld.{news_held, nulls_held}
@@ -43,7 +44,7 @@ use Rattle.fm_law_two_memories.specs.Runs.{LacksWords}
 use Rattle.fm_law_unwoven.proofs.HoldersGo.{started_null}
 use Rattle.fm_law_unwoven.proofs.KeptSites.{safe_at}
 use Rattle.fm_law_unwoven.proofs.TodoLocals.{after_both, length_after, null_after, old_after}
-use Rattle.fm_law_unwoven.specs.Doing.{all_areas_after, all_locals_after, all_steps_to, IsPassed, with_frame}
+use Rattle.fm_law_unwoven.specs.Doing.{all_areas_after, all_locals_after, all_steps_to, IsPassed}
 use Rattle.fm_law_unwoven.specs.Kept.{Begins, BeginsOn, BothDo, BothFault, but_frames, FrameGoes, FramesGo, HasWaited, InMethod, IsAtKept, IsNew, old_frame, old_state, OpeningsAreOpenings, Resumes, StatesGo, StepsAlike}
 use Rattle.fm_law_unwoven.specs.Laid.{starts_of, Todo, ToFree}
 use Rattle.fm_law_unwoven.specs.Reached.{AllReached, FramesReachKept, IsReached, jumps_ahead, OneMissed, Reached, state_reached}

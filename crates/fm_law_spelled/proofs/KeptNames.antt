@@ -20,7 +20,7 @@ use Rattle.fm_code.specs.declared.constant_pool.Entry.TheVariants as entry
 use Rattle.fm_code.specs.declared.instructions.Insn.{Insn}
 use Rattle.fm_code.specs.declared.instructions.Insn.TheVariants as insn
 use Rattle.fm_code.specs.declared.opcodes.TheConstants.{LDC2_W}
-use Rattle.fm_pool.proofs.GrownPool.{and_kept, class_kept, entry_kept, pair_kept, text_kept, there_kept}
+use Rattle.fm_pool.proofs.GrownPool.{and_kept, class_kept, entry_kept, method_kept, pair_kept, text_kept, there_kept}
 
 -- ---- results that stay
 
@@ -44,13 +44,6 @@ module _ (entries more : List Entry) where
     by : (e : Entry) → entry_at entries index ≡ e → field_ref_at (entries ++ more) index ≡ Some m
     by (entry.Field class member) at_index =
         let stays = entry_kept entries more index (entry.Field class member) at_index (λ e. cc) in rw stays (named_kept class member m (rw at_index at is))
-    by e at_index = absurd (no_member m (rw at_index at is))
-
-  pub method_kept : (index : ℕ) (m : MemberName) → method_ref_at entries index ≡ Some m → method_ref_at (entries ++ more) index ≡ Some m
-  method_kept index m is = by (entry_at entries index) refl where
-    by : (e : Entry) → entry_at entries index ≡ e → method_ref_at (entries ++ more) index ≡ Some m
-    by (entry.Method class member) at_index =
-        let stays = entry_kept entries more index (entry.Method class member) at_index (λ e. cc) in rw stays (named_kept class member m (rw at_index at is))
     by e at_index = absurd (no_member m (rw at_index at is))
 
   pub interface_method_kept : (index : ℕ) (m : MemberName) → interface_method_ref_at entries index ≡ Some m → interface_method_ref_at (entries ++ more) index ≡ Some m
@@ -77,7 +70,7 @@ module _ (entries more : List Entry) where
     by two e at_index own = absurd own
 
   any_kept : (index : ℕ) → IsAnyMethod entries index → IsAnyMethod (entries ++ more) index
-  any_kept index (inl of_class) = inl (there_kept (method_ref_at entries index) (method_ref_at (entries ++ more) index) (method_kept index) of_class)
+  any_kept index (inl of_class) = inl (there_kept (method_ref_at entries index) (method_ref_at (entries ++ more) index) (method_kept entries more index) of_class)
   any_kept index (inr of_interface) =
       inr (there_kept (interface_method_ref_at entries index) (interface_method_ref_at (entries ++ more) index) (interface_method_kept index) of_interface)
 
@@ -88,7 +81,7 @@ module _ (entries more : List Entry) where
   operand_in offset bytes (insn.PutStatic index) valid = there_kept (field_ref_at entries index) (field_ref_at (entries ++ more) index) (field_kept index) valid
   operand_in offset bytes (insn.GetField index) valid = there_kept (field_ref_at entries index) (field_ref_at (entries ++ more) index) (field_kept index) valid
   operand_in offset bytes (insn.PutField index) valid = there_kept (field_ref_at entries index) (field_ref_at (entries ++ more) index) (field_kept index) valid
-  operand_in offset bytes (insn.Virtual index) valid = there_kept (method_ref_at entries index) (method_ref_at (entries ++ more) index) (method_kept index) valid
+  operand_in offset bytes (insn.Virtual index) valid = there_kept (method_ref_at entries index) (method_ref_at (entries ++ more) index) (method_kept entries more index) valid
   operand_in offset bytes (insn.Special index) valid = any_kept index valid
   operand_in offset bytes (insn.Static index) valid = any_kept index valid
   operand_in offset bytes (insn.Interface index) valid =

@@ -34,12 +34,12 @@ use Rattle.fm_place.specs.Insertions.{Insertions}
 use Rattle.fm_place.specs.Rewriting.{free_index, Plans, rewritten_attribute, rewritten_method, rewritten_methods}
 use Rattle.fm_place.specs.Woven.{anchors_of, woven, woven_code}
 use Rattle.fm_pool.proofs.FreeEntriesAdded.{free_named, free_supported}
-use Rattle.fm_pool.proofs.GrownPool.{and_kept, class_from, class_kept, entry_kept, text_kept, there_kept}
+use Rattle.fm_pool.proofs.GrownPool.{and_kept, class_from, class_kept, entry_kept, method_kept, text_kept, there_kept}
 use Rattle.fm_read_limits.proofs.FloatingLemmas.{array_begins}
 use Rattle.fm_read_limits.proofs.LimitLemmas.{code_is, first_code}
 use Rattle.fm_read_limits.specs.inner.Declared.{PoolIsValid}
 use Rattle.fm_law_spelled.proofs.InsertedFits.{InsertedFits, woven_fits}
-use Rattle.fm_law_spelled.proofs.KeptNames.{field_kept, interface_method_kept, method_kept, such_kept}
+use Rattle.fm_law_spelled.proofs.KeptNames.{field_kept, interface_method_kept, such_kept}
 use Rattle.fm_law_spelled.proofs.LaidFits.{HoldsOfTargets, laid_hold}
 use Rattle.fm_law_spelled.specs.Changed.{AttributeCan, CanWeave, ChangedAreAccepted, MethodCan, MethodsCan}
 

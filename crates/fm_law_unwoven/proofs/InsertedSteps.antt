@@ -1,7 +1,6 @@
 -- The step of each instruction that is inserted.
 use Rattle.std.proofs.Common.{◌≡◌, ℕ, zero, suc, ◌+◌, Bool, List, [], ◌∷◌, Option, Some, None, refl, sym, ap, ◌∙◌}
 use Rattle.std.specs.Prelude.{slice_get, slice_set}
-use Rattle.fm_base.specs.declared.kinds.TypeRef.{TypeRef}
 use Rattle.fm_cells.specs.Objects.{Object}
 use Rattle.fm_cells.specs.Stores.{object_at}
 use Rattle.fm_code.specs.declared.instructions.Insn.{Insn}
@@ -9,7 +8,7 @@ use Rattle.fm_code.specs.declared.instructions.Insn.TheVariants as insn
 use Rattle.fm_code.specs.declared.operations.Reg.TheVariants as reg
 use Rattle.fm_frames.proofs.StepCounts.{step_going}
 use Rattle.fm_frames.specs.Acts.{cell_of, Choose, freed, performed}
-use Rattle.fm_frames.specs.CallRows.{entered_as, native_of, static_effect, words_of_arguments}
+use Rattle.fm_frames.specs.CallRows.{entered_as, static_effect, words_of_arguments}
 use Rattle.fm_frames.specs.Effects.{acting, Effect, faulty, Free, going, Jumps, null_word, OfLocal, OfOperand, words}
 use Rattle.fm_frames.specs.NativeRows.{free_native, native_effect}
 use Rattle.fm_frames.specs.NumberRows.{load_effect, move_effect, store_effect}
@@ -25,10 +24,11 @@ use Rattle.fm_frames.specs.declared.ends.Ended.TheVariants as end
 use Rattle.fm_frames.specs.declared.values.Value.{Value}
 use Rattle.fm_frames.specs.declared.values.Value.TheVariants as value
 use Rattle.fm_frames.specs.declared.natives.Native.TheVariants.{FreeMeFree}
-use Rattle.fm_law_chained.specs.Called.{CallsNative}
+use Rattle.fm_law_chained.proofs.CalledSteps.{entered_by}
+use Rattle.fm_law_chained.specs.Called.{CallsNative, with_frame}
 use Rattle.fm_law_sound.proofs.FramesStand.{target_in}
 use Rattle.fm_law_sound.specs.Sound.{IsReference}
-use Rattle.fm_law_unwoven.specs.Doing.{freed_from, with_frame}
+use Rattle.fm_law_unwoven.specs.Doing.{freed_from}
 use Rattle.fm_types.specs.Named.{class_of_method}
 use Rattle.fm_types.specs.Typed.{use_by, use_in}
 use Rattle.fm_world.specs.Programs.{Outline, Program}
@@ -63,16 +63,13 @@ seen o areas (value.Ref cell) reference = by_cell cell.0 refl where
 abbrev pub free_effect : Sight → Effect
 free_effect s = on_held_of (words 1 []) 0 (Some s) (λ it. acting 1 (Free 0 ∷ []))
 
-abbrev called : Outline → Option ℕ → List Sight → ℕ → TypeRef → Effect
-called o byte s m named = starting (class_of_method o m) (entered_as o (words_of_arguments o m) m byte s (native_of o m))
-
 free_is : (o : Outline) (method free : ℕ) (u : Use) → (calls : CallsNative o FreeMeFree u) → (byte : Option ℕ) (s : Sight) (rest : List Sight)
     → effect_of o method u (insn.Static free) byte (s ∷ rest) ≡ starting (class_of_method o calls.method.0) (free_effect s)
 unfolding effect_of static_effect native_effect free_native
 free_is o method free u calls byte s rest =
     let m = calls.method.0 in
-    ap (λ x. on_method o x (called o byte (s ∷ rest))) calls.use_is
-    ∙ ap (λ t. by_type t (called o byte (s ∷ rest) m)) calls.type_is
+    ap (λ x. on_method o x (entered_by o byte (s ∷ rest))) calls.use_is
+    ∙ ap (λ t. by_type t (entered_by o byte (s ∷ rest) m)) calls.type_is
     ∙ ap (λ n. starting (class_of_method o m) (entered_as o (words_of_arguments o m) m byte (s ∷ rest) n)) calls.row_is
 
 -- its class has started

@@ -14,6 +14,7 @@ use Rattle.fm_frames.specs.States.{Frame, Moved, State, word_at}
 use Rattle.fm_frames.specs.Steps.{max_locals_of, next_insn, step}
 use Rattle.fm_frames.specs.declared.ends.Ended.{Ended}
 use Rattle.fm_frames.specs.declared.ends.Ended.TheVariants as end
+use Rattle.fm_law_chained.specs.Called.{with_frame}
 use Rattle.fm_law_same_runs.specs.Beside.{kept_item, Marks, most_inserted_steps}
 use Rattle.fm_law_sound.proofs.Budgets.{step_budget}
 use Rattle.fm_law_sound.proofs.CallsStand.{max_locals_in}
@@ -29,7 +30,7 @@ use Rattle.fm_law_unwoven.proofs.KeptSites.{gives, safe_at}
 use Rattle.fm_law_unwoven.proofs.OneKept.{one_kept}
 use Rattle.fm_law_unwoven.proofs.TodoCounts.{frees_count, keeps_count, starts_count, steps_both, steps_few}
 use Rattle.fm_law_unwoven.proofs.TodosDone.{one_passed, passed-append}
-use Rattle.fm_law_unwoven.specs.Doing.{all_steps_to, IsPassed, joins_in, state_after, with_frame}
+use Rattle.fm_law_unwoven.specs.Doing.{all_steps_to, IsPassed, joins_in, state_after}
 use Rattle.fm_law_unwoven.specs.Kept.{Begins, BothDo, BothFault, but_frames, FrameGoes, GoesBefore, GoesBehind, GoesByJump, HoldersStand, InMethod, IsAtKept, KeptStepsAreSteps, old_frame, old_state, Resumes, StandsAtKept, StatesGo, StepsAlike}
 use Rattle.fm_law_unwoven.specs.Laid.{all_insns_to, frees_at, keeps_at, LieInserted, mark_at, starts_of, Todo}
 use Rattle.fm_law_unwoven.specs.Reached.{AllReached, FramesReachKept, IsReached, jumps_ahead, OneMissed, Reached, state_reached, todos_ahead}

@@ -11,6 +11,7 @@ use Rattle.fm_frames.specs.States.{Frame, State}
 use Rattle.fm_frames.specs.Steps.{max_locals_of, step}
 use Rattle.fm_frames.specs.declared.ends.Ended.TheVariants as end
 use Rattle.fm_frames.specs.declared.values.Value.{Value}
+use Rattle.fm_law_chained.specs.Called.{with_frame}
 use Rattle.fm_law_same_runs.specs.Beside.{kept_item, Marks, most_inserted_steps}
 use Rattle.fm_law_sound.proofs.Budgets.{step_budget}
 use Rattle.fm_law_sound.proofs.CallsStand.{max_locals_in}
@@ -23,7 +24,7 @@ use Rattle.fm_law_unwoven.proofs.TodoAreas.{areas_sound}
 use Rattle.fm_law_unwoven.proofs.TodoCounts.{steps_few}
 use Rattle.fm_law_unwoven.proofs.TodoLocals.{length_after, old_after}
 use Rattle.fm_law_unwoven.proofs.TodosDone.{todos_done}
-use Rattle.fm_law_unwoven.specs.Doing.{all_locals_after, all_steps_to, AllDone, IsDone, IsPassed, MayDoAll, OneLost, state_after, with_frame}
+use Rattle.fm_law_unwoven.specs.Doing.{all_locals_after, all_steps_to, AllDone, IsDone, IsPassed, MayDoAll, OneLost, state_after}
 use Rattle.fm_law_unwoven.specs.Kept.{HoldersStand, IsAtKept, old_frame, old_state, StandBelow, StandsAtKept}
 use Rattle.fm_law_unwoven.specs.Laid.{all_insns_to, LieInserted, Todo}
 use Rattle.fm_law_unwoven.specs.Reached.{AllReached, IsReached, OneMissed, Reached, state_reached}

@@ -14,11 +14,11 @@ use Rattle.fm_frames.specs.Steps.{next_insn, offset_at, step}
 use Rattle.fm_frames.specs.declared.natives.Native.TheVariants.{FreeMeFree, FreeMeFreeChain, FreeMeLink}
 use Rattle.fm_frames.specs.declared.values.Value.{Value}
 use Rattle.fm_law_chained.proofs.CalledSteps.{chains_fault, chains_free, links_fault, links_join, links_pass_over}
-use Rattle.fm_law_chained.specs.Called.{CallsNative, IsCalled, JoinsNone}
+use Rattle.fm_law_chained.specs.Called.{CallsNative, IsCalled, JoinsNone, with_frame}
 use Rattle.fm_law_same_runs.specs.Beside.{Marks}
 use Rattle.fm_law_sound.specs.Sound.{IsReference}
 use Rattle.fm_law_unwoven.proofs.InsertedSteps.{counted, dup_step, free_held, free_lost, free_null, goes_to, load_step, null_step, seen, Seen, SeenGone, SeenNull, SeenThing, store_step}
-use Rattle.fm_law_unwoven.specs.Doing.{all_steps_to, AllDone, areas_after, freed_along, freed_from, IsDone, IsPassed, joined_to, joins_in, left_in, locals_after, may_join, MayDoAll, MayLink, OneLost, state_after, steps_to, TodosAreDone, with_frame}
+use Rattle.fm_law_unwoven.specs.Doing.{all_steps_to, AllDone, areas_after, freed_along, freed_from, IsDone, IsPassed, joined_to, joins_in, left_in, locals_after, may_join, MayDoAll, MayLink, OneLost, state_after, steps_to, TodosAreDone}
 use Rattle.fm_law_unwoven.specs.Laid.{all_insns_to, LieInserted, mark_at, Todo, ToFree, ToFreeAll, ToKeep, ToLink, ToStart}
 use Rattle.fm_law_unwoven.specs.WovenFrom.{HasInserted, own_marks}
 use Rattle.fm_place.specs.Insertions.{Insertions}

@@ -8,6 +8,7 @@ use Rattle.fm_frames.specs.States.{Areas, Frame, null, State, word_at}
 use Rattle.fm_frames.specs.Steps.{step}
 use Rattle.fm_frames.specs.declared.ends.Ended.TheVariants as end
 use Rattle.fm_frames.specs.declared.values.Value.{Value}
+use Rattle.fm_law_chained.specs.Called.{with_frame}
 use Rattle.fm_place.specs.Insertions.{Insertions}
 use Rattle.fm_place.specs.Woven.{local_of}
 use Rattle.fm_world.specs.Programs.{Program}
@@ -122,10 +123,6 @@ MayDoAll old areas stack locals (t ∷ todos) =
     MayDo old areas stack locals t × MayDoAll old (areas_after old stack locals t areas) stack (locals_after old stack t locals) todos
 
 -- ---- what comes of it
-
--- the state with these frames, which goes on
-abbrev pub with_frame : State → Frame → List Frame → State
-with_frame y f callers = record y { frames = f ∷ callers; ended = None }
 
 -- the state after it, where the next item is this one
 abbrev pub state_after : Code → State → Frame → List Frame → List Todo → ℕ → State

@@ -9,10 +9,11 @@ use Rattle.fm_frames.specs.Acts.{cell_of, Choose}
 use Rattle.fm_frames.specs.States.{Frame, State, word_at}
 use Rattle.fm_frames.specs.Steps.{step}
 use Rattle.fm_frames.specs.declared.ends.Ended.{Ended}
+use Rattle.fm_law_chained.specs.Called.{with_frame}
 use Rattle.fm_law_same_runs.specs.Beside.{IsAtInserted, kept_item, Marks, most_inserted_steps}
 use Rattle.fm_law_sound.specs.Resolved.{StepsAreResolved}
 use Rattle.fm_law_sound.specs.Sound.{IsSoundBy}
-use Rattle.fm_law_unwoven.specs.Doing.{all_steps_to, IsLost, IsPassed, joins_in, MayDoAll, state_after, with_frame}
+use Rattle.fm_law_unwoven.specs.Doing.{all_steps_to, IsLost, IsPassed, joins_in, MayDoAll, state_after}
 use Rattle.fm_law_unwoven.specs.Kept.{Begins, FrameGoes, FramesGo, GoesBefore, GoesBehind, GoesByJump, InMethod, IsAtKept, Resumes}
 use Rattle.fm_law_unwoven.specs.Laid.{frees_at, keeps_at, starts_of, Todo}
 use Rattle.fm_law_unwoven.specs.WovenFrom.{inserted_by, IsWovenFrom}

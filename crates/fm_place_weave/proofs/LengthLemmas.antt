@@ -1,8 +1,9 @@
 -- How many new items a plan makes.
-use Rattle.std.proofs.Common.{◌≡◌, ℕ, zero, suc, ◌+◌, ◌*◌, ◌≤◌, Bool, true, false, List, [], ◌∷◌, ◌++◌, length, take, refl, ap, arith, length-append}
+use Rattle.std.proofs.Common.{◌≡◌, ℕ, zero, suc, ◌+◌, ◌*◌, ◌≤◌, Bool, List, [], ◌∷◌, ◌++◌, length, take, refl, ap, arith, length-append}
 use Rattle.std.proofs.lemmas.List.FromFn.{length-range_with_len}
 use Rattle.std.specs.List.{flat_map, range_with_len}
 use Rattle.fm_base.specs.Rows.{has}
+use Rattle.fm_chain.proofs.LaidChains.{taken_size}
 use Rattle.fm_chain.proofs.Replaced.{sum_cons}
 use Rattle.fm_chain.specs.Chained.{released, taken, taken_items}
 use Rattle.fm_chain.specs.declared.calls.Calls.{Calls}
@@ -25,16 +26,12 @@ length-released calls looped first (p ∷ pairs) =
     let one = released-size calls (has looped p.1) (first + p.1) (released_by calls looped first pairs) in
     omega (arith, rest, one)
 
-taken-size : (calls : Calls) (looped : Bool) (local : ℕ) → length (taken calls looped local) ≡ taken_items looped
-taken-size calls false local = refl
-taken-size calls true local = refl
-
 length-taken : (calls : Calls) (looped : List Bool) (first : ℕ) (pairs : List (ℕ × ℕ)) → length (taken_by calls looped first pairs) ≡ taken_count looped pairs
 length-taken calls looped first [] = refl
 length-taken calls looped first (p ∷ pairs) =
     let rest = length-taken calls looped first pairs in
     let both = length-append (taken calls (has looped p.1) (first + p.1)) (taken_by calls looped first pairs) in
-    let one = taken-size calls (has looped p.1) (first + p.1) in
+    let one = taken_size calls (has looped p.1) (first + p.1) in
     let sum = sum_cons (λ (q : ℕ × ℕ). taken_items (has looped q.1)) p pairs in
     omega (arith, rest, both, one, sum)
 
