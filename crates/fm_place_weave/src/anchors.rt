@@ -14,7 +14,8 @@ use std::alloc::Global;
 /// For each old item the first new item that is inserted before it, or else it itself; at the end the
 /// number of all new items.
 pub(crate) fn anchors_of(alloc: Global, code: &Code, plan: &ChainPlan) -> Result<Vec<u32>, NoMemory>
-    requires { number_by code.now plan.now < 2 ^ 32 }
+    requires number { number_by code.now plan.now < 2 ^ 32 }
+    requires flags { AreFlagged plan.now.looped plan.now.plan.after.items }
     ensures { IfOk result (λ anchors. anchors.items ≡ anchors_by code.now plan.now) }
 {
     anchors_after(

@@ -13,11 +13,11 @@ get-requires c =
 pub overflow_add-count : goal.overflow_add-count
 overflow_add-count c =
     let more = taken_here c.args.looped.now c.args.pairs.now c.loop-pair.pair-index c.loop-pair-test.true in
-    let size = c.taken_items.ensures ∙ ap taken_items (c.get.ensures ∙ ap (has c.args.looped.now) c.from.ensures) in
+    let size = c.taken_items-count.ensures ∙ ap taken_items (c.get.ensures ∙ ap (has c.args.looped.now) c.from.ensures) in
     omega (arith, more, size, c.loop-pair.invariant, c.requires.fits)
 
 pub loop-pair-preserved : goal.loop-pair-preserved
 loop-pair-preserved c =
     let more = taken_here c.args.looped.now c.args.pairs.now c.loop-pair.pair-index c.loop-pair-test.true in
-    let size = c.taken_items.ensures ∙ ap taken_items (c.get.ensures ∙ ap (has c.args.looped.now) c.from.ensures) in
+    let size = c.taken_items-count.ensures ∙ ap taken_items (c.get.ensures ∙ ap (has c.args.looped.now) c.from.ensures) in
     omega (arith, more, size, c.loop-pair.invariant)
