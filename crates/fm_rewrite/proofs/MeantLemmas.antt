@@ -192,8 +192,7 @@ pub member_meant : (in_interface : Bool) (entries : List Entry) (p : Program) (f
 member_meant in_interface entries p facts chains method done m valid at_number = by_code (code_at p method) refl where
   none_for : (b : Bool) → code_at p method ≡ None → plans_for b p facts method ≡ None
   none_for false is = ap (λ o. option_and_then (full_insertions facts) (option_map (typed_method p facts.typing method) o)) is
-  none_for true is =
-      (λ k. looped_plan (is k) (full_plans p facts method)) ∙ ap (λ o. option_and_then (full_insertions facts) (option_map (typed_method p facts.typing method) o)) is
+  none_for true is = ap (λ o. looped_plan o (full_plans p facts method)) is
 
   by_code : (o : Option Code) → code_at p method ≡ o → IsMeant (plans_for chains p facts method) done m
   by_code None is =
