@@ -17,29 +17,29 @@ returns-then-is_empty-clause-read c =
     (read_is c.args.free c.args.seen.now.method.code.now.max_locals c.deref.result.now c.args.seen.now.method.code.now.items c.args.new.now _
     c.in-Some.found c.in_ok-found.ensures c.in-Some.is c.deref.ensures) none
 
-pub returns-in-Safe-clause-safe : goal.returns-in-Safe-clause-safe
-returns-in-Safe-clause-safe c =
+pub returns-in_ok-plain-in-Safe-clause-safe : goal.returns-in_ok-plain-in-Safe-clause-safe
+returns-in_ok-plain-in-Safe-clause-safe c =
     let checked = subst (IsChecking c.args.seen.now c.args.sites.now (read_in c.in-Some.found)) c.in-Safe.is c.in_ok-outcome.ensures in (
-      subst (IsCheckedPlan c.args.seen.now c.args.sites.now) (sym c.in_ok-plain.ensures.plan) (record {
+      subst (IsCheckedPlan c.args.seen.now c.args.sites.now) (sym c.in_ok-plain-in-Safe.ensures.plan) (record {
         listed =
             subst (λ (items : List Item). AreListed 0 (length items) (pairs_in c.in-Some.found.inserted)) c.deref.ensures
             (found_listed c.args.free c.args.seen.now.method.code.now.max_locals c.deref.result.now c.args.new.now c.in-Some.found
             (sym c.in_ok-found.ensures ∙ ap (option_map read_in) c.in-Some.is));
         checked = checked.checked;
       }),
-      c.in_ok-plain.ensures.flags ∙ ap (λ (p : Plan). replicate p.holders false) (sym c.in_ok-plain.ensures.plan),
+      c.in_ok-plain-in-Safe.ensures.flags ∙ ap (λ (p : Plan). replicate p.holders false) (sym c.in_ok-plain-in-Safe.ensures.plan),
     )
 
-pub returns-in-Safe-clause-read : goal.returns-in-Safe-clause-read
-returns-in-Safe-clause-read c =
+pub returns-in_ok-plain-in-Safe-clause-read : goal.returns-in_ok-plain-in-Safe-clause-read
+returns-in_ok-plain-in-Safe-clause-read c =
     let checked = subst (IsChecking c.args.seen.now c.args.sites.now (read_in c.in-Some.found)) c.in-Safe.is c.in_ok-outcome.ensures in
     let with_starts : List ℕ → Read = λ starts. record { starts = starts; pairs = pairs_in c.in-Some.found.inserted } in
     read_is c.args.free c.args.seen.now.method.code.now.max_locals c.deref.result.now c.args.seen.now.method.code.now.items c.args.new.now _
     c.in-Some.found c.in_ok-found.ensures c.in-Some.is c.deref.ensures
-    ∙ ap (λ starts. Some (with_starts starts)) checked.starts ∙ ap (λ (p : Plan). Some (read_of p)) (sym c.in_ok-plain.ensures.plan)
+    ∙ ap (λ starts. Some (with_starts starts)) checked.starts ∙ ap (λ (p : Plan). Some (read_of p)) (sym c.in_ok-plain-in-Safe.ensures.plan)
 
-pub returns-in-Safe-clause-still : goal.returns-in-Safe-clause-still
-returns-in-Safe-clause-still c =
+pub returns-in_ok-plain-in-Safe-clause-still : goal.returns-in_ok-plain-in-Safe-clause-still
+returns-in_ok-plain-in-Safe-clause-still c =
     let some : (length c.in-Some.found.starts.items == 0) ≡ false = search rules in
     λ none. absurd (some_null c.args.free c.args.seen.now.method.code.now.max_locals c.args.seen.now.method.code.now.items c.args.new.now c.in-Some.found
     (read_is c.args.free c.args.seen.now.method.code.now.max_locals c.deref.result.now c.args.seen.now.method.code.now.items c.args.new.now _
