@@ -52,6 +52,15 @@ flat-inside p budget x method item code keeps on place_is code_is =
     let s = flat-standing p budget x keeps on in
     item-inside p x s (method, item) code (place-of p x s method item place_is) code_is
 
+-- the item where it is has an instruction
+pub flat-found : (p : Program) (budget : ℕ) (x : State) (method item : ℕ) (code : Code) → Keeps p budget x → x.ended ≡ None
+    → Some (method, item) ≡ option_map place_of (topmost x.frames) → code_at p method ≡ Some code → (i : Insn) × (insn_of code item ≡ Some i)
+flat-found p budget x method item code keeps on place_is code_is =
+    let s = flat-standing p budget x keeps on in
+    let at = place-of p x s method item place_is in
+    let same : s.code ≡ code = same_Some _ _ (sym s.code_is ∙ ap (λ (q : ℕ × ℕ). code_at p q.0) (sym at) ∙ code_is) in
+    (s.insn, ap (λ (q : ℕ × ℕ). insn_of code q.1) at ∙ sym (ap (λ (c : Code). insn_of c s.frame.item) same) ∙ s.insn_is)
+
 -- it has what the row of its instruction asks
 flat-asks : (p : Program) (budget : ℕ) (x : State) (method item : ℕ) (code : Code) (i : Insn) → Keeps p budget x → x.ended ≡ None
     → Some (method, item) ≡ option_map place_of (topmost x.frames) → code_at p method ≡ Some code → insn_of code item ≡ Some i → AsksOf i x.frames

@@ -1,9 +1,10 @@
--- Quick code stands for the instructions that it is made of.
-use Rattle.std.proofs.Common.{◌≡◌, ℕ, List, [], length, Some, option_map, refl, sym, ap, ◌∙◌, subst, slice_get, arith, zero-add}
+-- Which instruction has a quick code, and where quick codes are.
+use Rattle.std.proofs.Common.{◌≡◌, ℕ, ◌<◌, List, [], length, Some, option_and_then, option_map, refl, sym, ap, ◌∙◌, subst, slice_get, arith, zero-add}
 use Rattle.std.proofs.lemmas.List.{length-map}
 use Rattle.std.proofs.lemmas.List.FromFn.{get_or-map-range_with_len, length-map-range_with_len}
 use Rattle.std.proofs.lemmas.Option.{get_or_from_slice_get, same_Some, slice_get-map, slice_get_within}
 use Rattle.fm_base.proofs.OptionFacts.{option_map-some}
+use Rattle.fm_code.specs.Edges.{insn_of}
 use Rattle.fm_code.specs.declared.code_array.Code.{Code}
 use Rattle.fm_code.specs.declared.code_array.Item.{Item}
 use Rattle.fm_code.specs.declared.instructions.Insn.{Insn}
@@ -16,110 +17,162 @@ use Rattle.fm_code.specs.declared.operations.Reg.{Reg}
 use Rattle.fm_code.specs.declared.operations.Reg.TheVariants as reg
 use Rattle.fm_code.specs.declared.operations.Test.{Test}
 use Rattle.fm_code.specs.declared.operations.Test.TheVariants as test
+use Rattle.fm_frames.specs.States.{State}
 use Rattle.fm_run.specs.declared.quick.Quick.{Quick}
-use Rattle.fm_run.specs.inner.Quicks.{AreQuicksOf, codes_of, quick_array_load, quick_array_store, quick_if_int, quick_if_pair, quick_int_op, quick_load, quick_of, quick_store, quicks_in, StandsFor}
+use Rattle.fm_run.specs.declared.quick.Quick.TheVariants as quick
+use Rattle.fm_run.specs.inner.Flats.{IsFlatNext, item_in}
+use Rattle.fm_run.specs.inner.Nexts.{StandsIn}
+use Rattle.fm_run.specs.inner.Quicks.{codes_of, IsQuickNext, quick_array_load, quick_array_store, quick_if_int, quick_if_pair, quick_int_op, quick_load, quick_of, quick_store, quicks_for, quicks_in}
 use Rattle.fm_world.specs.Members.{methods_of}
 use Rattle.fm_world.specs.Programs.{code_at, Program}
 
--- ---- by variant
+-- ---- the instruction of a quick code
 
-load-stands : (k : Reg) (place : ℕ) → StandsFor (quick_load k place) (insn.Load k place)
-load-stands reg.Int place = refl
-load-stands reg.Long place = refl
-load-stands reg.Ref place = refl
+-- the instruction that has this quick code; of another one and of a call, which several have, the one given
+abbrev pub insn_for : Quick → Insn → Insn
+insn_for quick.Other i = i
+insn_for quick.Call i = i
+insn_for (quick.Iconst n) i = insn.Const n
+insn_for (quick.Iload place) i = insn.Load reg.Int place
+insn_for (quick.Lload place) i = insn.Load reg.Long place
+insn_for (quick.Aload place) i = insn.Load reg.Ref place
+insn_for (quick.Istore place) i = insn.Store reg.Int place
+insn_for (quick.Lstore place) i = insn.Store reg.Long place
+insn_for (quick.Astore place) i = insn.Store reg.Ref place
+insn_for (quick.Iinc place by) i = insn.Inc place by
+insn_for quick.Dup i = insn.Dup
+insn_for quick.Iadd i = insn.IntOp op.Add
+insn_for quick.Isub i = insn.IntOp op.Sub
+insn_for quick.Imul i = insn.IntOp op.Mul
+insn_for quick.Idiv i = insn.IntOp op.Div
+insn_for quick.Irem i = insn.IntOp op.Rem
+insn_for quick.Iand i = insn.IntOp op.And
+insn_for quick.Ior i = insn.IntOp op.Or
+insn_for quick.Ixor i = insn.IntOp op.Xor
+insn_for (quick.Ifeq target) i = insn.IfInt test.Eq target
+insn_for (quick.Ifne target) i = insn.IfInt test.Ne target
+insn_for (quick.Iflt target) i = insn.IfInt test.Lt target
+insn_for (quick.Ifge target) i = insn.IfInt test.Ge target
+insn_for (quick.Ifgt target) i = insn.IfInt test.Gt target
+insn_for (quick.Ifle target) i = insn.IfInt test.Le target
+insn_for (quick.IfIcmpeq target) i = insn.IfPair test.Eq target
+insn_for (quick.IfIcmpne target) i = insn.IfPair test.Ne target
+insn_for (quick.IfIcmplt target) i = insn.IfPair test.Lt target
+insn_for (quick.IfIcmpge target) i = insn.IfPair test.Ge target
+insn_for (quick.IfIcmpgt target) i = insn.IfPair test.Gt target
+insn_for (quick.IfIcmple target) i = insn.IfPair test.Le target
+insn_for (quick.Goto target) i = insn.Goto target
+insn_for quick.Baload i = insn.ArrayLoad elem.Byte
+insn_for quick.Caload i = insn.ArrayLoad elem.Char
+insn_for quick.Saload i = insn.ArrayLoad elem.Short
+insn_for quick.Iaload i = insn.ArrayLoad elem.Int
+insn_for quick.Laload i = insn.ArrayLoad elem.Long
+insn_for quick.Aaload i = insn.ArrayLoad elem.Ref
+insn_for quick.Bastore i = insn.ArrayStore elem.Byte
+insn_for quick.Castore i = insn.ArrayStore elem.Char
+insn_for quick.Sastore i = insn.ArrayStore elem.Short
+insn_for quick.Iastore i = insn.ArrayStore elem.Int
+insn_for quick.Lastore i = insn.ArrayStore elem.Long
+insn_for quick.Arraylength i = insn.Length
+insn_for (quick.Getfield index) i = insn.GetField index
+insn_for (quick.Putfield index) i = insn.PutField index
+insn_for (quick.Getstatic index) i = insn.GetStatic index
 
-store-stands : (k : Reg) (place : ℕ) → StandsFor (quick_store k place) (insn.Store k place)
-store-stands reg.Int place = refl
-store-stands reg.Long place = refl
-store-stands reg.Ref place = refl
+load-back : (k : Reg) (place : ℕ) → insn_for (quick_load k place) (insn.Load k place) ≡ insn.Load k place
+load-back reg.Int place = refl
+load-back reg.Long place = refl
+load-back reg.Ref place = refl
 
-int_op-stands : (o : Op) → StandsFor (quick_int_op o) (insn.IntOp o)
-int_op-stands op.Add = refl
-int_op-stands op.Sub = refl
-int_op-stands op.Mul = refl
-int_op-stands op.Div = refl
-int_op-stands op.Rem = refl
-int_op-stands op.And = refl
-int_op-stands op.Or = refl
-int_op-stands op.Xor = refl
+store-back : (k : Reg) (place : ℕ) → insn_for (quick_store k place) (insn.Store k place) ≡ insn.Store k place
+store-back reg.Int place = refl
+store-back reg.Long place = refl
+store-back reg.Ref place = refl
 
-if_int-stands : (t : Test) (target : ℕ) → StandsFor (quick_if_int t target) (insn.IfInt t target)
-if_int-stands test.Eq target = refl
-if_int-stands test.Ne target = refl
-if_int-stands test.Lt target = refl
-if_int-stands test.Ge target = refl
-if_int-stands test.Gt target = refl
-if_int-stands test.Le target = refl
+int_op-back : (o : Op) → insn_for (quick_int_op o) (insn.IntOp o) ≡ insn.IntOp o
+int_op-back op.Add = refl
+int_op-back op.Sub = refl
+int_op-back op.Mul = refl
+int_op-back op.Div = refl
+int_op-back op.Rem = refl
+int_op-back op.And = refl
+int_op-back op.Or = refl
+int_op-back op.Xor = refl
 
-if_pair-stands : (t : Test) (target : ℕ) → StandsFor (quick_if_pair t target) (insn.IfPair t target)
-if_pair-stands test.Eq target = refl
-if_pair-stands test.Ne target = refl
-if_pair-stands test.Lt target = refl
-if_pair-stands test.Ge target = refl
-if_pair-stands test.Gt target = refl
-if_pair-stands test.Le target = refl
+if_int-back : (t : Test) (target : ℕ) → insn_for (quick_if_int t target) (insn.IfInt t target) ≡ insn.IfInt t target
+if_int-back test.Eq target = refl
+if_int-back test.Ne target = refl
+if_int-back test.Lt target = refl
+if_int-back test.Ge target = refl
+if_int-back test.Gt target = refl
+if_int-back test.Le target = refl
 
-array_load-stands : (e : Elem) → StandsFor (quick_array_load e) (insn.ArrayLoad e)
-array_load-stands elem.Boolean = tt
-array_load-stands elem.Byte = refl
-array_load-stands elem.Char = refl
-array_load-stands elem.Short = refl
-array_load-stands elem.Int = refl
-array_load-stands elem.Long = refl
-array_load-stands elem.Ref = refl
+if_pair-back : (t : Test) (target : ℕ) → insn_for (quick_if_pair t target) (insn.IfPair t target) ≡ insn.IfPair t target
+if_pair-back test.Eq target = refl
+if_pair-back test.Ne target = refl
+if_pair-back test.Lt target = refl
+if_pair-back test.Ge target = refl
+if_pair-back test.Gt target = refl
+if_pair-back test.Le target = refl
 
-array_store-stands : (e : Elem) → StandsFor (quick_array_store e) (insn.ArrayStore e)
-array_store-stands elem.Boolean = tt
-array_store-stands elem.Byte = refl
-array_store-stands elem.Char = refl
-array_store-stands elem.Short = refl
-array_store-stands elem.Int = refl
-array_store-stands elem.Long = refl
-array_store-stands elem.Ref = tt
+array_load-back : (e : Elem) → insn_for (quick_array_load e) (insn.ArrayLoad e) ≡ insn.ArrayLoad e
+array_load-back elem.Boolean = refl
+array_load-back elem.Byte = refl
+array_load-back elem.Char = refl
+array_load-back elem.Short = refl
+array_load-back elem.Int = refl
+array_load-back elem.Long = refl
+array_load-back elem.Ref = refl
 
-quick-stands : (i : Insn) → StandsFor (quick_of i) i
-quick-stands (insn.Const n) = refl
-quick-stands (insn.Load kind place) = load-stands kind place
-quick-stands (insn.Store kind place) = store-stands kind place
-quick-stands (insn.Inc place by) = refl
-quick-stands insn.Dup = refl
-quick-stands (insn.IntOp o) = int_op-stands o
-quick-stands (insn.IfInt t target) = if_int-stands t target
-quick-stands (insn.IfPair t target) = if_pair-stands t target
-quick-stands (insn.Goto target) = refl
-quick-stands (insn.ArrayLoad e) = array_load-stands e
-quick-stands (insn.ArrayStore e) = array_store-stands e
-quick-stands insn.Length = refl
-quick-stands (insn.GetField index) = refl
-quick-stands (insn.PutField index) = refl
-quick-stands (insn.GetStatic index) = refl
-quick-stands (insn.Virtual index) = tt
-quick-stands (insn.Interface index) = tt
-quick-stands (insn.Special index) = tt
-quick-stands (insn.Static index) = tt
-quick-stands (insn.Return value) = tt
-quick-stands i = tt
+array_store-back : (e : Elem) → insn_for (quick_array_store e) (insn.ArrayStore e) ≡ insn.ArrayStore e
+array_store-back elem.Boolean = refl
+array_store-back elem.Byte = refl
+array_store-back elem.Char = refl
+array_store-back elem.Short = refl
+array_store-back elem.Int = refl
+array_store-back elem.Long = refl
+array_store-back elem.Ref = refl
+
+-- each instruction is that of its quick code
+insn-back : (i : Insn) → insn_for (quick_of i) i ≡ i
+insn-back (insn.Const n) = refl
+insn-back (insn.Load kind place) = load-back kind place
+insn-back (insn.Store kind place) = store-back kind place
+insn-back (insn.Inc place by) = refl
+insn-back insn.Dup = refl
+insn-back (insn.IntOp o) = int_op-back o
+insn-back (insn.IfInt t target) = if_int-back t target
+insn-back (insn.IfPair t target) = if_pair-back t target
+insn-back (insn.Goto target) = refl
+insn-back (insn.ArrayLoad e) = array_load-back e
+insn-back (insn.ArrayStore e) = array_store-back e
+insn-back insn.Length = refl
+insn-back (insn.GetField index) = refl
+insn-back (insn.PutField index) = refl
+insn-back (insn.GetStatic index) = refl
+insn-back i = refl
+
+pub insn-is : (i : Insn) (q : Quick) → quick_of i ≡ q → i ≡ insn_for q i
+insn-is i q has = sym (insn-back i) ∙ ap (λ q. insn_for q i) has
 
 -- ---- by item
 
--- that of an item stands for its instruction
-pub quick-at : (items : List Item) (quicks : List Quick) (item : ℕ) (i : Insn) (q : Quick) → AreQuicksOf items quicks
-    → option_map (λ (x : Item). x.insn) (slice_get items item) ≡ Some i → slice_get quicks item ≡ Some q → StandsFor q i
+-- that of an item is that of its instruction
+pub quick-at : (items : List Item) (quicks : List Quick) (item : ℕ) (i : Insn) (q : Quick) → quicks ≡ quicks_for items
+    → option_map (λ (x : Item). x.insn) (slice_get items item) ≡ Some i → slice_get quicks item ≡ Some q → quick_of i ≡ q
 quick-at items quicks item i q are here there =
     let f : Item → Quick = λ x. quick_of x.insn in
     let found = option_map-some (λ (x : Item). x.insn) (slice_get items item) i here in
     let of : Some (quick_of found.0.insn) ≡ Some q =
     sym (ap (option_map f) found.1) ∙ sym (slice_get-map f items item) ∙ ap (λ qs. slice_get qs item) (sym are) ∙ there in
-    let is : q ≡ quick_of i = sym (same_Some _ _ of) ∙ ap quick_of found.2 in
-    subst (λ q. StandsFor q i) (sym is) (quick-stands i)
+    sym (ap quick_of found.2) ∙ same_Some _ _ of
 
 -- as many as items
-pub quicks-long : (items : List Item) (quicks : List Quick) → AreQuicksOf items quicks → length quicks ≡ length items
+pub quicks-long : (items : List Item) (quicks : List Quick) → quicks ≡ quicks_for items → length quicks ≡ length items
 quicks-long items quicks are = ap length are ∙ length-map items (λ (x : Item). quick_of x.insn)
 
 -- those of a method that has code
 pub quicks-found : (p : Program) (codes : List (List Quick)) (m : ℕ) (quicks : List Quick) (code : Code) → codes ≡ codes_of p
-    → slice_get codes m ≡ Some quicks → code_at p m ≡ Some code → AreQuicksOf code.items quicks
+    → slice_get codes m ≡ Some quicks → code_at p m ≡ Some code → quicks ≡ quicks_for code.items
 quicks-found p codes m quicks code are there is =
     let n = length (methods_of p.outline.classes) in
     let g : ℕ → List Quick = λ m. quicks_in (code_at p m) in
@@ -129,3 +182,27 @@ quicks-found p codes m quicks code are there is =
     sym (get_or_from_slice_get (codes_of p) m quicks [] at)
     ∙ get_or-map-range_with_len g 0 n m m [] (omega (arith, inside, long)) (zero-add m)
     ∙ ap quicks_in is
+
+-- ---- the instruction that is next
+
+-- it is found in the code of its method, by the item that is next
+insn-there : (p : Program) (x : State) (method : ℕ) (code : Code) (i : Insn) → code_at p method ≡ Some code → StandsIn p x method i
+    → insn_of code (item_in x.frames) ≡ Some i
+insn-there p x method code i code_is stands =
+    let frame = stands.at.frame in
+    let here : code_at p frame.method ≡ Some code = ap (code_at p) stands.method_is ∙ code_is in
+    ap (insn_of code) (ap item_in stands.at.frames_is)
+    ∙ sym (ap (λ found. option_and_then (λ (code : Code). insn_of code frame.item) found) here)
+    ∙ stands.at.insn_is
+
+pub next-inside : (p : Program) (budget : ℕ) (x : State) (method : ℕ) (code : Code) (q : Quick) → code_at p method ≡ Some code
+    → IsQuickNext p budget x method q → item_in x.frames < length code.items
+next-inside p budget x method code q code_is next =
+    let there = insn-there p x method code next.0 code_is next.2.at in
+    let found = option_map-some (λ (item : Item). item.insn) (slice_get code.items (item_in x.frames)) next.0 there in
+    slice_get_within code.items (item_in x.frames) found.0 found.1
+
+pub next-found : (p : Program) (budget : ℕ) (x : State) (method : ℕ) (code : Code) (q : Quick) (i : Insn) → code_at p method ≡ Some code
+    → IsQuickNext p budget x method q → insn_of code (item_in x.frames) ≡ Some i → IsFlatNext p budget x method i
+next-found p budget x method code q i code_is next found =
+    subst (IsFlatNext p budget x method) (same_Some _ _ (sym (insn-there p x method code next.0 code_is next.2.at) ∙ found)) next.2

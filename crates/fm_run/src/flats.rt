@@ -6,18 +6,17 @@
 ghost use Rattle.std.specs.Prelude.{◌≡◌, ◌+◌, ◌<◌, ◌≤◌, ◌^◌, length, slice_get, IfSome, None, Some, true, false};
 ghost use Rattle.fm_fast.specs.Flows.{resumed};
 ghost use Rattle.fm_fast.specs.Operands.{AsksOf};
-ghost use Rattle.fm_fast.specs.Packed.{ArePacked};
 ghost use Rattle.fm_frames.specs.inner.Doings.{NextFits};
 ghost use Rattle.fm_law_can_step.specs.Ready.{CanRun};
-ghost use Rattle.fm_run.specs.inner.Flats.{FlowsNext, IsFlatNext, WentOn};
+ghost use Rattle.fm_run.specs.inner.Flats.{FlowsNext, WentOn};
 ghost use Rattle.fm_run.specs.inner.Going.{Keeps, LeadsQuietly};
-ghost use Rattle.fm_run.specs.inner.Quicks.{AreQuicksOf, StandsFor, codes_of};
+ghost use Rattle.fm_run.specs.inner.Quicks.{IsQuickNext, codes_of, quicks_for};
 ghost use Rattle.fm_world.specs.Members.{methods_of};
 ghost use Rattle.fm_world.specs.Programs.{code_at};
 
 use crate::called::do_call;
 use crate::indexed::number;
-use crate::names::insn_among;
+use crate::names::insn_in;
 use crate::quick::Quick;
 use crate::quick_codes::QuickCodes;
 use crate::quick_rows::{
@@ -27,7 +26,7 @@ use crate::quick_rows::{
 use crate::straight::{done, next_item, reach_after, straight_reach};
 use fm_base::MethodId;
 use fm_cells::Memory;
-use fm_code::{Code, Insn, Item};
+use fm_code::{Code, Insn};
 use fm_fast as rows;
 use fm_frames::{Frames, Machine, code_of};
 use fm_world::Program;
@@ -42,7 +41,7 @@ fn quick_among(quicks: &[Quick], item: usize) -> &Quick
     &quicks[item]
 }
 
-// The next instruction of frames that are taken out of a machine, if it is one of this method, with its quick code.
+// The quick code of the next instruction of frames that are taken out of a machine, if it is one of this method.
 #[inline(always)]
 fn next_in<'a, M: Memory>(
     machine: &Machine<M>,
@@ -51,22 +50,19 @@ fn next_in<'a, M: Memory>(
     program: &Program,
     method: MethodId,
     code: &Code,
-    items: &'a [Item],
     quicks: &'a [Quick],
     steps: u64,
-) -> Option<(&'a Insn, &'a Quick)>
+) -> Option<&'a Quick>
     requires run { CanRun program.now }
     requires code { code_at program.now method.0 ≡ Some code.now }
     requires few { steps < 2 ^ 64 }
     requires keeps { Keeps program.now steps (resumed machine.now frames.now counted) }
     requires on { machine.now.ended ≡ None }
     requires within { counted < steps }
-    requires items { items.now ≡ code.now.items }
-    requires quicks { AreQuicksOf code.now.items quicks.now }
-    ensures fits { IfSome result (λ next. NextFits frames.now) }
-    ensures next { IfSome result (λ next. IsFlatNext program.now steps
-        (resumed machine.now frames.now counted) method.0 next.0.now) }
-    ensures stands { IfSome result (λ next. StandsFor next.1.now next.0.now) }
+    requires quicks { quicks.now ≡ quicks_for code.now.items }
+    ensures fits { IfSome result (λ quick. NextFits frames.now) }
+    ensures next { IfSome result (λ quick. IsQuickNext program.now steps
+        (resumed machine.now frames.now counted) method.0 quick.now) }
 {
     let Some(place) = frames.topmost() else {
         return None;
@@ -74,8 +70,7 @@ fn next_in<'a, M: Memory>(
     if place.method != method {
         return None;
     }
-    let insn = insn_among(items, place.item);
-    Some((insn, quick_among(quicks, place.item)))
+    Some(quick_among(quicks, place.item))
 }
 
 // Does the instruction, if it is one of the other simple ones over only frames; returns whether it
@@ -143,7 +138,7 @@ fn flow<M: Memory>(
 ) -> (Frames, u64)
     requires run { CanRun program.now }
     requires code { code_at program.now method.0 ≡ Some code.now }
-    requires quicks { AreQuicksOf code.now.items quicks.now }
+    requires quicks { quicks.now ≡ quicks_for code.now.items }
     requires few { steps < 2 ^ 32 }
     requires keeps { Keeps program.now steps (resumed machine.old taken before) }
     requires on { machine.old.ended ≡ None }
@@ -152,7 +147,6 @@ fn flow<M: Memory>(
         (resumed machine.new result.0 result.1) }
     ensures more { before ≤ result.1 }
 {
-    let items = code.items.as_slice();
     let mut frames = taken;
     let mut reach = straight_reach(before, &frames);
     if reach > steps {
@@ -161,130 +155,105 @@ fn flow<M: Memory>(
     'straight: loop {
         let counted = done(reach, &frames);
         let next = next_in(
-            machine, &frames, counted, program, method, code, items, quicks, steps,
+            machine, &frames, counted, program, method, code, quicks, steps,
         );
-        let Some((insn, quick)) = next else {
+        let Some(quick) = next else {
             return (frames, counted);
         };
         let item = next_item(&frames);
         let after = item + 1;
         // For clauses: the store is sound, and the memory's choices are lawful.
         let _lawful = machine.births();
-        let did = match quick {
-            Quick::Iload(_) | Quick::Lload(_) | Quick::Aload(_) => {
-                do_load(&mut frames, insn, quick)
-            }
-            Quick::Istore(_) | Quick::Lstore(_) | Quick::Astore(_) => {
-                do_store(&mut frames, insn, quick)
-            }
-            Quick::Iconst(_) | Quick::Iinc(_, _) | Quick::Dup => {
-                do_simple(&mut frames, insn, quick)
-            }
-            Quick::Iadd
-            | Quick::Isub
-            | Quick::Imul
-            | Quick::Idiv
-            | Quick::Irem
-            | Quick::Iand
-            | Quick::Ior
-            | Quick::Ixor => do_int_op(&mut frames, insn, quick),
-            Quick::Baload
-            | Quick::Caload
-            | Quick::Saload
-            | Quick::Iaload
-            | Quick::Laload
-            | Quick::Aaload
-            | Quick::Arraylength => {
-                do_array_load(
-                    machine,
-                    &mut frames,
-                    counted,
-                    program,
-                    method,
-                    insn,
-                    quick,
-                    steps,
-                )
-            }
-            Quick::Bastore | Quick::Castore | Quick::Sastore | Quick::Iastore | Quick::Lastore => {
-                do_array_store(
-                    machine,
-                    &mut frames,
-                    counted,
-                    program,
-                    method,
-                    insn,
-                    quick,
-                    steps,
-                )
-            }
-            Quick::Getfield(_) | Quick::Putfield(_) | Quick::Getstatic(_) => {
-                do_field(
-                    machine,
-                    &mut frames,
-                    counted,
-                    program,
-                    method,
-                    insn,
-                    quick,
-                    steps,
-                )
-            }
-            Quick::Ifeq(_)
-            | Quick::Ifne(_)
-            | Quick::Iflt(_)
-            | Quick::Ifge(_)
-            | Quick::Ifgt(_)
-            | Quick::Ifle(_) => {
-                let did = do_if_int(&mut frames, insn, quick);
-                if jumps(did, &frames, after) {
-                    reach = reach_after(reach, item, counted, &frames);
-                    if reach > steps {
-                        return (frames, counted + 1);
-                    }
-                    continue 'straight;
+        let did = 'done: {
+            let jumping = match quick {
+                Quick::Iload(_) | Quick::Lload(_) | Quick::Aload(_) => {
+                    break 'done do_load(&mut frames, quick);
                 }
-                did
-            }
-            Quick::IfIcmpeq(_)
-            | Quick::IfIcmpne(_)
-            | Quick::IfIcmplt(_)
-            | Quick::IfIcmpge(_)
-            | Quick::IfIcmpgt(_)
-            | Quick::IfIcmple(_) => {
-                let did = do_if_pair(&mut frames, insn, quick);
-                if jumps(did, &frames, after) {
-                    reach = reach_after(reach, item, counted, &frames);
-                    if reach > steps {
-                        return (frames, counted + 1);
-                    }
-                    continue 'straight;
+                Quick::Istore(_) | Quick::Lstore(_) | Quick::Astore(_) => {
+                    break 'done do_store(&mut frames, quick);
                 }
-                did
-            }
-            Quick::Goto(_) => {
-                let did = do_goto(&mut frames, insn, quick);
-                if jumps(did, &frames, after) {
-                    reach = reach_after(reach, item, counted, &frames);
-                    if reach > steps {
-                        return (frames, counted + 1);
-                    }
-                    continue 'straight;
+                Quick::Iconst(_) | Quick::Iinc(_, _) | Quick::Dup => {
+                    break 'done do_simple(&mut frames, quick);
                 }
-                did
-            }
-            Quick::Other => {
-                let did = do_other(&mut frames, program, method, insn);
-                if jumps(did, &frames, after) {
-                    reach = reach_after(reach, item, counted, &frames);
-                    if reach > steps {
-                        return (frames, counted + 1);
-                    }
-                    continue 'straight;
+                Quick::Iadd
+                | Quick::Isub
+                | Quick::Imul
+                | Quick::Idiv
+                | Quick::Irem
+                | Quick::Iand
+                | Quick::Ior
+                | Quick::Ixor => {
+                    break 'done do_int_op(&mut frames, quick);
                 }
-                did
+                Quick::Baload
+                | Quick::Caload
+                | Quick::Saload
+                | Quick::Iaload
+                | Quick::Laload
+                | Quick::Aaload
+                | Quick::Arraylength => {
+                    break 'done do_array_load(
+                        machine,
+                        &mut frames,
+                        counted,
+                        program,
+                        method,
+                        quick,
+                        steps,
+                    );
+                }
+                Quick::Bastore
+                | Quick::Castore
+                | Quick::Sastore
+                | Quick::Iastore
+                | Quick::Lastore => {
+                    break 'done do_array_store(
+                        machine,
+                        &mut frames,
+                        counted,
+                        program,
+                        method,
+                        quick,
+                        steps,
+                    );
+                }
+                Quick::Getfield(_) | Quick::Putfield(_) | Quick::Getstatic(_) => {
+                    break 'done do_field(
+                        machine,
+                        &mut frames,
+                        counted,
+                        program,
+                        method,
+                        quick,
+                        steps,
+                    );
+                }
+                Quick::Call => {
+                    break 'done false;
+                }
+                Quick::Ifeq(_)
+                | Quick::Ifne(_)
+                | Quick::Iflt(_)
+                | Quick::Ifge(_)
+                | Quick::Ifgt(_)
+                | Quick::Ifle(_) => do_if_int(&mut frames, quick),
+                Quick::IfIcmpeq(_)
+                | Quick::IfIcmpne(_)
+                | Quick::IfIcmplt(_)
+                | Quick::IfIcmpge(_)
+                | Quick::IfIcmpgt(_)
+                | Quick::IfIcmple(_) => do_if_pair(&mut frames, quick),
+                Quick::Goto(_) => do_goto(&mut frames, quick),
+                Quick::Other => do_other(&mut frames, program, method, insn_in(code, item)),
+            };
+            if jumps(jumping, &frames, after) {
+                reach = reach_after(reach, item, counted, &frames);
+                if reach > steps {
+                    return (frames, counted + 1);
+                }
+                continue 'straight;
             }
-            Quick::Call => false,
+            jumping
         };
         let _births = machine.births();
         if !did {
@@ -313,7 +282,7 @@ fn do_next_call<M: Memory>(
 ) -> bool
     requires run { CanRun program.now }
     requires code { code_at program.now method.0 ≡ Some code.now }
-    requires quicks { AreQuicksOf code.now.items quicks.now }
+    requires quicks { quicks.now ≡ quicks_for code.now.items }
     requires few { steps < 2 ^ 64 }
     requires keeps { Keeps program.now steps (resumed machine.old frames.old counted) }
     requires on { machine.old.ended ≡ None }
@@ -323,13 +292,13 @@ fn do_next_call<M: Memory>(
     ensures same { result ≡ false → frames.new ≡ frames.old }
     ensures kept { result ≡ false → machine.new ≡ machine.old }
 {
-    let items = code.items.as_slice();
     let next = next_in(
-        machine, frames, counted, program, method, code, items, quicks, steps,
+        machine, frames, counted, program, method, code, quicks, steps,
     );
-    let Some((insn, _)) = next else {
+    let Some(_) = next else {
         return false;
     };
+    let insn = insn_in(code, next_item(frames));
     let did = do_call(machine, frames, counted, program, method, insn, steps);
     // For its clauses: the store is sound, and the memory's choices are lawful.
     let _births = machine.births();

@@ -1,9 +1,7 @@
 // The next instruction, and what its index refers to (JVMS 2.6, 5.4.3).
 
-ghost use Rattle.std.specs.Prelude.{◌≡◌, ◌<◌, ◌∷◌, List, Some, length, slice_get, true};
-ghost use Rattle.std.specs.Option.{option_map};
+ghost use Rattle.std.specs.Prelude.{◌≡◌, ◌<◌, ◌∷◌, List, Some, length, true};
 ghost use Rattle.fm_code.specs.Edges.{insn_of};
-ghost use Rattle.fm_code.specs.declared.code_array.Item.{Item};
 ghost use Rattle.fm_frames.specs.Runnable.{IsRunnable};
 ghost use Rattle.fm_frames.specs.States.{Frame};
 ghost use Rattle.fm_frames.specs.inner.Frames.{place, place_of};
@@ -16,7 +14,7 @@ ghost use Rattle.fm_world.specs.declared.uses.Use.TheVariants as used;
 
 use fm_base::{FieldId, MethodId, TypeId};
 use fm_cells::Memory;
-use fm_code::{Code, Insn, Item};
+use fm_code::{Code, Insn};
 use fm_fast::known;
 use fm_frames::{Cursor, Machine, code_of};
 use fm_world::{Program, Use};
@@ -54,15 +52,6 @@ pub(crate) fn insn_in(code: &Code, item: usize) -> &Insn
     ensures { insn_of code.now item ≡ Some result.now }
 {
     &code.items[item].insn
-}
-
-// The instruction of an item that is there among those of a code.
-#[inline(always)]
-pub(crate) fn insn_among(items: &[Item], item: usize) -> &Insn
-    requires { item < length items.now }
-    ensures { option_map (λ (i : Item). i.insn) (slice_get items.now item) ≡ Some result.now }
-{
-    &items[item].insn
 }
 
 // What an index of a method's class refers to.

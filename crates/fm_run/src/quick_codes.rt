@@ -1,9 +1,8 @@
 // The quick code of each method of a program: one for each item.
 
-ghost use Rattle.std.specs.Prelude.{◌≡◌, IfOk, map, option_copied, slice_get};
-ghost use Rattle.fm_code.specs.declared.code_array.Item.{Item};
+ghost use Rattle.std.specs.Prelude.{◌≡◌, IfOk, option_copied, slice_get};
 ghost use Rattle.fm_frames.specs.Runnable.{IsRunnable};
-ghost use Rattle.fm_run.specs.inner.Quicks.{codes_of, quick_of, quicks_in};
+ghost use Rattle.fm_run.specs.inner.Quicks.{codes_of, quicks_for, quicks_in};
 ghost use Rattle.fm_world.specs.Programs.{code_at};
 
 use crate::quick::{Quick, quick_of};
@@ -68,7 +67,7 @@ fn quicks_of(alloc: Global, program: &Program, method: MethodId) -> Result<Seq<Q
 
 // One for each item.
 fn quicks_in(alloc: Global, items: &[Item]) -> Result<Seq<Quick>, NoMemory>
-    ensures { IfOk result (λ quicks. quicks ≡ map (λ (i : Item). quick_of i.insn) items.now) }
+    ensures { IfOk result (λ quicks. quicks ≡ quicks_for items.now) }
 {
     let mut quicks = Vec::new(alloc);
     for item in items {

@@ -3,19 +3,17 @@
 
 ghost use Rattle.std.specs.Prelude.{◌≡◌, ℕ, ◌+◌, true, false};
 ghost use Rattle.fm_fast.specs.Flows.{resumed};
-ghost use Rattle.fm_fast.specs.Operands.{AsksOf};
 ghost use Rattle.fm_fast.specs.Packed.{ArePacked};
 ghost use Rattle.fm_frames.specs.inner.Doings.{NextFits};
 ghost use Rattle.fm_law_can_step.specs.Ready.{CanRun};
-ghost use Rattle.fm_run.specs.inner.Flats.{DoesAlone, FlowsNext, IsFlatNext};
-ghost use Rattle.fm_run.specs.inner.Quicks.{StandsFor};
+ghost use Rattle.fm_run.specs.inner.Quicks.{AsksOfQuick, IsQuickNext, QuickDoes, QuickFlows};
 ghost use Rattle.fm_world.specs.Programs.{Program};
 
 use crate::indexed::{field_read, field_written, static_read};
 use crate::quick::Quick;
 use fm_base::MethodId;
 use fm_cells::Memory;
-use fm_code::{Elem, Insn, Op, Reg, Test};
+use fm_code::{Elem, Op, Reg, Test};
 use fm_fast as rows;
 use fm_fast::{array_length, array_load, array_store};
 use fm_frames::{Frames, Machine};
@@ -23,12 +21,11 @@ use fm_world::Program;
 
 // iload, lload and aload; returns whether it was done.
 #[inline(always)]
-pub(crate) fn do_load(frames: &mut Frames, insn: &Insn, quick: &Quick) -> bool
+pub(crate) fn do_load(frames: &mut Frames, quick: &Quick) -> bool
     requires fits { NextFits frames.old }
-    requires stands { StandsFor quick.now insn.now }
-    requires asks { AsksOf insn.now frames.old }
+    requires asks { AsksOfQuick quick.now frames.old }
     ensures did { result ≡ true → (p : Program) (method : ℕ)
-        → FlowsNext p method frames.old frames.new insn.now }
+        → QuickFlows p method frames.old frames.new quick.now }
     ensures same { result ≡ false → frames.new ≡ frames.old }
 {
     match quick {
@@ -41,12 +38,11 @@ pub(crate) fn do_load(frames: &mut Frames, insn: &Insn, quick: &Quick) -> bool
 
 // istore, lstore and astore; returns whether it was done.
 #[inline(always)]
-pub(crate) fn do_store(frames: &mut Frames, insn: &Insn, quick: &Quick) -> bool
+pub(crate) fn do_store(frames: &mut Frames, quick: &Quick) -> bool
     requires fits { NextFits frames.old }
-    requires stands { StandsFor quick.now insn.now }
-    requires asks { AsksOf insn.now frames.old }
+    requires asks { AsksOfQuick quick.now frames.old }
     ensures did { result ≡ true → (p : Program) (method : ℕ)
-        → FlowsNext p method frames.old frames.new insn.now }
+        → QuickFlows p method frames.old frames.new quick.now }
     ensures same { result ≡ false → frames.new ≡ frames.old }
 {
     match quick {
@@ -59,12 +55,11 @@ pub(crate) fn do_store(frames: &mut Frames, insn: &Insn, quick: &Quick) -> bool
 
 // iconst and its like, iinc and dup; returns whether it was done.
 #[inline(always)]
-pub(crate) fn do_simple(frames: &mut Frames, insn: &Insn, quick: &Quick) -> bool
+pub(crate) fn do_simple(frames: &mut Frames, quick: &Quick) -> bool
     requires fits { NextFits frames.old }
-    requires stands { StandsFor quick.now insn.now }
-    requires asks { AsksOf insn.now frames.old }
+    requires asks { AsksOfQuick quick.now frames.old }
     ensures did { result ≡ true → (p : Program) (method : ℕ)
-        → FlowsNext p method frames.old frames.new insn.now }
+        → QuickFlows p method frames.old frames.new quick.now }
     ensures same { result ≡ false → frames.new ≡ frames.old }
 {
     match quick {
@@ -77,12 +72,11 @@ pub(crate) fn do_simple(frames: &mut Frames, insn: &Insn, quick: &Quick) -> bool
 
 // iadd and its like; returns whether it was done.
 #[inline(always)]
-pub(crate) fn do_int_op(frames: &mut Frames, insn: &Insn, quick: &Quick) -> bool
+pub(crate) fn do_int_op(frames: &mut Frames, quick: &Quick) -> bool
     requires fits { NextFits frames.old }
-    requires stands { StandsFor quick.now insn.now }
-    requires asks { AsksOf insn.now frames.old }
+    requires asks { AsksOfQuick quick.now frames.old }
     ensures did { result ≡ true → (p : Program) (method : ℕ)
-        → FlowsNext p method frames.old frames.new insn.now }
+        → QuickFlows p method frames.old frames.new quick.now }
     ensures same { result ≡ false → frames.new ≡ frames.old }
 {
     match quick {
@@ -100,10 +94,9 @@ pub(crate) fn do_int_op(frames: &mut Frames, insn: &Insn, quick: &Quick) -> bool
 
 // goto; returns whether it was done.
 #[inline(always)]
-pub(crate) fn do_goto(frames: &mut Frames, insn: &Insn, quick: &Quick) -> bool
-    requires stands { StandsFor quick.now insn.now }
+pub(crate) fn do_goto(frames: &mut Frames, quick: &Quick) -> bool
     ensures did { result ≡ true → (p : Program) (method : ℕ)
-        → FlowsNext p method frames.old frames.new insn.now }
+        → QuickFlows p method frames.old frames.new quick.now }
     ensures same { result ≡ false → frames.new ≡ frames.old }
 {
     match quick {
@@ -117,12 +110,11 @@ pub(crate) fn do_goto(frames: &mut Frames, insn: &Insn, quick: &Quick) -> bool
 
 // ifeq and its like; returns whether it was done.
 #[inline(always)]
-pub(crate) fn do_if_int(frames: &mut Frames, insn: &Insn, quick: &Quick) -> bool
+pub(crate) fn do_if_int(frames: &mut Frames, quick: &Quick) -> bool
     requires fits { NextFits frames.old }
-    requires stands { StandsFor quick.now insn.now }
-    requires asks { AsksOf insn.now frames.old }
+    requires asks { AsksOfQuick quick.now frames.old }
     ensures did { result ≡ true → (p : Program) (method : ℕ)
-        → FlowsNext p method frames.old frames.new insn.now }
+        → QuickFlows p method frames.old frames.new quick.now }
     ensures same { result ≡ false → frames.new ≡ frames.old }
 {
     match quick {
@@ -138,12 +130,11 @@ pub(crate) fn do_if_int(frames: &mut Frames, insn: &Insn, quick: &Quick) -> bool
 
 // if_icmpeq and its like; returns whether it was done.
 #[inline(always)]
-pub(crate) fn do_if_pair(frames: &mut Frames, insn: &Insn, quick: &Quick) -> bool
+pub(crate) fn do_if_pair(frames: &mut Frames, quick: &Quick) -> bool
     requires fits { NextFits frames.old }
-    requires stands { StandsFor quick.now insn.now }
-    requires asks { AsksOf insn.now frames.old }
+    requires asks { AsksOfQuick quick.now frames.old }
     ensures did { result ≡ true → (p : Program) (method : ℕ)
-        → FlowsNext p method frames.old frames.new insn.now }
+        → QuickFlows p method frames.old frames.new quick.now }
     ensures same { result ≡ false → frames.new ≡ frames.old }
 {
     match quick {
@@ -165,17 +156,15 @@ pub(crate) fn do_array_load<M: Memory>(
     counted: u64,
     program: &Program,
     method: MethodId,
-    insn: &Insn,
     quick: &Quick,
     steps: u64,
 ) -> bool
     requires run { CanRun program.now }
     requires fits { NextFits frames.old }
     requires packed { ArePacked program.now machine.now }
-    requires stands { StandsFor quick.now insn.now }
-    requires next { IsFlatNext program.now steps (resumed machine.now frames.old counted) method.0
-        insn.now }
-    ensures did { result ≡ true → DoesAlone program.now M.choose insn.now
+    requires next { IsQuickNext program.now steps (resumed machine.now frames.old counted) method.0
+        quick.now }
+    ensures did { result ≡ true → QuickDoes program.now M.choose quick.now
         (resumed machine.now frames.old counted) (resumed machine.now frames.new (counted + 1)) }
     ensures same { result ≡ false → frames.new ≡ frames.old }
 {
@@ -199,17 +188,15 @@ pub(crate) fn do_array_store<M: Memory>(
     counted: u64,
     program: &Program,
     method: MethodId,
-    insn: &Insn,
     quick: &Quick,
     steps: u64,
 ) -> bool
     requires run { CanRun program.now }
     requires fits { NextFits frames.old }
     requires packed { ArePacked program.now machine.old }
-    requires stands { StandsFor quick.now insn.now }
-    requires next { IsFlatNext program.now steps (resumed machine.old frames.old counted) method.0
-        insn.now }
-    ensures did { result ≡ true → DoesAlone program.now M.choose insn.now
+    requires next { IsQuickNext program.now steps (resumed machine.old frames.old counted) method.0
+        quick.now }
+    ensures did { result ≡ true → QuickDoes program.now M.choose quick.now
         (resumed machine.old frames.old counted) (resumed machine.new frames.new (counted + 1)) }
     ensures same { result ≡ false → frames.new ≡ frames.old }
     ensures kept { result ≡ false → machine.new ≡ machine.old }
@@ -233,17 +220,15 @@ pub(crate) fn do_field<M: Memory>(
     counted: u64,
     program: &Program,
     method: MethodId,
-    insn: &Insn,
     quick: &Quick,
     steps: u64,
 ) -> bool
     requires run { CanRun program.now }
     requires fits { NextFits frames.old }
     requires packed { ArePacked program.now machine.old }
-    requires stands { StandsFor quick.now insn.now }
-    requires next { IsFlatNext program.now steps (resumed machine.old frames.old counted) method.0
-        insn.now }
-    ensures did { result ≡ true → DoesAlone program.now M.choose insn.now
+    requires next { IsQuickNext program.now steps (resumed machine.old frames.old counted) method.0
+        quick.now }
+    ensures did { result ≡ true → QuickDoes program.now M.choose quick.now
         (resumed machine.old frames.old counted) (resumed machine.new frames.new (counted + 1)) }
     ensures same { result ≡ false → frames.new ≡ frames.old }
     ensures kept { result ≡ false → machine.new ≡ machine.old }

@@ -1,19 +1,54 @@
-use Rattle.std.proofs.Common.{◌≡◌, ◌+◌, ◌<◌, true, false, refl, sym, subst, rules, arith}
+use Rattle.std.proofs.Common.{◌≡◌, ◌+◌, ◌<◌, length, Some, true, false, refl, sym, subst, rules, arith}
+use Rattle.fm_code.specs.Edges.{insn_of}
 use Rattle.fm_fast.specs.Flows.{resumed}
 use Rattle.fm_run.proofs.FlatSteps.{call-flowed, flat-below, Flowed, flowed-joined, group-flowed, not-flowed, packed-in, straight, straight-below, straight-here, straight-jumped, straight-keeps, straight-next, straight-over, straight-stays, straight-within}
+use Rattle.fm_run.proofs.QuickSteps.{next-found, next-inside}
 use Rattle.fm_run.proofs.Ranging.{leads-none}
 use Rattle.fm_run.proofs.Resolving.{is-method}
 use Rattle.fm_run.proofs.flats.flow.Given.{Over}
 use Rattle.fm_run.proofs.flats.flow.Goals as goal
-use Rattle.fm_run.proofs.flats.flow.Goals.{After-births-births}
-use Rattle.fm_run.proofs.flats.flow.Goals.{in-Iload, in-Istore, in-Iconst, in-Iadd, in-Baload, in-Bastore, in-Getfield, in-Goto+else-jumps, in-Other+else-jumps-2, in-IfIcmpeq+else-jumps-3, in-Ifeq+else-jumps-4, in-Call}
+use Rattle.fm_run.proofs.flats.flow.Goals.{After-births-births, After-jumps}
+use Rattle.fm_run.proofs.flats.flow.Goals.{else-jumps, in-Baload, in-Bastore, in-Call, in-Getfield, in-Goto, in-Iadd, in-Iconst, in-IfIcmpeq, in-Ifeq, in-Iload, in-Istore, in-Other}
 use Rattle.fm_run.specs.inner.Flats.{item_in}
 
--- what the arms that are left leave
+-- what the arms that may jump leave
+jumping : (g : Over) (c : After-jumps g)
+    → Flowed c.args.program.now g.M.Memory.choose c.args.steps c.args.method.0 (resumed c.straight.machine c.straight.frames c.done-counted.result)
+    (resumed c.straight.machine c.match-done.frames (c.done-counted.result + 1)) (resumed c.straight.machine c.match-done.frames c.done-counted.result) c.match-done.jumping
+jumping g c =
+    let p = c.args.program.now in
+    let choose = g.M.Memory.choose in
+    let budget = c.args.steps in
+    let method = c.args.method.0 in
+    let m = c.straight.machine in
+    let old = c.straight.frames in
+    let n = c.done-counted.result in
+    let x = resumed m old n in
+    let it = c.in-Some.ensures.next.0 in
+    let has = c.in-Some.ensures.next.1 in
+    let next = c.in-Some.ensures.next.2 in
+    elim c.match-done.branch [
+      | in-Goto w ↦
+          flowed-joined p choose budget method n x m m w.do_goto-jumping.new.frames c.match-done.frames w.do_goto-jumping.result c.match-done.jumping refl w.frames-is w.jumping-is
+          (group-flowed p choose budget method m old n w.do_goto-jumping.new.frames it w.do_goto-jumping.result next (λ told. w.do_goto-jumping.ensures.did told p method it has) w.do_goto-jumping.ensures.same)
+      | in-Other w ↦
+          flowed-joined p choose budget method n x m m w.do_other-jumping.new.frames c.match-done.frames w.do_other-jumping.result c.match-done.jumping refl w.frames-is w.jumping-is
+          (group-flowed p choose budget method m old n w.do_other-jumping.new.frames w.insn_in.result.now w.do_other-jumping.result
+          (next-found p budget x method c.args.code.now c.in-Some.quick.now w.insn_in.result.now c.requires.code c.in-Some.ensures.next
+          (subst (λ item. insn_of c.args.code.now item ≡ Some w.insn_in.result.now) c.next_item-item.ensures w.insn_in.ensures))
+          w.do_other-jumping.ensures.did w.do_other-jumping.ensures.same)
+      | in-IfIcmpeq w ↦
+          flowed-joined p choose budget method n x m m w.do_if_pair-jumping.new.frames c.match-done.frames w.do_if_pair-jumping.result c.match-done.jumping refl w.frames-is w.jumping-is
+          (group-flowed p choose budget method m old n w.do_if_pair-jumping.new.frames it w.do_if_pair-jumping.result next (λ told. w.do_if_pair-jumping.ensures.did told p method it has) w.do_if_pair-jumping.ensures.same)
+      | in-Ifeq w ↦
+          flowed-joined p choose budget method n x m m w.do_if_int-jumping.new.frames c.match-done.frames w.do_if_int-jumping.result c.match-done.jumping refl w.frames-is w.jumping-is
+          (group-flowed p choose budget method m old n w.do_if_int-jumping.new.frames it w.do_if_int-jumping.result next (λ told. w.do_if_int-jumping.ensures.did told p method it has) w.do_if_int-jumping.ensures.same)
+    ]
+
+-- what all arms leave
 arms : (g : Over) (c : After-births-births g)
     → Flowed c.args.program.now g.M.Memory.choose c.args.steps c.args.method.0 (resumed c.straight.machine c.straight.frames c.done-counted.result)
-    (resumed c.match-quick.machine c.match-quick.frames (c.done-counted.result + 1))
-    (resumed c.match-quick.machine c.match-quick.frames c.done-counted.result) c.match-quick.did
+    (resumed c.match-done.machine c.match-done.frames (c.done-counted.result + 1)) (resumed c.match-done.machine c.match-done.frames c.done-counted.result) c.match-done.did
 arms g c =
     let p = c.args.program.now in
     let choose = g.M.Memory.choose in
@@ -23,59 +58,56 @@ arms g c =
     let old = c.straight.frames in
     let n = c.done-counted.result in
     let x = resumed m old n in
-    let it = c.in-Some.insn.now in
-    let next = c.in-Some.ensures.next in
-    elim c.match-quick.branch [
+    let it = c.in-Some.ensures.next.0 in
+    let has = c.in-Some.ensures.next.1 in
+    let next = c.in-Some.ensures.next.2 in
+    elim c.match-done.branch [
       | in-Iload w ↦
-          flowed-joined p choose budget method n x m c.match-quick.machine w.do_load-did.new.frames c.match-quick.frames w.do_load-did.result c.match-quick.did w.machine-is
-          w.frames-is w.did-is
-          (group-flowed p choose budget method m old n w.do_load-did.new.frames it w.do_load-did.result next (λ told. w.do_load-did.ensures.did told p method) w.do_load-did.ensures.same)
+          flowed-joined p choose budget method n x m c.match-done.machine w.do_load-did.new.frames c.match-done.frames w.do_load-did.result c.match-done.did w.machine-is w.frames-is w.did-is
+          (group-flowed p choose budget method m old n w.do_load-did.new.frames it w.do_load-did.result next (λ told. w.do_load-did.ensures.did told p method it has) w.do_load-did.ensures.same)
       | in-Istore w ↦
-          flowed-joined p choose budget method n x m c.match-quick.machine w.do_store-did.new.frames c.match-quick.frames w.do_store-did.result c.match-quick.did w.machine-is
-          w.frames-is w.did-is
-          (group-flowed p choose budget method m old n w.do_store-did.new.frames it w.do_store-did.result next (λ told. w.do_store-did.ensures.did told p method) w.do_store-did.ensures.same)
+          flowed-joined p choose budget method n x m c.match-done.machine w.do_store-did.new.frames c.match-done.frames w.do_store-did.result c.match-done.did w.machine-is w.frames-is w.did-is
+          (group-flowed p choose budget method m old n w.do_store-did.new.frames it w.do_store-did.result next (λ told. w.do_store-did.ensures.did told p method it has) w.do_store-did.ensures.same)
       | in-Iconst w ↦
-          flowed-joined p choose budget method n x m c.match-quick.machine w.do_simple-did.new.frames c.match-quick.frames w.do_simple-did.result c.match-quick.did w.machine-is
-          w.frames-is w.did-is
-          (group-flowed p choose budget method m old n w.do_simple-did.new.frames it w.do_simple-did.result next (λ told. w.do_simple-did.ensures.did told p method) w.do_simple-did.ensures.same)
+          flowed-joined p choose budget method n x m c.match-done.machine w.do_simple-did.new.frames c.match-done.frames w.do_simple-did.result c.match-done.did w.machine-is w.frames-is w.did-is
+          (group-flowed p choose budget method m old n w.do_simple-did.new.frames it w.do_simple-did.result next (λ told. w.do_simple-did.ensures.did told p method it has) w.do_simple-did.ensures.same)
       | in-Iadd w ↦
-          flowed-joined p choose budget method n x m c.match-quick.machine w.do_int_op-did.new.frames c.match-quick.frames w.do_int_op-did.result c.match-quick.did w.machine-is
-          w.frames-is w.did-is
-          (group-flowed p choose budget method m old n w.do_int_op-did.new.frames it w.do_int_op-did.result next (λ told. w.do_int_op-did.ensures.did told p method) w.do_int_op-did.ensures.same)
+          flowed-joined p choose budget method n x m c.match-done.machine w.do_int_op-did.new.frames c.match-done.frames w.do_int_op-did.result c.match-done.did w.machine-is w.frames-is w.did-is
+          (group-flowed p choose budget method m old n w.do_int_op-did.new.frames it w.do_int_op-did.result next (λ told. w.do_int_op-did.ensures.did told p method it has) w.do_int_op-did.ensures.same)
       | in-Baload w ↦
-          flowed-joined p choose budget method n x m c.match-quick.machine w.do_array_load-did.new.frames c.match-quick.frames w.do_array_load-did.result c.match-quick.did w.machine-is
-          w.frames-is w.did-is
-          (call-flowed p choose budget method m old n m w.do_array_load-did.new.frames it w.do_array_load-did.result next w.do_array_load-did.ensures.did w.do_array_load-did.ensures.same
-          (λ told. refl) refl)
+          flowed-joined p choose budget method n x m c.match-done.machine w.do_array_load-did.new.frames c.match-done.frames w.do_array_load-did.result c.match-done.did w.machine-is w.frames-is w.did-is
+          (call-flowed p choose budget method m old n m w.do_array_load-did.new.frames it w.do_array_load-did.result next (λ told. w.do_array_load-did.ensures.did told it has)
+          w.do_array_load-did.ensures.same (λ told. refl) refl)
       | in-Bastore w ↦
-          flowed-joined p choose budget method n x w.do_array_store-did.new.machine c.match-quick.machine w.do_array_store-did.new.frames c.match-quick.frames w.do_array_store-did.result c.match-quick.did w.machine-is
-          w.frames-is w.did-is
-          (call-flowed p choose budget method m old n w.do_array_store-did.new.machine w.do_array_store-did.new.frames it w.do_array_store-did.result next w.do_array_store-did.ensures.did
-          w.do_array_store-did.ensures.same w.do_array_store-did.ensures.kept w.do_array_store-did.ensures.ended)
+          flowed-joined p choose budget method n x w.do_array_store-did.new.machine c.match-done.machine w.do_array_store-did.new.frames c.match-done.frames w.do_array_store-did.result c.match-done.did w.machine-is w.frames-is w.did-is
+          (call-flowed p choose budget method m old n w.do_array_store-did.new.machine w.do_array_store-did.new.frames it w.do_array_store-did.result next
+          (λ told. w.do_array_store-did.ensures.did told it has) w.do_array_store-did.ensures.same w.do_array_store-did.ensures.kept w.do_array_store-did.ensures.ended)
       | in-Getfield w ↦
-          flowed-joined p choose budget method n x w.do_field-did.new.machine c.match-quick.machine w.do_field-did.new.frames c.match-quick.frames w.do_field-did.result c.match-quick.did w.machine-is
-          w.frames-is w.did-is
-          (call-flowed p choose budget method m old n w.do_field-did.new.machine w.do_field-did.new.frames it w.do_field-did.result next w.do_field-did.ensures.did
-          w.do_field-did.ensures.same w.do_field-did.ensures.kept w.do_field-did.ensures.ended)
-      | in-Goto+else-jumps w ↦
-          flowed-joined p choose budget method n x m c.match-quick.machine w.do_goto-did.new.frames c.match-quick.frames w.do_goto-did.result c.match-quick.did w.machine-is
-          w.frames-is w.did-is
-          (group-flowed p choose budget method m old n w.do_goto-did.new.frames it w.do_goto-did.result next (λ told. w.do_goto-did.ensures.did told p method) w.do_goto-did.ensures.same)
-      | in-Other+else-jumps-2 w ↦
-          flowed-joined p choose budget method n x m c.match-quick.machine w.do_other-did.new.frames c.match-quick.frames w.do_other-did.result c.match-quick.did w.machine-is
-          w.frames-is w.did-is
-          (group-flowed p choose budget method m old n w.do_other-did.new.frames it w.do_other-did.result next w.do_other-did.ensures.did w.do_other-did.ensures.same)
-      | in-IfIcmpeq+else-jumps-3 w ↦
-          flowed-joined p choose budget method n x m c.match-quick.machine w.do_if_pair-did.new.frames c.match-quick.frames w.do_if_pair-did.result c.match-quick.did w.machine-is
-          w.frames-is w.did-is
-          (group-flowed p choose budget method m old n w.do_if_pair-did.new.frames it w.do_if_pair-did.result next (λ told. w.do_if_pair-did.ensures.did told p method) w.do_if_pair-did.ensures.same)
-      | in-Ifeq+else-jumps-4 w ↦
-          flowed-joined p choose budget method n x m c.match-quick.machine w.do_if_int-did.new.frames c.match-quick.frames w.do_if_int-did.result c.match-quick.did w.machine-is
-          w.frames-is w.did-is
-          (group-flowed p choose budget method m old n w.do_if_int-did.new.frames it w.do_if_int-did.result next (λ told. w.do_if_int-did.ensures.did told p method) w.do_if_int-did.ensures.same)
+          flowed-joined p choose budget method n x w.do_field-did.new.machine c.match-done.machine w.do_field-did.new.frames c.match-done.frames w.do_field-did.result c.match-done.did w.machine-is w.frames-is w.did-is
+          (call-flowed p choose budget method m old n w.do_field-did.new.machine w.do_field-did.new.frames it w.do_field-did.result next
+          (λ told. w.do_field-did.ensures.did told it has) w.do_field-did.ensures.same w.do_field-did.ensures.kept w.do_field-did.ensures.ended)
       | in-Call w ↦
-          flowed-joined p choose budget method n x m c.match-quick.machine old c.match-quick.frames false c.match-quick.did w.machine-is w.frames-is w.did-is
+          flowed-joined p choose budget method n x m c.match-done.machine old c.match-done.frames false c.match-done.did w.machine-is w.frames-is w.did-is
           (not-flowed p choose budget method m old n)
+      | else-jumps w ↦
+          flowed-joined p choose budget method n x m c.match-done.machine w.match-done.frames c.match-done.frames w.match-done.jumping c.match-done.did w.machine-is w.frames-is w.did-is
+          (elim w.match-done.branch [
+            | in-Goto v ↦
+                flowed-joined p choose budget method n x m m v.do_goto-jumping.new.frames w.match-done.frames v.do_goto-jumping.result w.match-done.jumping refl v.frames-is v.jumping-is
+                (group-flowed p choose budget method m old n v.do_goto-jumping.new.frames it v.do_goto-jumping.result next (λ told. v.do_goto-jumping.ensures.did told p method it has) v.do_goto-jumping.ensures.same)
+            | in-Other v ↦
+                flowed-joined p choose budget method n x m m v.do_other-jumping.new.frames w.match-done.frames v.do_other-jumping.result w.match-done.jumping refl v.frames-is v.jumping-is
+                (group-flowed p choose budget method m old n v.do_other-jumping.new.frames v.insn_in.result.now v.do_other-jumping.result
+                (next-found p budget x method c.args.code.now c.in-Some.quick.now v.insn_in.result.now c.requires.code c.in-Some.ensures.next
+                (subst (λ item. insn_of c.args.code.now item ≡ Some v.insn_in.result.now) c.next_item-item.ensures v.insn_in.ensures))
+                v.do_other-jumping.ensures.did v.do_other-jumping.ensures.same)
+            | in-IfIcmpeq v ↦
+                flowed-joined p choose budget method n x m m v.do_if_pair-jumping.new.frames w.match-done.frames v.do_if_pair-jumping.result w.match-done.jumping refl v.frames-is v.jumping-is
+                (group-flowed p choose budget method m old n v.do_if_pair-jumping.new.frames it v.do_if_pair-jumping.result next (λ told. v.do_if_pair-jumping.ensures.did told p method it has) v.do_if_pair-jumping.ensures.same)
+            | in-Ifeq v ↦
+                flowed-joined p choose budget method n x m m v.do_if_int-jumping.new.frames w.match-done.frames v.do_if_int-jumping.result w.match-done.jumping refl v.frames-is v.jumping-is
+                (group-flowed p choose budget method m old n v.do_if_int-jumping.new.frames it v.do_if_int-jumping.result next (λ told. v.do_if_int-jumping.ensures.did told p method it has) v.do_if_int-jumping.ensures.same)
+          ])
     ]
 
 pub straight_reach-reach-requires-clause-few : goal.straight_reach-reach-requires-clause-few
@@ -131,30 +163,39 @@ returns-in_default-clause-more g c =
     c.requires.run c.done-counted.ensures c.straight.invariant).2
 
 pub do_load-did-requires-clause-asks : goal.do_load-did-requires-clause-asks
-do_load-did-requires-clause-asks g c = c.in-Some.ensures.next.asks
+do_load-did-requires-clause-asks g c = (c.in-Some.ensures.next.0, c.in-Some.ensures.next.1, c.in-Some.ensures.next.2.asks)
 
 pub do_store-did-requires-clause-asks : goal.do_store-did-requires-clause-asks
-do_store-did-requires-clause-asks g c = c.in-Some.ensures.next.asks
+do_store-did-requires-clause-asks g c = (c.in-Some.ensures.next.0, c.in-Some.ensures.next.1, c.in-Some.ensures.next.2.asks)
 
 pub do_simple-did-requires-clause-asks : goal.do_simple-did-requires-clause-asks
-do_simple-did-requires-clause-asks g c = c.in-Some.ensures.next.asks
+do_simple-did-requires-clause-asks g c = (c.in-Some.ensures.next.0, c.in-Some.ensures.next.1, c.in-Some.ensures.next.2.asks)
 
 pub do_int_op-did-requires-clause-asks : goal.do_int_op-did-requires-clause-asks
-do_int_op-did-requires-clause-asks g c = c.in-Some.ensures.next.asks
+do_int_op-did-requires-clause-asks g c = (c.in-Some.ensures.next.0, c.in-Some.ensures.next.1, c.in-Some.ensures.next.2.asks)
 
-pub do_other-did-requires-clause-asks : goal.do_other-did-requires-clause-asks
-do_other-did-requires-clause-asks g c = c.in-Some.ensures.next.asks
+pub do_if_pair-jumping-requires-clause-asks : goal.do_if_pair-jumping-requires-clause-asks
+do_if_pair-jumping-requires-clause-asks g c = (c.in-Some.ensures.next.0, c.in-Some.ensures.next.1, c.in-Some.ensures.next.2.asks)
 
-pub do_if_pair-did-requires-clause-asks : goal.do_if_pair-did-requires-clause-asks
-do_if_pair-did-requires-clause-asks g c = c.in-Some.ensures.next.asks
+pub do_if_int-jumping-requires-clause-asks : goal.do_if_int-jumping-requires-clause-asks
+do_if_int-jumping-requires-clause-asks g c = (c.in-Some.ensures.next.0, c.in-Some.ensures.next.1, c.in-Some.ensures.next.2.asks)
 
-pub do_if_int-did-requires-clause-asks : goal.do_if_int-did-requires-clause-asks
-do_if_int-did-requires-clause-asks g c = c.in-Some.ensures.next.asks
+pub insn_in-requires : goal.insn_in-requires
+insn_in-requires g c =
+    subst (λ item. item < length c.args.code.now.items) (sym c.next_item-item.ensures)
+    (next-inside c.args.program.now c.args.steps (resumed c.straight.machine c.straight.frames c.done-counted.result) c.args.method.0 c.args.code.now
+    c.in-Some.quick.now c.requires.code c.in-Some.ensures.next)
 
-pub do_other-did-requires-clause-method : goal.do_other-did-requires-clause-method
-do_other-did-requires-clause-method g c =
-    is-method c.args.program.now (resumed c.straight.machine c.straight.frames c.done-counted.result) c.args.method.0 c.in-Some.insn.now c.requires.run
-    c.in-Some.ensures.next.at
+pub do_other-jumping-requires-clause-asks : goal.do_other-jumping-requires-clause-asks
+do_other-jumping-requires-clause-asks g c =
+    (next-found c.args.program.now c.args.steps (resumed c.straight.machine c.straight.frames c.done-counted.result) c.args.method.0 c.args.code.now
+    c.in-Some.quick.now c.insn_in.result.now c.requires.code c.in-Some.ensures.next
+    (subst (λ item. insn_of c.args.code.now item ≡ Some c.insn_in.result.now) c.next_item-item.ensures c.insn_in.ensures)).asks
+
+pub do_other-jumping-requires-clause-method : goal.do_other-jumping-requires-clause-method
+do_other-jumping-requires-clause-method g c =
+    is-method c.args.program.now (resumed c.straight.machine c.straight.frames c.done-counted.result) c.args.method.0 c.in-Some.ensures.next.0 c.requires.run
+    c.in-Some.ensures.next.2.at
 
 pub do_array_load-did-requires-clause-packed : goal.do_array_load-did-requires-clause-packed
 do_array_load-did-requires-clause-packed g c =
@@ -174,7 +215,7 @@ do_field-did-requires-clause-packed g c =
     (straight-keeps c.args.program.now g.M.Memory.choose c.args.steps c.args.before (resumed c.args.machine.now c.args.taken c.args.before) c.straight.machine c.straight.frames c.straight.reach c.done-counted.result
     c.done-counted.ensures c.straight.invariant).sound
 
--- ---- goto
+-- ---- a jump
 
 pub reach_after-reach-requires-clause-few : goal.reach_after-reach-requires-clause-few
 reach_after-reach-requires-clause-few g c = omega (arith, c.straight.invariant.within, c.requires.few)
@@ -195,21 +236,17 @@ pub reach_after-reach-requires-clause-inside : goal.reach_after-reach-requires-c
 reach_after-reach-requires-clause-inside g c =
     let told : c.jumps.result ≡ true = search rules in
     let went = straight-over c.args.program.now g.M.Memory.choose c.args.steps c.args.before (resumed c.args.machine.now c.args.taken c.args.before) c.straight.machine c.straight.frames c.straight.reach c.done-counted.result
-    c.args.method.0 c.straight.machine c.do_goto-did.new.frames c.do_goto-did.result c.requires.run c.births-lawful.ensures.lawful c.births-lawful.ensures.sound
-    c.done-counted.ensures c.straight.invariant
-    (group-flowed c.args.program.now g.M.Memory.choose c.args.steps c.args.method.0 c.straight.machine c.straight.frames c.done-counted.result c.do_goto-did.new.frames
-    c.in-Some.insn.now c.do_goto-did.result c.in-Some.ensures.next (λ told. c.do_goto-did.ensures.did told c.args.program.now c.args.method.0) c.do_goto-did.ensures.same)
+    c.args.method.0 c.straight.machine c.match-done.frames c.match-done.jumping c.requires.run c.births-lawful.ensures.lawful c.births-lawful.ensures.sound
+    c.done-counted.ensures c.straight.invariant (jumping g (goal.at.reach_after-reach-requires-clause-inside g c).After-jumps)
     (c.jumps.ensures told) in
-    flat-below c.args.program.now c.args.steps (resumed c.straight.machine c.do_goto-did.new.frames (c.done-counted.result + 1)) c.requires.run went.keeps went.on
+    flat-below c.args.program.now c.args.steps (resumed c.straight.machine c.match-done.frames (c.done-counted.result + 1)) c.requires.run went.keeps went.on
 
 pub returns-then-reach-steps-2-clause-went : goal.returns-then-reach-steps-2-clause-went
 returns-then-reach-steps-2-clause-went g c =
     let told : c.jumps.result ≡ true = search rules in
     straight-over c.args.program.now g.M.Memory.choose c.args.steps c.args.before (resumed c.args.machine.now c.args.taken c.args.before) c.straight.machine c.straight.frames c.straight.reach c.done-counted.result
-    c.args.method.0 c.straight.machine c.do_goto-did.new.frames c.do_goto-did.result c.requires.run c.births-lawful.ensures.lawful c.births-lawful.ensures.sound
-    c.done-counted.ensures c.straight.invariant
-    (group-flowed c.args.program.now g.M.Memory.choose c.args.steps c.args.method.0 c.straight.machine c.straight.frames c.done-counted.result c.do_goto-did.new.frames
-    c.in-Some.insn.now c.do_goto-did.result c.in-Some.ensures.next (λ told. c.do_goto-did.ensures.did told c.args.program.now c.args.method.0) c.do_goto-did.ensures.same)
+    c.args.method.0 c.straight.machine c.match-done.frames c.match-done.jumping c.requires.run c.births-lawful.ensures.lawful c.births-lawful.ensures.sound
+    c.done-counted.ensures c.straight.invariant (jumping g (goal.at.returns-then-reach-steps-2-clause-went g c).After-jumps)
     (c.jumps.ensures told)
 
 pub returns-then-reach-steps-2-clause-more : goal.returns-then-reach-steps-2-clause-more
@@ -222,14 +259,12 @@ pub straight-preserved-then-jumps : goal.straight-preserved-then-jumps
 straight-preserved-then-jumps g c =
     let told : c.jumps.result ≡ true = search rules in
     straight-jumped c.args.program.now g.M.Memory.choose c.args.steps c.args.before (resumed c.args.machine.now c.args.taken c.args.before)
-    c.straight.machine c.do_goto-did.new.frames c.reach_after-reach.result c.done-counted.result
+    c.straight.machine c.match-done.frames c.reach_after-reach.result c.done-counted.result
     (straight-within c.args.program.now g.M.Memory.choose c.args.steps c.args.before (resumed c.args.machine.now c.args.taken c.args.before) c.straight.machine c.straight.frames c.straight.reach c.done-counted.result
     c.requires.run c.done-counted.ensures c.straight.invariant).2
     (straight-over c.args.program.now g.M.Memory.choose c.args.steps c.args.before (resumed c.args.machine.now c.args.taken c.args.before) c.straight.machine c.straight.frames c.straight.reach c.done-counted.result
-    c.args.method.0 c.straight.machine c.do_goto-did.new.frames c.do_goto-did.result c.requires.run c.births-lawful.ensures.lawful c.births-lawful.ensures.sound
-    c.done-counted.ensures c.straight.invariant
-    (group-flowed c.args.program.now g.M.Memory.choose c.args.steps c.args.method.0 c.straight.machine c.straight.frames c.done-counted.result c.do_goto-did.new.frames
-    c.in-Some.insn.now c.do_goto-did.result c.in-Some.ensures.next (λ told. c.do_goto-did.ensures.did told c.args.program.now c.args.method.0) c.do_goto-did.ensures.same)
+    c.args.method.0 c.straight.machine c.match-done.frames c.match-done.jumping c.requires.run c.births-lawful.ensures.lawful c.births-lawful.ensures.sound
+    c.done-counted.ensures c.straight.invariant (jumping g (goal.at.straight-preserved-then-jumps g c).After-jumps)
     (c.jumps.ensures told))
     c.reach_after-reach.ensures.exact c.reach_after-reach.ensures.there (omega (arith, c.if-reach-steps-2.false))
 
@@ -241,214 +276,13 @@ straight-smaller-then-jumps g c =
     let is = c.reach_after-reach.ensures.exact in
     omega (arith, less, was, is)
 
--- ---- a jump by do_other
-
-pub reach_after-reach-requires-then-jumps-2-clause-few : goal.reach_after-reach-requires-then-jumps-2-clause-few
-reach_after-reach-requires-then-jumps-2-clause-few g c = omega (arith, c.straight.invariant.within, c.requires.few)
-
-pub reach_after-reach-requires-then-jumps-2-clause-before : goal.reach_after-reach-requires-then-jumps-2-clause-before
-reach_after-reach-requires-then-jumps-2-clause-before g c =
-    subst (λ item. item < 65536) (sym c.next_item-item.ensures)
-    (straight-below c.args.program.now g.M.Memory.choose c.args.steps c.args.before (resumed c.args.machine.now c.args.taken c.args.before) c.straight.machine c.straight.frames c.straight.reach
-    c.requires.run c.straight.invariant)
-
-pub reach_after-reach-requires-then-jumps-2-clause-was : goal.reach_after-reach-requires-then-jumps-2-clause-was
-reach_after-reach-requires-then-jumps-2-clause-was g c =
-    subst (λ item. c.straight.reach + item ≡ c.done-counted.result + 65536) (sym c.next_item-item.ensures)
-    (straight-within c.args.program.now g.M.Memory.choose c.args.steps c.args.before (resumed c.args.machine.now c.args.taken c.args.before) c.straight.machine c.straight.frames c.straight.reach c.done-counted.result
-    c.requires.run c.done-counted.ensures c.straight.invariant).1
-
-pub reach_after-reach-requires-then-jumps-2-clause-inside : goal.reach_after-reach-requires-then-jumps-2-clause-inside
-reach_after-reach-requires-then-jumps-2-clause-inside g c =
-    let told : c.jumps-in-Other.result ≡ true = search rules in
-    let went = straight-over c.args.program.now g.M.Memory.choose c.args.steps c.args.before (resumed c.args.machine.now c.args.taken c.args.before) c.straight.machine c.straight.frames c.straight.reach c.done-counted.result
-    c.args.method.0 c.straight.machine c.do_other-did.new.frames c.do_other-did.result c.requires.run c.births-lawful.ensures.lawful c.births-lawful.ensures.sound
-    c.done-counted.ensures c.straight.invariant
-    (group-flowed c.args.program.now g.M.Memory.choose c.args.steps c.args.method.0 c.straight.machine c.straight.frames c.done-counted.result c.do_other-did.new.frames
-    c.in-Some.insn.now c.do_other-did.result c.in-Some.ensures.next c.do_other-did.ensures.did c.do_other-did.ensures.same)
-    (c.jumps-in-Other.ensures told) in
-    flat-below c.args.program.now c.args.steps (resumed c.straight.machine c.do_other-did.new.frames (c.done-counted.result + 1)) c.requires.run went.keeps went.on
-
-pub returns-then-reach-steps-3-clause-went : goal.returns-then-reach-steps-3-clause-went
-returns-then-reach-steps-3-clause-went g c =
-    let told : c.jumps-in-Other.result ≡ true = search rules in
-    straight-over c.args.program.now g.M.Memory.choose c.args.steps c.args.before (resumed c.args.machine.now c.args.taken c.args.before) c.straight.machine c.straight.frames c.straight.reach c.done-counted.result
-    c.args.method.0 c.straight.machine c.do_other-did.new.frames c.do_other-did.result c.requires.run c.births-lawful.ensures.lawful c.births-lawful.ensures.sound
-    c.done-counted.ensures c.straight.invariant
-    (group-flowed c.args.program.now g.M.Memory.choose c.args.steps c.args.method.0 c.straight.machine c.straight.frames c.done-counted.result c.do_other-did.new.frames
-    c.in-Some.insn.now c.do_other-did.result c.in-Some.ensures.next c.do_other-did.ensures.did c.do_other-did.ensures.same)
-    (c.jumps-in-Other.ensures told)
-
-pub returns-then-reach-steps-3-clause-more : goal.returns-then-reach-steps-3-clause-more
-returns-then-reach-steps-3-clause-more g c =
-    let more = (straight-within c.args.program.now g.M.Memory.choose c.args.steps c.args.before (resumed c.args.machine.now c.args.taken c.args.before) c.straight.machine c.straight.frames c.straight.reach c.done-counted.result
-    c.requires.run c.done-counted.ensures c.straight.invariant).2 in
-    omega (arith, more)
-
-pub straight-preserved-then-jumps-2 : goal.straight-preserved-then-jumps-2
-straight-preserved-then-jumps-2 g c =
-    let told : c.jumps-in-Other.result ≡ true = search rules in
-    straight-jumped c.args.program.now g.M.Memory.choose c.args.steps c.args.before (resumed c.args.machine.now c.args.taken c.args.before)
-    c.straight.machine c.do_other-did.new.frames c.reach_after-reach-then-jumps-2.result c.done-counted.result
-    (straight-within c.args.program.now g.M.Memory.choose c.args.steps c.args.before (resumed c.args.machine.now c.args.taken c.args.before) c.straight.machine c.straight.frames c.straight.reach c.done-counted.result
-    c.requires.run c.done-counted.ensures c.straight.invariant).2
-    (straight-over c.args.program.now g.M.Memory.choose c.args.steps c.args.before (resumed c.args.machine.now c.args.taken c.args.before) c.straight.machine c.straight.frames c.straight.reach c.done-counted.result
-    c.args.method.0 c.straight.machine c.do_other-did.new.frames c.do_other-did.result c.requires.run c.births-lawful.ensures.lawful c.births-lawful.ensures.sound
-    c.done-counted.ensures c.straight.invariant
-    (group-flowed c.args.program.now g.M.Memory.choose c.args.steps c.args.method.0 c.straight.machine c.straight.frames c.done-counted.result c.do_other-did.new.frames
-    c.in-Some.insn.now c.do_other-did.result c.in-Some.ensures.next c.do_other-did.ensures.did c.do_other-did.ensures.same)
-    (c.jumps-in-Other.ensures told))
-    c.reach_after-reach-then-jumps-2.ensures.exact c.reach_after-reach-then-jumps-2.ensures.there (omega (arith, c.if-reach-steps-3.false))
-
-pub straight-smaller-then-jumps-2 : goal.straight-smaller-then-jumps-2
-straight-smaller-then-jumps-2 g c =
-    let less = (straight-within c.args.program.now g.M.Memory.choose c.args.steps c.args.before (resumed c.args.machine.now c.args.taken c.args.before) c.straight.machine c.straight.frames c.straight.reach c.done-counted.result
-    c.requires.run c.done-counted.ensures c.straight.invariant).0 in
-    let was = c.done-counted.ensures in
-    let is = c.reach_after-reach-then-jumps-2.ensures.exact in
-    omega (arith, less, was, is)
-
--- ---- a jump by do_if_pair
-
-pub reach_after-reach-requires-then-jumps-3-clause-few : goal.reach_after-reach-requires-then-jumps-3-clause-few
-reach_after-reach-requires-then-jumps-3-clause-few g c = omega (arith, c.straight.invariant.within, c.requires.few)
-
-pub reach_after-reach-requires-then-jumps-3-clause-before : goal.reach_after-reach-requires-then-jumps-3-clause-before
-reach_after-reach-requires-then-jumps-3-clause-before g c =
-    subst (λ item. item < 65536) (sym c.next_item-item.ensures)
-    (straight-below c.args.program.now g.M.Memory.choose c.args.steps c.args.before (resumed c.args.machine.now c.args.taken c.args.before) c.straight.machine c.straight.frames c.straight.reach
-    c.requires.run c.straight.invariant)
-
-pub reach_after-reach-requires-then-jumps-3-clause-was : goal.reach_after-reach-requires-then-jumps-3-clause-was
-reach_after-reach-requires-then-jumps-3-clause-was g c =
-    subst (λ item. c.straight.reach + item ≡ c.done-counted.result + 65536) (sym c.next_item-item.ensures)
-    (straight-within c.args.program.now g.M.Memory.choose c.args.steps c.args.before (resumed c.args.machine.now c.args.taken c.args.before) c.straight.machine c.straight.frames c.straight.reach c.done-counted.result
-    c.requires.run c.done-counted.ensures c.straight.invariant).1
-
-pub reach_after-reach-requires-then-jumps-3-clause-inside : goal.reach_after-reach-requires-then-jumps-3-clause-inside
-reach_after-reach-requires-then-jumps-3-clause-inside g c =
-    let told : c.jumps-in-IfIcmpeq.result ≡ true = search rules in
-    let went = straight-over c.args.program.now g.M.Memory.choose c.args.steps c.args.before (resumed c.args.machine.now c.args.taken c.args.before) c.straight.machine c.straight.frames c.straight.reach c.done-counted.result
-    c.args.method.0 c.straight.machine c.do_if_pair-did.new.frames c.do_if_pair-did.result c.requires.run c.births-lawful.ensures.lawful c.births-lawful.ensures.sound
-    c.done-counted.ensures c.straight.invariant
-    (group-flowed c.args.program.now g.M.Memory.choose c.args.steps c.args.method.0 c.straight.machine c.straight.frames c.done-counted.result c.do_if_pair-did.new.frames
-    c.in-Some.insn.now c.do_if_pair-did.result c.in-Some.ensures.next (λ told. c.do_if_pair-did.ensures.did told c.args.program.now c.args.method.0) c.do_if_pair-did.ensures.same)
-    (c.jumps-in-IfIcmpeq.ensures told) in
-    flat-below c.args.program.now c.args.steps (resumed c.straight.machine c.do_if_pair-did.new.frames (c.done-counted.result + 1)) c.requires.run went.keeps went.on
-
-pub returns-then-reach-steps-4-clause-went : goal.returns-then-reach-steps-4-clause-went
-returns-then-reach-steps-4-clause-went g c =
-    let told : c.jumps-in-IfIcmpeq.result ≡ true = search rules in
-    straight-over c.args.program.now g.M.Memory.choose c.args.steps c.args.before (resumed c.args.machine.now c.args.taken c.args.before) c.straight.machine c.straight.frames c.straight.reach c.done-counted.result
-    c.args.method.0 c.straight.machine c.do_if_pair-did.new.frames c.do_if_pair-did.result c.requires.run c.births-lawful.ensures.lawful c.births-lawful.ensures.sound
-    c.done-counted.ensures c.straight.invariant
-    (group-flowed c.args.program.now g.M.Memory.choose c.args.steps c.args.method.0 c.straight.machine c.straight.frames c.done-counted.result c.do_if_pair-did.new.frames
-    c.in-Some.insn.now c.do_if_pair-did.result c.in-Some.ensures.next (λ told. c.do_if_pair-did.ensures.did told c.args.program.now c.args.method.0) c.do_if_pair-did.ensures.same)
-    (c.jumps-in-IfIcmpeq.ensures told)
-
-pub returns-then-reach-steps-4-clause-more : goal.returns-then-reach-steps-4-clause-more
-returns-then-reach-steps-4-clause-more g c =
-    let more = (straight-within c.args.program.now g.M.Memory.choose c.args.steps c.args.before (resumed c.args.machine.now c.args.taken c.args.before) c.straight.machine c.straight.frames c.straight.reach c.done-counted.result
-    c.requires.run c.done-counted.ensures c.straight.invariant).2 in
-    omega (arith, more)
-
-pub straight-preserved-then-jumps-3 : goal.straight-preserved-then-jumps-3
-straight-preserved-then-jumps-3 g c =
-    let told : c.jumps-in-IfIcmpeq.result ≡ true = search rules in
-    straight-jumped c.args.program.now g.M.Memory.choose c.args.steps c.args.before (resumed c.args.machine.now c.args.taken c.args.before)
-    c.straight.machine c.do_if_pair-did.new.frames c.reach_after-reach-then-jumps-3.result c.done-counted.result
-    (straight-within c.args.program.now g.M.Memory.choose c.args.steps c.args.before (resumed c.args.machine.now c.args.taken c.args.before) c.straight.machine c.straight.frames c.straight.reach c.done-counted.result
-    c.requires.run c.done-counted.ensures c.straight.invariant).2
-    (straight-over c.args.program.now g.M.Memory.choose c.args.steps c.args.before (resumed c.args.machine.now c.args.taken c.args.before) c.straight.machine c.straight.frames c.straight.reach c.done-counted.result
-    c.args.method.0 c.straight.machine c.do_if_pair-did.new.frames c.do_if_pair-did.result c.requires.run c.births-lawful.ensures.lawful c.births-lawful.ensures.sound
-    c.done-counted.ensures c.straight.invariant
-    (group-flowed c.args.program.now g.M.Memory.choose c.args.steps c.args.method.0 c.straight.machine c.straight.frames c.done-counted.result c.do_if_pair-did.new.frames
-    c.in-Some.insn.now c.do_if_pair-did.result c.in-Some.ensures.next (λ told. c.do_if_pair-did.ensures.did told c.args.program.now c.args.method.0) c.do_if_pair-did.ensures.same)
-    (c.jumps-in-IfIcmpeq.ensures told))
-    c.reach_after-reach-then-jumps-3.ensures.exact c.reach_after-reach-then-jumps-3.ensures.there (omega (arith, c.if-reach-steps-4.false))
-
-pub straight-smaller-then-jumps-3 : goal.straight-smaller-then-jumps-3
-straight-smaller-then-jumps-3 g c =
-    let less = (straight-within c.args.program.now g.M.Memory.choose c.args.steps c.args.before (resumed c.args.machine.now c.args.taken c.args.before) c.straight.machine c.straight.frames c.straight.reach c.done-counted.result
-    c.requires.run c.done-counted.ensures c.straight.invariant).0 in
-    let was = c.done-counted.ensures in
-    let is = c.reach_after-reach-then-jumps-3.ensures.exact in
-    omega (arith, less, was, is)
-
--- ---- a jump by do_if_int
-
-pub reach_after-reach-requires-then-jumps-4-clause-few : goal.reach_after-reach-requires-then-jumps-4-clause-few
-reach_after-reach-requires-then-jumps-4-clause-few g c = omega (arith, c.straight.invariant.within, c.requires.few)
-
-pub reach_after-reach-requires-then-jumps-4-clause-before : goal.reach_after-reach-requires-then-jumps-4-clause-before
-reach_after-reach-requires-then-jumps-4-clause-before g c =
-    subst (λ item. item < 65536) (sym c.next_item-item.ensures)
-    (straight-below c.args.program.now g.M.Memory.choose c.args.steps c.args.before (resumed c.args.machine.now c.args.taken c.args.before) c.straight.machine c.straight.frames c.straight.reach
-    c.requires.run c.straight.invariant)
-
-pub reach_after-reach-requires-then-jumps-4-clause-was : goal.reach_after-reach-requires-then-jumps-4-clause-was
-reach_after-reach-requires-then-jumps-4-clause-was g c =
-    subst (λ item. c.straight.reach + item ≡ c.done-counted.result + 65536) (sym c.next_item-item.ensures)
-    (straight-within c.args.program.now g.M.Memory.choose c.args.steps c.args.before (resumed c.args.machine.now c.args.taken c.args.before) c.straight.machine c.straight.frames c.straight.reach c.done-counted.result
-    c.requires.run c.done-counted.ensures c.straight.invariant).1
-
-pub reach_after-reach-requires-then-jumps-4-clause-inside : goal.reach_after-reach-requires-then-jumps-4-clause-inside
-reach_after-reach-requires-then-jumps-4-clause-inside g c =
-    let told : c.jumps-in-Ifeq.result ≡ true = search rules in
-    let went = straight-over c.args.program.now g.M.Memory.choose c.args.steps c.args.before (resumed c.args.machine.now c.args.taken c.args.before) c.straight.machine c.straight.frames c.straight.reach c.done-counted.result
-    c.args.method.0 c.straight.machine c.do_if_int-did.new.frames c.do_if_int-did.result c.requires.run c.births-lawful.ensures.lawful c.births-lawful.ensures.sound
-    c.done-counted.ensures c.straight.invariant
-    (group-flowed c.args.program.now g.M.Memory.choose c.args.steps c.args.method.0 c.straight.machine c.straight.frames c.done-counted.result c.do_if_int-did.new.frames
-    c.in-Some.insn.now c.do_if_int-did.result c.in-Some.ensures.next (λ told. c.do_if_int-did.ensures.did told c.args.program.now c.args.method.0) c.do_if_int-did.ensures.same)
-    (c.jumps-in-Ifeq.ensures told) in
-    flat-below c.args.program.now c.args.steps (resumed c.straight.machine c.do_if_int-did.new.frames (c.done-counted.result + 1)) c.requires.run went.keeps went.on
-
-pub returns-then-reach-steps-5-clause-went : goal.returns-then-reach-steps-5-clause-went
-returns-then-reach-steps-5-clause-went g c =
-    let told : c.jumps-in-Ifeq.result ≡ true = search rules in
-    straight-over c.args.program.now g.M.Memory.choose c.args.steps c.args.before (resumed c.args.machine.now c.args.taken c.args.before) c.straight.machine c.straight.frames c.straight.reach c.done-counted.result
-    c.args.method.0 c.straight.machine c.do_if_int-did.new.frames c.do_if_int-did.result c.requires.run c.births-lawful.ensures.lawful c.births-lawful.ensures.sound
-    c.done-counted.ensures c.straight.invariant
-    (group-flowed c.args.program.now g.M.Memory.choose c.args.steps c.args.method.0 c.straight.machine c.straight.frames c.done-counted.result c.do_if_int-did.new.frames
-    c.in-Some.insn.now c.do_if_int-did.result c.in-Some.ensures.next (λ told. c.do_if_int-did.ensures.did told c.args.program.now c.args.method.0) c.do_if_int-did.ensures.same)
-    (c.jumps-in-Ifeq.ensures told)
-
-pub returns-then-reach-steps-5-clause-more : goal.returns-then-reach-steps-5-clause-more
-returns-then-reach-steps-5-clause-more g c =
-    let more = (straight-within c.args.program.now g.M.Memory.choose c.args.steps c.args.before (resumed c.args.machine.now c.args.taken c.args.before) c.straight.machine c.straight.frames c.straight.reach c.done-counted.result
-    c.requires.run c.done-counted.ensures c.straight.invariant).2 in
-    omega (arith, more)
-
-pub straight-preserved-then-jumps-4 : goal.straight-preserved-then-jumps-4
-straight-preserved-then-jumps-4 g c =
-    let told : c.jumps-in-Ifeq.result ≡ true = search rules in
-    straight-jumped c.args.program.now g.M.Memory.choose c.args.steps c.args.before (resumed c.args.machine.now c.args.taken c.args.before)
-    c.straight.machine c.do_if_int-did.new.frames c.reach_after-reach-then-jumps-4.result c.done-counted.result
-    (straight-within c.args.program.now g.M.Memory.choose c.args.steps c.args.before (resumed c.args.machine.now c.args.taken c.args.before) c.straight.machine c.straight.frames c.straight.reach c.done-counted.result
-    c.requires.run c.done-counted.ensures c.straight.invariant).2
-    (straight-over c.args.program.now g.M.Memory.choose c.args.steps c.args.before (resumed c.args.machine.now c.args.taken c.args.before) c.straight.machine c.straight.frames c.straight.reach c.done-counted.result
-    c.args.method.0 c.straight.machine c.do_if_int-did.new.frames c.do_if_int-did.result c.requires.run c.births-lawful.ensures.lawful c.births-lawful.ensures.sound
-    c.done-counted.ensures c.straight.invariant
-    (group-flowed c.args.program.now g.M.Memory.choose c.args.steps c.args.method.0 c.straight.machine c.straight.frames c.done-counted.result c.do_if_int-did.new.frames
-    c.in-Some.insn.now c.do_if_int-did.result c.in-Some.ensures.next (λ told. c.do_if_int-did.ensures.did told c.args.program.now c.args.method.0) c.do_if_int-did.ensures.same)
-    (c.jumps-in-Ifeq.ensures told))
-    c.reach_after-reach-then-jumps-4.ensures.exact c.reach_after-reach-then-jumps-4.ensures.there (omega (arith, c.if-reach-steps-5.false))
-
-pub straight-smaller-then-jumps-4 : goal.straight-smaller-then-jumps-4
-straight-smaller-then-jumps-4 g c =
-    let less = (straight-within c.args.program.now g.M.Memory.choose c.args.steps c.args.before (resumed c.args.machine.now c.args.taken c.args.before) c.straight.machine c.straight.frames c.straight.reach c.done-counted.result
-    c.requires.run c.done-counted.ensures c.straight.invariant).0 in
-    let was = c.done-counted.ensures in
-    let is = c.reach_after-reach-then-jumps-4.ensures.exact in
-    omega (arith, less, was, is)
-
 -- ---- the next item
 
 pub returns-then-not-did-clause-went : goal.returns-then-not-did-clause-went
 returns-then-not-did-clause-went g c =
-    let none : c.match-quick.did ≡ false = search rules in
+    let none : c.match-done.did ≡ false = search rules in
     straight-stays c.args.program.now g.M.Memory.choose c.args.steps c.args.before (resumed c.args.machine.now c.args.taken c.args.before) c.straight.machine c.straight.frames c.straight.reach c.done-counted.result
-    c.args.method.0 c.match-quick.machine c.match-quick.frames c.match-quick.did c.done-counted.ensures c.straight.invariant
+    c.args.method.0 c.match-done.machine c.match-done.frames c.match-done.did c.done-counted.ensures c.straight.invariant
     (arms g (goal.at.returns-then-not-did-clause-went g c).After-births-births) none
 
 pub returns-then-not-did-clause-more : goal.returns-then-not-did-clause-more
@@ -456,11 +290,17 @@ returns-then-not-did-clause-more g c =
     (straight-within c.args.program.now g.M.Memory.choose c.args.steps c.args.before (resumed c.args.machine.now c.args.taken c.args.before) c.straight.machine c.straight.frames c.straight.reach c.done-counted.result
     c.requires.run c.done-counted.ensures c.straight.invariant).2
 
+pub overflow_add-result-then-place-after : goal.overflow_add-result-then-place-after
+overflow_add-result-then-place-after g c =
+    let less = (straight-within c.args.program.now g.M.Memory.choose c.args.steps c.args.before (resumed c.args.machine.now c.args.taken c.args.before) c.straight.machine c.straight.frames c.straight.reach c.done-counted.result
+    c.requires.run c.done-counted.ensures c.straight.invariant).0 in
+    omega (arith, less, c.requires.few)
+
 pub returns-then-place-after-clause-went : goal.returns-then-place-after-clause-went
 returns-then-place-after-clause-went g c =
-    let did : c.match-quick.did ≡ true = search rules in
+    let did : c.match-done.did ≡ true = search rules in
     straight-over c.args.program.now g.M.Memory.choose c.args.steps c.args.before (resumed c.args.machine.now c.args.taken c.args.before) c.straight.machine c.straight.frames c.straight.reach c.done-counted.result
-    c.args.method.0 c.match-quick.machine c.match-quick.frames c.match-quick.did c.requires.run c.births-births.ensures.lawful c.births-births.ensures.sound
+    c.args.method.0 c.match-done.machine c.match-done.frames c.match-done.did c.requires.run c.births-births.ensures.lawful c.births-births.ensures.sound
     c.done-counted.ensures c.straight.invariant (arms g (goal.at.returns-then-place-after-clause-went g c).After-births-births) did
 
 pub returns-then-place-after-clause-more : goal.returns-then-place-after-clause-more
@@ -471,14 +311,14 @@ returns-then-place-after-clause-more g c =
 
 pub straight-preserved : goal.straight-preserved
 straight-preserved g c =
-    let did : c.match-quick.did ≡ true = search rules in
+    let did : c.match-done.did ≡ true = search rules in
     let before = c.next_item-item.ensures in
     let after = c.next_item-place.ensures in
     let same = c.if-place-after.false in
     straight-next c.args.program.now g.M.Memory.choose c.args.steps c.args.before (resumed c.args.machine.now c.args.taken c.args.before) c.straight.machine c.straight.frames c.straight.reach c.done-counted.result
-    c.match-quick.machine c.match-quick.frames c.requires.run c.done-counted.ensures c.straight.invariant
+    c.match-done.machine c.match-done.frames c.requires.run c.done-counted.ensures c.straight.invariant
     (straight-over c.args.program.now g.M.Memory.choose c.args.steps c.args.before (resumed c.args.machine.now c.args.taken c.args.before) c.straight.machine c.straight.frames c.straight.reach c.done-counted.result
-    c.args.method.0 c.match-quick.machine c.match-quick.frames c.match-quick.did c.requires.run c.births-births.ensures.lawful c.births-births.ensures.sound
+    c.args.method.0 c.match-done.machine c.match-done.frames c.match-done.did c.requires.run c.births-births.ensures.lawful c.births-births.ensures.sound
     c.done-counted.ensures c.straight.invariant (arms g (goal.at.straight-preserved g c).After-births-births) did)
     (omega (arith, before, after, same))
 
@@ -490,5 +330,5 @@ straight-smaller g c =
     let before = c.next_item-item.ensures in
     let after = c.next_item-place.ensures in
     let same = c.if-place-after.false in
-    let there : item_in c.match-quick.frames ≡ item_in c.straight.frames + 1 = omega (arith, before, after, same) in
+    let there : item_in c.match-done.frames ≡ item_in c.straight.frames + 1 = omega (arith, before, after, same) in
     omega (arith, was.0, was.1, is, there)

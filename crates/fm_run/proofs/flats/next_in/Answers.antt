@@ -1,19 +1,9 @@
-use Rattle.std.proofs.Common.{◌≡◌, ◌<◌, List, Some, length, option_map, slice_get, sym, subst, ap, ◌∙◌, rules}
-use Rattle.fm_code.specs.declared.code_array.Item.{Item}
+use Rattle.std.proofs.Common.{◌≡◌, ◌<◌, Some, option_map, sym, subst, ap, ◌∙◌, rules}
 use Rattle.fm_fast.specs.Flows.{resumed}
 use Rattle.fm_frames.specs.inner.Frames.{place, place_of, topmost}
-use Rattle.fm_run.proofs.FlatSteps.{flat-fits, flat-inside, flat-next}
+use Rattle.fm_run.proofs.FlatSteps.{flat-fits, flat-found, flat-inside, flat-next}
 use Rattle.fm_run.proofs.QuickSteps.{quick-at, quicks-long}
 use Rattle.fm_run.proofs.flats.next_in.Goals as goal
-
-pub insn_among-insn-requires : goal.insn_among-insn-requires
-insn_among-insn-requires g c =
-    let same : c.in-Some.place.method ≡ c.args.method = search rules in
-    let place_is : Some (c.args.method.0, c.in-Some.place.item) ≡ option_map place_of (topmost c.args.frames.now) =
-    ap (λ m. Some (m.0, c.in-Some.place.item)) (sym same) ∙ sym (ap (option_map place) c.in-Some.is) ∙ c.topmost.ensures in
-    subst (λ (items : List Item). c.in-Some.place.item < length items) (sym c.requires.items)
-    (flat-inside c.args.program.now c.args.steps (resumed c.args.machine.now c.args.frames.now c.args.counted) c.args.method.0 c.in-Some.place.item c.args.code.now
-    c.requires.keeps c.requires.on place_is c.requires.code)
 
 pub quick_among-requires : goal.quick_among-requires
 quick_among-requires g c =
@@ -30,15 +20,17 @@ returns-clause-fits g c =
 
 pub returns-clause-next : goal.returns-clause-next
 returns-clause-next g c =
+    let p = c.args.program.now in
+    let x = resumed c.args.machine.now c.args.frames.now c.args.counted in
+    let method = c.args.method.0 in
+    let item = c.in-Some.place.item in
+    let code = c.args.code.now in
     let same : c.in-Some.place.method ≡ c.args.method = search rules in
-    let place_is : Some (c.args.method.0, c.in-Some.place.item) ≡ option_map place_of (topmost c.args.frames.now) =
-    ap (λ m. Some (m.0, c.in-Some.place.item)) (sym same) ∙ sym (ap (option_map place) c.in-Some.is) ∙ c.topmost.ensures in
-    flat-next c.args.program.now c.args.steps (resumed c.args.machine.now c.args.frames.now c.args.counted) c.args.method.0 c.in-Some.place.item c.args.code.now
-    c.insn_among-insn.result.now c.requires.run c.requires.few c.requires.keeps c.requires.on c.requires.within place_is c.requires.code
-    (ap (λ items. option_map (λ (i : Item). i.insn) (slice_get items c.in-Some.place.item)) (sym c.requires.items) ∙ c.insn_among-insn.ensures)
-
-pub returns-clause-stands : goal.returns-clause-stands
-returns-clause-stands g c =
-    quick-at c.args.code.now.items c.args.quicks.now c.in-Some.place.item c.insn_among-insn.result.now c.quick_among.result.now c.requires.quicks
-    (ap (λ items. option_map (λ (i : Item). i.insn) (slice_get items c.in-Some.place.item)) (sym c.requires.items) ∙ c.insn_among-insn.ensures)
-    c.quick_among.ensures
+    let place_is : Some (method, item) ≡ option_map place_of (topmost c.args.frames.now) =
+    ap (λ m. Some (m.0, item)) (sym same) ∙ sym (ap (option_map place) c.in-Some.is) ∙ c.topmost.ensures in
+    let found = flat-found p c.args.steps x method item code c.requires.keeps c.requires.on place_is c.requires.code in (
+      found.0,
+      quick-at code.items c.args.quicks.now item found.0 c.quick_among.result.now c.requires.quicks found.1 c.quick_among.ensures,
+      flat-next p c.args.steps x method item code found.0 c.requires.run c.requires.few c.requires.keeps c.requires.on c.requires.within place_is c.requires.code
+          found.1,
+    )

@@ -6,77 +6,83 @@ use Rattle.fm_fast.specs.Operands.{AsksOf}
 use Rattle.fm_frames.specs.Rows.{effect_of}
 use Rattle.fm_run.proofs.FlatSteps.{row-flows}
 use Rattle.fm_run.proofs.NextSteps.{at-row}
+use Rattle.fm_run.proofs.QuickSteps.{insn-is, insn_for}
 use Rattle.fm_run.proofs.quick_rows.do_if_int.Goals as goal
-use Rattle.fm_run.specs.inner.Quicks.{StandsFor}
 
 pub if_int-requires-clause-int : goal.if_int-requires-clause-int
 if_int-requires-clause-int c =
-    let is : c.args.insn.now ≡ insn.IfInt test.Eq c.in-Ifeq.target = subst (λ q. StandsFor q c.args.insn.now) c.in-Ifeq.is c.requires.stands in
-    subst (λ i. AsksOf i c.args.frames.now) is c.requires.asks
+    let i = c.requires.asks.0 in
+    let is : i ≡ insn.IfInt test.Eq c.in-Ifeq.target = subst (λ q. i ≡ insn_for q i) c.in-Ifeq.is (insn-is i c.args.quick.now c.requires.asks.1) in
+    subst (λ i. AsksOf i c.args.frames.now) is c.requires.asks.2
 
 pub returns-in-Ifeq-clause-did : goal.returns-in-Ifeq-clause-did
 unfolding effect_of
-returns-in-Ifeq-clause-did c told p method =
-    let is : c.args.insn.now ≡ insn.IfInt test.Eq c.in-Ifeq.target = subst (λ q. StandsFor q c.args.insn.now) c.in-Ifeq.is c.requires.stands in
-    row-flows p method c.args.frames.now c.if_int.new.frames c.args.insn.now (insn.IfInt test.Eq c.in-Ifeq.target) is refl
-    (λ choose x at. c.if_int.ensures.did told p choose x (at-row p (on x c.args.frames.now) c.args.insn.now (insn.IfInt test.Eq c.in-Ifeq.target) at is))
+returns-in-Ifeq-clause-did c told p method i has =
+    let is : i ≡ insn.IfInt test.Eq c.in-Ifeq.target = subst (λ q. i ≡ insn_for q i) c.in-Ifeq.is (insn-is i c.args.quick.now has) in
+    row-flows p method c.args.frames.now c.if_int.new.frames i (insn.IfInt test.Eq c.in-Ifeq.target) is refl
+    (λ choose x at. c.if_int.ensures.did told p choose x (at-row p (on x c.args.frames.now) i (insn.IfInt test.Eq c.in-Ifeq.target) at is))
 
 pub if_int-requires-in-Ifne-clause-int : goal.if_int-requires-in-Ifne-clause-int
 if_int-requires-in-Ifne-clause-int c =
-    let is : c.args.insn.now ≡ insn.IfInt test.Ne c.in-Ifne.target = subst (λ q. StandsFor q c.args.insn.now) c.in-Ifne.is c.requires.stands in
-    subst (λ i. AsksOf i c.args.frames.now) is c.requires.asks
+    let i = c.requires.asks.0 in
+    let is : i ≡ insn.IfInt test.Ne c.in-Ifne.target = subst (λ q. i ≡ insn_for q i) c.in-Ifne.is (insn-is i c.args.quick.now c.requires.asks.1) in
+    subst (λ i. AsksOf i c.args.frames.now) is c.requires.asks.2
 
 pub returns-in-Ifne-clause-did : goal.returns-in-Ifne-clause-did
 unfolding effect_of
-returns-in-Ifne-clause-did c told p method =
-    let is : c.args.insn.now ≡ insn.IfInt test.Ne c.in-Ifne.target = subst (λ q. StandsFor q c.args.insn.now) c.in-Ifne.is c.requires.stands in
-    row-flows p method c.args.frames.now c.if_int-in-Ifne.new.frames c.args.insn.now (insn.IfInt test.Ne c.in-Ifne.target) is refl
-    (λ choose x at. c.if_int-in-Ifne.ensures.did told p choose x (at-row p (on x c.args.frames.now) c.args.insn.now (insn.IfInt test.Ne c.in-Ifne.target) at is))
+returns-in-Ifne-clause-did c told p method i has =
+    let is : i ≡ insn.IfInt test.Ne c.in-Ifne.target = subst (λ q. i ≡ insn_for q i) c.in-Ifne.is (insn-is i c.args.quick.now has) in
+    row-flows p method c.args.frames.now c.if_int-in-Ifne.new.frames i (insn.IfInt test.Ne c.in-Ifne.target) is refl
+    (λ choose x at. c.if_int-in-Ifne.ensures.did told p choose x (at-row p (on x c.args.frames.now) i (insn.IfInt test.Ne c.in-Ifne.target) at is))
 
 pub if_int-requires-in-Iflt-clause-int : goal.if_int-requires-in-Iflt-clause-int
 if_int-requires-in-Iflt-clause-int c =
-    let is : c.args.insn.now ≡ insn.IfInt test.Lt c.in-Iflt.target = subst (λ q. StandsFor q c.args.insn.now) c.in-Iflt.is c.requires.stands in
-    subst (λ i. AsksOf i c.args.frames.now) is c.requires.asks
+    let i = c.requires.asks.0 in
+    let is : i ≡ insn.IfInt test.Lt c.in-Iflt.target = subst (λ q. i ≡ insn_for q i) c.in-Iflt.is (insn-is i c.args.quick.now c.requires.asks.1) in
+    subst (λ i. AsksOf i c.args.frames.now) is c.requires.asks.2
 
 pub returns-in-Iflt-clause-did : goal.returns-in-Iflt-clause-did
 unfolding effect_of
-returns-in-Iflt-clause-did c told p method =
-    let is : c.args.insn.now ≡ insn.IfInt test.Lt c.in-Iflt.target = subst (λ q. StandsFor q c.args.insn.now) c.in-Iflt.is c.requires.stands in
-    row-flows p method c.args.frames.now c.if_int-in-Iflt.new.frames c.args.insn.now (insn.IfInt test.Lt c.in-Iflt.target) is refl
-    (λ choose x at. c.if_int-in-Iflt.ensures.did told p choose x (at-row p (on x c.args.frames.now) c.args.insn.now (insn.IfInt test.Lt c.in-Iflt.target) at is))
+returns-in-Iflt-clause-did c told p method i has =
+    let is : i ≡ insn.IfInt test.Lt c.in-Iflt.target = subst (λ q. i ≡ insn_for q i) c.in-Iflt.is (insn-is i c.args.quick.now has) in
+    row-flows p method c.args.frames.now c.if_int-in-Iflt.new.frames i (insn.IfInt test.Lt c.in-Iflt.target) is refl
+    (λ choose x at. c.if_int-in-Iflt.ensures.did told p choose x (at-row p (on x c.args.frames.now) i (insn.IfInt test.Lt c.in-Iflt.target) at is))
 
 pub if_int-requires-in-Ifge-clause-int : goal.if_int-requires-in-Ifge-clause-int
 if_int-requires-in-Ifge-clause-int c =
-    let is : c.args.insn.now ≡ insn.IfInt test.Ge c.in-Ifge.target = subst (λ q. StandsFor q c.args.insn.now) c.in-Ifge.is c.requires.stands in
-    subst (λ i. AsksOf i c.args.frames.now) is c.requires.asks
+    let i = c.requires.asks.0 in
+    let is : i ≡ insn.IfInt test.Ge c.in-Ifge.target = subst (λ q. i ≡ insn_for q i) c.in-Ifge.is (insn-is i c.args.quick.now c.requires.asks.1) in
+    subst (λ i. AsksOf i c.args.frames.now) is c.requires.asks.2
 
 pub returns-in-Ifge-clause-did : goal.returns-in-Ifge-clause-did
 unfolding effect_of
-returns-in-Ifge-clause-did c told p method =
-    let is : c.args.insn.now ≡ insn.IfInt test.Ge c.in-Ifge.target = subst (λ q. StandsFor q c.args.insn.now) c.in-Ifge.is c.requires.stands in
-    row-flows p method c.args.frames.now c.if_int-in-Ifge.new.frames c.args.insn.now (insn.IfInt test.Ge c.in-Ifge.target) is refl
-    (λ choose x at. c.if_int-in-Ifge.ensures.did told p choose x (at-row p (on x c.args.frames.now) c.args.insn.now (insn.IfInt test.Ge c.in-Ifge.target) at is))
+returns-in-Ifge-clause-did c told p method i has =
+    let is : i ≡ insn.IfInt test.Ge c.in-Ifge.target = subst (λ q. i ≡ insn_for q i) c.in-Ifge.is (insn-is i c.args.quick.now has) in
+    row-flows p method c.args.frames.now c.if_int-in-Ifge.new.frames i (insn.IfInt test.Ge c.in-Ifge.target) is refl
+    (λ choose x at. c.if_int-in-Ifge.ensures.did told p choose x (at-row p (on x c.args.frames.now) i (insn.IfInt test.Ge c.in-Ifge.target) at is))
 
 pub if_int-requires-in-Ifgt-clause-int : goal.if_int-requires-in-Ifgt-clause-int
 if_int-requires-in-Ifgt-clause-int c =
-    let is : c.args.insn.now ≡ insn.IfInt test.Gt c.in-Ifgt.target = subst (λ q. StandsFor q c.args.insn.now) c.in-Ifgt.is c.requires.stands in
-    subst (λ i. AsksOf i c.args.frames.now) is c.requires.asks
+    let i = c.requires.asks.0 in
+    let is : i ≡ insn.IfInt test.Gt c.in-Ifgt.target = subst (λ q. i ≡ insn_for q i) c.in-Ifgt.is (insn-is i c.args.quick.now c.requires.asks.1) in
+    subst (λ i. AsksOf i c.args.frames.now) is c.requires.asks.2
 
 pub returns-in-Ifgt-clause-did : goal.returns-in-Ifgt-clause-did
 unfolding effect_of
-returns-in-Ifgt-clause-did c told p method =
-    let is : c.args.insn.now ≡ insn.IfInt test.Gt c.in-Ifgt.target = subst (λ q. StandsFor q c.args.insn.now) c.in-Ifgt.is c.requires.stands in
-    row-flows p method c.args.frames.now c.if_int-in-Ifgt.new.frames c.args.insn.now (insn.IfInt test.Gt c.in-Ifgt.target) is refl
-    (λ choose x at. c.if_int-in-Ifgt.ensures.did told p choose x (at-row p (on x c.args.frames.now) c.args.insn.now (insn.IfInt test.Gt c.in-Ifgt.target) at is))
+returns-in-Ifgt-clause-did c told p method i has =
+    let is : i ≡ insn.IfInt test.Gt c.in-Ifgt.target = subst (λ q. i ≡ insn_for q i) c.in-Ifgt.is (insn-is i c.args.quick.now has) in
+    row-flows p method c.args.frames.now c.if_int-in-Ifgt.new.frames i (insn.IfInt test.Gt c.in-Ifgt.target) is refl
+    (λ choose x at. c.if_int-in-Ifgt.ensures.did told p choose x (at-row p (on x c.args.frames.now) i (insn.IfInt test.Gt c.in-Ifgt.target) at is))
 
 pub if_int-requires-in-Ifle-clause-int : goal.if_int-requires-in-Ifle-clause-int
 if_int-requires-in-Ifle-clause-int c =
-    let is : c.args.insn.now ≡ insn.IfInt test.Le c.in-Ifle.target = subst (λ q. StandsFor q c.args.insn.now) c.in-Ifle.is c.requires.stands in
-    subst (λ i. AsksOf i c.args.frames.now) is c.requires.asks
+    let i = c.requires.asks.0 in
+    let is : i ≡ insn.IfInt test.Le c.in-Ifle.target = subst (λ q. i ≡ insn_for q i) c.in-Ifle.is (insn-is i c.args.quick.now c.requires.asks.1) in
+    subst (λ i. AsksOf i c.args.frames.now) is c.requires.asks.2
 
 pub returns-in-Ifle-clause-did : goal.returns-in-Ifle-clause-did
 unfolding effect_of
-returns-in-Ifle-clause-did c told p method =
-    let is : c.args.insn.now ≡ insn.IfInt test.Le c.in-Ifle.target = subst (λ q. StandsFor q c.args.insn.now) c.in-Ifle.is c.requires.stands in
-    row-flows p method c.args.frames.now c.if_int-in-Ifle.new.frames c.args.insn.now (insn.IfInt test.Le c.in-Ifle.target) is refl
-    (λ choose x at. c.if_int-in-Ifle.ensures.did told p choose x (at-row p (on x c.args.frames.now) c.args.insn.now (insn.IfInt test.Le c.in-Ifle.target) at is))
+returns-in-Ifle-clause-did c told p method i has =
+    let is : i ≡ insn.IfInt test.Le c.in-Ifle.target = subst (λ q. i ≡ insn_for q i) c.in-Ifle.is (insn-is i c.args.quick.now has) in
+    row-flows p method c.args.frames.now c.if_int-in-Ifle.new.frames i (insn.IfInt test.Le c.in-Ifle.target) is refl
+    (λ choose x at. c.if_int-in-Ifle.ensures.did told p choose x (at-row p (on x c.args.frames.now) i (insn.IfInt test.Le c.in-Ifle.target) at is))
