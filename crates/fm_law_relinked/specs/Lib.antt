@@ -1,3 +1,4 @@
+pub mod Calling
 pub mod Again
 pub mod Rows
 pub mod Codes
