@@ -7,7 +7,7 @@ use Rattle.std.proofs.lemmas.List.Elements.{filter_map-append}
 use Rattle.std.proofs.lemmas.List.Folds.{list_any-append}
 use Rattle.fm_law_relinked.proofs.LaidLists.{chained_listed, IsView}
 use Rattle.fm_law_relinked.specs.Calling.{grown, Grows, IsCall}
-use Rattle.fm_chain.specs.Chained.{anchors_of, chained, has_chain, holds_chain, looped_at}
+use Rattle.fm_chain.specs.Chained.{anchors_of, chained, has_chain, holds_chain}
 use Rattle.fm_chain.specs.Chaining.{chained_attribute, chained_method, chained_methods, plan_has_chain}
 use Rattle.fm_chain.specs.declared.calls.Calls.{Calls}
 use Rattle.fm_code.specs.declared.class_file.ClassDef.{ClassDef}
@@ -151,7 +151,7 @@ special_view chains calls =
 
 -- ---- holders of chains
 
-chain_in : (holders : List Holder) (h : ℕ) → holds_chain (slice_get holders h) ≡ true → list_any (λ (g : Holder). g.looped) holders ≡ true
+pub chain_in : (holders : List Holder) (h : ℕ) → holds_chain (slice_get holders h) ≡ true → list_any (λ (g : Holder). g.looped) holders ≡ true
 chain_in [] zero looped = absurd (false≢true looped)
 chain_in [] (suc h) looped = absurd (false≢true looped)
 chain_in (g ∷ holders) zero looped = ap (λ b. b || list_any (λ (x : Holder). x.looped) holders) looped

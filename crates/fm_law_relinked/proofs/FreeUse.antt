@@ -68,8 +68,8 @@ has_free numbered given main = record {
 -- ---- an entry that names a method of FreeMe
 
 -- its use
-abbrev pub use_by : Called → Use
-use_by m = method_use free_class_number (number_of m)
+abbrev pub called_use : Called → Use
+called_use m = method_use free_class_number (number_of m)
 
 module _ (o : Outline) (has : HasFree o) (m : Called) (entries : List Entry) (index class member : ℕ) (is : entry_at entries index ≡ entry.Method class member)
     (named : named_member entries index ≡ Some (method_of m)) where
@@ -83,7 +83,7 @@ module _ (o : Outline) (has : HasFree o) (m : Called) (entries : List Entry) (in
       ap (λ n. option_and_then (type_number o.types) (option_and_then (λ (name : List ℕ). type_in o.classes (class_type name)) n)) class_named
       ∙ ap (option_and_then (type_number o.types)) has.type ∙ has.number
 
-  pub call_resolved : resolved_at o entries index ≡ use_by m
+  pub call_resolved : resolved_at o entries index ≡ called_use m
   call_resolved =
       resolved_at-by o entries index ∙ ap (resolved_by o entries index) is
       ∙ (λ k. with_number (λ type. with_number (method_use type) (option_and_then (resolved_method o.classes) (named k))) (type_named k))
@@ -93,9 +93,9 @@ module _ (o : Outline) (has : HasFree o) (m : Called) (entries : List Entry) (in
 
 -- a use that is none, or that of the method
 abbrev pub NoneOr : Called → Use → Type 0
-NoneOr m u = (u ≡ resolved.Unused) ⊎ (u ≡ use_by m)
+NoneOr m u = (u ≡ resolved.Unused) ⊎ (u ≡ called_use m)
 
-if_used : (m : Called) (b : Bool) (u : Use) → u ≡ use_by m → NoneOr m (cond b u resolved.Unused)
+if_used : (m : Called) (b : Bool) (u : Use) → u ≡ called_use m → NoneOr m (cond b u resolved.Unused)
 if_used m true u is = inr is
 if_used m false u is = inl refl
 
@@ -146,7 +146,7 @@ type_found types number =
     slice_get-get_or types free_class_number free_type found.0
     ∙ ap (λ (t : TypeRef). Some t) (sym (same_type-eq free_type (get_or types free_class_number free_type) found.1))
 
-is_use : (given : List ClassDef) (main : List ℕ) → HasFree (outline_of given main) → (m : Called) (u : Use) → u ≡ use_by m
+is_use : (given : List ClassDef) (main : List ℕ) → HasFree (outline_of given main) → (m : Called) (u : Use) → u ≡ called_use m
     → IsUseOf (outline_of given main) m u
 is_use given main has m u is = record {
   class = free_class_number;

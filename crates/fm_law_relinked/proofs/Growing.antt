@@ -5,7 +5,6 @@ use Rattle.std.proofs.lemmas.Bool.{false≢true, or_right}
 use Rattle.fm_chain.proofs.ChainEntriesAdded.{calls_are_named}
 use Rattle.fm_chain.specs.ChainEntries.{sought_chain}
 use Rattle.fm_chain.specs.Chaining.{calls_for, chained_class, chained_methods, changed_class, class_calls, class_has_chain, entries_for, plan_has_chain}
-use Rattle.fm_chain.specs.declared.calls.Calls.{Calls}
 use Rattle.fm_code.specs.ConstantPool.{method_ref_at}
 use Rattle.fm_code.specs.FreeEntries.{sought_free, with_free}
 use Rattle.fm_code.specs.declared.class_file.ClassDef.{ClassDef}
