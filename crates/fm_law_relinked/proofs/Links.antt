@@ -9,7 +9,7 @@ use Rattle.fm_law_relinked.proofs.Growing.{either_class, grows, more}
 use Rattle.fm_law_relinked.proofs.Outlines.{all_listed, classes_same, outline_same}
 use Rattle.fm_law_relinked.specs.Again.{SafeClassesLink}
 use Rattle.fm_chain.proofs.WithoutChains.{classes_are_rewritten, none_looped}
-use Rattle.fm_chain.specs.Chaining.{chained_class, chained_classes, chained_from, class_calls, class_has_chain, plan_has_chain}
+use Rattle.fm_chain.specs.Chaining.{chained_class, chained_classes, chained_from, chained_marks_with, class_calls, class_has_chain, plan_has_chain}
 use Rattle.fm_code.specs.Spells.{HasSpelling}
 use Rattle.fm_code.specs.declared.class_file.ClassDef.{ClassDef}
 use Rattle.fm_place.specs.Insertions.{Insertions}
@@ -121,6 +121,11 @@ pub written_chained : (p : Program) (given written : List ClassDef) (marks : Lis
     → written ≡ chained_classes safe.plans given
 written_chained p given written marks safe =
     safe.written_is ∙ sym (classes_are_rewritten safe.plans (none_has p given written marks safe) given).classes_are
+
+pub marks_chained : (p : Program) (given written : List ClassDef) (marks : List (List (Option ℕ))) (safe : SafeOf p given written marks)
+    → marks ≡ chained_marks_with safe.plans given
+marks_chained p given written marks safe =
+    safe.marks_are ∙ sym (classes_are_rewritten safe.plans (none_has p given written marks safe) given).marks_are
 
 pub safe_link : SafeClassesLink
 safe_link given main p written marks spelled none safe =
