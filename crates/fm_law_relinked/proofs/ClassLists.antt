@@ -1,13 +1,13 @@
 -- What the instructions of a class with insertions name, make and call, against those of the old class.
-use Rattle.std.proofs.Common.{◌≡◌, refl, sym, ◌∙◌, ap, subst, ℕ, zero, suc, ◌+◌, ◌<◌, Bool, true, false, cond, ◌||◌, List, [], ◌∷◌, ◌++◌, length, map, nat_eq, Option, Some, None, arith}
-use Rattle.std.specs.Prelude.{slice_get}
+use Rattle.std.proofs.Common.{◌≡◌, refl, sym, ◌∙◌, ap, subst, ℕ, suc, ◌+◌, ◌<◌, Bool, true, false, cond, ◌||◌, List, [], ◌∷◌, ◌++◌, length, map, nat_eq, Option, Some, None, arith}
 use Rattle.std.specs.List.{cons_option, filter_map, flat_map, list_any}
-use Rattle.std.proofs.lemmas.Bool.{false≢true, or_right}
+use Rattle.std.proofs.lemmas.Bool.{false≢true}
 use Rattle.std.proofs.lemmas.List.Elements.{filter_map-append}
 use Rattle.std.proofs.lemmas.List.Folds.{list_any-append}
 use Rattle.fm_law_relinked.proofs.LaidLists.{chained_listed, IsView}
-use Rattle.fm_law_relinked.specs.Calling.{grown, Grows, IsCall}
-use Rattle.fm_chain.specs.Chained.{anchors_of, chained, has_chain, holds_chain}
+use Rattle.fm_law_spelled.proofs.Growing.{chain_in}
+use Rattle.fm_law_spelled.specs.Calling.{grown, Grows, IsCall}
+use Rattle.fm_chain.specs.Chained.{anchors_of, chained, has_chain}
 use Rattle.fm_chain.specs.Chaining.{chained_attribute, chained_method, chained_methods, plan_has_chain}
 use Rattle.fm_chain.specs.declared.calls.Calls.{Calls}
 use Rattle.fm_code.specs.declared.class_file.ClassDef.{ClassDef}
@@ -24,7 +24,7 @@ use Rattle.fm_link_names.proofs.WantLemmas.{names_it}
 use Rattle.fm_layout.proofs.StillLemmas.{names_target}
 use Rattle.fm_layout.specs.Laid.{laid_of}
 use Rattle.fm_layout.specs.Tables.{moved_handler}
-use Rattle.fm_place.specs.Insertions.{Holder, Insertions}
+use Rattle.fm_place.specs.Insertions.{Insertions}
 use Rattle.fm_place.specs.Rewriting.{Plans}
 use Rattle.fm_world.specs.Causes.{differs, static_field_wanted, static_method_wanted, wanted_at}
 use Rattle.fm_world.specs.Chains.{is_among}
@@ -148,14 +148,6 @@ array_view chains calls classes entries = record {
 special_view : (chains : Bool) (calls : Calls) → IsView chains calls special_operand
 special_view chains calls =
     record { branches = special_branch; null = refl; doubled = refl; load = λ k. refl; store = λ k. refl; call = λ called may. refl }
-
--- ---- holders of chains
-
-pub chain_in : (holders : List Holder) (h : ℕ) → holds_chain (slice_get holders h) ≡ true → list_any (λ (g : Holder). g.looped) holders ≡ true
-chain_in [] zero looped = absurd (false≢true looped)
-chain_in [] (suc h) looped = absurd (false≢true looped)
-chain_in (g ∷ holders) zero looped = ap (λ b. b || list_any (λ (x : Holder). x.looped) holders) looped
-chain_in (g ∷ holders) (suc h) looped = or_right g.looped (list_any (λ (x : Holder). x.looped) holders) (chain_in holders h looped)
 
 -- ---- the items of a class
 

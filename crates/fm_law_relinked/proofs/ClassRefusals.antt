@@ -4,7 +4,7 @@ use Rattle.std.specs.List.{AllByRecursion, cons_option, filter, filter_map, flat
 use Rattle.std.proofs.lemmas.Grind.{flat_map-append}
 use Rattle.std.proofs.lemmas.List.{append-nil}
 use Rattle.fm_law_relinked.proofs.ClassLists.{fields_wanted, instances_wanted, methods_wanted, special_operand, specials_same}
-use Rattle.fm_law_relinked.proofs.ClassStays.{call_or_not, class_of_called, is_other, name_is, superclass_within, text_same, that_index, uses_alike}
+use Rattle.fm_law_relinked.proofs.ClassStays.{call_or_not, is_other, name_is, superclass_within, text_same, that_index, uses_alike}
 use Rattle.fm_law_relinked.proofs.FreeMethod.{free_class_number, KnowsFree}
 use Rattle.fm_law_relinked.proofs.PoolStays.{class_same, entry_same, member_same, method_class, method_entry, method_named, name_same}
 use Rattle.fm_law_relinked.proofs.UsedWithin.{all_items_valid, below_option, flat_map-below, indices_below, insn_below, IsBelow, unused_past, uses_below}
@@ -23,7 +23,8 @@ use Rattle.fm_code.specs.declared.code_array.Item.{Item}
 use Rattle.fm_code.specs.declared.constant_pool.Entry.{Entry}
 use Rattle.fm_code.specs.declared.instructions.Insn.{Insn}
 use Rattle.fm_code.specs.declared.instructions.Insn.TheVariants as insn
-use Rattle.fm_law_relinked.specs.Calling.{Called, entry_of, grown, Grows, IsCall, MayCall, method_of}
+use Rattle.fm_law_spelled.proofs.Growing.{class_of_called}
+use Rattle.fm_law_spelled.specs.Calling.{Called, entry_of, grown, Grows, IsCall, MayCall, method_of}
 use Rattle.fm_place.specs.Insertions.{Insertions}
 use Rattle.fm_place.specs.Rewriting.{Plans}
 use Rattle.fm_link_refusals.proofs.ParentNames.{parents_all, unused}

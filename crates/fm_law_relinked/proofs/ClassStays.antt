@@ -11,7 +11,8 @@ use Rattle.fm_law_relinked.proofs.FreeMethod.{free_type}
 use Rattle.fm_law_relinked.proofs.PassedOver.{filter_map-kept, filters_agree, none_in_range, values_kept}
 use Rattle.fm_law_relinked.proofs.PoolStays.{class_stays, constant_same, method_class, method_no_units, name_same, text_stays, type_same, units_same}
 use Rattle.fm_law_relinked.proofs.UsedWithin.{all_items_valid, class_below, filter_map-below, such_there, unused_past, uses_below, value_within}
-use Rattle.fm_law_relinked.specs.Calling.{Called, CallsChain, CallsFree, CallsLink, entry_of, grown, Grows, IsCall, MayCall, method_of}
+use Rattle.fm_law_spelled.proofs.Growing.{class_of_called}
+use Rattle.fm_law_spelled.specs.Calling.{Called, CallsChain, CallsFree, CallsLink, entry_of, grown, Grows, IsCall, MayCall, method_of}
 use Rattle.fm_base.proofs.OptionFacts.{IsSome-from_some, Some-from_some_and, same_value}
 use Rattle.fm_base.proofs.TestFacts.{same-nat_eq}
 use Rattle.fm_base.specs.declared.kinds.TypeRef.{TypeRef}
@@ -102,11 +103,6 @@ call_or_not chains calls index = by_test (is_other chains calls index) refl wher
   by_test : (b : Bool) → is_other chains calls index ≡ b → IsCall chains calls index ⊎ (IsCall chains calls index → ⊥)
   by_test true other = inr (other_index chains calls index other)
   by_test false is = inl (that_index chains calls index is)
-
-pub class_of_called : (m : Called) → (method_of m).class ≡ free_class
-class_of_called CallsFree = refl
-class_of_called CallsLink = refl
-class_of_called CallsChain = refl
 
 -- ---- what members declare
 

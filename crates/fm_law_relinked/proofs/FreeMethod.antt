@@ -10,7 +10,7 @@ use Rattle.fm_chain.specs.ChainEntries.{chain_name, link_descriptor, link_name}
 use Rattle.fm_code.specs.AccessFlags.{is_static}
 use Rattle.fm_code.specs.FreeEntries.{free_class, free_descriptor, free_name}
 use Rattle.fm_code.specs.declared.class_file.ClassDef.{ClassDef}
-use Rattle.fm_law_relinked.specs.Calling.{Called, CallsChain, CallsFree, CallsLink, method_of}
+use Rattle.fm_law_spelled.specs.Calling.{Called, CallsChain, CallsFree, CallsLink, method_of}
 use Rattle.fm_types.proofs.LeastJoins.{same_type-refl}
 use Rattle.fm_world.specs.BuiltIns.{buffer_methods, builder_methods, built_in, input_stream_methods, object_methods, print_stream_methods, string_methods, system_methods, throwable_methods}
 use Rattle.fm_world.specs.Causes.{method_flags}

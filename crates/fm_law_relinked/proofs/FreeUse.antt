@@ -6,14 +6,13 @@ use Rattle.std.proofs.lemmas.List.Quantifiers.{position-Some}
 use Rattle.std.proofs.lemmas.Option.{slice_get-get_or}
 use Rattle.fm_world.proofs.Completions.{count_is}
 use Rattle.fm_link_supers.proofs.ParentRefusals.{spelled_at}
-use Rattle.fm_law_relinked.proofs.ClassStays.{class_of_called}
 use Rattle.fm_law_relinked.proofs.FreeMethod.{class_number_is, free_class_number, free_type, method_found, number_of, type_is}
-use Rattle.fm_law_relinked.proofs.Growing.{either_class, grown_class, grows, more}
+use Rattle.fm_law_spelled.proofs.Growing.{class_of_called, either_class, grown_class, grows, more}
 use Rattle.fm_law_relinked.proofs.Outlines.{outline_same}
 use Rattle.fm_law_relinked.proofs.PoolStays.{entry_same, member_same, method_entry, method_named}
 use Rattle.fm_law_relinked.proofs.Uses.{row_past, row_within, use_at, written_at}
 use Rattle.fm_law_relinked.specs.Again.{CallsStand, first_at, IsUseOf}
-use Rattle.fm_law_relinked.specs.Calling.{Called, entry_of, MayCall, method_of}
+use Rattle.fm_law_spelled.specs.Calling.{Called, entry_of, MayCall, method_of}
 use Rattle.fm_base.specs.declared.kinds.TypeRef.{TypeRef}
 use Rattle.fm_chain.specs.Chaining.{chained_class, chained_classes, class_calls, class_has_chain}
 use Rattle.fm_code.specs.ConstantPool.{class_name_at, entry_at, MemberName, method_ref_at}

@@ -26,7 +26,7 @@ use Rattle.fm_layout.specs.declared.rooms.Condition.TheVariants as condition
 use Rattle.fm_layout.specs.declared.rooms.Room.{Room}
 use Rattle.fm_layout.specs.declared.rooms.Room.TheVariants as room
 use Rattle.fm_place.specs.Insertions.{after_at, before_at, Insertions}
-use Rattle.fm_law_relinked.specs.Calling.{CallsChain, CallsFree, CallsLink, IsCall}
+use Rattle.fm_law_spelled.specs.Calling.{CallsChain, CallsFree, CallsLink, IsCall}
 use Rattle.fm_place.specs.Woven.{freed, kept, local_of, null_stored}
 
 -- the view has nothing for instructions with targets and for what is inserted

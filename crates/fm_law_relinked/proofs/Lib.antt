@@ -5,7 +5,6 @@ pub mod UsedWithin
 pub mod ClassLists
 pub mod FreeMethod
 pub mod ClassStays
-pub mod Growing
 pub mod Outlines
 pub mod ClassRefusals
 pub mod Links

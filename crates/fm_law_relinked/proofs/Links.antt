@@ -5,7 +5,7 @@ use Rattle.std.specs.Str.{bytes_eq}
 use Rattle.fm_law_relinked.proofs.ClassRefusals.{built_in_same, classes_missing, fields_same, implemented_same, methods_same, parents_same}
 use Rattle.fm_law_relinked.proofs.ClassStays.{name_is}
 use Rattle.fm_law_relinked.proofs.FreeMethod.{knows_free}
-use Rattle.fm_law_relinked.proofs.Growing.{either_class, grows, more}
+use Rattle.fm_law_spelled.proofs.Growing.{either_class, grows, more}
 use Rattle.fm_law_relinked.proofs.Outlines.{all_listed, classes_same, outline_same}
 use Rattle.fm_law_relinked.specs.Again.{SafeClassesLink}
 use Rattle.fm_chain.proofs.WithoutChains.{classes_are_rewritten, none_looped}

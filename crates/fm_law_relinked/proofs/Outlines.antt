@@ -7,7 +7,7 @@ use Rattle.std.proofs.lemmas.Grind.{flat_map-append}
 use Rattle.std.proofs.lemmas.List.Elements.{filter-append, filter_map-append}
 use Rattle.fm_law_relinked.proofs.ClassStays.{declared_same, made_same, texts_same, types_alike}
 use Rattle.fm_law_relinked.proofs.FreeMethod.{free_type, free_type_known, type_is}
-use Rattle.fm_law_relinked.proofs.Growing.{either_class, grown_class, grows, more}
+use Rattle.fm_law_spelled.proofs.Growing.{either_class, grown_class, grows, more}
 use Rattle.fm_law_relinked.proofs.PassedOver.{distinct_without}
 use Rattle.fm_base.specs.declared.kinds.TypeRef.{TypeRef}
 use Rattle.fm_chain.specs.Chaining.{chained_class, chained_classes, chained_from, class_calls, class_has_chain}

@@ -7,7 +7,7 @@ use Rattle.std.proofs.lemmas.List.{get_or-append-add, get_or-map, get_or_past, l
 use Rattle.std.proofs.lemmas.List.FromFn.{get_or-map-range_with_len, length-map-range_with_len}
 use Rattle.std.proofs.lemmas.Option.{get_or_from_slice_get, slice_get_within}
 use Rattle.fm_law_relinked.proofs.ClassLists.{used_same}
-use Rattle.fm_law_relinked.proofs.Growing.{either_class, grown_class, grows, more}
+use Rattle.fm_law_spelled.proofs.Growing.{either_class, grown_class, grows, more}
 use Rattle.fm_law_relinked.proofs.Outlines.{outline_same}
 use Rattle.fm_law_relinked.proofs.PoolStays.{use_same}
 use Rattle.fm_law_relinked.proofs.UsedWithin.{unused_past}
@@ -17,7 +17,7 @@ use Rattle.fm_code.specs.Spells.{HasSpelling}
 use Rattle.fm_code.specs.declared.class_file.ClassDef.{ClassDef}
 use Rattle.fm_code.specs.declared.constant_pool.Entry.{Entry}
 use Rattle.fm_law_relinked.specs.Again.{first_at, UsesStay}
-use Rattle.fm_law_relinked.specs.Calling.{IsCall}
+use Rattle.fm_law_spelled.specs.Calling.{IsCall}
 use Rattle.fm_place.specs.Rewriting.{first_given, Plans}
 use Rattle.fm_world.specs.BuiltIns.{built_in}
 use Rattle.fm_world.specs.Programs.{class_uses, Outline, outline_of, program_of, resolved_at, use_of, uses_of}

@@ -5,7 +5,7 @@ use Rattle.fm_chain.specs.Chaining.{chained_classes, class_calls, class_has_chai
 use Rattle.fm_code.specs.FreeEntries.{free_class}
 use Rattle.fm_code.specs.Spells.{HasSpelling}
 use Rattle.fm_code.specs.declared.class_file.ClassDef.{ClassDef}
-use Rattle.fm_law_relinked.specs.Calling.{Called, entry_of, IsCall, MayCall, method_of}
+use Rattle.fm_law_spelled.specs.Calling.{Called, entry_of, IsCall, MayCall, method_of}
 use Rattle.fm_place.specs.Rewriting.{first_given, Plans}
 use Rattle.fm_place.specs.Safe.{SafeOf}
 use Rattle.fm_world.specs.BuiltIns.{built_in}

@@ -1,4 +1,3 @@
-pub mod Calling
 pub mod Again
 pub mod Rows
 pub mod Codes

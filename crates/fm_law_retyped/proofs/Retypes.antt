@@ -14,10 +14,10 @@ use Rattle.fm_code.specs.Edges.{Catches, falls_through, insn_of, IsEdge, IsFlowP
 use Rattle.fm_code.specs.declared.code_array.Code.{Code}
 use Rattle.fm_code.specs.declared.code_array.Handler.{Handler}
 use Rattle.fm_code.specs.declared.instructions.Insn.{Insn}
-use Rattle.fm_law_relinked.proofs.ClassLists.{chain_in}
 use Rattle.fm_law_relinked.proofs.RowSteps.{whole_with}
 use Rattle.fm_law_relinked.specs.Rows.{slot_with}
 use Rattle.fm_check_walk.proofs.MergingLemmas.{fits-from, fits-parts, state-trans}
+use Rattle.fm_law_spelled.proofs.Growing.{chain_in}
 use Rattle.fm_law_woven_flow.proofs.LaidItems.{falls-conditional}
 use Rattle.fm_law_woven_flow.specs.Roles.{DupAfter, FallsAt, Follows, FreeBefore, HasHolder, HasInsn, IsBranch, IsEntry, IsOwnerReached, JumpOf, Keep, LinkAfter, LoadAfter, LoadBefore, NullBefore, owner, Role, StartNull, StartStore, StoreAfter, StoreBefore}
 use Rattle.fm_place.proofs.SameTypings.{caught_same}

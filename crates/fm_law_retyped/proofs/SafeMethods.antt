@@ -6,12 +6,11 @@ use Rattle.std.proofs.lemmas.Bool.{cases_eq, cases_lt, eqb-true, false≢true}
 use Rattle.std.proofs.lemmas.List.{get_or_past, length-map}
 use Rattle.std.proofs.lemmas.Option.{none-some, same_Some, slice_get_within}
 use Rattle.fm_link_supers.proofs.ParentRefusals.{spelled_at}
-use Rattle.fm_law_relinked.proofs.ClassLists.{chain_in}
 use Rattle.fm_law_relinked.proofs.Codes.{codes_chained, no_code}
 use Rattle.fm_law_relinked.proofs.FreeUse.{called_use, ClassTypesAreNumbered, has_free, HasFree}
-use Rattle.fm_law_relinked.proofs.Growing.{grows}
+use Rattle.fm_law_spelled.proofs.Growing.{chain_in, grows}
 use Rattle.fm_law_relinked.proofs.Links.{written_chained}
-use Rattle.fm_law_relinked.specs.Calling.{Called, CallsChain, CallsFree, CallsLink, entry_of, MayCall}
+use Rattle.fm_law_spelled.specs.Calling.{Called, CallsChain, CallsFree, CallsLink, entry_of, MayCall}
 use Rattle.fm_law_relinked.specs.Codes.{code_with}
 use Rattle.fm_base.proofs.ContainsFacts.{Contains-cons_cases, Contains-none}
 use Rattle.fm_base.proofs.ListFacts.{AllByRecursion-at}

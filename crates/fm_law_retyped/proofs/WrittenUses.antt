@@ -9,12 +9,12 @@ use Rattle.fm_link_supers.proofs.ParentRefusals.{spelled_at}
 use Rattle.fm_chain.specs.Chaining.{chained_class, chained_classes, class_calls, class_has_chain}
 use Rattle.fm_law_relinked.proofs.ClassStays.{call_or_not}
 use Rattle.fm_law_relinked.proofs.FreeUse.{call_resolved, called_use, ClassTypesAreNumbered, has_free, HasFree}
-use Rattle.fm_law_relinked.proofs.Growing.{either_class, grown_class, grows, more}
+use Rattle.fm_law_spelled.proofs.Growing.{either_class, grown_class, grows, more}
 use Rattle.fm_law_relinked.proofs.Outlines.{outline_same}
 use Rattle.fm_law_relinked.proofs.PoolStays.{entry_same, member_same, method_entry, method_named}
 use Rattle.fm_law_relinked.proofs.UsedWithin.{unused_past}
 use Rattle.fm_law_relinked.proofs.Uses.{row_within, use_at, uses_by}
-use Rattle.fm_law_relinked.specs.Calling.{Called, entry_of, IsCall, MayCall, method_of}
+use Rattle.fm_law_spelled.specs.Calling.{Called, entry_of, IsCall, MayCall, method_of}
 use Rattle.fm_code.specs.ConstantPool.{method_ref_at}
 use Rattle.fm_code.specs.Edges.{insn_of}
 use Rattle.fm_code.specs.Members.{code_of}

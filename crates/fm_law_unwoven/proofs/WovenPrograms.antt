@@ -33,10 +33,10 @@ use Rattle.fm_law_linked.specs.Laws.{ProgramsAreResolved}
 use Rattle.fm_law_relinked.proofs.Codes.{codes_chained, no_code}
 use Rattle.fm_law_relinked.proofs.FreeMethod.{chain_method_number, free_class_number, free_method_number, free_type, link_method_number, number_of}
 use Rattle.fm_law_relinked.proofs.FreeUse.{called_use, ClassTypesAreNumbered, has_free, type_found}
-use Rattle.fm_law_relinked.proofs.Growing.{grows, more}
+use Rattle.fm_law_spelled.proofs.Growing.{grows, more}
 use Rattle.fm_law_relinked.proofs.Links.{marks_chained, written_chained}
 use Rattle.fm_law_relinked.proofs.PoolStays.{entry_same, method_entry}
-use Rattle.fm_law_relinked.specs.Calling.{Called, CallsChain, CallsFree, CallsLink, entry_of, MayCall}
+use Rattle.fm_law_spelled.specs.Calling.{Called, CallsChain, CallsFree, CallsLink, entry_of, MayCall}
 use Rattle.fm_law_relinked.specs.Codes.{code_with}
 use Rattle.fm_law_retyped.proofs.KeptRows.{same_row}
 use Rattle.fm_law_retyped.proofs.SafeMethods.{safe_can}
