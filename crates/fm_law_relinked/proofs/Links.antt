@@ -7,9 +7,10 @@ use Rattle.fm_law_relinked.proofs.ClassStays.{name_is}
 use Rattle.fm_law_relinked.proofs.FreeMethod.{knows_free}
 use Rattle.fm_law_spelled.proofs.Growing.{either_class, grows, more}
 use Rattle.fm_law_relinked.proofs.Outlines.{all_listed, classes_same, outline_same}
-use Rattle.fm_law_relinked.specs.Again.{SafeClassesLink}
+use Rattle.fm_law_relinked.specs.Again.{ChainedClassesLink, LinkAgain, SafeClassesLink}
 use Rattle.fm_chain.proofs.WithoutChains.{classes_are_rewritten, none_looped}
 use Rattle.fm_chain.specs.Chaining.{chained_class, chained_classes, chained_from, chained_marks_with, class_calls, class_has_chain, plan_has_chain}
+use Rattle.fm_chain.specs.SafeChains.{looped_plans}
 use Rattle.fm_code.specs.Spells.{HasSpelling}
 use Rattle.fm_code.specs.declared.class_file.ClassDef.{ClassDef}
 use Rattle.fm_place.specs.Insertions.{Insertions}
@@ -127,10 +128,16 @@ pub marks_chained : (p : Program) (given written : List ClassDef) (marks : List 
 marks_chained p given written marks safe =
     safe.marks_are ∙ sym (classes_are_rewritten safe.plans (none_has p given written marks safe) given).marks_are
 
+-- what is written with any plans links
+link_again : (plans : Plans) (given : List ClassDef) (main : List ℕ) (written : List ClassDef) → AllByRecursion HasSpelling given → refusals given main ≡ []
+    → written ≡ chained_classes plans given → LinkAgain given main written
+link_again plans given main written spelled none is = record {
+  links = ap (λ files. refusals files main) is ∙ refusals_same plans given spelled main ∙ none;
+  outline = ap (λ files. outline_of files main) is ∙ outline_same plans given main spelled;
+}
+
 pub safe_link : SafeClassesLink
-safe_link given main p written marks spelled none safe =
-    let is = written_chained p given written marks safe in
-    record {
-      links = ap (λ files. refusals files main) is ∙ refusals_same safe.plans given spelled main ∙ none;
-      outline = ap (λ files. outline_of files main) is ∙ outline_same safe.plans given main spelled;
-    }
+safe_link given main p written marks spelled none safe = link_again safe.plans given main written spelled none (written_chained p given written marks safe)
+
+pub chained_link : ChainedClassesLink
+chained_link given main p written marks spelled none safe = link_again (looped_plans p safe.plans) given main written spelled none safe.written_is

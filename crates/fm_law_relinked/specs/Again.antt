@@ -2,6 +2,7 @@
 use Rattle.std.specs.Prelude.{◌≡◌, ℕ, zero, suc, ◌+◌, ◌⊎◌, List, [], ◌∷◌, length, Option, Some, slice_get}
 use Rattle.std.specs.List.{AllByRecursion}
 use Rattle.fm_chain.specs.Chaining.{chained_classes, class_calls, class_has_chain}
+use Rattle.fm_chain.specs.SafeChains.{SafeChainsOf}
 use Rattle.fm_code.specs.FreeEntries.{free_class}
 use Rattle.fm_code.specs.Spells.{HasSpelling}
 use Rattle.fm_code.specs.declared.class_file.ClassDef.{ClassDef}
@@ -72,3 +73,9 @@ abbrev pub SafeClassesLink : Type 0
 SafeClassesLink =
     (given : List ClassDef) (main : List ℕ) (p : Program) (written : List ClassDef) (marks : List (List (Option ℕ))) → AllByRecursion HasSpelling given
     → refusals given main ≡ [] → SafeOf p given written marks → LinkAgain given main written
+
+-- and so do classes where holders of sites in loops hold chains
+abbrev pub ChainedClassesLink : Type 0
+ChainedClassesLink =
+    (given : List ClassDef) (main : List ℕ) (p : Program) (written : List ClassDef) (marks : List (List (Option ℕ))) → AllByRecursion HasSpelling given
+    → refusals given main ≡ [] → SafeChainsOf p given written marks → LinkAgain given main written

@@ -1,6 +1,6 @@
 // Laws of the definitions, each as the contract of a function that does nothing.
 
-ghost use Rattle.fm_law_relinked.specs.Again.{CallsStand, OutlinesStay, RefusalsStay, SafeClassesLink, UsesStay};
+ghost use Rattle.fm_law_relinked.specs.Again.{CallsStand, ChainedClassesLink, OutlinesStay, RefusalsStay, SafeClassesLink, UsesStay};
 ghost use Rattle.fm_law_relinked.specs.Codes.{CodesAreChained};
 ghost use Rattle.fm_law_relinked.specs.Rows.{RowsAreBlind, StatesFitStill};
 
@@ -28,10 +28,11 @@ pub fn law_uses()
 }
 
 /// The same is refused of such classes as of the given ones; so classes with safe insertions link where
-/// the given ones do.
+/// the given ones do, and so they do where holders of sites in loops hold chains.
 pub fn law_links()
     ensures refusals { RefusalsStay }
     ensures safe { SafeClassesLink }
+    ensures chains { ChainedClassesLink }
 {}
 
 /// The checker's rows don't look at the numbers of items, but for whether two are the same, nor at locals
