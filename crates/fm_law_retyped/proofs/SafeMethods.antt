@@ -19,10 +19,12 @@ use Rattle.fm_base.proofs.TestFacts.{and_left}
 use Rattle.fm_base.specs.declared.ids.MethodId.{MethodId}
 use Rattle.fm_base.specs.declared.ids.TypeId.{TypeId}
 use Rattle.fm_base.specs.declared.kinds.TypeRef.{TypeRef}
+use Rattle.fm_chain.proofs.LoopedPlans.{ArePlannedSafely, looped_from, looped_holder, looped_safely, planned_safely}
 use Rattle.fm_chain.specs.Chained.{chained_code, holds_chain, looped_at}
 use Rattle.fm_chain.specs.Chaining.{chained_class, chained_classes, class_calls, class_has_chain, plan_has_chain}
+use Rattle.fm_chain.specs.SafeChains.{looped_plans, SafeChainsOf}
 use Rattle.fm_chain.specs.declared.calls.Calls.{Calls}
-use Rattle.fm_code.proofs.EdgesLemmas.{Contains-first, Contains-later, insn_inside, MeetsCodeRules-method}
+use Rattle.fm_code.proofs.EdgesLemmas.{Contains-first, Contains-from_map, Contains-later, insn_inside, MeetsCodeRules-method}
 use Rattle.fm_code.specs.AccessFlags.{is_static}
 use Rattle.fm_code.specs.Edges.{falls_through, insn_of, MeetsCodeRules}
 use Rattle.fm_code.specs.Spells.{HasSpelling}
@@ -55,7 +57,7 @@ use Rattle.fm_law_retyped.proofs.SiteStates.{IsSameAt, leaves-if, LeavesObject, 
 use Rattle.fm_law_retyped.proofs.Trims.{all_trimmed, length_trimmed, locals_at, trimmed_at, trimmed_row, trimmed_twice, typings_trimmed}
 use Rattle.fm_law_retyped.proofs.WrittenMethods.{HasMember, IsWritten, written_method}
 use Rattle.fm_law_retyped.proofs.WrittenUses.{called, handler_use, insn_use, outlines_same, program_outline, used_by_item}
-use Rattle.fm_law_retyped.specs.Retyped.{AreNoCopies, AreReadyAtHeld, EndsBehind, NoneUnready, receiver_new, SafeClassesAreTyped}
+use Rattle.fm_law_retyped.specs.Retyped.{AreNoCopies, AreReadyAtHeld, ChainedClassesAreTyped, EndsBehind, NoneUnready, receiver_new, SafeClassesAreTyped}
 use Rattle.fm_law_retyped.proofs.Trimmed.{trimmed, trimmed_state}
 use Rattle.fm_types.specs.Fits.{AreTree, object_of}
 use Rattle.fm_types.specs.Named.{object_slot}
@@ -504,42 +506,61 @@ module _ (numbered : ClassTypesAreNumbered) (stand : CodesStand) (given : List C
 
 -- ---- all methods
 
--- where the insertions are safe in the program narrowed to some classes, or to none
+-- where the insertions are safe in the program narrowed to some classes, or to none, whichever holders hold chains
 typed_in : ClassTypesAreNumbered → CodesStand → (given : List ClassDef) (main : List ℕ) → IsLinkedWell (program_of given main) → StepsAreLinked (program_of given main)
-    → (made : Option (List Bool)) (written : List ClassDef) (marks : List (List (Option ℕ))) → AllByRecursion HasSpelling given
-    → (safe : SafeOf (narrowed_to (program_of given main) made) given written marks) → NoneUnready (narrowed_to (program_of given main) made) safe.facts safe.plans
+    → AllByRecursion HasSpelling given → (made : Option (List Bool)) (facts : Facts) → AreFacts (narrowed_to (program_of given main) made) facts
+    → (plans : Plans) → ArePlannedSafely (narrowed_to (program_of given main) made) facts plans → NoneUnready (narrowed_to (program_of given main) made) facts plans
+    → (written : List ClassDef) → written ≡ chained_classes plans given
     → (method : ℕ) (new : Code) → code_at (program_of written main) method ≡ Some new → Typed (program_of written main) method
-typed_in numbered stand given main linked steps made written marks spelled safe ready method new new_is =
+typed_in numbered stand given main linked steps spelled made facts exact plans safe ready written written_is method new new_is =
     subst (λ files. Typed (program_of files main) method) (sym written_is)
     (by_code (code_at (program_of given main) method) refl (subst (λ files. code_at (program_of files main) method ≡ Some new) written_is new_is)) where
-      written_is : written ≡ chained_classes safe.plans given
-      written_is = written_chained (narrowed_to (program_of given main) made) given written marks safe
-
-      by_plan : (code : Code) (is : code_at (program_of given main) method ≡ Some code) → (plan : Option Insertions) → safe.plans method ≡ plan
-          → Typed (program_of (chained_classes safe.plans given) main) method
-      by_plan code is None so =
-          (safe.facts.typing method, unplanned numbered stand given main safe.plans spelled linked steps made safe.facts safe.exact method code is so)
+      by_plan : (code : Code) (is : code_at (program_of given main) method ≡ Some code) → (plan : Option Insertions) → plans method ≡ plan
+          → Typed (program_of (chained_classes plans given) main) method
+      by_plan code is None so = (facts.typing method, unplanned numbered stand given main plans spelled linked steps made facts exact method code is so)
       by_plan code is (Some plan) so =
           let p = narrowed_to (program_of given main) made in
-          let own = safe.methods method plan so in
-          let typed = typed_method p safe.facts.typing method code in
-          let there : method_in_facts p safe.facts method ≡ Some typed = ap (option_map (typed_method p safe.facts.typing method)) is in
-          let same : own.x ≡ typed = same_value (method_in_facts p safe.facts method) own.x typed own.is there in
-          let good = subst (λ z. AreSafe safe.facts z plan) same own.safe in (
+          let typed = typed_method p facts.typing method code in
+          let there : method_in_facts p facts method ≡ Some typed = ap (option_map (typed_method p facts.typing method)) is in (
             _,
-            planned_typed numbered stand given main safe.plans spelled linked steps made safe.facts safe.exact method code is plan so good (ready method plan typed so there),
+            planned_typed numbered stand given main plans spelled linked steps made facts exact method code is plan so (safe method code plan is so)
+                (ready method plan typed so there),
           )
 
-      by_code : (old : Option Code) → code_at (program_of given main) method ≡ old → code_at (program_of (chained_classes safe.plans given) main) method ≡ Some new
-          → Typed (program_of (chained_classes safe.plans given) main) method
+      by_code : (old : Option Code) → code_at (program_of given main) method ≡ old → code_at (program_of (chained_classes plans given) main) method ≡ Some new
+          → Typed (program_of (chained_classes plans given) main) method
       by_code None is there =
-          let woven = codes_chained given main safe.plans method in
-          absurd (none-some new (sym (woven.new_is ∙ ap (code_with woven.calls (safe.plans method)) is ∙ no_code woven.calls (safe.plans method)) ∙ there))
-      by_code (Some code) is there = by_plan code is (safe.plans method) refl
+          let woven = codes_chained given main plans method in
+          absurd (none-some new (sym (woven.new_is ∙ ap (code_with woven.calls (plans method)) is ∙ no_code woven.calls (plans method)) ∙ there))
+      by_code (Some code) is there = by_plan code is (plans method) refl
 
 pub safe_typed : ClassTypesAreNumbered → CodesStand → ProgramsAreLinkedWell → StepsOfProgramsAreLinked → SafeClassesAreTyped
 safe_typed numbered stand links linked_steps given main p program_is written marks spelled none safe ready method new new_is =
     subst (λ (z : Program). (safe : SafeOf z given written marks) → NoneUnready z safe.facts safe.plans → Typed (program_of written main) method) (sym program_is)
     (λ own own_ready.
-    typed_in numbered stand given main (links given main spelled none) (linked_steps given main spelled none) p.made written marks spelled own own_ready method new
-    new_is) safe ready
+    let first = narrowed_to (program_of given main) p.made in
+    typed_in numbered stand given main (links given main spelled none) (linked_steps given main spelled none) spelled p.made own.facts own.exact own.plans
+    (planned_safely first own.facts own.plans own.methods) own_ready written (written_chained first given written marks own) method new new_is) safe ready
+
+-- ---- where holders hold chains
+
+-- their sites are those of the holders of single objects
+ready_looped : (p : Program) (facts : Facts) (plans : Plans) → NoneUnready p facts plans → NoneUnready p facts (looped_plans p plans)
+ready_looped p facts plans ready method plan x so there h s handler among kind at caught ends =
+    let coded = option_map-some (typed_method p facts.typing method) (code_at p method) x there in
+    let from = looped_from p plans method coded.0 plan coded.1 so in
+    let own = Contains-from_map (looped_holder coded.0) from.own.holders h (subst (λ (q : Insertions). Contains q.holders h) (sym from.is) among) in
+    let site : own.0.site ≡ h.site = ap (λ (g : Holder). g.site) own.2 in
+    subst (λ k. AreNoCopies (receiver_new x k) s.locals) site
+    (ready method from.own x from.planned there own.0 s handler own.1 (ap (site_kind facts x) site ∙ kind) (ap (state_at x.states) site ∙ at) caught
+    (subst (λ k. EndsBehind k handler) (sym site) ends))
+
+pub chained_typed : ClassTypesAreNumbered → CodesStand → ProgramsAreLinkedWell → StepsOfProgramsAreLinked → ChainedClassesAreTyped
+chained_typed numbered stand links linked_steps given main p program_is written marks spelled none safe ready method new new_is =
+    subst (λ (z : Program). (safe : SafeChainsOf z given written marks) → NoneUnready z safe.facts safe.plans → Typed (program_of written main) method)
+    (sym program_is)
+    (λ own own_ready.
+    let first = narrowed_to (program_of given main) p.made in
+    typed_in numbered stand given main (links given main spelled none) (linked_steps given main spelled none) spelled p.made own.facts own.exact
+    (looped_plans first own.plans) (looped_safely first own.facts own.plans (planned_safely first own.facts own.plans own.methods))
+    (ready_looped first own.facts own.plans own_ready) written own.written_is method new new_is) safe ready
