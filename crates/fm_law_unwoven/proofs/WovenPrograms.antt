@@ -1,13 +1,14 @@
 -- The program of classes with safe insertions is that of the given ones with what these insert.
-use Rattle.std.proofs.Common.{◌≡◌, ℕ, zero, suc, ◌+◌, ◌<◌, ◌⊎◌, inl, inr, Bool, true, false, List, [], length, map, Option, Some, None, Contains, option_and_then, option_map, refl, sym, ap, subst, ◌∙◌, arith}
+use Rattle.std.proofs.Common.{◌≡◌, ℕ, zero, suc, ◌+◌, ◌<◌, ◌⊎◌, inl, inr, Bool, true, false, List, [], ◌∷◌, ◌++◌, length, map, Option, Some, None, Contains, option_and_then, refl, sym, ap, subst, ◌∙◌, arith}
 use Rattle.std.specs.Prelude.{slice_get}
 use Rattle.std.specs.List.{AllByRecursion, range_with_len, slice_index_or}
 use Rattle.std.proofs.lemmas.Bool.{false≢true}
 use Rattle.std.proofs.lemmas.Option.{none-some, same_Some}
-use Rattle.fm_base.proofs.OptionFacts.{same_value}
+use Rattle.fm_chain.proofs.LoopedPlans.{ArePlannedSafely, looped_safely, planned_safely}
 use Rattle.fm_chain.proofs.WithoutChains.{none_in}
 use Rattle.fm_chain.specs.Chained.{chained_code, chained_marks, has_chain}
 use Rattle.fm_chain.specs.Chaining.{calls_for, chained_class, chained_classes, chained_marks_with, class_calls, class_has_chain, marks_in, plan_has_chain}
+use Rattle.fm_chain.specs.SafeChains.{looped_plans, SafeChainsOf}
 use Rattle.fm_chain.specs.declared.calls.Calls.{Calls}
 use Rattle.fm_code.proofs.EdgesLemmas.{Contains-map, insn_inside, MeetsCodeRules-method}
 use Rattle.fm_code.specs.ConstantPool.{AreSlots, entry_at}
@@ -43,6 +44,7 @@ use Rattle.fm_law_retyped.proofs.SafeMethods.{safe_can}
 use Rattle.fm_law_retyped.proofs.WrittenMethods.{HasMember, IsWritten, written_method}
 use Rattle.fm_law_retyped.proofs.WrittenUses.{called, handler_use, insn_use, outlines_same, program_outline, used_by_item}
 use Rattle.fm_law_same_runs.specs.Beside.{Marks}
+use Rattle.fm_law_same_runs.specs.Programs.{AreTaken}
 use Rattle.fm_law_unwoven.proofs.InsertedCalls.{inserted_call}
 use Rattle.fm_law_unwoven.proofs.LaidTodos.{laid}
 use Rattle.fm_law_unwoven.specs.Laid.{IsKept, IsLaid, IsSplit, IsWhole, mark_at, moved_to}
@@ -54,7 +56,7 @@ use Rattle.fm_link_supers.proofs.ParentRefusals.{some_entries, spelled_at}
 use Rattle.fm_place.proofs.SameTypings.{used_same}
 use Rattle.fm_place.specs.Insertions.{Insertions}
 use Rattle.fm_place.specs.Rewriting.{Plans}
-use Rattle.fm_place.specs.Safe.{AreSafe, HoldsNoChain, method_in_facts, narrowed_to, SafeOf}
+use Rattle.fm_place.specs.Safe.{AreSafe, HoldsNoChain, IsProgramOf, narrowed_to, SafeOf}
 use Rattle.fm_same.specs.Resolved.{IsResolved}
 use Rattle.fm_types.specs.Typed.{use_by, use_in}
 use Rattle.fm_world.specs.BuiltIns.{built_in, free_me_row}
@@ -229,11 +231,11 @@ module _ (numbered : ClassTypesAreNumbered) (given : List ClassDef) (main : List
   module _ (plan : Insertions) (planned : plans method ≡ Some plan) (safe : AreSafe facts (typed_method analysed facts.typing method code) plan) where
     -- where the class may not call the other methods, no holder holds a chain
     none_has : class_has_chain plans x.start x.own ≡ false → has_chain plan ≡ false
-    none_has no = by_flag (has_chain plan) refl where
+    none_has none_may = by_flag (has_chain plan) refl where
       by_flag : (b : Bool) → has_chain plan ≡ b → has_chain plan ≡ false
       by_flag false is = is
       by_flag true is =
-          absurd (false≢true (sym no ∙ (grows plans x.start x.own).chained x.offset x.inside (ap plan_has_chain (ap plans x.number ∙ planned) ∙ is)))
+          absurd (false≢true (sym none_may ∙ (grows plans x.start x.own).chained x.offset x.inside (ap plan_has_chain (ap plans x.number ∙ planned) ∙ is)))
 
     abbrev new : Code
     new = chained_code calls code plan
@@ -283,23 +285,23 @@ module _ (numbered : ClassTypesAreNumbered) (given : List ClassDef) (main : List
     -- without chains nothing is called by another entry than that of FreeMe.free, and not by 0
     none_other : class_has_chain plans x.start x.own ≡ false → (row : Native) (call : ℕ) → call ≡ 0
         → AreCalls q (chained_marks_with plans given) method new row call
-    none_other no row call zero_is n there none =
-        let same = inserted_call calls code plan (λ h. none_in plan.holders h (none_has no)) rules can n call there
+    none_other none_may row call zero_is n there none =
+        let same = inserted_call calls code plan (λ h. none_in plan.holders h (none_has none_may)) rules can n call there
         (ap (λ marks. mark_at marks n) (sym marks_are) ∙ none) in
         absurd (free_some (sym same ∙ zero_is))
 
     links : AreCalls q (chained_marks_with plans given) method new FreeMeLink calls.link
     links = by_chains (class_has_chain plans x.start x.own) refl where
       by_chains : (b : Bool) → class_has_chain plans x.start x.own ≡ b → AreCalls q (chained_marks_with plans given) method new FreeMeLink calls.link
-      by_chains true may n there none = call_of CallsLink may n there
-      by_chains false no = none_other no FreeMeLink calls.link (ap (λ b. (calls_for b x.own.pool.entries).link) no)
+      by_chains true may = λ n there none. call_of CallsLink may n there
+      by_chains false none_may = none_other none_may FreeMeLink calls.link (ap (λ b. (calls_for b x.own.pool.entries).link) none_may)
 
     chains : AreCalls q (chained_marks_with plans given) method new FreeMeFreeChain calls.free_chain
     chains = by_chains (class_has_chain plans x.start x.own) refl where
       by_chains : (b : Bool) → class_has_chain plans x.start x.own ≡ b
           → AreCalls q (chained_marks_with plans given) method new FreeMeFreeChain calls.free_chain
-      by_chains true may n there none = call_of CallsChain may n there
-      by_chains false no = none_other no FreeMeFreeChain calls.free_chain (ap (λ b. (calls_for b x.own.pool.entries).free_chain) no)
+      by_chains true may = λ n there none. call_of CallsChain may n there
+      by_chains false none_may = none_other none_may FreeMeFreeChain calls.free_chain (ap (λ b. (calls_for b x.own.pool.entries).free_chain) none_may)
 
     woven : HasInserted q (chained_marks_with plans given) method code plan
     woven = record {
@@ -327,9 +329,11 @@ module _ (numbered : ClassTypesAreNumbered) (given : List ClassDef) (main : List
 
 -- ---- all methods
 
+-- the plans may have holders of chains
 module _ (numbered : ClassTypesAreNumbered) (given : List ClassDef) (main : List ℕ) (spelled : AllByRecursion HasSpelling given)
-    (resolved : IsResolved (program_of given main)) (made : Option (List Bool)) (written : List ClassDef) (marks : Marks)
-    (safe : SafeOf (narrowed_to (program_of given main) made) given written marks) where
+    (resolved : IsResolved (program_of given main)) (made : Option (List Bool)) (facts : Facts) (plans : Plans)
+    (safe : ArePlannedSafely (narrowed_to (program_of given main) made) facts plans)
+    (plain : (method : ℕ) (plan : Insertions) → plans method ≡ Some plan → HoldsNoChain plan) where
   abbrev whole : Program
   whole = program_of given main
 
@@ -337,23 +341,12 @@ module _ (numbered : ClassTypesAreNumbered) (given : List ClassDef) (main : List
   first = narrowed_to whole made
 
   abbrev second : Program
-  second = program_of (chained_classes safe.plans given) main
+  second = program_of (chained_classes plans given) main
 
   no_code_written : (method : ℕ) → code_at first method ≡ None → code_at second method ≡ None
   no_code_written method none =
-      let woven = codes_chained given main safe.plans method in
-      woven.new_is ∙ ap (code_with woven.calls (safe.plans method)) none ∙ no_code woven.calls (safe.plans method)
-
-  safe_at : (method : ℕ) (code : Code) → code_at first method ≡ Some code → (plan : Insertions) → safe.plans method ≡ Some plan
-      → AreSafe safe.facts (typed_method first safe.facts.typing method code) plan
-  safe_at method code is plan so =
-      let own = safe.methods method plan so in
-      let typed = typed_method first safe.facts.typing method code in
-      let there : method_in_facts first safe.facts method ≡ Some typed = ap (option_map (typed_method first safe.facts.typing method)) is in
-      subst (λ z. AreSafe safe.facts z plan) (same_value (method_in_facts first safe.facts method) own.x typed own.is there) own.safe
-
-  plain_at : (method : ℕ) (plan : Insertions) → safe.plans method ≡ Some plan → HoldsNoChain plan
-  plain_at method plan so = (safe.methods method plan so).plain
+      let woven = codes_chained given main plans method in
+      woven.new_is ∙ ap (code_with woven.calls (plans method)) none ∙ no_code woven.calls (plans method)
 
   -- the narrowed program names the same
   narrowed_names : (method : ℕ) (code : Code) → NamesTheSame whole second method code → NamesTheSame first second method code
@@ -362,26 +355,46 @@ module _ (numbered : ClassTypesAreNumbered) (given : List ClassDef) (main : List
     handlers = names.handlers;
   }
 
-  all_woven : IsWovenFrom first second safe.facts safe.plans (chained_marks_with safe.plans given)
+  all_woven : IsWovenFrom first second facts plans (chained_marks_with plans given)
   all_woven = record {
-    outline = outlines_same given main safe.plans spelled;
+    outline = outlines_same given main plans spelled;
     bare = no_code_written;
-    rules = λ method code is. rules numbered given main safe.plans spelled resolved first safe.facts method code is;
+    rules = λ method code is. rules numbered given main plans spelled resolved first facts method code is;
     named = λ method code is.
         narrowed_names method code
-        (method_named numbered given main safe.plans spelled resolved first safe.facts method code is (safe.plans method) refl (safe_at method code is));
+        (method_named numbered given main plans spelled resolved first facts method code is (plans method) refl (λ plan so. safe method code plan is so));
     methods = λ method code is.
-        method_woven numbered given main safe.plans spelled resolved first safe.facts method code is (safe.plans method) refl (safe_at method code is);
-    safe = λ method code plan is so. safe_at method code is plan so;
-    plain = plain_at;
+        method_woven numbered given main plans spelled resolved first facts method code is (plans method) refl (λ plan so. safe method code plan is so);
+    safe = safe;
+    plain = plain;
   }
 
-  pub written_woven : IsWovenFrom first (program_of written main) safe.facts safe.plans marks
-  written_woven =
-      subst (λ files. IsWovenFrom first (program_of files main) safe.facts safe.plans marks) (sym (written_chained first given written marks safe))
-      (subst (λ m. IsWovenFrom first second safe.facts safe.plans m) (sym (marks_chained first given written marks safe)) all_woven)
+  pub written_woven : (written : List ClassDef) (marks : Marks) → written ≡ chained_classes plans given → marks ≡ chained_marks_with plans given
+      → IsWovenFrom first (program_of written main) facts plans marks
+  written_woven written marks written_is marks_are =
+      subst (λ files. IsWovenFrom first (program_of files main) facts plans marks) (sym written_is)
+      (subst (λ m. IsWovenFrom first second facts plans m) (sym marks_are) all_woven)
 
 pub programs_woven : ClassTypesAreNumbered → ProgramsAreResolved → SafeProgramsAreWoven
 programs_woven numbered resolve given main taken p is written marks =
     subst (λ r. (safe : SafeOf r given written marks) → IsWovenFrom r (program_of written main) safe.facts safe.plans marks) (sym is)
-    (written_woven numbered given main taken.spelled (resolve given main taken.spelled taken.linked taken.few) p.made written marks)
+    (λ safe.
+    let first = narrowed_to (program_of given main) p.made in
+    written_woven numbered given main taken.spelled (resolve given main taken.spelled taken.linked taken.few) p.made safe.facts safe.plans
+    (planned_safely first safe.facts safe.plans safe.methods) (λ method plan so. (safe.methods method plan so).plain) written marks
+    (written_chained first given written marks safe) (marks_chained first given written marks safe))
+
+-- so are those where holders of sites in loops hold chains
+pub chains_woven : ClassTypesAreNumbered → ProgramsAreResolved → (given : List ClassDef) (main : List ℕ) → AreTaken given main → (p : Program)
+    → IsProgramOf given main p → (written : List ClassDef) (marks : Marks) (safe : SafeChainsOf p given written marks)
+    → ((method : ℕ) (plan : Insertions) → looped_plans p safe.plans method ≡ Some plan → HoldsNoChain plan)
+    → IsWovenFrom p (program_of written main) safe.facts (looped_plans p safe.plans) marks
+chains_woven numbered resolve given main taken p is written marks =
+    subst (λ r. (safe : SafeChainsOf r given written marks)
+    → ((method : ℕ) (plan : Insertions) → looped_plans r safe.plans method ≡ Some plan → HoldsNoChain plan)
+    → IsWovenFrom r (program_of written main) safe.facts (looped_plans r safe.plans) marks) (sym is)
+    (λ safe plain.
+    let first = narrowed_to (program_of given main) p.made in
+    written_woven numbered given main taken.spelled (resolve given main taken.spelled taken.linked taken.few) p.made safe.facts
+    (looped_plans first safe.plans) (looped_safely first safe.facts safe.plans (planned_safely first safe.facts safe.plans safe.methods)) plain written
+    marks safe.written_is safe.marks_are)
