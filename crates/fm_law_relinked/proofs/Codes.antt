@@ -5,7 +5,7 @@ use Rattle.std.proofs.lemmas.Bool.{cases_lt, false≢true}
 use Rattle.std.proofs.lemmas.List.{get_or-append-add, get_or-replicate, get_or_append_left, length-map, length-replicate}
 use Rattle.fm_law_relinked.specs.Codes.{code_with, CodesAreChained, IsChainedCode}
 use Rattle.fm_chain.specs.Chained.{chained_code}
-use Rattle.fm_chain.specs.Chaining.{chained_attribute, chained_class, chained_classes, chained_from, chained_method, chained_methods, changed_class, class_calls}
+use Rattle.fm_chain.specs.Chaining.{calls_for, chained_attribute, chained_class, chained_classes, chained_from, chained_method, chained_methods, changed_class, class_calls}
 use Rattle.fm_chain.specs.declared.calls.Calls.{Calls}
 use Rattle.fm_code.specs.Members.{code_of}
 use Rattle.fm_code.specs.declared.class_file.ClassDef.{ClassDef}
@@ -18,10 +18,6 @@ use Rattle.fm_place.specs.Rewriting.{changes, first_given, Plans}
 use Rattle.fm_world.specs.BuiltIns.{built_in}
 use Rattle.fm_world.specs.Members.{methods_of}
 use Rattle.fm_world.specs.Programs.{codes_of, program_of}
-
--- where there is no method nothing is called
-abbrev no_calls : Calls
-no_calls = record { free = 0; link = 0; free_chain = 0 }
 
 -- ---- methods
 
@@ -104,7 +100,7 @@ module _ (plans : Plans) where
 
   classes_code : (first : ℕ) (given : List ClassDef) (i : ℕ)
       → IsChainedCode (plans (first + i)) (get_or (all_codes given) i None) (get_or (all_codes (chained_from plans first given)) i None)
-  classes_code first [] i = record { calls = no_calls; new_is = sym (no_code no_calls (plans (first + i))) }
+  classes_code first [] i = record { calls = calls_for false []; new_is = sym (no_code (calls_for false []) (plans (first + i))) }
   classes_code first (c ∷ given) i = by_place (cases_lt i (length c.methods)) (classes_code (first + length c.methods) given (i - length c.methods)) where
     own : List (Option Code)
     own = codes c.methods
@@ -166,10 +162,10 @@ codes_chained given main plans method = by_place (cases_lt method first_given) (
       (get_or (all_codes plans (chained_classes plans given)) (method - first_given) None)
       → IsChainedCode (plans method) (get_or (front ++ all_codes plans given) method None) (get_or (front ++ all_codes plans (chained_classes plans given)) method None)
   by_place (inl within) later = record {
-    calls = no_calls;
+    calls = calls_for false [];
     new_is =
         none_in_front (all_codes plans (chained_classes plans given)) within
-        ∙ sym (ap (code_with no_calls (plans method)) (none_in_front (all_codes plans given) within) ∙ no_code no_calls (plans method));
+        ∙ sym (ap (code_with (calls_for false []) (plans method)) (none_in_front (all_codes plans given) within) ∙ no_code (calls_for false []) (plans method));
   }
   by_place (inr past) later =
       let k = method - first_given in

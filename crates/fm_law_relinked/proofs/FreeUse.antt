@@ -98,26 +98,36 @@ if_used : (m : Called) (b : Bool) (u : Use) → u ≡ called_use m → NoneOr m 
 if_used m true u is = inr is
 if_used m false u is = inl refl
 
+-- the entries of the class with those that it calls
+abbrev pub all_entries : Plans → (first : ℕ) → ClassDef → List Entry
+all_entries plans first c = c.pool.entries ++ more plans first c
+
+-- the entry by which it calls a method
+abbrev pub call_of : Plans → (first : ℕ) → ClassDef → Called → ℕ
+call_of plans first c m = entry_of (class_calls plans first c) m
+
+-- names the method
+pub call_named : (plans : Plans) (first : ℕ) (c : ClassDef) (m : Called) → MayCall (class_has_chain plans first c) m
+    → method_ref_at (all_entries plans first c) (call_of plans first c m) ≡ Some (method_of m)
+call_named plans first c m may = (grows plans first c).named m may
+
 module _ (o : Outline) (has : HasFree o) (plans : Plans) (first : ℕ) (c : ClassDef) (spelled : HasSpelling c) (m : Called)
     (may : MayCall (class_has_chain plans first c) m) where
   abbrev entries : List Entry
-  entries = c.pool.entries ++ more plans first c
+  entries = all_entries plans first c
 
   abbrev call : ℕ
-  call = entry_of (class_calls plans first c) m
-
-  named : method_ref_at (c.pool.entries ++ more plans first c) (entry_of (class_calls plans first c) m) ≡ Some (method_of m)
-  named = (grows plans first c).named m may
+  call = call_of plans first c m
 
   -- of the grown class
   grown_row : NoneOr m (get_or (class_uses o (grown_class plans first c)) call resolved.Unused)
   grown_row = by_place (cases_lt call (length entries)) where
     by_place : (call < length entries) ⊎ (length entries ≤ call) → NoneOr m (get_or (class_uses o (grown_class plans first c)) call resolved.Unused)
     by_place (inl within) =
-        let e = method_entry entries call (method_of m) named in
+        let e = method_entry entries call (method_of m) (call_named plans first c m may) in
         subst (NoneOr m) (sym (row_within o (grown_class plans first c) call within))
         (if_used m (is_used (grown_class plans first c) call) (resolved_at o entries call)
-        (call_resolved o has m entries call e.0 e.1 e.2 (method_named entries call (method_of m) named)))
+        (call_resolved o has m entries call e.0 e.1 e.2 (method_named entries call (method_of m) (call_named plans first c m may))))
     by_place (inr past) = inl (row_past o (grown_class plans first c) call past)
 
   -- of the class itself
@@ -126,9 +136,9 @@ module _ (o : Outline) (has : HasFree o) (plans : Plans) (first : ℕ) (c : Clas
     by_place : (call < length c.pool.entries) ⊎ (length c.pool.entries ≤ call) → NoneOr m (get_or (class_uses o c) call resolved.Unused)
     by_place (inl within) =
         let valid = spelled.1.pool.entries in
-        let e = method_entry entries call (method_of m) named in
+        let e = method_entry entries call (method_of m) (call_named plans first c m may) in
         let is = sym (entry_same c.pool.entries (more plans first c) valid call within) ∙ e.2 in
-        let member = sym (member_same c.pool.entries (more plans first c) valid call within) ∙ method_named entries call (method_of m) named in
+        let member = sym (member_same c.pool.entries (more plans first c) valid call within) ∙ method_named entries call (method_of m) (call_named plans first c m may) in
         subst (NoneOr m) (sym (row_within o c call within))
         (if_used m (is_used c call) (resolved_at o c.pool.entries call) (call_resolved o has m c.pool.entries call e.0 e.1 is member))
     by_place (inr past) = inl (row_past o c call past)

@@ -8,8 +8,8 @@ use Rattle.fm_link_supers.proofs.Downwards.{among_head, among_later, among_left,
 use Rattle.fm_link_supers.proofs.ParentRefusals.{spelled_at}
 use Rattle.fm_chain.specs.Chaining.{chained_class, chained_classes, class_calls, class_has_chain}
 use Rattle.fm_law_relinked.proofs.ClassStays.{call_or_not}
-use Rattle.fm_law_relinked.proofs.FreeUse.{call_resolved, called_use, ClassTypesAreNumbered, has_free, HasFree}
-use Rattle.fm_law_spelled.proofs.Growing.{either_class, grown_class, grows, more}
+use Rattle.fm_law_relinked.proofs.FreeUse.{all_entries, call_named, call_of, call_resolved, called_use, ClassTypesAreNumbered, has_free, HasFree}
+use Rattle.fm_law_spelled.proofs.Growing.{either_class, grown_class, more}
 use Rattle.fm_law_relinked.proofs.Outlines.{outline_same}
 use Rattle.fm_law_relinked.proofs.PoolStays.{entry_same, member_same, method_entry, method_named}
 use Rattle.fm_law_relinked.proofs.UsedWithin.{unused_past}
@@ -124,39 +124,30 @@ call_at o has m entries index named =
 
 module _ (o : Outline) (has : HasFree o) (plans : Plans) (first : ℕ) (c : ClassDef) (spelled : HasSpelling c) (m : Called)
     (may : MayCall (class_has_chain plans first c) m) where
-  abbrev entries : List Entry
-  entries = c.pool.entries ++ more plans first c
-
-  abbrev call : ℕ
-  call = entry_of (class_calls plans first c) m
-
-  named : method_ref_at (c.pool.entries ++ more plans first c) (entry_of (class_calls plans first c) m) ≡ Some (method_of m)
-  named = (grows plans first c).named m may
-
   row_used : (d : ClassDef) (index : ℕ) → index < length d.pool.entries → is_used d index ≡ true → resolved_at o d.pool.entries index ≡ called_use m
       → get_or (class_uses o d) index resolved.Unused ≡ called_use m
   row_used d index within used is =
       row_within o d index within ∙ ap (λ b. cond b (resolved_at o d.pool.entries index) resolved.Unused) used ∙ is
 
   -- where the class itself uses it
-  own_call : is_used c call ≡ true → get_or (class_uses o c) call resolved.Unused ≡ called_use m
-  own_call used = by_place (cases_lt call (length c.pool.entries)) where
-    by_place : (call < length c.pool.entries) ⊎ (length c.pool.entries ≤ call) → get_or (class_uses o c) call resolved.Unused ≡ called_use m
+  own_call : is_used c (call_of plans first c m) ≡ true → get_or (class_uses o c) (call_of plans first c m) resolved.Unused ≡ called_use m
+  own_call used = by_place (cases_lt (call_of plans first c m) (length c.pool.entries)) where
+    by_place : (call_of plans first c m < length c.pool.entries) ⊎ (length c.pool.entries ≤ call_of plans first c m) → get_or (class_uses o c) (call_of plans first c m) resolved.Unused ≡ called_use m
     by_place (inl within) =
         let valid = spelled.1.pool.entries in
-        let e = method_entry entries call (method_of m) named in
-        let is = sym (entry_same c.pool.entries (more plans first c) valid call within) ∙ e.2 in
-        let member = sym (member_same c.pool.entries (more plans first c) valid call within) ∙ method_named entries call (method_of m) named in
-        row_used c call within used (call_resolved o has m c.pool.entries call e.0 e.1 is member)
-    by_place (inr past) = absurd (false≢true (sym (unused_past c spelled call past) ∙ used))
+        let e = method_entry (all_entries plans first c) (call_of plans first c m) (method_of m) (call_named plans first c m may) in
+        let is = sym (entry_same c.pool.entries (more plans first c) valid (call_of plans first c m) within) ∙ e.2 in
+        let member = sym (member_same c.pool.entries (more plans first c) valid (call_of plans first c m) within) ∙ method_named (all_entries plans first c) (call_of plans first c m) (method_of m) (call_named plans first c m may) in
+        row_used c (call_of plans first c m) within used (call_resolved o has m c.pool.entries (call_of plans first c m) e.0 e.1 is member)
+    by_place (inr past) = absurd (false≢true (sym (unused_past c spelled (call_of plans first c m) past) ∙ used))
 
-  grown_call : is_used (grown_class plans first c) call ≡ true → get_or (class_uses o (grown_class plans first c)) call resolved.Unused ≡ called_use m
-  grown_call used = row_used (grown_class plans first c) call (call_within m entries call named) used (call_at o has m entries call named)
+  grown_call : is_used (grown_class plans first c) (call_of plans first c m) ≡ true → get_or (class_uses o (grown_class plans first c)) (call_of plans first c m) resolved.Unused ≡ called_use m
+  grown_call used = row_used (grown_class plans first c) (call_of plans first c m) (call_within m (all_entries plans first c) (call_of plans first c m) (call_named plans first c m may)) used (call_at o has m (all_entries plans first c) (call_of plans first c m) (call_named plans first c m may))
 
-  written_call : is_used (chained_class plans first c) call ≡ true
-      → get_or (class_uses o (chained_class plans first c)) call resolved.Unused ≡ called_use m
+  written_call : is_used (chained_class plans first c) (call_of plans first c m) ≡ true
+      → get_or (class_uses o (chained_class plans first c)) (call_of plans first c m) resolved.Unused ≡ called_use m
   written_call =
-      either_class plans first c (λ (d : ClassDef). is_used d call ≡ true → get_or (class_uses o d) call resolved.Unused ≡ called_use m) own_call grown_call
+      either_class plans first c (λ (d : ClassDef). is_used d (call_of plans first c m) ≡ true → get_or (class_uses o d) (call_of plans first c m) resolved.Unused ≡ called_use m) own_call grown_call
 
 pub program_outline : (files : List ClassDef) (main : List ℕ) → (program_of files main).outline ≡ outline_of files main
 unfolding program_of
@@ -190,7 +181,7 @@ module _ (numbered : ClassTypesAreNumbered) (given : List ClassDef) (main : List
   May m = MayCall (class_has_chain plans x.start x.own) m
 
   abbrev index_of : Called → ℕ
-  index_of m = entry_of (class_calls plans x.start x.own) m
+  index_of m = call_of plans x.start x.own m
 
   -- that of such a method, where the written class uses it
   pub called : (m : Called) → MayCall (class_has_chain plans x.start x.own) m
