@@ -3,8 +3,8 @@ use Rattle.std.proofs.Common.{◌≡◌, refl, sym, ◌∙◌, ap, subst, ℕ, �
 use Rattle.std.specs.Prelude.{nat_lt}
 use Rattle.std.specs.List.{AllByRecursion}
 use Rattle.std.proofs.lemmas.Bool.{ltb-false}
+use Rattle.fm_chain.proofs.LaidChains.{chained_is_laid_out}
 use Rattle.fm_chain.proofs.PlanLaws.{plans_have_the_chains}
-use Rattle.fm_chain.proofs.WithoutChains.{chained_same}
 use Rattle.fm_chain.specs.Chained.{chained}
 use Rattle.fm_chain.specs.Laws.{CallsSuit}
 use Rattle.fm_chain.specs.declared.calls.Calls.{Calls}
@@ -18,10 +18,8 @@ use Rattle.fm_layout.specs.Laid.{laid_length, refused_length}
 use Rattle.fm_layout.specs.declared.laying.TheConstants.{MAX_NEW_ITEMS}
 use Rattle.fm_layout.specs.declared.new_items.NewItem.{NewItem}
 use Rattle.fm_law_spelled.specs.Changed.{AttributeCan, CanWeave, MethodCan}
-use Rattle.fm_place.proofs.WovenLemmas.{woven_is_laid_out}
 use Rattle.fm_place.specs.Insertions.{Insertions}
-use Rattle.fm_place.specs.Laws.{Suits}
-use Rattle.fm_place.specs.Woven.{null_stored_items, woven}
+use Rattle.fm_place.specs.Woven.{null_stored_items}
 use Rattle.fm_place_weave.proofs.LengthLemmas.{number_by-is}
 use Rattle.fm_place_weave.proofs.PlanLemmas.{items-is, may-be-woven}
 use Rattle.fm_place_weave.specs.ByPlan.{items_by, number_by}
@@ -77,39 +75,29 @@ module _ (ins : Insertions) (plan : ChainPlan) (m : Member) (has : HasInsertions
   pub may_method : MayDo calls (planned.Woven plan) m
   may_method = may_all m.attributes has.own
 
-  -- no holder holds a chain: the new items are those without chains
-  plain_items : chained calls has.code ins ≡ woven calls.free has.code ins
-  plain_items = chained_same calls has.code ins has.plain
-
-  plain_suits : Suits calls.free has.code ins
-  plain_suits = record { entry = fit.free; room = has.room; before = has.before }
-
-  plain_few : length (woven calls.free has.code ins) < MAX_NEW_ITEMS
-  plain_few = let same = ap length plain_items in omega (arith, few, same)
-
   -- a code that isn't too long can be woven
-  can_code : long_code calls plan has.code ≡ None → CanWeave calls.free has.code ins
+  can_code : long_code calls plan has.code ≡ None → CanWeave calls has.code ins
   can_code none = record {
     old_items = has.old_items;
     stack = low.stack;
-    suits = plain_suits;
-    new_items = woven_is_laid_out calls.free has.code ins has.old_items plain_suits plain_few;
-    short = subst (λ (items : List NewItem). laid_length has.code.items items ≤ MAX_CODE_BYTES) (items-is calls has.code ins plan has.whole ∙ plain_items)
+    suits = suits;
+    new_items = chained_is_laid_out calls has.code ins has.old_items suits few;
+    short = subst (λ (items : List NewItem). laid_length has.code.items items ≤ MAX_CODE_BYTES) (items-is calls has.code ins plan has.whole)
         (within_limit (laid_length has.code.items (items_by calls has.code plan)) (refused_length has.code.items (items_by calls has.code plan)) none);
   }
 
   can_all : (attributes : List MemberAttr) → AllByRecursion (IsOwnCode has.code) attributes → long_attributes calls plan attributes ≡ None
-      → AllByRecursion (AttributeCan calls.free ins) attributes
+      → AllByRecursion (AttributeCan calls ins) attributes
   can_all [] own none = tt
   can_all (attribute.Coded name code ∷ rest) own none =
       let here : long_code calls plan code ≡ None = or_first (long_code calls plan code) (long_attributes calls plan rest) none in (
-        subst (λ c. CanWeave calls.free c ins) (sym own.0) (can_code (ap (long_code calls plan) (sym own.0) ∙ here)),
+        subst (λ c. CanWeave calls c ins) (sym own.0) (can_code (ap (long_code calls plan) (sym own.0) ∙ here)),
         can_all rest own.1 (or_rest (long_code calls plan code) (long_attributes calls plan rest) none),
       )
   can_all (attribute.Constant name value ∷ rest) own none = (tt, can_all rest own.1 none)
   can_all (attribute.Other raw ∷ rest) own none = (tt, can_all rest own.1 none)
 
-  pub can_method : long_method calls (planned.Woven plan) m ≡ None → MethodCan calls.free (Some ins) m
+  pub can_method : long_method calls (planned.Woven plan) m ≡ None → MethodCan calls (Some ins) m
   can_method none = can_all m.attributes has.own none
 
 -- ---- by what is to be done
@@ -123,7 +111,7 @@ may_do (Some ins) (planned.Woven plan) m is low calls fit = may_method ins plan 
 may_do (Some ins) (planned.TooLong bytes chains) m is low calls fit = absurd is
 
 pub can_do : (o : Option Insertions) (d : Planned) (m : Member) → IsInserted o d m → is_low d m ≡ true → (calls : Calls) → CallsFit calls
-    → long_method calls d m ≡ None → MethodCan calls.free o m
+    → long_method calls d m ≡ None → MethodCan calls o m
 can_do None planned.Same m is low calls fit none = tt
 can_do None (planned.Woven plan) m is low calls fit none = absurd is
 can_do None (planned.TooLong bytes chains) m is low calls fit none = absurd is

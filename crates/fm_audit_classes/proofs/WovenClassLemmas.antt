@@ -1,11 +1,12 @@
 -- Classes by what is to be done with their methods, where that is insertions that have room.
-use Rattle.std.proofs.Common.{arith, ◌≡◌, refl, sym, ◌∙◌, ap, subst, ℕ, suc, ◌+◌, ◌||◌, Bool, true, false, cond, List, [], ◌∷◌, length, Option, Some, None}
-use Rattle.std.specs.Prelude.{is_some}
+use Rattle.std.proofs.Common.{arith, ◌≡◌, refl, sym, ◌∙◌, ap, subst, ℕ, suc, ◌+◌, ◌≤◌, ◌||◌, Bool, true, false, cond, List, [], ◌∷◌, length, Option, Some, None}
+use Rattle.std.specs.Prelude.{if◌then◌else◌, is_some}
 use Rattle.std.specs.List.{AllByRecursion, list_any, range_with_len}
 use Rattle.std.specs.Option.{option_map}
 use Rattle.std.proofs.lemmas.Bool.{and_parts}
-use Rattle.fm_chain.proofs.WithoutChains.{class_same}
-use Rattle.fm_chain.specs.Chaining.{calls_for, plan_has_chain}
+use Rattle.fm_chain.proofs.WithoutChains.{calls_same, class_none, class_same, plain_calls}
+use Rattle.fm_chain.specs.Chaining as changing
+use Rattle.fm_chain.specs.Chaining.{chained_class, class_has_chain, entries_for, plan_has_chain}
 use Rattle.fm_chain.specs.declared.calls.Calls.{Calls}
 use Rattle.fm_code.specs.Spells.{HasSpelling}
 use Rattle.fm_code.specs.declared.class_file.ClassDef.{ClassDef}
@@ -13,8 +14,8 @@ use Rattle.fm_code.specs.declared.class_file.Member.{Member}
 use Rattle.fm_law_spelled.proofs.ClassSpelled.{changed_spelled}
 use Rattle.fm_law_spelled.specs.Changed.{IsShort, MethodsCan}
 use Rattle.fm_place.specs.Insertions.{Insertions}
-use Rattle.fm_place.specs.Rewriting.{Plans, rewritten_class, rewritten_from}
-use Rattle.fm_place_weave.proofs.ClassLawLemmas.{by_change, classes_are_chained, rewritten-is}
+use Rattle.fm_place.specs.Rewriting.{changes, Plans, rewritten_class, rewritten_from}
+use Rattle.fm_place_weave.proofs.ClassLawLemmas.{by_change, classes_are_chained}
 use Rattle.fm_place_weave.specs.ClassByPlan.{class_by, first_long, has_chains, long_method, MayDoAll}
 use Rattle.fm_place_weave.specs.ClassLaws.{AreAlike}
 use Rattle.fm_place_weave.specs.declared.planned.Planned.{Planned}
@@ -66,7 +67,7 @@ none_placed n None none = refl
 none_placed n (Some bytes) none = absurd cc
 
 can_all : (plans : Plans) (first : ℕ) (done : List Planned) (methods : List Member) → AreInserted plans first done methods → are_low done methods ≡ true
-    → (calls : Calls) (n : ℕ) → CallsFit calls → first_long calls n done methods ≡ None → MethodsCan plans calls.free first methods
+    → (calls : Calls) (n : ℕ) → CallsFit calls → first_long calls n done methods ≡ None → MethodsCan plans calls first methods
 can_all plans first [] [] are low calls n fit none = tt
 can_all plans first [] (m ∷ methods) are low calls n fit none = absurd are
 can_all plans first (d ∷ done) [] are low calls n fit none = absurd are
@@ -100,11 +101,16 @@ changed_all plans first (d ∷ done) (m ∷ methods) are =
 
 module _ (plans : Plans) (plain : (method : ℕ) → plan_has_chain (plans method) ≡ false) (first : ℕ) (done : List Planned) (c : ClassDef)
     (are : AreInserted plans first done c.methods) where
-  -- a changed class is the rewritten one
+  has_changed : changes_by done ≡ true → changes plans first c ≡ true
+  has_changed is = sym (changed_all plans first done c.methods are) ∙ is
+
+  -- a changed class is the one with what is inserted
+  by_plans : changes_by done ≡ true → class_by done c ≡ chained_class plans first c
+  by_plans is = classes_are_chained plans first done c (alike_all plans first done c.methods are) (has_changed is)
+
+  -- and so the rewritten one
   changed_class : changes_by done ≡ true → class_by done c ≡ rewritten_class plans first c
-  changed_class is =
-      classes_are_chained plans first done c (alike_all plans first done c.methods are) (sym (changed_all plans first done c.methods are) ∙ is)
-      ∙ class_same plans plain first c
+  changed_class is = by_plans is ∙ class_same plans plain first c
 
   -- and so is each class
   pub class_is : rewritten_by done c ≡ rewritten_class plans first c
@@ -121,11 +127,14 @@ module _ (plans : Plans) (plain : (method : ℕ) → plan_has_chain (plans metho
     plain = plain_all plans first done c.methods are;
     may = λ low. may_all plans first done c.methods are low;
     woven = λ low changed fits few none.
-        let is : class_by done c ≡ by_change plans first c true =
-        changed_class changed ∙ rewritten-is plans first c ∙ ap (by_change plans first c) (sym (changed_all plans first done c.methods are) ∙ changed) in
+        let is : class_by done c ≡ changing.changed_class plans first c =
+        by_plans changed ∙ ap (λ (b : Bool). if b then changing.changed_class plans first c else c) (has_changed changed) in
+        let all = can_all plans first done c.methods are low (plain_calls plans plain c) 0 (record { free = fits; link = omega arith; free_chain = omega arith }) none in
+        let room : length (entries_for (class_has_chain plans first c) c.pool.entries) ≤ 65535 =
+        subst (λ b. length (entries_for b c.pool.entries) ≤ 65535) (sym (class_none plans plain first c)) few in
         subst HasSpelling (sym is)
-        (changed_spelled plans first c spelled short few
-        (can_all plans first done c.methods are low (calls_for false c.pool.entries) 0 (record { free = fits; link = omega arith; free_chain = omega arith }) none));
+        (changed_spelled plans first c spelled short room
+        (subst (λ calls. MethodsCan plans calls first c.methods) (sym (calls_same plans plain first c)) all));
   }
 
 -- ---- all classes

@@ -7,4 +7,5 @@ pub mod PlanLaws
 pub mod Replaced
 pub mod LaidChains
 pub mod WithoutChains
+pub mod LoopedPlans
 pub mod ChainsExample

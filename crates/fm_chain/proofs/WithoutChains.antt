@@ -23,7 +23,6 @@ use Rattle.fm_place.specs.Rewriting as plain
 use Rattle.fm_place.specs.Safe.{full_plans}
 use Rattle.fm_place.specs.Woven.{freed_items, kept, local_of, null_stored, null_stored_items, top_stored_items, woven, woven_from, woven_item}
 use Rattle.fm_place.specs.Woven as woven_specs
-use Rattle.fm_world.specs.Programs.{program_of}
 use Rattle.fm_chain.specs.Chained.{added_words, anchors_from, anchors_of, chained, chained_item, chained_items, count_at, has_chain, holds_chain, looped_at, released, taken, taken_items}
 use Rattle.fm_chain.specs.Chaining.{calls_for, chained_attribute, chained_class, chained_from, chained_method, chained_methods, changed_class, class_calls, class_has_chain, entries_for, marks_from, marks_in, marks_of_methods, method_marks, plan_has_chain}
 use Rattle.fm_chain.specs.Laws.{ClassesAreRewritten, CodesAreWoven, FullChainsAreSafe, IsWovenCode}
@@ -198,11 +197,11 @@ classes_are_rewritten plans none given = record {
 -- ---- all that can be inserted
 
 pub full_chains_are_safe : FullChainsAreSafe
-full_chains_are_safe given main written marks full = record {
+full_chains_are_safe p given written marks full = record {
   facts = full.facts;
   exact = full.exact;
-  plans = full_plans (program_of given main) full.facts;
-  methods = method-safe (program_of given main) full.facts;
+  plans = full_plans p full.facts;
+  methods = method-safe p full.facts;
   written_is = full.written_is;
   marks_are = full.marks_are;
 }

@@ -20,12 +20,13 @@ use Rattle.fm_place.specs.PlansBy.{IsPlanOf}
 use Rattle.fm_place.specs.declared.plans.Plan.{Plan}
 use Rattle.fm_place.specs.Rewriting.{marks_with, Plans, rewritten}
 use Rattle.fm_place.specs.Woven.{woven_code, woven_marks}
+use Rattle.fm_world.specs.Programs.{Program}
 use Rattle.fm_chain.specs.ChainEntries.{chain_method, link_method, sought_chain, sought_link, with_chains}
 use Rattle.fm_chain.specs.Chained.{anchors_of, chained, chained_code, chained_marks, has_chain}
 use Rattle.fm_chain.specs.Chaining.{chained_classes, chained_marks_with, plan_has_chain}
 use Rattle.fm_chain.specs.Planned.{chain_flags, IsChainPlanOf}
 use Rattle.fm_chain.specs.Planned as planned
-use Rattle.fm_chain.specs.SafeChains.{FullChains, SafeChains, with_loops}
+use Rattle.fm_chain.specs.SafeChains.{FullChainsOf, SafeChainsOf, with_loops}
 use Rattle.fm_chain.specs.declared.plans.ChainPlan.{ChainPlan}
 use Rattle.fm_chain.specs.declared.calls.Calls.{Calls}
 
@@ -47,11 +48,11 @@ pub record AreRewrittenClasses (plans : Plans) (given : List ClassDef) : Type 0 
 abbrev pub ClassesAreRewritten : Type 0
 ClassesAreRewritten = (plans : Plans) → ((method : ℕ) → plan_has_chain (plans method) ≡ false) → (given : List ClassDef) → AreRewrittenClasses plans given
 
--- all held sites and all places together are among what `SafeChains` names
+-- all held sites and all places together are among what `SafeChainsOf` names, whatever the program is
 abbrev pub FullChainsAreSafe : Type 0
 FullChainsAreSafe =
-    (given : List ClassDef) (main : List ℕ) (written : List ClassDef) (marks : List (List (Option ℕ)))
-    → FullChains given main written marks → SafeChains given main written marks
+    (p : Program) (given written : List ClassDef) (marks : List (List (Option ℕ)))
+    → FullChainsOf p given written marks → SafeChainsOf p given written marks
 
 -- ---- layout
 

@@ -28,22 +28,31 @@ looped_plans p plans method = looped_plan (code_at p method) (plans method)
 
 -- ---- a program
 
--- The classes written are those given with safe insertions, where holders of sites in loops hold chains; the marks say which items are inserted.
-pub record SafeChains (given : List ClassDef) (main : List ℕ) (written : List ClassDef) (marks : List (List (Option ℕ))) : Type 0 where
+-- The classes written are those given with insertions that are safe in this program of the classes given, where holders of sites in loops hold chains; the
+-- marks say which items are inserted. The program may be narrowed.
+pub record SafeChainsOf (p : Program) (given written : List ClassDef) (marks : List (List (Option ℕ))) : Type 0 where
   pub facts : Facts
-  pub exact : AreFacts (program_of given main) facts
+  pub exact : AreFacts p facts
   pub plans : Plans
-  pub methods : (method : ℕ) (plan : Insertions) → plans method ≡ Some plan → IsSafeMethod (program_of given main) facts method plan
-  pub written_is : written ≡ chained_classes (looped_plans (program_of given main) plans) given
-  pub marks_are : marks ≡ chained_marks_with (looped_plans (program_of given main) plans) given
+  pub methods : (method : ℕ) (plan : Insertions) → plans method ≡ Some plan → IsSafeMethod p facts method plan
+  pub written_is : written ≡ chained_classes (looped_plans p plans) given
+  pub marks_are : marks ≡ chained_marks_with (looped_plans p plans) given
+
+-- the same by the program that isn't narrowed
+abbrev pub SafeChains : (given : List ClassDef) (main : List ℕ) (written : List ClassDef) (marks : List (List (Option ℕ))) → Type 0
+SafeChains given main written marks = SafeChainsOf (program_of given main) given written marks
 
 -- of each method that has code, all that can be inserted
 abbrev pub full_chains : Program → Facts → Plans
 full_chains p facts = looped_plans p (full_plans p facts)
 
--- exactly the held sites have holders, and each is freed exactly at its places
-pub record FullChains (given : List ClassDef) (main : List ℕ) (written : List ClassDef) (marks : List (List (Option ℕ))) : Type 0 where
+-- in this program of the classes given exactly the held sites have holders, and each is freed exactly at its places
+pub record FullChainsOf (p : Program) (given written : List ClassDef) (marks : List (List (Option ℕ))) : Type 0 where
   pub facts : Facts
-  pub exact : AreFacts (program_of given main) facts
-  pub written_is : written ≡ chained_classes (full_chains (program_of given main) facts) given
-  pub marks_are : marks ≡ chained_marks_with (full_chains (program_of given main) facts) given
+  pub exact : AreFacts p facts
+  pub written_is : written ≡ chained_classes (full_chains p facts) given
+  pub marks_are : marks ≡ chained_marks_with (full_chains p facts) given
+
+-- the same by the program that isn't narrowed
+abbrev pub FullChains : (given : List ClassDef) (main : List ℕ) (written : List ClassDef) (marks : List (List (Option ℕ))) → Type 0
+FullChains given main written marks = FullChainsOf (program_of given main) given written marks

@@ -46,7 +46,7 @@ pub fn law_plans()
 {}
 
 /// Holders for all held sites, those of sites in loops with chains, freed at all their places, are among
-/// what `SafeChains` names.
+/// what `SafeChainsOf` names, whatever the program is.
 pub fn law_full()
     ensures { FullChainsAreSafe }
 {}

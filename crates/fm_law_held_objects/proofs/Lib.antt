@@ -4,6 +4,7 @@ pub mod OneFree
 pub mod AllFrees
 pub mod Retired
 pub mod Steps
+pub mod ContentsKept
 pub mod Keeping
 pub mod Cleaned
 pub mod FramesUnder

@@ -1,5 +1,6 @@
 pub mod Initialised
 pub mod Held
+pub mod Contents
 pub mod Freeing
 pub mod Clean
 pub mod Above

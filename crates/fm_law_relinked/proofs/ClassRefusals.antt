@@ -1,17 +1,18 @@
 -- A changed class is refused for what the old one is refused for.
 use Rattle.std.proofs.Common.{◌≡◌, refl, sym, ◌∙◌, ap, ℕ, zero, suc, ◌+◌, ◌<◌, ◌≤◌, ◌==◌, ◌||◌, ◌⊎◌, inl, inr, Bool, true, false, cond, List, [], ◌∷◌, ◌++◌, length, length-append, map, Option, Some, None, is_none, unwrap_or, arith, ◌&&◌, not}
 use Rattle.std.specs.List.{AllByRecursion, cons_option, filter, filter_map, flat_map, list_any, range_with_len}
-use Rattle.std.proofs.lemmas.Bool.{cases_eq}
 use Rattle.std.proofs.lemmas.Grind.{flat_map-append}
 use Rattle.std.proofs.lemmas.List.{append-nil}
 use Rattle.fm_law_relinked.proofs.ClassLists.{fields_wanted, instances_wanted, methods_wanted, special_operand, specials_same}
-use Rattle.fm_law_relinked.proofs.ClassStays.{is_other, more_entries, name_is, names_free, superclass_within, text_same, that_index, uses_alike}
+use Rattle.fm_law_relinked.proofs.ClassStays.{call_or_not, is_other, name_is, superclass_within, text_same, that_index, uses_alike}
 use Rattle.fm_law_relinked.proofs.FreeMethod.{free_class_number, KnowsFree}
 use Rattle.fm_law_relinked.proofs.PoolStays.{class_same, entry_same, member_same, method_class, method_entry, method_named, name_same}
 use Rattle.fm_law_relinked.proofs.UsedWithin.{all_items_valid, below_option, flat_map-below, indices_below, insn_below, IsBelow, unused_past, uses_below}
+use Rattle.fm_chain.specs.Chaining.{chained_method, chained_methods}
+use Rattle.fm_chain.specs.declared.calls.Calls.{Calls}
 use Rattle.fm_code.specs.AccessFlags.{is_abstract, is_interface}
 use Rattle.fm_code.specs.ConstantPool.{entry_at, method_ref_at}
-use Rattle.fm_code.specs.FreeEntries.{free_class, free_method}
+use Rattle.fm_code.specs.FreeEntries.{free_class}
 use Rattle.fm_code.specs.Members.{FieldIsValid, MethodIsValid, receiver_words}
 use Rattle.fm_code.specs.Names.{FieldType, IsFieldDescriptor, IsMethodDescriptor}
 use Rattle.fm_code.specs.Operands.{OperandIsValid}
@@ -22,8 +23,10 @@ use Rattle.fm_code.specs.declared.code_array.Item.{Item}
 use Rattle.fm_code.specs.declared.constant_pool.Entry.{Entry}
 use Rattle.fm_code.specs.declared.instructions.Insn.{Insn}
 use Rattle.fm_code.specs.declared.instructions.Insn.TheVariants as insn
+use Rattle.fm_law_spelled.proofs.Growing.{class_of_called}
+use Rattle.fm_law_spelled.specs.Calling.{Called, entry_of, grown, Grows, IsCall, MayCall, method_of}
 use Rattle.fm_place.specs.Insertions.{Insertions}
-use Rattle.fm_place.specs.Rewriting.{free_index, Plans, rewritten_method, rewritten_methods}
+use Rattle.fm_place.specs.Rewriting.{Plans}
 use Rattle.fm_link_refusals.proofs.ParentNames.{parents_all, unused}
 use Rattle.fm_link_refusals.proofs.UsedIndices.{flat_map-kept}
 use Rattle.fm_link_refusals.proofs.WantedMembers.{fields_all, is_wrong_method, method_refusals, methods_all, no_field_refused, no_method_refused, unwanted}
@@ -37,7 +40,6 @@ use Rattle.fm_world.specs.Lookups.{is_interface_at, resolved_field, resolved_met
 use Rattle.fm_world.specs.Uses.{class_items, named_member, pool_indices, uses_in_order}
 use Rattle.fm_world.specs.declared.declarations.DeclaredClass.{DeclaredClass}
 use Rattle.fm_link_records.proofs.MarkedPlaces.{range-append}
-use Rattle.fm_law_spelled.specs.Changed.{changed}
 use Rattle.fm_link_supers.proofs.InterfaceLemmas.{AreWithin}
 
 -- ---- lists over indices
@@ -90,28 +92,20 @@ specials_below entries (item ∷ items) valid =
 
 -- ---- a changed class
 
-module _ (plans : Plans) (first : ℕ) (c : ClassDef) (bytes : List ℕ) (spells : Spells bytes c) where
+module _ (chains : Bool) (more : List Entry) (calls : Calls) (plans : Plans) (first : ℕ) (c : ClassDef) (grows : Grows chains more calls plans first c)
+    (bytes : List ℕ) (spells : Spells bytes c) where
   abbrev new : ClassDef
-  new = changed plans first c
-
-  abbrev more : List Entry
-  more = more_entries plans first c bytes spells
-
-  abbrev free : ℕ
-  free = free_index c
-
-  named : method_ref_at (c.pool.entries ++ more) free ≡ Some free_method
-  named = names_free plans first c bytes spells
+  new = grown more calls plans first c
 
   -- a refusal is the same
   told : (cause : Cause) (name : List ℕ) → refused cause new name ≡ refused cause c name
-  told cause name = λ k. record { cause = cause; name = name; user = name_is plans first c bytes spells k }
+  told cause name = λ k. record { cause = cause; name = name; user = name_is chains more calls plans first c grows bytes spells k }
 
   -- it has the name of a built-in class, which it completes where the old one did
   pub built_in_same : built_in_named new ≡ built_in_named c
   built_in_same =
-      let name = name_is plans first c bytes spells in
-      let super = name_same c.pool.entries more spells.pool.entries c.super_class (superclass_within plans first c bytes spells) in
+      let name = name_is chains more calls plans first c grows bytes spells in
+      let super = name_same c.pool.entries more spells.pool.entries c.super_class (superclass_within chains more calls plans first c grows bytes spells) in
       λ k. refused_where (λ class. refused_if (not (may_be_completed (class_at built_in class).name
       && ((not (is_interface c.flags) && not (is_abstract c.flags))
       && (same_name (class_at built_in class).superclass (super k)
@@ -129,19 +123,24 @@ module _ (plans : Plans) (first : ℕ) (c : ClassDef) (bytes : List ℕ) (spells
         let class = class_same c.pool.entries more spells.pool.entries index within in
         λ k. refused_where (λ name. missing_same (class_type name) k) (class k)
 
-    missing_free : class_number classes free_class ≡ Some free_class_number → (index : ℕ) → is_other free index ≡ false → missing_at classes new index ≡ []
-    missing_free number index is =
-        ap (missing_at classes new) (sym (that_index free index is))
-        ∙ ap (refused_where (λ name. missing classes new (class_type name))) (method_class (c.pool.entries ++ more) free free_method named)
+    missing_called : class_number classes free_class ≡ Some free_class_number → (index : ℕ) → is_other chains calls index ≡ false
+        → missing_at classes new index ≡ []
+    missing_called number index is =
+        let call = that_index chains calls index is in
+        let m = call.0 in
+        ap (missing_at classes new) call.2
+        ∙ ap (refused_where (λ name. missing classes new (class_type name)))
+        (method_class (c.pool.entries ++ more) (entry_of calls m) (method_of m) (grows.named m call.1))
+        ∙ ap (λ name. missing classes new (class_type name)) (class_of_called m)
         ∙ ap (λ o. refused_if (is_none o) (refused MissingClass new free_class)) number
 
     used_missing : class_number classes free_class ≡ Some free_class_number
         → flat_map (missing_at classes new) (uses_in_order new) ≡ flat_map (missing_at classes c) (uses_in_order c)
     used_missing number =
-        let other = is_other free in
-        sym (flat_map-kept (missing_at classes new) other (uses_in_order new) (missing_free number))
-        ∙ ap (flat_map (missing_at classes new)) (uses_alike plans first c bytes spells)
-        ∙ flat_map-kept (missing_at classes new) other (uses_in_order c) (missing_free number)
+        let other = is_other chains calls in
+        sym (flat_map-kept (missing_at classes new) other (uses_in_order new) (missing_called number))
+        ∙ ap (flat_map (missing_at classes new)) (uses_alike chains more calls plans first c grows bytes spells)
+        ∙ flat_map-kept (missing_at classes new) other (uses_in_order c) (missing_called number)
         ∙ flat_map-below (length c.pool.entries) (missing_at classes new) (missing_at classes c) missing_here (uses_in_order c) (uses_below c)
 
     missing_of_text : (text other : List ℕ) → text ≡ other → flat_map (missing classes new) (types_in text) ≡ flat_map (missing classes c) (types_in other)
@@ -155,7 +154,7 @@ module _ (plans : Plans) (first : ℕ) (c : ClassDef) (bytes : List ℕ) (spells
         λ k. missing_of_text (text_at (c.pool.entries ++ more) m.descriptor) (text_at c.pool.entries m.descriptor) descriptor k ++ missing_of_fields fields valid.1 k
 
     missing_of_method : (plan : Option Insertions) (m : Member) → MethodIsValid (is_interface c.flags) c.pool.entries m
-        → missing_in classes new (rewritten_method free plan m) ≡ missing_in classes c m
+        → missing_in classes new (chained_method calls plan m) ≡ missing_in classes c m
     missing_of_method None m valid =
         missing_of_text (text_at (c.pool.entries ++ more) m.descriptor) (text_at c.pool.entries m.descriptor)
         (text_same c.pool.entries more spells.pool.entries m.descriptor (IsMethodDescriptor (receiver_words m.flags)) valid.descriptor)
@@ -164,7 +163,7 @@ module _ (plans : Plans) (first : ℕ) (c : ClassDef) (bytes : List ℕ) (spells
         (text_same c.pool.entries more spells.pool.entries m.descriptor (IsMethodDescriptor (receiver_words m.flags)) valid.descriptor)
 
     missing_of_methods : (number : ℕ) (methods : List Member) → AllByRecursion (MethodIsValid (is_interface c.flags) c.pool.entries) methods
-        → flat_map (missing_in classes new) (rewritten_methods plans free number methods) ≡ flat_map (missing_in classes c) methods
+        → flat_map (missing_in classes new) (chained_methods plans calls number methods) ≡ flat_map (missing_in classes c) methods
     missing_of_methods number [] valid = refl
     missing_of_methods number (m ∷ methods) valid =
         λ k. missing_of_method (plans number) m valid.0 k ++ missing_of_methods (number + 1) methods valid.1 k
@@ -177,16 +176,16 @@ module _ (plans : Plans) (first : ℕ) (c : ClassDef) (bytes : List ℕ) (spells
 
     superclass_same : bad_superclass classes new ≡ bad_superclass classes c
     superclass_same =
-        let own = name_is plans first c bytes spells in
+        let own = name_is chains more calls plans first c grows bytes spells in
         let name : name_at (c.pool.entries ++ more) c.super_class ≡ name_at c.pool.entries c.super_class =
-        ap (λ o. unwrap_or o []) (name_same c.pool.entries more spells.pool.entries c.super_class (superclass_within plans first c bytes spells)) in
+        ap (λ o. unwrap_or o []) (name_same c.pool.entries more spells.pool.entries c.super_class (superclass_within chains more calls plans first c grows bytes spells)) in
         λ k.
         cond (c.super_class == 0) (record { cause = BadParent; name = own k; user = own k } ∷ [])
         (refused_if (is_bad_superclass classes c (name k)) (record { cause = BadParent; name = name k; user = own k }))
 
     interface_same : (index : ℕ) → index < length c.pool.entries → bad_interface classes new index ≡ bad_interface classes c index
     interface_same index within =
-        let own = name_is plans first c bytes spells in
+        let own = name_is chains more calls plans first c grows bytes spells in
         let name : name_at (c.pool.entries ++ more) index ≡ name_at c.pool.entries index =
         ap (λ o. unwrap_or o []) (name_same c.pool.entries more spells.pool.entries index within) in
         λ k. refused_if (is_bad_interface classes (name k)) (record { cause = BadParent; name = name k; user = own k })
@@ -215,82 +214,91 @@ module _ (plans : Plans) (first : ℕ) (c : ClassDef) (bytes : List ℕ) (spells
     field_same : (index : ℕ) → index < length c.pool.entries → missing_field_at classes new index ≡ missing_field_at classes c index
     field_same index within =
         let member = member_same c.pool.entries more spells.pool.entries index within in
-        let wanted = fields_wanted plans first c index in
+        let wanted = fields_wanted chains more calls plans first c grows index in
         λ k. refused_where (λ m. refused_if (is_not_as_wanted (field_flags classes) (resolved_field classes m) (wanted k)) (told MissingField (field_text m) k)) (member k)
 
     no_field : (index : ℕ) → length c.pool.entries ≤ index → missing_field_at classes new index ≡ []
     no_field index past =
         no_field_refused classes new index
-        (fields_wanted plans first c index ∙ unwanted static_field_wanted c index (unused_past c (bytes, spells) index past))
+        (fields_wanted chains more calls plans first c grows index ∙ unwanted static_field_wanted c index (unused_past c (bytes, spells) index past))
 
     pub fields_same : missing_fields classes new ≡ missing_fields classes c
     fields_same = fields_all classes new ∙ all_indices (missing_field_at classes new) (missing_field_at classes c) field_same no_field ∙ sym (fields_all classes c)
 
     -- ---- methods
 
-    method_same : (index : ℕ) → index < length c.pool.entries → (index ≡ free → ⊥) → missing_method_at classes new index ≡ missing_method_at classes c index
+    method_same : (index : ℕ) → index < length c.pool.entries → (IsCall chains calls index → ⊥) → missing_method_at classes new index ≡ missing_method_at classes c index
     method_same index within other =
         let member = member_same c.pool.entries more spells.pool.entries index within in
         let e = entry_same c.pool.entries more spells.pool.entries index within in
-        let wanted = methods_wanted plans first c index other in
+        let wanted = methods_wanted chains more calls plans first c grows index other in
         λ k. refused_where (λ m. refused_if (is_wrong_method classes (e k) m (wanted k)) (told MissingMethod (method_text m) k)) (member k)
 
-    no_method : (index : ℕ) → length c.pool.entries ≤ index → (index ≡ free → ⊥) → missing_method_at classes new index ≡ []
+    no_method : (index : ℕ) → length c.pool.entries ≤ index → (IsCall chains calls index → ⊥) → missing_method_at classes new index ≡ []
     no_method index past other =
         no_method_refused classes new index
-        (methods_wanted plans first c index other ∙ unwanted static_method_wanted c index (unused_past c (bytes, spells) index past))
+        (methods_wanted chains more calls plans first c grows index other ∙ unwanted static_method_wanted c index (unused_past c (bytes, spells) index past))
 
     module _ (knows : KnowsFree classes) where
-      judged : (e : Entry) → names_wrong_sort classes e free_class ≡ false → (wanted : List Bool)
-          → is_wrong_method classes e free_method wanted ≡ list_any (differs true) wanted
-      judged e sort [] = refl
-      judged e sort (w ∷ ws) =
-          ap (λ b. b || is_not_as_wanted (method_flags classes) (resolved_method classes free_method) (w ∷ ws)) sort
-          ∙ ap (λ o. is_not_as_wanted (method_flags classes) o (w ∷ ws)) knows.method ∙ ap (λ b. list_any (differs b) (w ∷ ws)) knows.static
+      judged : (m : Called) (e : Entry) → names_wrong_sort classes e (method_of m).class ≡ false → (wanted : List Bool)
+          → is_wrong_method classes e (method_of m) wanted ≡ list_any (differs true) wanted
+      judged m e sort [] = refl
+      judged m e sort (w ∷ ws) =
+          ap (λ b. b || is_not_as_wanted (method_flags classes) (resolved_method classes (method_of m)) (w ∷ ws)) sort
+          ∙ ap (λ o. is_not_as_wanted (method_flags classes) o (w ∷ ws)) (knows.method m) ∙ ap (λ b. list_any (differs b) (w ∷ ws)) (knows.static m)
 
-      right_sort : names_wrong_sort classes (entry_at (c.pool.entries ++ more) free) free_class ≡ false
-      right_sort =
-          let e = method_entry (c.pool.entries ++ more) free free_method named in
-          ap (λ x. names_wrong_sort classes x free_class) e.2 ∙ ap (is_there_and (is_interface_at classes)) knows.class ∙ knows.no_interface
+      module _ (m : Called) (may : MayCall chains m) where
+        abbrev call : ℕ
+        call = entry_of calls m
 
-      -- FreeMe.free is missing where it is called on an object
-      free_by : missing_method_at classes new free
-          ≡ refused_if (list_any (differs true) (wanted_at static_method_wanted c free)) (refused MissingMethod c (method_text free_method))
-      free_by =
-          ap (refused_where (method_refusals classes new free (wanted_at static_method_wanted new free)))
-          (method_named (c.pool.entries ++ more) free free_method named)
-          ∙ (λ k. refused_if (judged (entry_at (c.pool.entries ++ more) free) right_sort (wanted_at static_method_wanted new free) k)
-          (told MissingMethod (method_text free_method) k))
-          ∙ ap (λ b. refused_if b (refused MissingMethod c (method_text free_method))) (instances_wanted plans first c free)
+        named : method_ref_at (c.pool.entries ++ more) (entry_of calls m) ≡ Some (method_of m)
+        named = grows.named m may
 
-      free_same : free < length c.pool.entries → missing_method_at classes new free ≡ missing_method_at classes c free
-      free_same within =
-          let e = entry_same c.pool.entries more spells.pool.entries free within in
-          let member = sym (member_same c.pool.entries more spells.pool.entries free within) ∙ method_named (c.pool.entries ++ more) free free_method named in
-          let sort : names_wrong_sort classes (entry_at c.pool.entries free) free_class ≡ false =
-          ap (λ x. names_wrong_sort classes x free_class) (sym e) ∙ right_sort in
-          free_by
-          ∙ sym (ap (λ b. refused_if b (refused MissingMethod c (method_text free_method)))
-          (judged (entry_at c.pool.entries free) sort (wanted_at static_method_wanted c free)))
-          ∙ sym (ap (refused_where (method_refusals classes c free (wanted_at static_method_wanted c free))) member)
+        right_sort : names_wrong_sort classes (entry_at (c.pool.entries ++ more) call) (method_of m).class ≡ false
+        right_sort =
+            let e = method_entry (c.pool.entries ++ more) call (method_of m) named in
+            ap (names_wrong_sort classes (entry_at (c.pool.entries ++ more) call)) (class_of_called m)
+            ∙ ap (λ x. names_wrong_sort classes x free_class) e.2 ∙ ap (is_there_and (is_interface_at classes)) knows.class ∙ knows.no_interface
 
-      no_free : length c.pool.entries ≤ free → missing_method_at classes new free ≡ []
-      no_free past =
-          free_by
-          ∙ ap (λ ws. refused_if (list_any (differs true) ws) (refused MissingMethod c (method_text free_method)))
-          (unwanted static_method_wanted c free (unused_past c (bytes, spells) free past))
+        -- the method is missing where it is called on an object
+        call_by : missing_method_at classes new call
+            ≡ refused_if (list_any (differs true) (wanted_at static_method_wanted c call)) (refused MissingMethod c (method_text (method_of m)))
+        call_by =
+            ap (refused_where (method_refusals classes new call (wanted_at static_method_wanted new call)))
+            (method_named (c.pool.entries ++ more) call (method_of m) named)
+            ∙ (λ k. refused_if (judged m (entry_at (c.pool.entries ++ more) call) right_sort (wanted_at static_method_wanted new call) k)
+            (told MissingMethod (method_text (method_of m)) k))
+            ∙ ap (λ b. refused_if b (refused MissingMethod c (method_text (method_of m)))) (instances_wanted chains more calls plans first c grows call)
+
+        call_same : call < length c.pool.entries → missing_method_at classes new call ≡ missing_method_at classes c call
+        call_same within =
+            let e = entry_same c.pool.entries more spells.pool.entries call within in
+            let member =
+            sym (member_same c.pool.entries more spells.pool.entries call within) ∙ method_named (c.pool.entries ++ more) call (method_of m) named in
+            let sort : names_wrong_sort classes (entry_at c.pool.entries call) (method_of m).class ≡ false =
+            ap (λ x. names_wrong_sort classes x (method_of m).class) (sym e) ∙ right_sort in
+            call_by
+            ∙ sym (ap (λ b. refused_if b (refused MissingMethod c (method_text (method_of m))))
+            (judged m (entry_at c.pool.entries call) sort (wanted_at static_method_wanted c call)))
+            ∙ sym (ap (refused_where (method_refusals classes c call (wanted_at static_method_wanted c call))) member)
+
+        no_call : length c.pool.entries ≤ call → missing_method_at classes new call ≡ []
+        no_call past =
+            call_by
+            ∙ ap (λ ws. refused_if (list_any (differs true) ws) (refused MissingMethod c (method_text (method_of m))))
+            (unwanted static_method_wanted c call (unused_past c (bytes, spells) call past))
 
       each_method : (index : ℕ) → index < length c.pool.entries → missing_method_at classes new index ≡ missing_method_at classes c index
-      each_method index within = by_index (cases_eq index free) where
-        by_index : (index ≡ free) ⊎ (index ≡ free → ⊥) → missing_method_at classes new index ≡ missing_method_at classes c index
-        by_index (inl same) =
-            ap (missing_method_at classes new) same ∙ free_same (omega (arith, same, within)) ∙ sym (ap (missing_method_at classes c) same)
+      each_method index within = by_index (call_or_not chains calls index) where
+        by_index : IsCall chains calls index ⊎ (IsCall chains calls index → ⊥) → missing_method_at classes new index ≡ missing_method_at classes c index
+        by_index (inl (m, may, same)) =
+            ap (missing_method_at classes new) same ∙ call_same m may (omega (arith, same, within)) ∙ sym (ap (missing_method_at classes c) same)
         by_index (inr other) = method_same index within other
 
       each_other : (index : ℕ) → length c.pool.entries ≤ index → missing_method_at classes new index ≡ []
-      each_other index past = by_index (cases_eq index free) where
-        by_index : (index ≡ free) ⊎ (index ≡ free → ⊥) → missing_method_at classes new index ≡ []
-        by_index (inl same) = ap (missing_method_at classes new) same ∙ no_free (omega (arith, same, past))
+      each_other index past = by_index (call_or_not chains calls index) where
+        by_index : IsCall chains calls index ⊎ (IsCall chains calls index → ⊥) → missing_method_at classes new index ≡ []
+        by_index (inl (m, may, same)) = ap (missing_method_at classes new) same ∙ no_call m may (omega (arith, same, past))
         by_index (inr other) = no_method index past other
 
       pub methods_same : missing_methods classes new ≡ missing_methods classes c
@@ -314,7 +322,7 @@ module _ (plans : Plans) (first : ℕ) (c : ClassDef) (bytes : List ℕ) (spells
     calls_same : (caller : ℕ) → flat_map (abstract_call classes new caller) (class_items new) ≡ flat_map (abstract_call classes c caller) (class_items c)
     calls_same caller =
         let specials = filter_map (λ (item : Item). special_operand item.insn) (class_items c) in
-        specials_listed classes new caller (class_items new) ∙ ap (flat_map (special_refusals classes new caller)) (specials_same plans first c)
+        specials_listed classes new caller (class_items new) ∙ ap (flat_map (special_refusals classes new caller)) (specials_same chains more calls plans first c grows)
         ∙ flat_map-below (length c.pool.entries) (special_refusals classes new caller) (special_refusals classes c caller) (special_same caller) specials
         (specials_below c.pool.entries (class_items c) (all_items_valid c.pool.entries (is_interface c.flags) c.methods spells.methods))
         ∙ sym (specials_listed classes c caller (class_items c))

@@ -1,21 +1,23 @@
--- FreeMe.free in the classes of a program: it has a number, and is static.
-use Rattle.std.proofs.Common.{◌≡◌, refl, ◌∙◌, ap, ℕ, zero, suc, ◌+◌, ◌<◌, ◌≤◌, ◌⊎◌, inl, inr, Bool, true, false, ◌||◌, List, [], ◌∷◌, ◌++◌, length, length-append, map, Option, Some, option_and_then, option_map, arith}
+-- FreeMe's methods in the classes of a program: each has a number, and is static.
+use Rattle.std.proofs.Common.{◌≡◌, refl, ◌∙◌, ap, ℕ, zero, suc, ◌+◌, ◌<◌, ◌≤◌, ◌⊎◌, inl, inr, Bool, true, false, cond, ◌||◌, List, [], ◌∷◌, ◌++◌, length, length-append, map, Option, Some, option_and_then, option_map, arith}
 use Rattle.std.specs.List.{list_any, range_with_len}
 use Rattle.std.proofs.lemmas.Bool.{cases_lt, false≢true}
 use Rattle.std.proofs.lemmas.Iterator.Adapters.{position_from-zero}
 use Rattle.std.specs.Str.{bytes_eq}
 use Rattle.fm_world.proofs.Completions.{count_is}
 use Rattle.fm_base.specs.declared.kinds.TypeRef.{TypeRef}
+use Rattle.fm_chain.specs.ChainEntries.{chain_name, link_descriptor, link_name}
 use Rattle.fm_code.specs.AccessFlags.{is_static}
-use Rattle.fm_code.specs.FreeEntries.{free_class, free_descriptor, free_method, free_name}
+use Rattle.fm_code.specs.FreeEntries.{free_class, free_descriptor, free_name}
 use Rattle.fm_code.specs.declared.class_file.ClassDef.{ClassDef}
+use Rattle.fm_law_spelled.specs.Calling.{Called, CallsChain, CallsFree, CallsLink, method_of}
 use Rattle.fm_types.proofs.LeastJoins.{same_type-refl}
 use Rattle.fm_world.specs.BuiltIns.{buffer_methods, builder_methods, built_in, input_stream_methods, object_methods, print_stream_methods, string_methods, system_methods, throwable_methods}
 use Rattle.fm_world.specs.Causes.{method_flags}
 use Rattle.fm_world.specs.Chains.{chain_of, first_found, interfaces_of, parent_of, same_type, upwards}
 use Rattle.fm_world.specs.Declarations.{declared_from}
 use Rattle.fm_world.specs.Descriptors.{class_number, class_type, of_class, type_in, type_with}
-use Rattle.fm_world.specs.Lookups.{any_flags, is_interface_at, method_path, resolved_method}
+use Rattle.fm_world.specs.Lookups.{any_flags, class_searched, constructor_name, constructor_path, is_interface_at, method_path, resolved_method}
 use Rattle.fm_world.specs.Members.{method_among, methods_of, own_method}
 use Rattle.fm_world.specs.Numbers.{class_types, type_of_class}
 use Rattle.fm_world.specs.Programs.{classes_of}
@@ -46,13 +48,40 @@ pub class_is_no_interface : (given : List ClassDef) → is_interface_at (classes
 unfolding classes_of built_in
 class_is_no_interface given = refl
 
-pub free_is_static : (given : List ClassDef) → is_static (method_flags (classes_of given) free_method_number) ≡ true
+-- the number of a method
+abbrev pub number_of : Called → ℕ
+number_of CallsFree = free_method_number
+number_of CallsLink = link_method_number
+number_of CallsChain = chain_method_number
+
+free_is_static : (given : List ClassDef) → is_static (method_flags (classes_of given) free_method_number) ≡ true
 unfolding classes_of built_in methods_of
 free_is_static given = refl
 
-own_is : (given : List ClassDef) → own_method (classes_of given) any_flags free_name free_descriptor free_class_number ≡ Some free_method_number
+link_is_static : (given : List ClassDef) → is_static (method_flags (classes_of given) link_method_number) ≡ true
+unfolding classes_of built_in methods_of
+link_is_static given = refl
+
+chain_is_static : (given : List ClassDef) → is_static (method_flags (classes_of given) chain_method_number) ≡ true
+unfolding classes_of built_in methods_of
+chain_is_static given = refl
+
+pub called_is_static : (given : List ClassDef) (m : Called) → is_static (method_flags (classes_of given) (number_of m)) ≡ true
+called_is_static given CallsFree = free_is_static given
+called_is_static given CallsLink = link_is_static given
+called_is_static given CallsChain = chain_is_static given
+
+free_is : (given : List ClassDef) → own_method (classes_of given) any_flags free_name free_descriptor free_class_number ≡ Some free_method_number
 unfolding classes_of built_in
-own_is given = refl
+free_is given = refl
+
+link_is : (given : List ClassDef) → own_method (classes_of given) any_flags link_name link_descriptor free_class_number ≡ Some link_method_number
+unfolding classes_of built_in
+link_is given = refl
+
+chain_is : (given : List ClassDef) → own_method (classes_of given) any_flags chain_name free_descriptor free_class_number ≡ Some chain_method_number
+unfolding classes_of built_in
+chain_is given = refl
 
 path_is : (classes : List DeclaredClass) → is_interface_at classes free_class_number ≡ false
     → method_path classes free_class_number
@@ -63,27 +92,45 @@ path_is classes none = rw none refl
 first_here : (find : ℕ → Option ℕ) (x k : ℕ) (xs : List ℕ) → find x ≡ Some k → first_found find (x ∷ xs) ≡ Some k
 first_here find x k xs found = rw found refl
 
-pub method_found : (given : List ClassDef) → resolved_method (classes_of given) free_method ≡ Some free_method_number
+-- a method that is no constructor is looked for along the method path of its class
+searched_is : (classes : List DeclaredClass) (name descriptor : List ℕ) → bytes_eq name constructor_name ≡ false
+    → resolved_method classes (record { class = free_class; name = name; descriptor = descriptor })
+    ≡ option_and_then (λ (class : ℕ). method_among classes any_flags name descriptor (method_path classes class)) (class_number classes free_class)
 unfolding resolved_method
-method_found given =
-    let classes = classes_of given in
-    let find = own_method classes any_flags free_name free_descriptor in
-    let rest = upwards (length classes) classes (parent_of classes free_class_number) ++ interfaces_of classes free_class_number in
-    ap (option_and_then (λ (class : ℕ). method_among classes any_flags free_name free_descriptor (method_path classes class))) (class_number_is given)
-    ∙ ap (first_found find) (path_is classes (class_is_no_interface given)) ∙ first_here find free_class_number free_method_number rest (own_is given)
+searched_is classes name descriptor ordinary =
+    ap (λ (b : Bool).
+    cond b (option_and_then (λ (class : ℕ). method_among classes any_flags name descriptor (constructor_path classes class)) (class_number classes free_class))
+    (option_and_then (λ (class : ℕ). method_among classes any_flags name descriptor (method_path classes class)) (class_searched classes free_class))) ordinary
 
--- what is known of FreeMe.free
+-- by its name and descriptor
+found_by : (given : List ClassDef) (name descriptor : List ℕ) (number : ℕ) → bytes_eq name constructor_name ≡ false
+    → own_method (classes_of given) any_flags name descriptor free_class_number ≡ Some number
+    → resolved_method (classes_of given) (record { class = free_class; name = name; descriptor = descriptor }) ≡ Some number
+found_by given name descriptor number ordinary own =
+    let classes = classes_of given in
+    let find = own_method classes any_flags name descriptor in
+    let rest = upwards (length classes) classes (parent_of classes free_class_number) ++ interfaces_of classes free_class_number in
+    searched_is classes name descriptor ordinary
+    ∙ ap (option_and_then (λ (class : ℕ). method_among classes any_flags name descriptor (method_path classes class))) (class_number_is given)
+    ∙ ap (first_found find) (path_is classes (class_is_no_interface given)) ∙ first_here find free_class_number number rest own
+
+pub method_found : (given : List ClassDef) (m : Called) → resolved_method (classes_of given) (method_of m) ≡ Some (number_of m)
+method_found given CallsFree = found_by given free_name free_descriptor free_method_number refl (free_is given)
+method_found given CallsLink = found_by given link_name link_descriptor link_method_number refl (link_is given)
+method_found given CallsChain = found_by given chain_name free_descriptor chain_method_number refl (chain_is given)
+
+-- what is known of FreeMe's methods
 pub record KnowsFree (classes : List DeclaredClass) : Type 0 where
   pub class : class_number classes free_class ≡ Some free_class_number
-  pub method : resolved_method classes free_method ≡ Some free_method_number
-  pub static : is_static (method_flags classes free_method_number) ≡ true
+  pub method : (m : Called) → resolved_method classes (method_of m) ≡ Some (number_of m)
+  pub static : (m : Called) → is_static (method_flags classes (number_of m)) ≡ true
   pub no_interface : is_interface_at classes free_class_number ≡ false
 
 pub knows_free : (given : List ClassDef) → KnowsFree (classes_of given)
 knows_free given = record {
   class = class_number_is given;
   method = method_found given;
-  static = free_is_static given;
+  static = called_is_static given;
   no_interface = class_is_no_interface given;
 }
 

@@ -1,4 +1,4 @@
--- The index of FreeMe.free refers to that method where a written class uses it.
+-- The indices by which a written class calls methods of FreeMe refer to these where it uses them.
 use Rattle.std.proofs.Common.{◌≡◌, refl, sym, ◌∙◌, ap, subst, ℕ, ◌+◌, ◌<◌, ◌≤◌, ◌⊎◌, inl, inr, Bool, true, false, cond, List, ◌++◌, length, length-append, get_or, Some, option_and_then, option_map, arith}
 use Rattle.std.specs.Prelude.{slice_get}
 use Rattle.std.proofs.lemmas.Bool.{cases_lt}
@@ -6,21 +6,23 @@ use Rattle.std.proofs.lemmas.List.Quantifiers.{position-Some}
 use Rattle.std.proofs.lemmas.Option.{slice_get-get_or}
 use Rattle.fm_world.proofs.Completions.{count_is}
 use Rattle.fm_link_supers.proofs.ParentRefusals.{spelled_at}
-use Rattle.fm_law_relinked.proofs.ClassStays.{more_entries, names_free}
-use Rattle.fm_law_relinked.proofs.FreeMethod.{class_number_is, free_class_number, free_method_number, free_type, method_found, type_is}
-use Rattle.fm_law_relinked.proofs.Outlines.{either_class, outline_same}
+use Rattle.fm_law_relinked.proofs.FreeMethod.{class_number_is, free_class_number, free_type, method_found, number_of, type_is}
+use Rattle.fm_law_spelled.proofs.Growing.{class_of_called, either_class, grown_class, grows, more}
+use Rattle.fm_law_relinked.proofs.Outlines.{outline_same}
 use Rattle.fm_law_relinked.proofs.PoolStays.{entry_same, member_same, method_entry, method_named}
 use Rattle.fm_law_relinked.proofs.Uses.{row_past, row_within, use_at, written_at}
-use Rattle.fm_law_relinked.specs.Again.{FreeStands, IsFree}
+use Rattle.fm_law_relinked.specs.Again.{CallsStand, first_at, IsUseOf}
+use Rattle.fm_law_spelled.specs.Calling.{Called, entry_of, MayCall, method_of}
 use Rattle.fm_base.specs.declared.kinds.TypeRef.{TypeRef}
-use Rattle.fm_code.specs.ConstantPool.{class_name_at, entry_at, MemberName}
-use Rattle.fm_code.specs.FreeEntries.{free_class, free_method}
+use Rattle.fm_chain.specs.Chaining.{chained_class, chained_classes, class_calls, class_has_chain}
+use Rattle.fm_code.specs.ConstantPool.{class_name_at, entry_at, MemberName, method_ref_at}
+use Rattle.fm_code.specs.FreeEntries.{free_class}
 use Rattle.fm_code.specs.Spells.{HasSpelling}
 use Rattle.fm_code.specs.declared.class_file.ClassDef.{ClassDef}
 use Rattle.fm_code.specs.declared.constant_pool.Entry.{Entry}
 use Rattle.fm_code.specs.declared.constant_pool.Entry.TheVariants as entry
 use Rattle.fm_link_names.specs.inner.Files.{by_class}
-use Rattle.fm_place.specs.Rewriting.{first_given, free_index, Plans, rewritten, rewritten_class}
+use Rattle.fm_place.specs.Rewriting.{first_given, Plans}
 use Rattle.fm_link_records.proofs.UseLaws.{resolved_at-by, resolved_by}
 use Rattle.fm_types.proofs.LeastJoins.{same_type-eq}
 use Rattle.fm_world.specs.BuiltIns.{built_in}
@@ -34,7 +36,6 @@ use Rattle.fm_world.specs.Uses.{is_used, named_class, named_member}
 use Rattle.fm_world.specs.declared.declarations.DeclaredClass.{DeclaredClass}
 use Rattle.fm_world.specs.declared.uses.Use.{Use}
 use Rattle.fm_world.specs.declared.uses.Use.TheVariants as resolved
-use Rattle.fm_law_spelled.specs.Changed.{changed}
 
 -- the type of a class has its number
 abbrev pub ClassTypesAreNumbered : Type 0
@@ -48,7 +49,7 @@ pub record HasFree (o : Outline) : Type 0 where
   pub class : class_number o.classes free_class ≡ Some free_class_number
   pub type : type_in o.classes (class_type free_class) ≡ Some free_type
   pub number : type_number o.types free_type ≡ Some free_class_number
-  pub method : resolved_method o.classes free_method ≡ Some free_method_number
+  pub method : (m : Called) → resolved_method o.classes (method_of m) ≡ Some (number_of m)
 
 few_built_in : (given : List ClassDef) → free_class_number < length (classes_of given)
 unfolding classes_of
@@ -63,74 +64,87 @@ has_free numbered given main = record {
   method = method_found given;
 }
 
--- ---- an entry that names FreeMe.free
+-- ---- an entry that names a method of FreeMe
 
-module _ (o : Outline) (has : HasFree o) (entries : List Entry) (index class member : ℕ) (is : entry_at entries index ≡ entry.Method class member)
-    (named : named_member entries index ≡ Some free_method) where
+-- its use
+abbrev pub called_use : Called → Use
+called_use m = method_use free_class_number (number_of m)
+
+module _ (o : Outline) (has : HasFree o) (m : Called) (entries : List Entry) (index class member : ℕ) (is : entry_at entries index ≡ entry.Method class member)
+    (named : named_member entries index ≡ Some (method_of m)) where
   class_named : named_class entries index ≡ Some free_class
   class_named =
       ap (by_class (class_name_at entries index) (option_map (λ (n : MemberName). n.class) (named_member entries index))) is
-      ∙ ap (option_map (λ (n : MemberName). n.class)) named
+      ∙ ap (option_map (λ (n : MemberName). n.class)) named ∙ ap Some (class_of_called m)
 
   type_named : type_number_at o entries index ≡ Some free_class_number
   type_named =
       ap (λ n. option_and_then (type_number o.types) (option_and_then (λ (name : List ℕ). type_in o.classes (class_type name)) n)) class_named
       ∙ ap (option_and_then (type_number o.types)) has.type ∙ has.number
 
-  pub free_resolved : resolved_at o entries index ≡ method_use free_class_number free_method_number
-  free_resolved =
+  pub call_resolved : resolved_at o entries index ≡ called_use m
+  call_resolved =
       resolved_at-by o entries index ∙ ap (resolved_by o entries index) is
       ∙ (λ k. with_number (λ type. with_number (method_use type) (option_and_then (resolved_method o.classes) (named k))) (type_named k))
-      ∙ ap (with_number (method_use free_class_number)) has.method
+      ∙ ap (with_number (method_use free_class_number)) (has.method m)
 
 -- ---- a class
 
--- a use that is none, or that of FreeMe.free
-abbrev pub NoneOrFree : Use → Type 0
-NoneOrFree u = (u ≡ resolved.Unused) ⊎ (u ≡ method_use free_class_number free_method_number)
+-- a use that is none, or that of the method
+abbrev pub NoneOr : Called → Use → Type 0
+NoneOr m u = (u ≡ resolved.Unused) ⊎ (u ≡ called_use m)
 
-if_used : (b : Bool) (u : Use) → u ≡ method_use free_class_number free_method_number → NoneOrFree (cond b u resolved.Unused)
-if_used true u is = inr is
-if_used false u is = inl refl
+if_used : (m : Called) (b : Bool) (u : Use) → u ≡ called_use m → NoneOr m (cond b u resolved.Unused)
+if_used m true u is = inr is
+if_used m false u is = inl refl
 
-module _ (o : Outline) (has : HasFree o) (plans : Plans) (first : ℕ) (c : ClassDef) (spelled : HasSpelling c) where
-  abbrev more : List Entry
-  more = more_entries plans first c spelled.0 spelled.1
+-- the entries of the class with those that it calls
+abbrev pub all_entries : Plans → (first : ℕ) → ClassDef → List Entry
+all_entries plans first c = c.pool.entries ++ more plans first c
 
-  -- of the changed class
-  changed_row : NoneOrFree (get_or (class_uses o (changed plans first c)) (free_index c) resolved.Unused)
-  changed_row = by_place (cases_lt (free_index c) (length (c.pool.entries ++ more))) where
-    by_place : (free_index c < length (c.pool.entries ++ more)) ⊎ (length (c.pool.entries ++ more) ≤ free_index c)
-        → NoneOrFree (get_or (class_uses o (changed plans first c)) (free_index c) resolved.Unused)
+-- the entry by which it calls a method
+abbrev pub call_of : Plans → (first : ℕ) → ClassDef → Called → ℕ
+call_of plans first c m = entry_of (class_calls plans first c) m
+
+-- names the method
+pub call_named : (plans : Plans) (first : ℕ) (c : ClassDef) (m : Called) → MayCall (class_has_chain plans first c) m
+    → method_ref_at (all_entries plans first c) (call_of plans first c m) ≡ Some (method_of m)
+call_named plans first c m may = (grows plans first c).named m may
+
+module _ (o : Outline) (has : HasFree o) (plans : Plans) (first : ℕ) (c : ClassDef) (spelled : HasSpelling c) (m : Called)
+    (may : MayCall (class_has_chain plans first c) m) where
+  abbrev entries : List Entry
+  entries = all_entries plans first c
+
+  abbrev call : ℕ
+  call = call_of plans first c m
+
+  -- of the grown class
+  grown_row : NoneOr m (get_or (class_uses o (grown_class plans first c)) call resolved.Unused)
+  grown_row = by_place (cases_lt call (length entries)) where
+    by_place : (call < length entries) ⊎ (length entries ≤ call) → NoneOr m (get_or (class_uses o (grown_class plans first c)) call resolved.Unused)
     by_place (inl within) =
-        let named = names_free plans first c spelled.0 spelled.1 in
-        let e = method_entry (c.pool.entries ++ more) (free_index c) free_method named in
-        let member = method_named (c.pool.entries ++ more) (free_index c) free_method named in
-        subst NoneOrFree (sym (row_within o (changed plans first c) (free_index c) within))
-        (if_used (is_used (changed plans first c) (free_index c)) (resolved_at o (c.pool.entries ++ more) (free_index c))
-        (free_resolved o has (c.pool.entries ++ more) (free_index c) e.0 e.1 e.2 member))
-    by_place (inr past) = inl (row_past o (changed plans first c) (free_index c) past)
+        let e = method_entry entries call (method_of m) (call_named plans first c m may) in
+        subst (NoneOr m) (sym (row_within o (grown_class plans first c) call within))
+        (if_used m (is_used (grown_class plans first c) call) (resolved_at o entries call)
+        (call_resolved o has m entries call e.0 e.1 e.2 (method_named entries call (method_of m) (call_named plans first c m may))))
+    by_place (inr past) = inl (row_past o (grown_class plans first c) call past)
 
   -- of the class itself
-  pub own_row : NoneOrFree (get_or (class_uses o c) (free_index c) resolved.Unused)
-  own_row = by_place (cases_lt (free_index c) (length c.pool.entries)) where
-    by_place : (free_index c < length c.pool.entries) ⊎ (length c.pool.entries ≤ free_index c)
-        → NoneOrFree (get_or (class_uses o c) (free_index c) resolved.Unused)
+  pub own_row : NoneOr m (get_or (class_uses o c) call resolved.Unused)
+  own_row = by_place (cases_lt call (length c.pool.entries)) where
+    by_place : (call < length c.pool.entries) ⊎ (length c.pool.entries ≤ call) → NoneOr m (get_or (class_uses o c) call resolved.Unused)
     by_place (inl within) =
-        let named = names_free plans first c spelled.0 spelled.1 in
         let valid = spelled.1.pool.entries in
-        let e = method_entry (c.pool.entries ++ more) (free_index c) free_method named in
-        let is = sym (entry_same c.pool.entries more valid (free_index c) within) ∙ e.2 in
-        let member =
-        sym (member_same c.pool.entries more valid (free_index c) within)
-        ∙ method_named (c.pool.entries ++ more) (free_index c) free_method named in
-        subst NoneOrFree (sym (row_within o c (free_index c) within))
-        (if_used (is_used c (free_index c)) (resolved_at o c.pool.entries (free_index c))
-        (free_resolved o has c.pool.entries (free_index c) e.0 e.1 is member))
-    by_place (inr past) = inl (row_past o c (free_index c) past)
+        let e = method_entry entries call (method_of m) (call_named plans first c m may) in
+        let is = sym (entry_same c.pool.entries (more plans first c) valid call within) ∙ e.2 in
+        let member = sym (member_same c.pool.entries (more plans first c) valid call within) ∙ method_named entries call (method_of m) (call_named plans first c m may) in
+        subst (NoneOr m) (sym (row_within o c call within))
+        (if_used m (is_used c call) (resolved_at o c.pool.entries call) (call_resolved o has m c.pool.entries call e.0 e.1 is member))
+    by_place (inr past) = inl (row_past o c call past)
 
-  pub written_row : NoneOrFree (get_or (class_uses o (rewritten_class plans first c)) (free_index c) resolved.Unused)
-  written_row = either_class plans first c (λ (d : ClassDef). NoneOrFree (get_or (class_uses o d) (free_index c) resolved.Unused)) own_row changed_row
+  pub written_row : NoneOr m (get_or (class_uses o (chained_class plans first c)) call resolved.Unused)
+  written_row = either_class plans first c (λ (d : ClassDef). NoneOr m (get_or (class_uses o d) call resolved.Unused)) own_row grown_row
 
 -- ---- all classes
 
@@ -141,31 +155,35 @@ type_found types number =
     slice_get-get_or types free_class_number free_type found.0
     ∙ ap (λ (t : TypeRef). Some t) (sym (same_type-eq free_type (get_or types free_class_number free_type) found.1))
 
-is_free : (given : List ClassDef) (main : List ℕ) → HasFree (outline_of given main) → (u : Use) → u ≡ method_use free_class_number free_method_number
-    → IsFree (outline_of given main) u
-is_free given main has u is = record {
+is_use : (given : List ClassDef) (main : List ℕ) → HasFree (outline_of given main) → (m : Called) (u : Use) → u ≡ called_use m
+    → IsUseOf (outline_of given main) m u
+is_use given main has m u is = record {
   class = free_class_number;
   type = free_class_number;
-  method = free_method_number;
+  method = number_of m;
   class_is = has.class;
   type_is = type_found (outline_of given main).types has.number;
-  method_is = has.method;
+  method_is = has.method m;
   use_is = is;
 }
 
-pub free_stands : ClassTypesAreNumbered → FreeStands
-free_stands numbered given main plans spelled place c there =
+pub calls_stand : ClassTypesAreNumbered → CallsStand
+calls_stand numbered given main plans spelled place c there m may =
     let o = outline_of given main in
     let has = has_free numbered given main in
+    let first = first_at first_given given place in
     let new = written_at plans first_given given place c there in
+    let call = entry_of (class_calls plans first c) m in
     let use_is =
-    use_at (rewritten plans given) main place (rewritten_class plans new.0 c) new.1 (free_index c)
-    ∙ ap (λ p. get_or (class_uses p (rewritten_class plans new.0 c)) (free_index c) resolved.Unused) (outline_same plans given main spelled) in
-    by_row (get_or (class_uses o (rewritten_class plans new.0 c)) (free_index c) resolved.Unused) use_is
-    (written_row o has plans new.0 c (spelled_at given place c spelled there)) where
+    use_at (chained_classes plans given) main place (chained_class plans first c) new call
+    ∙ ap (λ p. get_or (class_uses p (chained_class plans first c)) call resolved.Unused) (outline_same plans given main spelled) in
+    by_row (get_or (class_uses o (chained_class plans first c)) call resolved.Unused) use_is
+    (written_row o has plans first c (spelled_at given place c spelled there) m may) where
       found : Use
-      found = use_of (program_of (rewritten plans given) main) (length built_in + place) (free_index c)
+      found =
+          use_of (program_of (chained_classes plans given) main) (length built_in + place)
+          (entry_of (class_calls plans (first_at first_given given place) c) m)
 
-      by_row : (u : Use) → found ≡ u → NoneOrFree u → (found ≡ resolved.Unused) ⊎ IsFree (outline_of given main) found
+      by_row : (u : Use) → found ≡ u → NoneOr m u → (found ≡ resolved.Unused) ⊎ IsUseOf (outline_of given main) m found
       by_row u same (inl none) = inl (same ∙ none)
-      by_row u same (inr is) = inr (is_free given main (has_free numbered given main) found (same ∙ is))
+      by_row u same (inr is) = inr (is_use given main (has_free numbered given main) m found (same ∙ is))

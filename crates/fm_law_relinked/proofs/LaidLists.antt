@@ -1,9 +1,11 @@
--- A view of the instructions of woven code that doesn't depend on targets and has nothing for what
+-- A view of the instructions of code with insertions that doesn't depend on targets and has nothing for what
 -- is inserted is that of the old ones, in their order.
 use Rattle.std.proofs.Common.{◌≡◌, refl, sym, ◌∙◌, ap, ℕ, ◌+◌, inl, inr, Bool, true, false, List, [], ◌∷◌, ◌++◌, length, Option, Some, None}
 use Rattle.std.specs.Prelude.{nat_lt, slice_index}
 use Rattle.std.specs.List.{cons_option, filter_map, flat_map, range_with_len}
 use Rattle.std.proofs.lemmas.List.Elements.{filter_map-append}
+use Rattle.fm_chain.specs.Chained.{anchors_of, chained, chained_code, chained_item, chained_items, looped_at, released, taken}
+use Rattle.fm_chain.specs.declared.calls.Calls.{Calls}
 use Rattle.fm_code.specs.SpellsCode.{with_targets}
 use Rattle.fm_code.specs.declared.code_array.Code.{Code}
 use Rattle.fm_code.specs.declared.code_array.Item.{Item}
@@ -24,16 +26,17 @@ use Rattle.fm_layout.specs.declared.rooms.Condition.TheVariants as condition
 use Rattle.fm_layout.specs.declared.rooms.Room.{Room}
 use Rattle.fm_layout.specs.declared.rooms.Room.TheVariants as room
 use Rattle.fm_place.specs.Insertions.{after_at, before_at, Insertions}
-use Rattle.fm_place.specs.Woven.{anchors_of, freed, kept, local_of, null_stored, top_stored, woven, woven_code, woven_from, woven_item}
+use Rattle.fm_law_spelled.specs.Calling.{CallsChain, CallsFree, CallsLink, IsCall}
+use Rattle.fm_place.specs.Woven.{freed, kept, local_of, null_stored}
 
 -- the view has nothing for instructions with targets and for what is inserted
-pub record IsView {B : Type 0} (free : ℕ) (view : Insn → Option B) : Type 0 where
+pub record IsView {B : Type 0} (chains : Bool) (calls : Calls) (view : Insn → Option B) : Type 0 where
   pub branches : (i : Insn) → names_target i ≡ true → view i ≡ None
   pub null : view insn.Null ≡ None
   pub doubled : view insn.Dup ≡ None
   pub load : (k : ℕ) → view (insn.Load reg.Ref k) ≡ None
   pub store : (k : ℕ) → view (insn.Store reg.Ref k) ≡ None
-  pub call : view (insn.Static free) ≡ None
+  pub call : (index : ℕ) → IsCall chains calls index → view (insn.Static index) ≡ None
 
 -- ---- rooms of branches
 
@@ -56,7 +59,7 @@ wide_named : (kept : Option Item) (i : Insn) (b : Branch) → IsWider (room_of k
 wide_named kept i b (inl e) = absurd (never_wide kept i b e)
 wide_named kept i b (inr (c, narrow, wide)) = narrow_named kept i c narrow
 
-module _ {B : Type 0} (free : ℕ) (view : Insn → Option B) (is : IsView free view) where
+module _ {B : Type 0} (chains : Bool) (calls : Calls) (view : Insn → Option B) (is : IsView chains calls view) where
   abbrev of_item : Item → Option B
   of_item item = view item.insn
 
@@ -120,40 +123,48 @@ module _ {B : Type 0} (free : ℕ) (view : Insn → Option B) (is : IsView free 
       let rooms = widened_rooms (rooms_of old items) in
       laid_listed old (starts_from 0 rooms) (firsts_from 0 rooms) 0 0 items rooms (rounds_wider (length (rooms_of old items)) (rooms_of old items))
 
-  -- ---- woven items
+  -- ---- what is inserted
 
   null_none : (local : ℕ) → filter_map of_new (null_stored local) ≡ []
   null_none local = both_none _ _ is.null (is.store local)
 
-  top_none : (local : ℕ) → filter_map of_new (top_stored local) ≡ []
-  top_none local = both_none _ _ is.doubled (is.store local)
+  freed_none : (call local : ℕ) → IsCall chains calls call → filter_map of_new (freed call local) ≡ []
+  freed_none call local may = λ k. cons_option (is.load local k) (cons_option (is.call call may k) (null_none local k))
 
-  freed_none : (local : ℕ) → filter_map of_new (freed free local) ≡ []
-  freed_none local = λ k. cons_option (is.load local k) (cons_option (is.call k) (null_none local k))
+  released_none : (looped : Bool) (local : ℕ) → (looped ≡ true → chains ≡ true) → filter_map of_new (released calls looped local) ≡ []
+  released_none true local may = freed_none calls.free_chain local (CallsChain, may refl, refl)
+  released_none false local may = freed_none calls.free local (CallsFree, tt, refl)
+
+  taken_none : (looped : Bool) (local : ℕ) → (looped ≡ true → chains ≡ true) → filter_map of_new (taken calls looped local) ≡ []
+  taken_none true local may =
+      λ k. cons_option (is.doubled k) (cons_option (is.load local k) (cons_option (is.call calls.link (CallsLink, may refl, refl) k) (cons_option (is.store local k) [])))
+  taken_none false local may = both_none _ _ is.doubled (is.store local)
 
   each_none : (f : ℕ → List NewItem) → ((h : ℕ) → filter_map of_new (f h) ≡ []) → (hs : List ℕ) → filter_map of_new (flat_map f hs) ≡ []
   each_none f none [] = refl
   each_none f none (h ∷ hs) = filter_map-append of_new (f h) (flat_map f hs) ∙ (λ k. none h k ++ each_none f none hs k)
 
-  module _ (code : Code) (plan : Insertions) where
-    item_listed : (anchors : List ℕ) (j : ℕ) (i : Insn) → filter_map of_new (woven_item free code plan anchors j i) ≡ cons_option (view i) []
+  module _ (code : Code) (plan : Insertions) (may : (h : ℕ) → looped_at plan h ≡ true → chains ≡ true) where
+    item_listed : (anchors : List ℕ) (j : ℕ) (i : Insn) → filter_map of_new (chained_item calls code plan anchors j i) ≡ cons_option (view i) []
     item_listed anchors j i =
-        let before = flat_map (λ h. freed free (local_of code h)) (before_at plan j) in
-        let after = flat_map (λ h. top_stored (local_of code h)) (after_at plan j) in
+        let before = flat_map (λ h. released calls (looped_at plan h) (local_of code h)) (before_at plan j) in
+        let after = flat_map (λ h. taken calls (looped_at plan h) (local_of code h)) (after_at plan j) in
         filter_map-append of_new before (kept anchors j i ∷ after)
-        ∙ (λ k. each_none (λ h. freed free (local_of code h)) (λ h. freed_none (local_of code h)) (before_at plan j) k
-        ++ cons_option (alike (slice_index anchors) i k) (each_none (λ h. top_stored (local_of code h)) (λ h. top_none (local_of code h)) (after_at plan j) k))
+        ∙ (λ k. each_none (λ h. released calls (looped_at plan h) (local_of code h))
+        (λ h. released_none (looped_at plan h) (local_of code h) (may h)) (before_at plan j) k
+        ++ cons_option (alike (slice_index anchors) i k)
+        (each_none (λ h. taken calls (looped_at plan h) (local_of code h)) (λ h. taken_none (looped_at plan h) (local_of code h) (may h)) (after_at plan j) k))
 
-    from_listed : (anchors : List ℕ) (j : ℕ) (items : List Item) → filter_map of_new (woven_from free code plan anchors j items) ≡ filter_map of_item items
+    from_listed : (anchors : List ℕ) (j : ℕ) (items : List Item) → filter_map of_new (chained_items calls code plan anchors j items) ≡ filter_map of_item items
     from_listed anchors j [] = refl
     from_listed anchors j (item ∷ items) =
-        filter_map-append of_new (woven_item free code plan anchors j item.insn) (woven_from free code plan anchors (j + 1) items)
+        filter_map-append of_new (chained_item calls code plan anchors j item.insn) (chained_items calls code plan anchors (j + 1) items)
         ∙ (λ k. item_listed anchors j item.insn k ++ from_listed anchors (j + 1) items k) ∙ onto (view item.insn) (filter_map of_item items)
 
-    -- the view of all items of the woven code
-    pub woven_listed : filter_map of_item (woven_code free code plan).items ≡ filter_map of_item code.items
-    woven_listed =
+    -- the view of all items of the new code
+    pub chained_listed : filter_map of_item (chained_code calls code plan).items ≡ filter_map of_item code.items
+    chained_listed =
         let nulls = flat_map (λ h. null_stored (local_of code h)) (range_with_len 0 (length plan.holders)) in
-        all_laid code.items (woven free code plan) ∙ filter_map-append of_new nulls (woven_from free code plan (anchors_of plan code.items) 0 code.items)
+        all_laid code.items (chained calls code plan) ∙ filter_map-append of_new nulls (chained_items calls code plan (anchors_of plan code.items) 0 code.items)
         ∙ (λ k. each_none (λ h. null_stored (local_of code h)) (λ h. null_none (local_of code h)) (range_with_len 0 (length plan.holders)) k
         ++ from_listed (anchors_of plan code.items) 0 code.items k)

@@ -7,13 +7,15 @@ use Rattle.std.proofs.lemmas.Grind.{flat_map-append}
 use Rattle.std.proofs.lemmas.List.Elements.{filter-append, filter_map-append}
 use Rattle.fm_law_relinked.proofs.ClassStays.{declared_same, made_same, texts_same, types_alike}
 use Rattle.fm_law_relinked.proofs.FreeMethod.{free_type, free_type_known, type_is}
+use Rattle.fm_law_spelled.proofs.Growing.{either_class, grown_class, grows, more}
 use Rattle.fm_law_relinked.proofs.PassedOver.{distinct_without}
 use Rattle.fm_base.specs.declared.kinds.TypeRef.{TypeRef}
+use Rattle.fm_chain.specs.Chaining.{chained_class, chained_classes, chained_from, class_calls, class_has_chain}
 use Rattle.fm_code.specs.FreeEntries.{free_class}
 use Rattle.fm_code.specs.Spells.{HasSpelling}
 use Rattle.fm_code.specs.declared.class_file.ClassDef.{ClassDef}
 use Rattle.fm_code.specs.declared.code_array.Item.{Item}
-use Rattle.fm_place.specs.Rewriting.{changes, first_given, Plans, rewritten, rewritten_class, rewritten_from}
+use Rattle.fm_place.specs.Rewriting.{first_given, Plans}
 use Rattle.fm_link_refusals.proofs.UsedIndices.{flat_map-kept}
 use Rattle.fm_types.proofs.LeastJoins.{same_type-eq}
 use Rattle.fm_world.specs.BuiltIns.{built_in}
@@ -24,20 +26,6 @@ use Rattle.fm_world.specs.Numbers.{argument_array, arrays_in, class_types, made_
 use Rattle.fm_world.specs.Programs.{classes_of, main_of, outline_of}
 use Rattle.fm_world.specs.Uses.{class_items, made_array, named_type, uses_in_order}
 use Rattle.fm_world.specs.declared.declarations.DeclaredClass.{DeclaredClass}
-use Rattle.fm_law_spelled.specs.Changed.{changed}
-
--- ---- changed or not
-
-abbrev chosen : Plans → (first : ℕ) → ClassDef → Bool → ClassDef
-chosen plans first c false = c
-chosen plans first c true = changed plans first c
-
--- what holds of a class and of the changed one holds of the one that is written
-pub either_class : (plans : Plans) (first : ℕ) (c : ClassDef) (P : ClassDef → Type 0) → P c → P (changed plans first c) → P (rewritten_class plans first c)
-either_class plans first c P same new = by_change (changes plans first c) where
-  by_change : (b : Bool) → P (chosen plans first c b)
-  by_change true = new
-  by_change false = same
 
 -- ---- lists
 
@@ -50,8 +38,8 @@ filter_map_mapped f (x ∷ xs) = ap (cons_option (f x)) (filter_map_mapped f xs)
 module _ (plans : Plans) where
   -- what is listed of each class alike
   pub all_listed : {A : Type 0} (list : ClassDef → List A)
-      → ((first : ℕ) (c : ClassDef) → HasSpelling c → list (changed plans first c) ≡ list c)
-      → (first : ℕ) (given : List ClassDef) → AllByRecursion HasSpelling given → flat_map list (rewritten_from plans first given) ≡ flat_map list given
+      → ((first : ℕ) (c : ClassDef) → HasSpelling c → list (grown_class plans first c) ≡ list c)
+      → (first : ℕ) (given : List ClassDef) → AllByRecursion HasSpelling given → flat_map list (chained_from plans first given) ≡ flat_map list given
   all_listed list same first [] spelled = refl
   all_listed list same first (c ∷ given) spelled =
       let here = either_class plans first c (λ (d : ClassDef). list d ≡ list c) refl (same first c spelled.0) in
@@ -59,56 +47,57 @@ module _ (plans : Plans) where
 
   -- the same, but for what doesn't pass
   filtered_listed : {A : Type 0} (p : A → Bool) (list : ClassDef → List A)
-      → ((first : ℕ) (c : ClassDef) → HasSpelling c → filter p (list (changed plans first c)) ≡ filter p (list c))
+      → ((first : ℕ) (c : ClassDef) → HasSpelling c → filter p (list (grown_class plans first c)) ≡ filter p (list c))
       → (first : ℕ) (given : List ClassDef) → AllByRecursion HasSpelling given
-      → filter p (flat_map list (rewritten_from plans first given)) ≡ filter p (flat_map list given)
+      → filter p (flat_map list (chained_from plans first given)) ≡ filter p (flat_map list given)
   filtered_listed p list same first [] spelled = refl
   filtered_listed p list same first (c ∷ given) spelled =
       let here = either_class plans first c (λ (d : ClassDef). filter p (list d) ≡ filter p (list c)) refl (same first c spelled.0) in
-      let others = rewritten_from plans (first + length c.methods) given in
-      filter-append p (list (rewritten_class plans first c)) (flat_map list others)
+      let others = chained_from plans (first + length c.methods) given in
+      filter-append p (list (chained_class plans first c)) (flat_map list others)
       ∙ (λ k. here k ++ filtered_listed p list same (first + length c.methods) given spelled.1 k)
       ∙ sym (filter-append p (list c) (flat_map list given))
 
   -- the same of options
   options_listed : {A : Type 0} (list : ClassDef → List (Option A))
       → ((first : ℕ) (c : ClassDef) → HasSpelling c
-      → filter_map (λ (o : Option A). o) (list (changed plans first c)) ≡ filter_map (λ (o : Option A). o) (list c))
+      → filter_map (λ (o : Option A). o) (list (grown_class plans first c)) ≡ filter_map (λ (o : Option A). o) (list c))
       → (first : ℕ) (given : List ClassDef) → AllByRecursion HasSpelling given
-      → filter_map (λ (o : Option A). o) (flat_map list (rewritten_from plans first given)) ≡ filter_map (λ (o : Option A). o) (flat_map list given)
+      → filter_map (λ (o : Option A). o) (flat_map list (chained_from plans first given)) ≡ filter_map (λ (o : Option A). o) (flat_map list given)
   options_listed list same first [] spelled = refl
   options_listed {A} list same first (c ∷ given) spelled =
       let here =
       either_class plans first c (λ (d : ClassDef). filter_map (λ (o : Option A). o) (list d) ≡ filter_map (λ (o : Option A). o) (list c)) refl
       (same first c spelled.0) in
-      let others = rewritten_from plans (first + length c.methods) given in
-      filter_map-append (λ (o : Option A). o) (list (rewritten_class plans first c)) (flat_map list others)
+      let others = chained_from plans (first + length c.methods) given in
+      filter_map-append (λ (o : Option A). o) (list (chained_class plans first c)) (flat_map list others)
       ∙ (λ k. here k ++ options_listed list same (first + length c.methods) given spelled.1 k)
       ∙ sym (filter_map-append (λ (o : Option A). o) (list c) (flat_map list given))
 
   -- ---- classes
 
   declared_all : (file first : ℕ) (given : List ClassDef) → AllByRecursion HasSpelling given
-      → declared_from file (rewritten_from plans first given) ≡ declared_from file given
+      → declared_from file (chained_from plans first given) ≡ declared_from file given
   declared_all file first [] spelled = refl
   declared_all file first (c ∷ given) spelled =
       let here =
       either_class plans first c (λ (d : ClassDef). declared_of file d ≡ declared_of file c) refl
-      (declared_same plans first c spelled.0.0 spelled.0.1 file) in
+      (declared_same (class_has_chain plans first c) (more plans first c) (class_calls plans first c) plans first c (grows plans first c) spelled.0.0 spelled.0.1 file) in
       λ k. here k ∷ declared_all (file + 1) (first + length c.methods) given spelled.1 k
 
-  pub classes_same : (given : List ClassDef) → AllByRecursion HasSpelling given → classes_of (rewritten plans given) ≡ classes_of given
+  pub classes_same : (given : List ClassDef) → AllByRecursion HasSpelling given → classes_of (chained_classes plans given) ≡ classes_of given
   unfolding classes_of
   classes_same given spelled = ap (λ l. built_in ++ l) (declared_all 0 first_given given spelled)
 
   -- ---- texts
 
-  texts_are : (given : List ClassDef) → AllByRecursion HasSpelling given → texts_of (rewritten plans given) ≡ texts_of given
+  texts_are : (given : List ClassDef) → AllByRecursion HasSpelling given → texts_of (chained_classes plans given) ≡ texts_of given
   unfolding texts_of
   texts_are given spelled =
       ap (distinct bytes_eq)
-      (all_listed (λ c. filter_map (text_units c.pool.entries) (uses_in_order c)) (λ first c known. texts_same plans first c known.0 known.1) first_given given
-      spelled)
+      (all_listed (λ c. filter_map (text_units c.pool.entries) (uses_in_order c))
+      (λ first c known.
+      texts_same (class_has_chain plans first c) (more plans first c) (class_calls plans first c) plans first c (grows plans first c) known.0 known.1) first_given given spelled)
 
   -- ---- types
 
@@ -117,18 +106,20 @@ module _ (plans : Plans) where
     unlike t = not (same_type free_type t)
 
     used_alike : (given : List ClassDef) → AllByRecursion HasSpelling given
-        → filter unlike (used_types classes (rewritten plans given)) ≡ filter unlike (used_types classes given)
+        → filter unlike (used_types classes (chained_classes plans given)) ≡ filter unlike (used_types classes given)
     used_alike given spelled =
         filtered_listed unlike (λ c. filter_map (named_type classes c.pool.entries) (uses_in_order c))
-        (λ first c known. types_alike plans first c known.0 known.1 classes free_is) first_given given spelled
+        (λ first c known.
+        types_alike (class_has_chain plans first c) (more plans first c) (class_calls plans first c) plans first c (grows plans first c) known.0 known.1 classes free_is)
+        first_given given spelled
 
-    made_alike : (given : List ClassDef) → AllByRecursion HasSpelling given → made_arrays classes (rewritten plans given) ≡ made_arrays classes given
+    made_alike : (given : List ClassDef) → AllByRecursion HasSpelling given → made_arrays classes (chained_classes plans given) ≡ made_arrays classes given
     made_alike given spelled =
         ap (cons_option (argument_array classes))
         (options_listed (λ c. map (λ (item : Item). made_array classes c.pool.entries item.insn) (class_items c))
         (λ first c known.
-        filter_map_mapped (λ (item : Item). made_array classes (changed plans first c).pool.entries item.insn) (class_items (changed plans first c))
-        ∙ made_same plans first c known.0 known.1 classes free_is
+        filter_map_mapped (λ (item : Item). made_array classes (grown_class plans first c).pool.entries item.insn) (class_items (grown_class plans first c))
+        ∙ made_same (class_has_chain plans first c) (more plans first c) (class_calls plans first c) plans first c (grows plans first c) known.0 known.1 classes free_is
         ∙ sym (filter_map_mapped (λ (item : Item). made_array classes c.pool.entries item.insn) (class_items c)))
         first_given given spelled)
 
@@ -140,27 +131,27 @@ module _ (plans : Plans) where
       by_test false other no_other = absurd (false≢true (sym no_other))
 
     elements_same : (given : List ClassDef) → AllByRecursion HasSpelling given
-        → flat_map arrays_in (used_types classes (rewritten plans given) ++ made_arrays classes (rewritten plans given))
+        → flat_map arrays_in (used_types classes (chained_classes plans given) ++ made_arrays classes (chained_classes plans given))
         ≡ flat_map arrays_in (used_types classes given ++ made_arrays classes given)
     elements_same given spelled =
         let used = used_types classes given in
-        let new_used = used_types classes (rewritten plans given) in
+        let new_used = used_types classes (chained_classes plans given) in
         let of_used : flat_map arrays_in new_used ≡ flat_map arrays_in used =
         sym (flat_map-kept arrays_in unlike new_used no_arrays) ∙ ap (flat_map arrays_in) (used_alike given spelled) ∙ flat_map-kept arrays_in unlike used no_arrays in
-        flat_map-append arrays_in new_used (made_arrays classes (rewritten plans given))
+        flat_map-append arrays_in new_used (made_arrays classes (chained_classes plans given))
         ∙ (λ k. of_used k ++ flat_map arrays_in (made_alike given spelled k))
         ∙ sym (flat_map-append arrays_in used (made_arrays classes given))
 
     -- what the types of the classes have already isn't met anew
     types_are : (given : List ClassDef) → AllByRecursion HasSpelling given → list_any (same_type free_type) (class_types classes) ≡ true
-        → types_of classes (rewritten plans given) ≡ types_of classes given
+        → types_of classes (chained_classes plans given) ≡ types_of classes given
     unfolding types_of
     types_are given spelled known =
         let front = class_types classes in
         let used = used_types classes given in
-        let new_used = used_types classes (rewritten plans given) in
+        let new_used = used_types classes (chained_classes plans given) in
         let rest = flat_map arrays_in (used ++ made_arrays classes given) in
-        let new_rest = flat_map arrays_in (new_used ++ made_arrays classes (rewritten plans given)) in
+        let new_rest = flat_map arrays_in (new_used ++ made_arrays classes (chained_classes plans given)) in
         let without : (us rs : List TypeRef) → distinct same_type ((front ++ us) ++ rs) ≡ distinct same_type (front ++ (filter unlike us ++ filter unlike rs)) =
         λ us rs.
         ap (distinct same_type) (append_assoc front us rs) ∙ distinct_without same_type same_type-eq free_type front (us ++ rs) known
@@ -172,12 +163,12 @@ module _ (plans : Plans) where
   -- ---- all
 
   pub outline_same : (given : List ClassDef) (main : List ℕ) → AllByRecursion HasSpelling given
-      → outline_of (rewritten plans given) main ≡ outline_of given main
+      → outline_of (chained_classes plans given) main ≡ outline_of given main
   unfolding outline_of
   outline_same given main spelled =
       let classes = classes_same given spelled in
       let types =
-      ap (λ cs. types_of cs (rewritten plans given)) classes
+      ap (λ cs. types_of cs (chained_classes plans given)) classes
       ∙ types_are (classes_of given) (type_is given) given spelled (free_type_known given) in
       let texts = texts_are given spelled in
       λ k. record {

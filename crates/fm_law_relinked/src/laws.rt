@@ -1,7 +1,7 @@
 // Laws of the definitions, each as the contract of a function that does nothing.
 
-ghost use Rattle.fm_law_relinked.specs.Again.{FreeStands, OutlinesStay, RefusalsStay, SafeClassesLink, UsesStay};
-ghost use Rattle.fm_law_relinked.specs.Codes.{CodesAreWoven};
+ghost use Rattle.fm_law_relinked.specs.Again.{CallsStand, ChainedClassesLink, OutlinesStay, RefusalsStay, SafeClassesLink, UsesStay};
+ghost use Rattle.fm_law_relinked.specs.Codes.{CodesAreChained};
 ghost use Rattle.fm_law_relinked.specs.Rows.{RowsAreBlind, StatesFitStill};
 
 use fm_world::law_class_types;
@@ -14,24 +14,25 @@ pub fn law_outline()
 
 /// Each method has its old code, with what its plan inserts if it has one.
 pub fn law_codes()
-    ensures { CodesAreWoven }
+    ensures { CodesAreChained }
 {}
 
-/// Each index of a pool refers to what it referred to before, but for that of FreeMe.free, which
-/// refers to that method where it is used.
+/// Each index of a pool refers to what it referred to before, but for those by which methods of FreeMe
+/// are called, which refer to these where they are used.
 pub fn law_uses()
     ensures stay { UsesStay }
-    ensures free { FreeStands }
+    ensures calls { CallsStand }
 {
     // By this law.
     law_class_types();
 }
 
 /// The same is refused of such classes as of the given ones; so classes with safe insertions link where
-/// the given ones do.
+/// the given ones do, and so they do where holders of sites in loops hold chains.
 pub fn law_links()
     ensures refusals { RefusalsStay }
     ensures safe { SafeClassesLink }
+    ensures chains { ChainedClassesLink }
 {}
 
 /// The checker's rows don't look at the numbers of items, but for whether two are the same, nor at locals

@@ -1,14 +1,14 @@
 -- Typed code with insertions is typed: the states written out, by what each item is for, are a
 -- typing of it.
-use Rattle.std.proofs.Common.{◌≡◌, refl, sym, ◌∙◌, ap, subst, ℕ, zero, suc, ◌+◌, ◌<◌, ◌≤◌, ◌⊎◌, ◌↔◌, ◌||◌, inl, inr, Bool, true, false, List, [], ◌∷◌, ◌++◌, length, length-append, map, replicate, Option, Some, None, is_some, option_and_then, option_map, IsSomeAnd, Contains, ⊎_elim, arith}
+use Rattle.std.proofs.Common.{◌≡◌, refl, sym, ◌∙◌, ap, subst, ℕ, zero, suc, ◌+◌, ◌<◌, ◌≤◌, ◌⊎◌, ◌↔◌, inl, inr, Bool, true, false, List, [], ◌∷◌, ◌++◌, length, length-append, map, replicate, Option, Some, None, is_some, option_and_then, option_map, IsSomeAnd, Contains, ⊎_elim, arith}
 use Rattle.std.specs.Prelude.{if◌then◌else◌, slice_get}
-use Rattle.std.specs.List.{AllByRecursion, list_any}
-use Rattle.std.proofs.lemmas.Bool.{false≢true, or_right}
+use Rattle.std.specs.List.{AllByRecursion}
+use Rattle.std.proofs.lemmas.Bool.{false≢true}
 use Rattle.std.proofs.lemmas.List.{get_or_past, length-map}
 use Rattle.std.proofs.lemmas.Option.{get_or_from_slice_get, none-some, same_Some, slice_get-map, slice_get_within}
 use Rattle.fm_base.proofs.OptionFacts.{IsSomeAnd-from_some, IsSomeAnd-weaker, option_map-some, same_value, Some-from_some_and}
 use Rattle.fm_base.specs.declared.kinds.TypeRef.{TypeRef}
-use Rattle.fm_chain.specs.Chained.{added_words, has_chain, holds_chain, looped_at}
+use Rattle.fm_chain.specs.Chained.{added_words, has_chain, looped_at}
 use Rattle.fm_code.proofs.EdgesLemmas.{Contains-first, Contains-later}
 use Rattle.fm_code.specs.Edges.{Catches, falls_through, insn_of, IsEdge, IsFlowPath, IsNormalEdge, IsReachable}
 use Rattle.fm_code.specs.declared.code_array.Code.{Code}
@@ -17,10 +17,11 @@ use Rattle.fm_code.specs.declared.instructions.Insn.{Insn}
 use Rattle.fm_law_relinked.proofs.RowSteps.{whole_with}
 use Rattle.fm_law_relinked.specs.Rows.{slot_with}
 use Rattle.fm_check_walk.proofs.MergingLemmas.{fits-from, fits-parts, state-trans}
+use Rattle.fm_law_spelled.proofs.Growing.{chain_in}
 use Rattle.fm_law_woven_flow.proofs.LaidItems.{falls-conditional}
 use Rattle.fm_law_woven_flow.specs.Roles.{DupAfter, FallsAt, Follows, FreeBefore, HasHolder, HasInsn, IsBranch, IsEntry, IsOwnerReached, JumpOf, Keep, LinkAfter, LoadAfter, LoadBefore, NullBefore, owner, Role, StartNull, StartStore, StoreAfter, StoreBefore}
 use Rattle.fm_place.proofs.SameTypings.{caught_same}
-use Rattle.fm_place.specs.Insertions.{after_at, Holder}
+use Rattle.fm_place.specs.Insertions.{after_at}
 use Rattle.fm_law_retyped.proofs.KeptRows.{branch_keeps, KeepsLocals}
 use Rattle.fm_law_retyped.proofs.RoleRows.{after_small, after_whole, dup_after, entered, entry_count, Fits, free_before, given_type, Goes, held_at, held_type, jump_of, keep, link_after, load_after, load_before, next_old, null_before, Old, old_at, old_state, start_null, start_store, state_after_is, store_after, store_before}
 use Rattle.fm_law_retyped.proofs.RoleStates.{AllGoOn, begun, CanRetype, given_slot, held_slot, held_slots, kept_state, Retyping, role_state, role_states, start_state, state_after}
@@ -168,12 +169,6 @@ module _ (w : Retyping) (f : CanRetype w) where
 
   one_word : 1 ≤ added_words w.plan
   one_word = some_words (has_chain w.plan)
-
-  chain_in : (holders : List Holder) (h : ℕ) → holds_chain (slice_get holders h) ≡ true → list_any (λ (g : Holder). g.looped) holders ≡ true
-  chain_in [] zero looped = absurd (false≢true looped)
-  chain_in [] (suc h) looped = absurd (false≢true looped)
-  chain_in (g ∷ holders) zero looped = ap (λ b. b || list_any (λ (x : Holder). x.looped) holders) looped
-  chain_in (g ∷ holders) (suc h) looped = or_right g.looped (list_any (λ (x : Holder). x.looped) holders) (chain_in holders h looped)
 
   two_words : (h : ℕ) → looped_at w.plan h ≡ true → added_words w.plan ≡ 2
   two_words h looped = ap (λ (b : Bool). if b then 2 else 1) (chain_in w.plan.holders h looped)

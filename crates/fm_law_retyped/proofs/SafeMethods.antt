@@ -6,8 +6,11 @@ use Rattle.std.proofs.lemmas.Bool.{cases_eq, cases_lt, eqb-true, false≢true}
 use Rattle.std.proofs.lemmas.List.{get_or_past, length-map}
 use Rattle.std.proofs.lemmas.Option.{none-some, same_Some, slice_get_within}
 use Rattle.fm_link_supers.proofs.ParentRefusals.{spelled_at}
-use Rattle.fm_law_relinked.proofs.Codes.{codes_woven, no_code}
-use Rattle.fm_law_relinked.proofs.FreeUse.{ClassTypesAreNumbered, has_free}
+use Rattle.fm_law_relinked.proofs.Codes.{codes_chained, no_code}
+use Rattle.fm_law_relinked.proofs.FreeUse.{called_use, ClassTypesAreNumbered, has_free, HasFree}
+use Rattle.fm_law_spelled.proofs.Growing.{chain_in, grows}
+use Rattle.fm_law_relinked.proofs.Links.{written_chained}
+use Rattle.fm_law_spelled.specs.Calling.{Called, CallsChain, CallsFree, CallsLink, entry_of, MayCall}
 use Rattle.fm_law_relinked.specs.Codes.{code_with}
 use Rattle.fm_base.proofs.ContainsFacts.{Contains-cons_cases, Contains-none}
 use Rattle.fm_base.proofs.ListFacts.{AllByRecursion-at}
@@ -16,11 +19,12 @@ use Rattle.fm_base.proofs.TestFacts.{and_left}
 use Rattle.fm_base.specs.declared.ids.MethodId.{MethodId}
 use Rattle.fm_base.specs.declared.ids.TypeId.{TypeId}
 use Rattle.fm_base.specs.declared.kinds.TypeRef.{TypeRef}
-use Rattle.fm_chain.proofs.WithoutChains.{codes_are_woven, none_in, none_looped}
-use Rattle.fm_chain.specs.Chained.{chained_code, has_chain, holds_chain, looped_at}
-use Rattle.fm_chain.specs.Chaining.{calls_for}
+use Rattle.fm_chain.proofs.LoopedPlans.{ArePlannedSafely, looped_from, looped_holder, looped_safely, planned_safely}
+use Rattle.fm_chain.specs.Chained.{chained_code, holds_chain, looped_at}
+use Rattle.fm_chain.specs.Chaining.{chained_class, chained_classes, class_calls, class_has_chain, plan_has_chain}
+use Rattle.fm_chain.specs.SafeChains.{looped_plans, SafeChainsOf}
 use Rattle.fm_chain.specs.declared.calls.Calls.{Calls}
-use Rattle.fm_code.proofs.EdgesLemmas.{Contains-first, Contains-later, insn_inside, MeetsCodeRules-method}
+use Rattle.fm_code.proofs.EdgesLemmas.{Contains-first, Contains-from_map, Contains-later, insn_inside, MeetsCodeRules-method}
 use Rattle.fm_code.specs.AccessFlags.{is_static}
 use Rattle.fm_code.specs.Edges.{falls_through, insn_of, MeetsCodeRules}
 use Rattle.fm_code.specs.Spells.{HasSpelling}
@@ -40,31 +44,31 @@ use Rattle.fm_law_woven_flow.specs.Roles.{CanStand, FreeBefore, HasInsn, IsOppos
 use Rattle.fm_place.proofs.FullLemmas.{numbers-found}
 use Rattle.fm_place.proofs.SameTypings.{made_same, other_typing, same_typing, used_same}
 use Rattle.fm_place.specs.Insertions.{after_at, before_at, Holder, Insertions}
-use Rattle.fm_place.specs.Rewriting.{free_index, Plans, rewritten, rewritten_class}
-use Rattle.fm_place.specs.Safe.{AreSafe, HoldsNoChain, IsSafeHolder, method_in_facts, narrowed_to, SafeOf}
+use Rattle.fm_place.specs.Rewriting.{Plans}
+use Rattle.fm_place.specs.Safe.{AreSafe, IsSafeHolder, method_in_facts, narrowed_to, SafeOf}
 use Rattle.fm_place.specs.Sites.{is_captured, kind_of_site, new_item_at, site_class, site_kind}
 use Rattle.fm_law_linked.proofs.CodedMethods.{contains_at}
 use Rattle.fm_law_linked.specs.Laws.{IsLinkedWell, ProgramsAreLinkedWell, StepsAreLinked, StepsOfProgramsAreLinked}
-use Rattle.fm_law_retyped.proofs.FreeMeRows.{free_row}
+use Rattle.fm_law_retyped.proofs.FreeMeRows.{chain_row, free_row, link_row}
 use Rattle.fm_law_retyped.proofs.KeptRows.{same_row}
 use Rattle.fm_law_retyped.proofs.Retypes.{retyped}
 use Rattle.fm_law_retyped.proofs.RoleStates.{AllGoOn, CanRetype, Frees, given_slot, held_slot, held_slots, IsHeld, Links, Retyping, role_states}
 use Rattle.fm_law_retyped.proofs.SiteStates.{IsSameAt, leaves-if, LeavesObject, site-gives}
 use Rattle.fm_law_retyped.proofs.Trims.{all_trimmed, length_trimmed, locals_at, trimmed_at, trimmed_row, trimmed_twice, typings_trimmed}
 use Rattle.fm_law_retyped.proofs.WrittenMethods.{HasMember, IsWritten, written_method}
-use Rattle.fm_law_retyped.proofs.WrittenUses.{free_use, freed_use, handler_use, insn_use, outlines_same, program_outline, used_by_item}
-use Rattle.fm_law_retyped.specs.Retyped.{AreNoCopies, AreReadyAtHeld, EndsBehind, NoneUnready, receiver_new, SafeClassesAreTyped}
+use Rattle.fm_law_retyped.proofs.WrittenUses.{called, handler_use, insn_use, outlines_same, program_outline, used_by_item}
+use Rattle.fm_law_retyped.specs.Retyped.{AreNoCopies, AreReadyAtHeld, ChainedClassesAreTyped, EndsBehind, NoneUnready, receiver_new, SafeClassesAreTyped}
 use Rattle.fm_law_retyped.proofs.Trimmed.{trimmed, trimmed_state}
 use Rattle.fm_types.specs.Fits.{AreTree, object_of}
 use Rattle.fm_types.specs.Named.{object_slot}
 use Rattle.fm_types.specs.Rows.{row_after}
 use Rattle.fm_types.specs.States.{local_at, pushed, TypeState}
-use Rattle.fm_types.specs.Typed.{after_item, IsTyping, IsTypingOf, made_at, state_at, Typed, use_by}
+use Rattle.fm_types.specs.Typed.{after_item, IsTyping, IsTypingOf, made_at, state_at, Typed, use_by, use_in}
 use Rattle.fm_types.specs.declared.slots.Slot.{Slot}
 use Rattle.fm_types.specs.declared.slots.Slot.TheVariants as slot
 use Rattle.fm_world.specs.Members.{method_at}
 use Rattle.fm_world.specs.Numbers.{type_of_class}
-use Rattle.fm_world.specs.Programs.{code_at, Outline, Program, program_of}
+use Rattle.fm_world.specs.Programs.{code_at, Outline, outline_of, Program, program_of}
 use Rattle.fm_code.specs.Operands.{pool_index}
 use Rattle.fm_world.specs.declared.uses.Use.TheVariants as resolved
 use Rattle.fm_same.proofs.SiteNodes.{sites-fall}
@@ -203,57 +207,54 @@ module _ (numbered : ClassTypesAreNumbered) (stand : CodesStand) (given : List C
   x : IsWritten given main plans method code
   x = written_method given main plans method code code_is
 
-  outline : (program_of (rewritten plans given) main).outline ≡ (program_of given main).outline
+  outline : (program_of (chained_classes plans given) main).outline ≡ (program_of given main).outline
   outline = outlines_same given main plans spelled
 
   typing : IsTypingOf (program_of given main) method code (facts.typing method)
   typing = other_typing p (program_of given main) refl refl method code (facts.typing method) (exact.methods method code code_is).typing
 
   -- its new code is among the methods of the written class
-  member_of : (new : Code) → code_at (program_of (rewritten plans given) main) method ≡ Some new
-      → HasMember (rewritten_class plans x.start x.own).methods (Some new)
+  member_of : (new : Code) → code_at (program_of (chained_classes plans given) main) method ≡ Some new
+      → HasMember (chained_class plans x.start x.own).methods (Some new)
   member_of new new_is = record { member = x.new.member; among = x.new.among; code_is = x.new.code_is ∙ new_is }
 
   -- without a plan it is typed as it was
-  unplanned : plans method ≡ None → IsTyping (program_of (rewritten plans given) main) method (facts.typing method)
+  unplanned : plans method ≡ None → IsTyping (program_of (chained_classes plans given) main) method (facts.typing method)
   unplanned none =
-      let new_is : code_at (program_of (rewritten plans given) main) method ≡ Some code =
-      x.new_is ∙ ap (λ o. code_with (free_index x.own) o (Some code)) none in
+      let new_is : code_at (program_of (chained_classes plans given) main) method ≡ Some code =
+      x.new_is ∙ ap (λ o. code_with (class_calls plans x.start x.own) o (Some code)) none in
       let member = member_of code new_is in
-      IsSomeAnd-from_some (code_at (program_of (rewritten plans given) main) method)
-      (λ c. IsTypingOf (program_of (rewritten plans given) main) method c (facts.typing method)) code new_is
-      (same_typing (program_of given main) (program_of (rewritten plans given) main) method code outline
+      IsSomeAnd-from_some (code_at (program_of (chained_classes plans given) main) method)
+      (λ c. IsTypingOf (program_of (chained_classes plans given) main) method c (facts.typing method)) code new_is
+      (same_typing (program_of given main) (program_of (chained_classes plans given) main) method code outline
       (λ j i at. insn_use numbered given main plans spelled method code x i i j j code refl at member at)
       (λ h listed. handler_use numbered given main plans spelled method code x h h code refl listed member listed) (facts.typing method) typing)
 
   -- ---- with a plan
 
   module _ (plan : Insertions) (planned : plans method ≡ Some plan)
-      (safe : AreSafe facts (typed_method (narrowed_to (program_of given main) made) facts.typing method code) plan) (plain : HoldsNoChain plan)
+      (safe : AreSafe facts (typed_method (narrowed_to (program_of given main) made) facts.typing method code) plan)
       (ready : AreReadyAtHeld facts (typed_method (narrowed_to (program_of given main) made) facts.typing method code) plan) where
     abbrev t : TypedMethod
     t = typed_method p facts.typing method code
 
     abbrev calls : Calls
-    calls = calls_for false x.own.pool.entries
+    calls = class_calls plans x.start x.own
 
-    -- no holder holds a chain
-    none_has : has_chain plan ≡ false
-    none_has = none_looped plan.holders plain
-
-    unlooped : (h : ℕ) → looped_at plan h ≡ false
-    unlooped h = none_in plan.holders h none_has
+    -- where a holder holds a chain the class may call the other methods
+    may_chain : (h : ℕ) → looped_at plan h ≡ true → class_has_chain plans x.start x.own ≡ true
+    may_chain h looped =
+        (grows plans x.start x.own).chained x.offset x.inside
+        (ap plan_has_chain (ap plans x.number ∙ planned) ∙ chain_in plan.holders h looped)
 
     abbrev new : Code
-    new = chained_code (calls_for false x.own.pool.entries) code plan
+    new = chained_code (class_calls plans x.start x.own) code plan
 
-    new_is : code_at (program_of (rewritten plans given) main) method ≡ Some (chained_code (calls_for false x.own.pool.entries) code plan)
-    new_is =
-        x.new_is ∙ ap (λ o. code_with (free_index x.own) o (Some code)) planned
-        ∙ ap (λ c. Some c) (sym (codes_are_woven (calls_for false x.own.pool.entries) code plan none_has).code_is)
+    new_is : code_at (program_of (chained_classes plans given) main) method ≡ Some (chained_code (class_calls plans x.start x.own) code plan)
+    new_is = x.new_is ∙ ap (λ o. code_with (class_calls plans x.start x.own) o (Some code)) planned
 
-    member : HasMember (rewritten_class plans x.start x.own).methods (Some (chained_code (calls_for false x.own.pool.entries) code plan))
-    member = member_of (chained_code (calls_for false x.own.pool.entries) code plan) new_is
+    member : HasMember (chained_class plans x.start x.own).methods (Some (chained_code (class_calls plans x.start x.own) code plan))
+    member = member_of (chained_code (class_calls plans x.start x.own) code plan) new_is
 
     rules : MeetsCodeRules code
     rules = MeetsCodeRules-method x.own x.old.member code (spelled_at given x.place x.own spelled x.at) x.old.among x.old.code_is
@@ -267,8 +268,8 @@ module _ (numbered : ClassTypesAreNumbered) (stand : CodesStand) (given : List C
     can : CanStand code plan
     can = safe_can facts t plan safe
 
-    roles : HasRoles (calls_for false x.own.pool.entries) code plan
-    roles = stand (calls_for false x.own.pool.entries) code plan rules can
+    roles : HasRoles (class_calls plans x.start x.own) code plan
+    roles = stand (class_calls plans x.start x.own) code plan rules can
 
     -- the type of a holder's objects: what the site's row leaves on top
     abbrev type_of : Holder → TypeRef
@@ -282,12 +283,12 @@ module _ (numbered : ClassTypesAreNumbered) (stand : CodesStand) (given : List C
     abbrev w : Retyping
     w = record {
       given = program_of given main;
-      written = program_of (rewritten plans given) main;
+      written = program_of (chained_classes plans given) main;
       method = method;
-      calls = calls_for false x.own.pool.entries;
+      calls = class_calls plans x.start x.own;
       code = code;
       plan = plan;
-      woven = chained_code (calls_for false x.own.pool.entries) code plan;
+      woven = chained_code (class_calls plans x.start x.own) code plan;
       states = all_trimmed (facts.typing method);
       types = map (λ (h : Holder). type_by h.looped h) plan.holders;
       gives = map type_of plan.holders;
@@ -386,7 +387,7 @@ module _ (numbered : ClassTypesAreNumbered) (stand : CodesStand) (given : List C
     -- ---- what is named
 
     uses : (j : ℕ) (i : Insn) → insn_of code j ≡ Some i
-        → use_by (program_of (rewritten plans given) main) method i ≡ use_by (program_of given main) method i
+        → use_by (program_of (chained_classes plans given) main) method i ≡ use_by (program_of given main) method i
     uses j i there =
         let stands = roles.stands in
         let within = insn_inside code j i there in
@@ -396,30 +397,56 @@ module _ (numbered : ClassTypesAreNumbered) (stand : CodesStand) (given : List C
         insn_use numbered given main plans spelled method code x i kept.0 j (roles.numbers j) new
         ((same_row old.0 kept.0 old.2).operand ∙ ap pool_index same) there member kept.1
 
-    abbrev free : ℕ
-    free = free_index x.own
-
     -- the entry of the method that frees what a holder holds
     abbrev free_call : Bool → ℕ
     free_call looped = if looped then calls.free_chain else calls.free
 
-    frees_plain : (n j h : ℕ) → slice_get roles.roles n ≡ Some (FreeBefore j h) → Frees w free
-    frees_plain n j h there item news r s =
-        let call = Some-from_some_and (insn_of new n) (HasInsn calls code plan (FreeBefore j h)) (roles.stands.insns n (FreeBefore j h) there) in
-        let used = used_by_item (rewritten_class plans x.start x.own) new member n (insn.Static free) free
-        (call.1 ∙ ap Some (call.2 ∙ ap (λ b. insn.Static (free_call b)) (unlooped h))) refl in
-        let use_is = freed_use numbered given main plans spelled method code x used in
-        let tree = subst (λ (o : Outline). AreTree o.classes) (program_outline given main) linked.tree in
-        ap (λ u. row_after (program_of given main).outline method item news u (insn.Static free) (pushed (slot.Ref r ∷ []) s)) use_is
-        ∙ ap (λ (o : Outline). row_after o method item news free_use (insn.Static free) (pushed (slot.Ref r ∷ []) s)) (program_outline given main)
-        ∙ free_row given main tree (has_free numbered given main) method item news free r s
+    tree : AreTree (outline_of given main).classes
+    tree = subst (λ (o : Outline). AreTree o.classes) (program_outline given main) linked.tree
+
+    has : HasFree (outline_of given main)
+    has = has_free numbered given main
+
+    -- an inserted call is resolved to its method
+    resolved_call : (n : ℕ) (m : Called) → MayCall (class_has_chain plans x.start x.own) m → insn_of new n ≡ Some (insn.Static (entry_of calls m))
+        → use_in (program_of (chained_classes plans given) main) method (entry_of calls m) ≡ called_use m
+    resolved_call n m may there =
+        called numbered given main plans spelled method code x m may
+        (used_by_item (chained_class plans x.start x.own) new member n (insn.Static (entry_of calls m)) (entry_of calls m) there refl)
+
+    -- so its row is that of the method
+    call_row : (n : ℕ) (m : Called) → MayCall (class_has_chain plans x.start x.own) m → insn_of new n ≡ Some (insn.Static (entry_of calls m))
+        → (item : ℕ) (news : ℕ → Option TypeRef) (s : TypeState)
+        → row_after (program_of given main).outline method item news
+        (use_by (program_of (chained_classes plans given) main) method (insn.Static (entry_of calls m))) (insn.Static (entry_of calls m)) s
+        ≡ row_after (outline_of given main) method item news (called_use m) (insn.Static (entry_of calls m)) s
+    call_row n m may there item news s =
+        ap (λ u. row_after (program_of given main).outline method item news u (insn.Static (entry_of calls m)) s) (resolved_call n m may there)
+        ∙ ap (λ (o : Outline). row_after o method item news (called_use m) (insn.Static (entry_of calls m)) s) (program_outline given main)
 
     frees : (n j h : ℕ) → slice_get roles.roles n ≡ Some (FreeBefore j h) → Frees w (if looped_at plan h then calls.free_chain else calls.free)
-    frees n j h there = subst (λ b. Frees w (free_call b)) (sym (unlooped h)) (frees_plain n j h there)
+    frees n j h there = by_flag (looped_at plan h) refl where
+      found : (i : Insn) × (insn_of new n ≡ Some i) × HasInsn calls code plan (FreeBefore j h) i
+      found = Some-from_some_and (insn_of new n) (HasInsn calls code plan (FreeBefore j h)) (roles.stands.insns n (FreeBefore j h) there)
 
-    -- nothing is linked
+      at : (b : Bool) → looped_at plan h ≡ b → insn_of new n ≡ Some (insn.Static (free_call b))
+      at b is = found.1 ∙ ap Some (found.2 ∙ ap (λ looped. insn.Static (free_call looped)) is)
+
+      by_flag : (b : Bool) → looped_at plan h ≡ b → Frees w (free_call b)
+      by_flag true is item news r s =
+          call_row n CallsChain (may_chain h is) (at true is) item news (pushed (slot.Ref r ∷ []) s)
+          ∙ chain_row given main tree has method item news calls.free_chain r s
+      by_flag false is item news r s =
+          call_row n CallsFree tt (at false is) item news (pushed (slot.Ref r ∷ []) s)
+          ∙ free_row given main tree has method item news calls.free r s
+
     links : (n j h : ℕ) → slice_get roles.roles n ≡ Some (LinkAfter j h) → Links w
-    links n j h there = absurd (false≢true (sym (unlooped h) ∙ (roles.stands.holders n (LinkAfter j h) there).1))
+    links n j h there item news a b s =
+        let found = Some-from_some_and (insn_of new n) (HasInsn calls code plan (LinkAfter j h)) (roles.stands.insns n (LinkAfter j h) there) in
+        let looped = (roles.stands.holders n (LinkAfter j h) there).1 in
+        call_row n CallsLink (may_chain h looped) (found.1 ∙ ap Some found.2) item news (pushed (slot.Ref a ∷ slot.Ref b ∷ []) s)
+        ∙ link_row given main tree has method item news calls.link a b s
+        ∙ ap (λ (o : Outline). Some (pushed (object_slot o ∷ []) s)) (sym (program_outline given main))
 
     -- ---- what holders hold
 
@@ -457,7 +484,7 @@ module _ (numbered : ClassTypesAreNumbered) (stand : CodesStand) (given : List C
       more_locals = refl;
       more_stack = refl;
       uses = λ j i s there at. uses j i there;
-      made = λ j i there. made_same (program_of given main) (program_of (rewritten plans given) main) method outline i (uses j i there);
+      made = λ j i there. made_same (program_of given main) (program_of (chained_classes plans given) main) method outline i (uses j i there);
       caught = λ h listed.
           handler_use numbered given main plans spelled method code x h (roles.moved h) new (roles.stands.catch_class h) listed member
           (subst (λ l. Contains l (roles.moved h)) (sym roles.stands.handlers_are) (contained_mapped roles.moved code.handlers h listed));
@@ -472,46 +499,68 @@ module _ (numbered : ClassTypesAreNumbered) (stand : CodesStand) (given : List C
       held = held;
     }
 
-    planned_typed : IsTyping (program_of (rewritten plans given) main) method (role_states w)
+    planned_typed : IsTyping (program_of (chained_classes plans given) main) method (role_states w)
     planned_typed =
-        IsSomeAnd-from_some (code_at (program_of (rewritten plans given) main) method)
-        (λ c. IsTypingOf (program_of (rewritten plans given) main) method c (role_states w)) new new_is (retyped w can_retype)
+        IsSomeAnd-from_some (code_at (program_of (chained_classes plans given) main) method)
+        (λ c. IsTypingOf (program_of (chained_classes plans given) main) method c (role_states w)) new new_is (retyped w can_retype)
 
 -- ---- all methods
 
--- where the insertions are safe in the program narrowed to some classes, or to none
+-- where the insertions are safe in the program narrowed to some classes, or to none, whichever holders hold chains
 typed_in : ClassTypesAreNumbered → CodesStand → (given : List ClassDef) (main : List ℕ) → IsLinkedWell (program_of given main) → StepsAreLinked (program_of given main)
-    → (made : Option (List Bool)) (written : List ClassDef) (marks : List (List (Option ℕ))) → AllByRecursion HasSpelling given
-    → (safe : SafeOf (narrowed_to (program_of given main) made) given written marks) → NoneUnready (narrowed_to (program_of given main) made) safe.facts safe.plans
+    → AllByRecursion HasSpelling given → (made : Option (List Bool)) (facts : Facts) → AreFacts (narrowed_to (program_of given main) made) facts
+    → (plans : Plans) → ArePlannedSafely (narrowed_to (program_of given main) made) facts plans → NoneUnready (narrowed_to (program_of given main) made) facts plans
+    → (written : List ClassDef) → written ≡ chained_classes plans given
     → (method : ℕ) (new : Code) → code_at (program_of written main) method ≡ Some new → Typed (program_of written main) method
-typed_in numbered stand given main linked steps made written marks spelled safe ready method new new_is =
-    subst (λ files. Typed (program_of files main) method) (sym safe.written_is)
-    (by_code (code_at (program_of given main) method) refl (subst (λ files. code_at (program_of files main) method ≡ Some new) safe.written_is new_is)) where
-      by_plan : (code : Code) (is : code_at (program_of given main) method ≡ Some code) → (plan : Option Insertions) → safe.plans method ≡ plan
-          → Typed (program_of (rewritten safe.plans given) main) method
-      by_plan code is None so =
-          (safe.facts.typing method, unplanned numbered stand given main safe.plans spelled linked steps made safe.facts safe.exact method code is so)
+typed_in numbered stand given main linked steps spelled made facts exact plans safe ready written written_is method new new_is =
+    subst (λ files. Typed (program_of files main) method) (sym written_is)
+    (by_code (code_at (program_of given main) method) refl (subst (λ files. code_at (program_of files main) method ≡ Some new) written_is new_is)) where
+      by_plan : (code : Code) (is : code_at (program_of given main) method ≡ Some code) → (plan : Option Insertions) → plans method ≡ plan
+          → Typed (program_of (chained_classes plans given) main) method
+      by_plan code is None so = (facts.typing method, unplanned numbered stand given main plans spelled linked steps made facts exact method code is so)
       by_plan code is (Some plan) so =
           let p = narrowed_to (program_of given main) made in
-          let own = safe.methods method plan so in
-          let typed = typed_method p safe.facts.typing method code in
-          let there : method_in_facts p safe.facts method ≡ Some typed = ap (option_map (typed_method p safe.facts.typing method)) is in
-          let same : own.x ≡ typed = same_value (method_in_facts p safe.facts method) own.x typed own.is there in
-          let good = subst (λ z. AreSafe safe.facts z plan) same own.safe in (
+          let typed = typed_method p facts.typing method code in
+          let there : method_in_facts p facts method ≡ Some typed = ap (option_map (typed_method p facts.typing method)) is in (
             _,
-            planned_typed numbered stand given main safe.plans spelled linked steps made safe.facts safe.exact method code is plan so good own.plain (ready method plan typed so there),
+            planned_typed numbered stand given main plans spelled linked steps made facts exact method code is plan so (safe method code plan is so)
+                (ready method plan typed so there),
           )
 
-      by_code : (old : Option Code) → code_at (program_of given main) method ≡ old → code_at (program_of (rewritten safe.plans given) main) method ≡ Some new
-          → Typed (program_of (rewritten safe.plans given) main) method
+      by_code : (old : Option Code) → code_at (program_of given main) method ≡ old → code_at (program_of (chained_classes plans given) main) method ≡ Some new
+          → Typed (program_of (chained_classes plans given) main) method
       by_code None is there =
-          let woven = codes_woven given main safe.plans method in
-          absurd (none-some new (sym (woven.new_is ∙ ap (code_with woven.free (safe.plans method)) is ∙ no_code woven.free (safe.plans method)) ∙ there))
-      by_code (Some code) is there = by_plan code is (safe.plans method) refl
+          let woven = codes_chained given main plans method in
+          absurd (none-some new (sym (woven.new_is ∙ ap (code_with woven.calls (plans method)) is ∙ no_code woven.calls (plans method)) ∙ there))
+      by_code (Some code) is there = by_plan code is (plans method) refl
 
 pub safe_typed : ClassTypesAreNumbered → CodesStand → ProgramsAreLinkedWell → StepsOfProgramsAreLinked → SafeClassesAreTyped
 safe_typed numbered stand links linked_steps given main p program_is written marks spelled none safe ready method new new_is =
     subst (λ (z : Program). (safe : SafeOf z given written marks) → NoneUnready z safe.facts safe.plans → Typed (program_of written main) method) (sym program_is)
     (λ own own_ready.
-    typed_in numbered stand given main (links given main spelled none) (linked_steps given main spelled none) p.made written marks spelled own own_ready method new
-    new_is) safe ready
+    let first = narrowed_to (program_of given main) p.made in
+    typed_in numbered stand given main (links given main spelled none) (linked_steps given main spelled none) spelled p.made own.facts own.exact own.plans
+    (planned_safely first own.facts own.plans own.methods) own_ready written (written_chained first given written marks own) method new new_is) safe ready
+
+-- ---- where holders hold chains
+
+-- their sites are those of the holders of single objects
+ready_looped : (p : Program) (facts : Facts) (plans : Plans) → NoneUnready p facts plans → NoneUnready p facts (looped_plans p plans)
+ready_looped p facts plans ready method plan x so there h s handler among kind at caught ends =
+    let coded = option_map-some (typed_method p facts.typing method) (code_at p method) x there in
+    let from = looped_from p plans method coded.0 plan coded.1 so in
+    let own = Contains-from_map (looped_holder coded.0) from.own.holders h (subst (λ (q : Insertions). Contains q.holders h) (sym from.is) among) in
+    let site : own.0.site ≡ h.site = ap (λ (g : Holder). g.site) own.2 in
+    subst (λ k. AreNoCopies (receiver_new x k) s.locals) site
+    (ready method from.own x from.planned there own.0 s handler own.1 (ap (site_kind facts x) site ∙ kind) (ap (state_at x.states) site ∙ at) caught
+    (subst (λ k. EndsBehind k handler) (sym site) ends))
+
+pub chained_typed : ClassTypesAreNumbered → CodesStand → ProgramsAreLinkedWell → StepsOfProgramsAreLinked → ChainedClassesAreTyped
+chained_typed numbered stand links linked_steps given main p program_is written marks spelled none safe ready method new new_is =
+    subst (λ (z : Program). (safe : SafeChainsOf z given written marks) → NoneUnready z safe.facts safe.plans → Typed (program_of written main) method)
+    (sym program_is)
+    (λ own own_ready.
+    let first = narrowed_to (program_of given main) p.made in
+    typed_in numbered stand given main (links given main spelled none) (linked_steps given main spelled none) spelled p.made own.facts own.exact
+    (looped_plans first own.plans) (looped_safely first own.facts own.plans (planned_safely first own.facts own.plans own.methods))
+    (ready_looped first own.facts own.plans own_ready) written own.written_is method new new_is) safe ready

@@ -1,21 +1,22 @@
 -- The indices of instructions and of entries of exception tables refer to the same in the written
--- classes, and what is inserted calls FreeMe.free.
-use Rattle.std.proofs.Common.{◌≡◌, refl, sym, ◌∙◌, ap, ℕ, zero, suc, ◌+◌, ◌<◌, ◌≤◌, ◌⊎◌, inl, inr, ⊎_elim, true, cond, List, [], ◌∷◌, ◌++◌, length, map, get_or, Option, Some, None, Contains, arith}
+-- classes, and what is inserted calls methods of FreeMe.
+use Rattle.std.proofs.Common.{◌≡◌, refl, sym, ◌∙◌, ap, ℕ, zero, suc, ◌+◌, ◌<◌, ◌≤◌, ◌⊎◌, inl, inr, true, cond, List, [], ◌∷◌, ◌++◌, length, map, get_or, Option, Some, None, Contains, arith}
 use Rattle.std.specs.List.{AllByRecursion, cons_option, filter_map, flat_map}
-use Rattle.std.proofs.lemmas.Bool.{cases_eq, cases_lt, false≢true}
+use Rattle.std.proofs.lemmas.Bool.{cases_lt, false≢true}
 use Rattle.std.proofs.lemmas.List.{get_or_past}
 use Rattle.fm_link_supers.proofs.Downwards.{among_head, among_later, among_left, among_right}
 use Rattle.fm_link_supers.proofs.ParentRefusals.{spelled_at}
-use Rattle.fm_law_relinked.proofs.ClassStays.{more_entries, names_free}
-use Rattle.fm_law_relinked.proofs.FreeMethod.{free_class_number, free_method_number}
-use Rattle.fm_law_relinked.proofs.FreeUse.{ClassTypesAreNumbered, free_resolved, has_free, HasFree}
-use Rattle.fm_law_relinked.proofs.Outlines.{either_class, outline_same}
+use Rattle.fm_chain.specs.Chaining.{chained_class, chained_classes, class_calls, class_has_chain}
+use Rattle.fm_law_relinked.proofs.ClassStays.{call_or_not}
+use Rattle.fm_law_relinked.proofs.FreeUse.{all_entries, call_named, call_of, call_resolved, called_use, ClassTypesAreNumbered, has_free, HasFree}
+use Rattle.fm_law_spelled.proofs.Growing.{either_class, grown_class, more}
+use Rattle.fm_law_relinked.proofs.Outlines.{outline_same}
 use Rattle.fm_law_relinked.proofs.PoolStays.{entry_same, member_same, method_entry, method_named}
 use Rattle.fm_law_relinked.proofs.UsedWithin.{unused_past}
-use Rattle.fm_law_relinked.proofs.Uses.{row_within, use_at, uses_same}
+use Rattle.fm_law_relinked.proofs.Uses.{row_within, use_at, uses_by}
+use Rattle.fm_law_spelled.specs.Calling.{Called, entry_of, IsCall, MayCall, method_of}
 use Rattle.fm_code.specs.ConstantPool.{method_ref_at}
 use Rattle.fm_code.specs.Edges.{insn_of}
-use Rattle.fm_code.specs.FreeEntries.{free_method}
 use Rattle.fm_code.specs.Members.{code_of}
 use Rattle.fm_code.specs.Spells.{HasSpelling}
 use Rattle.fm_code.specs.declared.class_file.ClassDef.{ClassDef}
@@ -27,19 +28,17 @@ use Rattle.fm_code.specs.declared.constant_pool.Entry.{Entry}
 use Rattle.fm_code.specs.declared.constant_pool.Entry.TheVariants as entry
 use Rattle.fm_code.specs.declared.instructions.Insn.{Insn}
 use Rattle.fm_code.specs.declared.instructions.Insn.TheVariants as insn
-use Rattle.fm_place.specs.Rewriting.{free_index, Plans, rewritten, rewritten_class}
+use Rattle.fm_place.specs.Rewriting.{Plans}
 use Rattle.fm_law_linked.proofs.CodedMethods.{item_there}
 use Rattle.fm_law_retyped.proofs.WrittenMethods.{HasMember, IsWritten}
 use Rattle.fm_types.specs.Named.{class_of_method}
 use Rattle.fm_types.specs.Typed.{use_by, use_in}
 use Rattle.fm_world.specs.BuiltIns.{built_in}
 use Rattle.fm_world.specs.Chains.{is_among}
-use Rattle.fm_world.specs.Programs.{class_uses, method_use, Outline, outline_of, program_of, resolved_at, use_of}
+use Rattle.fm_world.specs.Programs.{class_uses, Outline, outline_of, program_of, resolved_at, use_of}
 use Rattle.fm_code.specs.Operands.{pool_index}
 use Rattle.fm_world.specs.Uses.{caught_by, class_items, is_used, used_indices, values_of}
-use Rattle.fm_world.specs.declared.uses.Use.{Use}
 use Rattle.fm_world.specs.declared.uses.Use.TheVariants as resolved
-use Rattle.fm_law_spelled.specs.Changed.{changed}
 
 -- ---- indices that are used
 
@@ -103,75 +102,61 @@ used_by_handler c code m h listed =
     among_later h.catch_class c.this_class (c.super_class ∷ all)
     (among_later h.catch_class c.super_class all (among_right h.catch_class (c.interfaces ++ values ++ first) caught among))
 
--- ---- the index of FreeMe.free
-
-abbrev pub free_use : Use
-free_use = method_use free_class_number free_method_number
+-- ---- the indices of methods of FreeMe
 
 second_is_none : (class member : ℕ) → entry.Second ≡ entry.Method class member → ⊥
 second_is_none class member is = cc
 
--- an entry that names the method is there, and is resolved to it
-free_within : (entries : List Entry) (index : ℕ) → method_ref_at entries index ≡ Some free_method → index < length entries
-free_within entries index named = by_place (cases_lt index (length entries)) where
+-- an entry that names such a method is there, and is resolved to it
+call_within : (m : Called) (entries : List Entry) (index : ℕ) → method_ref_at entries index ≡ Some (method_of m) → index < length entries
+call_within m entries index named = by_place (cases_lt index (length entries)) where
   by_place : (index < length entries) ⊎ (length entries ≤ index) → index < length entries
   by_place (inl within) = within
   by_place (inr past) =
-      let e = method_entry entries index free_method named in
+      let e = method_entry entries index (method_of m) named in
       absurd (second_is_none e.0 e.1 (sym (get_or_past entries index entry.Second past) ∙ e.2))
 
-free_at : (o : Outline) → HasFree o → (entries : List Entry) (index : ℕ) → method_ref_at entries index ≡ Some free_method
-    → resolved_at o entries index ≡ free_use
-free_at o has entries index named =
-    let e = method_entry entries index free_method named in
-    free_resolved o has entries index e.0 e.1 e.2 (method_named entries index free_method named)
+call_at : (o : Outline) → HasFree o → (m : Called) (entries : List Entry) (index : ℕ) → method_ref_at entries index ≡ Some (method_of m)
+    → resolved_at o entries index ≡ called_use m
+call_at o has m entries index named =
+    let e = method_entry entries index (method_of m) named in
+    call_resolved o has m entries index e.0 e.1 e.2 (method_named entries index (method_of m) named)
 
-module _ (o : Outline) (has : HasFree o) (plans : Plans) (first : ℕ) (c : ClassDef) (spelled : HasSpelling c) where
-  abbrev more : List Entry
-  more = more_entries plans first c spelled.0 spelled.1
-
-  row_used : (d : ClassDef) (index : ℕ) → index < length d.pool.entries → is_used d index ≡ true → resolved_at o d.pool.entries index ≡ free_use
-      → get_or (class_uses o d) index resolved.Unused ≡ free_use
+module _ (o : Outline) (has : HasFree o) (plans : Plans) (first : ℕ) (c : ClassDef) (spelled : HasSpelling c) (m : Called)
+    (may : MayCall (class_has_chain plans first c) m) where
+  row_used : (d : ClassDef) (index : ℕ) → index < length d.pool.entries → is_used d index ≡ true → resolved_at o d.pool.entries index ≡ called_use m
+      → get_or (class_uses o d) index resolved.Unused ≡ called_use m
   row_used d index within used is =
       row_within o d index within ∙ ap (λ b. cond b (resolved_at o d.pool.entries index) resolved.Unused) used ∙ is
 
   -- where the class itself uses it
-  own_free : is_used c (free_index c) ≡ true → get_or (class_uses o c) (free_index c) resolved.Unused ≡ free_use
-  own_free used = by_place (cases_lt (free_index c) (length c.pool.entries)) where
-    by_place : (free_index c < length c.pool.entries) ⊎ (length c.pool.entries ≤ free_index c)
-        → get_or (class_uses o c) (free_index c) resolved.Unused ≡ free_use
+  own_call : is_used c (call_of plans first c m) ≡ true → get_or (class_uses o c) (call_of plans first c m) resolved.Unused ≡ called_use m
+  own_call used = by_place (cases_lt (call_of plans first c m) (length c.pool.entries)) where
+    by_place : (call_of plans first c m < length c.pool.entries) ⊎ (length c.pool.entries ≤ call_of plans first c m) → get_or (class_uses o c) (call_of plans first c m) resolved.Unused ≡ called_use m
     by_place (inl within) =
-        let named = names_free plans first c spelled.0 spelled.1 in
         let valid = spelled.1.pool.entries in
-        let e = method_entry (c.pool.entries ++ more) (free_index c) free_method named in
-        let is = sym (entry_same c.pool.entries more valid (free_index c) within) ∙ e.2 in
-        let member =
-        sym (member_same c.pool.entries more valid (free_index c) within)
-        ∙ method_named (c.pool.entries ++ more) (free_index c) free_method named in
-        row_used c (free_index c) within used (free_resolved o has c.pool.entries (free_index c) e.0 e.1 is member)
-    by_place (inr past) = absurd (false≢true (sym (unused_past c spelled (free_index c) past) ∙ used))
+        let e = method_entry (all_entries plans first c) (call_of plans first c m) (method_of m) (call_named plans first c m may) in
+        let is = sym (entry_same c.pool.entries (more plans first c) valid (call_of plans first c m) within) ∙ e.2 in
+        let member = sym (member_same c.pool.entries (more plans first c) valid (call_of plans first c m) within) ∙ method_named (all_entries plans first c) (call_of plans first c m) (method_of m) (call_named plans first c m may) in
+        row_used c (call_of plans first c m) within used (call_resolved o has m c.pool.entries (call_of plans first c m) e.0 e.1 is member)
+    by_place (inr past) = absurd (false≢true (sym (unused_past c spelled (call_of plans first c m) past) ∙ used))
 
-  changed_free : is_used (changed plans first c) (free_index c) ≡ true
-      → get_or (class_uses o (changed plans first c)) (free_index c) resolved.Unused ≡ free_use
-  changed_free used =
-      let named = names_free plans first c spelled.0 spelled.1 in
-      row_used (changed plans first c) (free_index c) (free_within (c.pool.entries ++ more) (free_index c) named) used
-      (free_at o has (c.pool.entries ++ more) (free_index c) named)
+  grown_call : is_used (grown_class plans first c) (call_of plans first c m) ≡ true → get_or (class_uses o (grown_class plans first c)) (call_of plans first c m) resolved.Unused ≡ called_use m
+  grown_call used = row_used (grown_class plans first c) (call_of plans first c m) (call_within m (all_entries plans first c) (call_of plans first c m) (call_named plans first c m may)) used (call_at o has m (all_entries plans first c) (call_of plans first c m) (call_named plans first c m may))
 
-  written_free : is_used (rewritten_class plans first c) (free_index c) ≡ true
-      → get_or (class_uses o (rewritten_class plans first c)) (free_index c) resolved.Unused ≡ free_use
-  written_free =
-      either_class plans first c
-      (λ (d : ClassDef). is_used d (free_index c) ≡ true → get_or (class_uses o d) (free_index c) resolved.Unused ≡ free_use) own_free changed_free
+  written_call : is_used (chained_class plans first c) (call_of plans first c m) ≡ true
+      → get_or (class_uses o (chained_class plans first c)) (call_of plans first c m) resolved.Unused ≡ called_use m
+  written_call =
+      either_class plans first c (λ (d : ClassDef). is_used d (call_of plans first c m) ≡ true → get_or (class_uses o d) (call_of plans first c m) resolved.Unused ≡ called_use m) own_call grown_call
 
 pub program_outline : (files : List ClassDef) (main : List ℕ) → (program_of files main).outline ≡ outline_of files main
 unfolding program_of
 program_outline files main = refl
 
 pub outlines_same : (given : List ClassDef) (main : List ℕ) (plans : Plans) → AllByRecursion HasSpelling given
-    → (program_of (rewritten plans given) main).outline ≡ (program_of given main).outline
+    → (program_of (chained_classes plans given) main).outline ≡ (program_of given main).outline
 outlines_same given main plans spelled =
-    program_outline (rewritten plans given) main ∙ outline_same plans given main spelled ∙ sym (program_outline given main)
+    program_outline (chained_classes plans given) main ∙ outline_same plans given main spelled ∙ sym (program_outline given main)
 
 -- ---- a method
 
@@ -185,51 +170,60 @@ module _ (numbered : ClassTypesAreNumbered) (given : List ClassDef) (main : List
   old_use index =
       ap (λ n. use_of (program_of given main) n index) (ap (λ o. class_of_method o method) (program_outline given main) ∙ x.class_is)
 
-  new_use : (index : ℕ) → use_in (program_of (rewritten plans given) main) method index
-      ≡ use_of (program_of (rewritten plans given) main) (length built_in + x.place) index
+  new_use : (index : ℕ) → use_in (program_of (chained_classes plans given) main) method index
+      ≡ use_of (program_of (chained_classes plans given) main) (length built_in + x.place) index
   new_use index =
-      ap (λ n. use_of (program_of (rewritten plans given) main) n index)
+      ap (λ n. use_of (program_of (chained_classes plans given) main) n index)
       (ap (λ o. class_of_method o method) (outlines_same given main plans spelled ∙ program_outline given main) ∙ x.class_is)
 
-  -- that of FreeMe.free, where the written class uses it
-  pub freed_use : is_used (rewritten_class plans x.start x.own) (free_index x.own) ≡ true
-      → use_in (program_of (rewritten plans given) main) method (free_index x.own) ≡ free_use
-  freed_use used =
-      new_use (free_index x.own)
-      ∙ use_at (rewritten plans given) main x.place (rewritten_class plans x.start x.own) x.new_at (free_index x.own)
-      ∙ ap (λ o. get_or (class_uses o (rewritten_class plans x.start x.own)) (free_index x.own) resolved.Unused) (outline_same plans given main spelled)
-      ∙ written_free (outline_of given main) (has_free numbered given main) plans x.start x.own own_spelled used
+  -- which methods it may call
+  abbrev May : Called → Type 0
+  May m = MayCall (class_has_chain plans x.start x.own) m
 
-  kept_free : is_used x.own (free_index x.own) ≡ true → use_in (program_of given main) method (free_index x.own) ≡ free_use
-  kept_free used =
-      old_use (free_index x.own) ∙ use_at given main x.place x.own x.at (free_index x.own)
-      ∙ own_free (outline_of given main) (has_free numbered given main) plans x.start x.own own_spelled used
+  abbrev index_of : Called → ℕ
+  index_of m = call_of plans x.start x.own m
+
+  -- that of such a method, where the written class uses it
+  pub called : (m : Called) → MayCall (class_has_chain plans x.start x.own) m
+      → is_used (chained_class plans x.start x.own) (entry_of (class_calls plans x.start x.own) m) ≡ true
+      → use_in (program_of (chained_classes plans given) main) method (entry_of (class_calls plans x.start x.own) m) ≡ called_use m
+  called m may used =
+      new_use (index_of m)
+      ∙ use_at (chained_classes plans given) main x.place (chained_class plans x.start x.own) x.new_at (index_of m)
+      ∙ ap (λ o. get_or (class_uses o (chained_class plans x.start x.own)) (index_of m) resolved.Unused) (outline_same plans given main spelled)
+      ∙ written_call (outline_of given main) (has_free numbered given main) plans x.start x.own own_spelled m may used
+
+  kept_call : (m : Called) → May m → is_used x.own (index_of m) ≡ true → use_in (program_of given main) method (index_of m) ≡ called_use m
+  kept_call m may used =
+      old_use (index_of m) ∙ use_at given main x.place x.own x.at (index_of m)
+      ∙ own_call (outline_of given main) (has_free numbered given main) plans x.start x.own own_spelled m may used
 
   -- an index that both classes use
-  pub both_use : (index : ℕ) → is_used x.own index ≡ true → is_used (rewritten_class plans x.start x.own) index ≡ true
-      → use_in (program_of (rewritten plans given) main) method index ≡ use_in (program_of given main) method index
-  both_use index used still =
-      ⊎_elim
-      (λ (is : index ≡ free_index x.own).
-      ap (use_in (program_of (rewritten plans given) main) method) is
-      ∙ freed_use (ap (is_used (rewritten_class plans x.start x.own)) (sym is) ∙ still)
-      ∙ sym (ap (use_in (program_of given main) method) is ∙ kept_free (ap (is_used x.own) (sym is) ∙ used)))
-      (λ (other : index ≡ free_index x.own → ⊥).
-      new_use index ∙ uses_same plans given main spelled x.place x.own x.at index other ∙ sym (old_use index))
-      (cases_eq index (free_index x.own))
+  pub both_use : (index : ℕ) → is_used x.own index ≡ true → is_used (chained_class plans x.start x.own) index ≡ true
+      → use_in (program_of (chained_classes plans given) main) method index ≡ use_in (program_of given main) method index
+  both_use index used still = by_index (call_or_not (class_has_chain plans x.start x.own) (class_calls plans x.start x.own) index) where
+    by_index : IsCall (class_has_chain plans x.start x.own) (class_calls plans x.start x.own) index
+        ⊎ (IsCall (class_has_chain plans x.start x.own) (class_calls plans x.start x.own) index → ⊥)
+        → use_in (program_of (chained_classes plans given) main) method index ≡ use_in (program_of given main) method index
+    by_index (inl (m, may, is)) =
+        ap (use_in (program_of (chained_classes plans given) main) method) is
+        ∙ called m may (ap (is_used (chained_class plans x.start x.own)) (sym is) ∙ still)
+        ∙ sym (ap (use_in (program_of given main) method) is ∙ kept_call m may (ap (is_used x.own) (sym is) ∙ used))
+    by_index (inr other) =
+        new_use index ∙ uses_by plans given main spelled x.place x.start x.own x.at x.new_at index other ∙ sym (old_use index)
 
   -- an instruction of both
   pub insn_use : (i kept : Insn) (j n : ℕ) (new : Code) → pool_index kept ≡ pool_index i → insn_of code j ≡ Some i
-      → HasMember (rewritten_class plans x.start x.own).methods (Some new) → insn_of new n ≡ Some kept
-      → use_by (program_of (rewritten plans given) main) method i ≡ use_by (program_of given main) method i
+      → HasMember (chained_class plans x.start x.own).methods (Some new) → insn_of new n ≡ Some kept
+      → use_by (program_of (chained_classes plans given) main) method i ≡ use_by (program_of given main) method i
   insn_use i kept j n new same at member new_at =
       by_insn i (λ index is.
       both_use index (used_by_item x.own code x.old j i index at is)
-      (used_by_item (rewritten_class plans x.start x.own) new member n kept index new_at (same ∙ is))) where
+      (used_by_item (chained_class plans x.start x.own) new member n kept index new_at (same ∙ is))) where
         by_insn : (i : Insn)
             → ((index : ℕ) → pool_index i ≡ Some index
-            → use_in (program_of (rewritten plans given) main) method index ≡ use_in (program_of given main) method index)
-            → use_by (program_of (rewritten plans given) main) method i ≡ use_by (program_of given main) method i
+            → use_in (program_of (chained_classes plans given) main) method index ≡ use_in (program_of given main) method index)
+            → use_by (program_of (chained_classes plans given) main) method i ≡ use_by (program_of given main) method i
         by_insn (insn.LoadPool index) each = each index refl
         by_insn (insn.GetStatic index) each = each index refl
         by_insn (insn.PutStatic index) each = each index refl
@@ -247,9 +241,9 @@ module _ (numbered : ClassTypesAreNumbered) (given : List ClassDef) (main : List
         by_insn i each = refl
 
   pub handler_use : (h other : Handler) (new : Code) → other.catch_class ≡ h.catch_class → Contains code.handlers h
-      → HasMember (rewritten_class plans x.start x.own).methods (Some new) → Contains new.handlers other
-      → use_in (program_of (rewritten plans given) main) method h.catch_class ≡ use_in (program_of given main) method h.catch_class
+      → HasMember (chained_class plans x.start x.own).methods (Some new) → Contains new.handlers other
+      → use_in (program_of (chained_classes plans given) main) method h.catch_class ≡ use_in (program_of given main) method h.catch_class
   handler_use h other new same listed member moved =
       both_use h.catch_class (used_by_handler x.own code x.old h listed)
-      (ap (is_used (rewritten_class plans x.start x.own)) (sym same)
-      ∙ used_by_handler (rewritten_class plans x.start x.own) new member other moved)
+      (ap (is_used (chained_class plans x.start x.own)) (sym same)
+      ∙ used_by_handler (chained_class plans x.start x.own) new member other moved)

@@ -2,6 +2,7 @@
 -- constructor is called, and a handler's range ends right behind that call.
 use Rattle.std.specs.Prelude.{◌≡◌, ◌≤◌, ◌+◌, ℕ, false, List, [], Option, Some, option_and_then, Contains}
 use Rattle.std.specs.List.{AllByRecursion}
+use Rattle.fm_chain.specs.SafeChains.{SafeChainsOf}
 use Rattle.fm_code.specs.Edges.{insn_of}
 use Rattle.fm_code.specs.Spells.{HasSpelling}
 use Rattle.fm_code.specs.declared.class_file.ClassDef.{ClassDef}
@@ -51,3 +52,10 @@ SafeClassesAreTyped =
     (given : List ClassDef) (main : List ℕ) (p : Program) → IsProgramOf given main p → (written : List ClassDef) (marks : List (List (Option ℕ)))
     → AllByRecursion HasSpelling given → refusals given main ≡ [] → (safe : SafeOf p given written marks) → NoneUnready p safe.facts safe.plans
     → (method : ℕ) (code : Code) → code_at (program_of written main) method ≡ Some code → Typed (program_of written main) method
+
+-- so it is of classes where holders of sites in loops hold chains
+abbrev pub ChainedClassesAreTyped : Type 0
+ChainedClassesAreTyped =
+    (given : List ClassDef) (main : List ℕ) (p : Program) → IsProgramOf given main p → (written : List ClassDef) (marks : List (List (Option ℕ)))
+    → AllByRecursion HasSpelling given → refusals given main ≡ [] → (safe : SafeChainsOf p given written marks) → NoneUnready p safe.facts safe.plans
+    → (method : ℕ) (new : Code) → code_at (program_of written main) method ≡ Some new → Typed (program_of written main) method

@@ -4,4 +4,4 @@
 
 mod laws;
 
-pub use laws::law_typed;
+pub use laws::{law_chained_typed, law_typed};

@@ -1,14 +1,17 @@
--- A woven code meets the rules of a Code attribute, and its numbers and lengths fit their bytes.
-use Rattle.std.proofs.Common.{◌≡◌, ℕ, zero, suc, ◌+◌, ◌<◌, ◌≤◌, List, [], ◌∷◌, ◌++◌, length, map, Option, IsSome, refl, ap, ◌∙◌, arith, length-append}
+-- A code with what is inserted meets the rules of a Code attribute, and its numbers and lengths fit their bytes.
+use Rattle.std.proofs.Common.{◌≡◌, ℕ, zero, suc, ◌+◌, ◌<◌, ◌≤◌, Bool, true, false, List, [], ◌∷◌, ◌++◌, length, map, Option, refl, ap, ◌∙◌, arith, length-append}
+use Rattle.std.specs.Prelude.{if◌then◌else◌}
 use Rattle.std.specs.List.{AllByRecursion, filter_map, flat_map, range_with_len}
 use Rattle.std.proofs.lemmas.List.{length-map}
 use Rattle.fm_base.proofs.ListFacts.{AllByRecursion-both, AllByRecursion-weaker}
 use Rattle.fm_base.specs.declared.limits.TheConstants.{MAX_FILE_BYTES}
+use Rattle.fm_chain.proofs.LaidChains.{chained_anchors_are_anchors}
+use Rattle.fm_chain.specs.Chained.{added_words, anchors_of, chained, chained_code, has_chain}
+use Rattle.fm_chain.specs.declared.calls.Calls.{Calls}
 use Rattle.fm_code.proofs.CodeItems.{HasBytes}
 use Rattle.fm_code.proofs.InsnPrefixes.{insn_at_not_empty}
 use Rattle.fm_code.specs.ClassBytes.{code_bytes, item_bytes, offset_in}
 use Rattle.fm_code.specs.CodeRules.{CodeAttrIsValid, CodeIsValid, HandlerIsValid}
-use Rattle.fm_code.specs.ConstantPool.{method_ref_at}
 use Rattle.fm_code.specs.Fits.{CodeAttrFits, CodeFits, FitsTwo, VarFits}
 use Rattle.fm_code.specs.Operands.{OperandIsValid}
 use Rattle.fm_code.specs.SpellsCode.{ItemIsSpelled, LocalFits, LocalsFit, SpellsCode, with_targets}
@@ -32,10 +35,8 @@ use Rattle.fm_layout.specs.Rooms.{rooms_of, starts_from, widened_rooms}
 use Rattle.fm_layout.specs.Tables.{AreValid, moved_attribute, moved_handler, moved_line, moved_tables, moved_var}
 use Rattle.fm_layout.specs.declared.laying.Laid.{Laid}
 use Rattle.fm_layout.specs.declared.new_items.NewItem.{NewItem}
-use Rattle.fm_place.proofs.WovenLemmas.{anchors_are_anchors}
 use Rattle.fm_place.specs.Insertions.{Insertions}
-use Rattle.fm_place.specs.Woven.{anchors_of, woven, woven_code}
-use Rattle.fm_law_spelled.proofs.InsertedFits.{woven_fits}
+use Rattle.fm_law_spelled.proofs.InsertedFits.{chained_fit, NamesCalls}
 use Rattle.fm_law_spelled.proofs.KeptNames.{code_attribute_kept, handler_kept, operand_kept}
 use Rattle.fm_law_spelled.proofs.LaidFits.{ItemFits, laid_fits}
 use Rattle.fm_law_spelled.proofs.WrittenSizes.{woven_size}
@@ -106,10 +107,15 @@ filled_items items spells =
     AllByRecursion-weaker (ItemIsSpelled items) HasBytes
     (λ item spelled. insn_at_not_empty item.offset item.bytes (with_targets (offset_in items zero) item.insn) spelled.instruction) items spells.spelled
 
-module _ (entries more : List Entry) (free : ℕ) (named : IsSome (method_ref_at (entries ++ more) free)) (code : Code) (plan : Insertions) (can : CanWeave free code plan)
-    (valid : CodeIsValid entries code) where
+-- what is inserted takes two words of stack at most
+pub at_most_two : (b : Bool) → (if b then 2 else 1) ≤ 2
+at_most_two true = omega arith
+at_most_two false = omega arith
+
+module _ (chains : Bool) (entries more : List Entry) (calls : Calls) (named : NamesCalls chains calls (entries ++ more)) (code : Code) (plan : Insertions)
+    (may : has_chain plan ≡ true → chains ≡ true) (can : CanWeave calls code plan) (valid : CodeIsValid entries code) where
   abbrev new_items : List NewItem
-  new_items = woven free code plan
+  new_items = chained calls code plan
 
   abbrev laid : Laid
   laid = laid_of code.items new_items
@@ -138,8 +144,8 @@ module _ (entries more : List Entry) (free : ℕ) (named : IsSome (method_ref_at
   unfolding laid_of
   all_fit =
       let rooms = widened_rooms (rooms_of code.items new_items) in
-      laid_fits free (code.max_locals + length plan.holders) (entries ++ more) named code.items old_fit (starts_from 0 rooms) (firsts_from 0 rooms) 0 0 new_items rooms
-      can.new_items.each (woven_fits free code plan can.suits)
+      laid_fits chains calls (code.max_locals + length plan.holders) (entries ++ more) named code.items old_fit (starts_from 0 rooms) (firsts_from 0 rooms) 0 0
+      new_items rooms can.new_items.each (chained_fit chains calls code plan can.suits may)
 
   -- the old code has an item, and so has the new one
   some_old : 0 < length code.items
@@ -169,10 +175,10 @@ module _ (entries more : List Entry) (free : ℕ) (named : IsSome (method_ref_at
   }
 
   new_tables : AreValid (entries ++ more) (length laid.items) (moved_tables code laid anchors)
-  new_tables = tables_valid (entries ++ more) code new_items anchors (anchors_are_anchors free code plan) old_tables
+  new_tables = tables_valid (entries ++ more) code new_items anchors (chained_anchors_are_anchors calls code plan) old_tables
 
-  -- the woven code is valid
-  pub code_valid : CodeIsValid (entries ++ more) (woven_code free code plan)
+  -- the new code is valid
+  pub code_valid : CodeIsValid (entries ++ more) (chained_code calls code plan)
   code_valid = record {
     not_empty =
         let some = not_empty laid.items some_laid (filled_items laid.items is_code.spelled) in
@@ -188,9 +194,12 @@ module _ (entries more : List Entry) (free : ℕ) (named : IsSome (method_ref_at
   }
 
   -- and fits its bytes
-  pub code_fits : CodeFits code → length (code_bytes code) ≤ MAX_FILE_BYTES → CodeFits (woven_code free code plan)
+  pub code_fits : CodeFits code → length (code_bytes code) ≤ MAX_FILE_BYTES → CodeFits (chained_code calls code plan)
   code_fits fits short = record {
-    max_stack = let low = can.stack in omega (arith, low);
+    max_stack =
+        let low = can.stack in
+        let words : added_words plan ≤ 2 = at_most_two (has_chain plan) in
+        omega (arith, low, words);
     max_locals = let room = can.suits.room in omega (arith, room);
     code_length = let size = laid_size in let limit = can.short in omega (arith, size, limit);
     items = is_code.bytes;
@@ -203,7 +212,7 @@ module _ (entries more : List Entry) (free : ℕ) (named : IsSome (method_ref_at
       each = attributes_fit laid.firsts anchors code.attributes fits.attributes.each;
     };
     size =
-        let grown = woven_size code (woven_code free code plan) laid.firsts anchors refl refl in
+        let grown = woven_size code (chained_code calls code plan) laid.firsts anchors refl refl in
         let measured = is_code.measured in
         let size = laid_size in
         let limit = can.short in

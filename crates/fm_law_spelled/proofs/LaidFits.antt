@@ -1,8 +1,10 @@
 -- What holds of branches and of moved items holds of all laid-out items; so each has its locals, and what it names in the pool is there.
-use Rattle.std.proofs.Common.{◌≡◌, ℕ, ◌+◌, Bool, true, false, List, [], ◌∷◌, length, Option, Some, None, IsSome, IsSomeAnd, refl, sym, subst, ◌∙◌, option_and_then, inl}
+use Rattle.std.proofs.Common.{◌≡◌, ℕ, ◌+◌, Bool, true, false, List, [], ◌∷◌, length, Option, Some, None, IsSomeAnd, refl, sym, ap, subst, ◌∙◌, option_and_then, inl}
 use Rattle.std.specs.Prelude.{nat_lt, slice_get, slice_index}
 use Rattle.std.specs.List.{AllByRecursion}
 use Rattle.fm_base.proofs.ListFacts.{AllByRecursion-append, AllByRecursion-at}
+use Rattle.fm_base.proofs.OptionFacts.{IsSome-from_some}
+use Rattle.fm_chain.specs.declared.calls.Calls.{Calls}
 use Rattle.fm_code.specs.ConstantPool.{method_ref_at}
 use Rattle.fm_code.specs.Operands.{OperandIsValid}
 use Rattle.fm_code.specs.SpellsCode.{LocalsFit, with_targets}
@@ -22,7 +24,8 @@ use Rattle.fm_layout.specs.declared.rooms.Condition.{Condition}
 use Rattle.fm_layout.specs.declared.rooms.Condition.TheVariants as condition
 use Rattle.fm_layout.specs.declared.rooms.Room.{Room}
 use Rattle.fm_layout.specs.declared.rooms.Room.TheVariants as room
-use Rattle.fm_law_spelled.proofs.InsertedFits.{FitsAs, InsertedFits, NewFits}
+use Rattle.fm_law_spelled.proofs.InsertedFits.{FitsAs, InsertedFits, NamesCalls, NewFits}
+use Rattle.fm_law_spelled.specs.Calling.{method_of}
 
 -- ---- any fact of laid items
 
@@ -45,10 +48,10 @@ module _ (P : Item → Type 0) (targeted : HoldsOfTargets P) where
   wide_holds start first false (Some taken) to target =
       (branch_holds start (start + 3) (first + 1) (Some (opposite taken)), (targeted (start + 3) (goto_w_item (start + 3) to target).bytes (λ t. t) (insn.Goto target) refl, tt))
 
-  module _ (free locals : ℕ) (old : List Item)
+  module _ (chains : Bool) (calls : Calls) (locals : ℕ) (old : List Item)
       (kept : (starts firsts : List ℕ) (start : ℕ) (item : Item) (i : Insn) → IsSameButTargets i item.insn → P item → P (moved_item starts firsts start (Some item) i))
-      (inserted : (starts firsts : List ℕ) (start : ℕ) (i : Insn) → InsertedFits free locals i → P (moved_item starts firsts start None i)) (known : AllByRecursion P old) where
-    moved_holds : (starts firsts : List ℕ) (start : ℕ) (i : Insn) (origin : Option ℕ) → IsOrigin old i origin → FitsAs free locals i origin
+      (inserted : (starts firsts : List ℕ) (start : ℕ) (i : Insn) → InsertedFits chains calls locals i → P (moved_item starts firsts start None i)) (known : AllByRecursion P old) where
+    moved_holds : (starts firsts : List ℕ) (start : ℕ) (i : Insn) (origin : Option ℕ) → IsOrigin old i origin → FitsAs chains calls locals i origin
         → P (moved_item starts firsts start (option_and_then (λ k. slice_get old k) origin) i)
     moved_holds starts firsts start i None is fits = inserted starts firsts start i fits
     moved_holds starts firsts start i (Some k) is fits = go (slice_get old k) refl is where
@@ -56,7 +59,7 @@ module _ (P : Item → Type 0) (targeted : HoldsOfTargets P) where
       go None found same = absurd same
       go (Some item) found same = kept starts firsts start item i same (AllByRecursion-at P old k item known found)
 
-    one_holds : (starts firsts : List ℕ) (start first : ℕ) (follows : Bool) (new : NewItem) (r : Room) → HasOrigin old new → NewFits free locals new
+    one_holds : (starts firsts : List ℕ) (start first : ℕ) (follows : Bool) (new : NewItem) (r : Room) → HasOrigin old new → NewFits chains calls locals new
         → AllByRecursion P (laid_items starts firsts start first follows (kept_item old new) new.insn r)
     one_holds starts firsts start first follows new (room.Plain n) origin fits = (moved_holds starts firsts start new.insn new.kept origin fits, tt)
     one_holds starts firsts start first follows new (room.Switch n) origin fits = (moved_holds starts firsts start new.insn new.kept origin fits, tt)
@@ -64,7 +67,7 @@ module _ (P : Item → Type 0) (targeted : HoldsOfTargets P) where
     one_holds starts firsts start first follows new (room.Wide b) origin fits = wide_holds start first follows b.condition (slice_index starts b.target) (slice_index firsts b.target)
 
     pub laid_hold : (starts firsts : List ℕ) (start first : ℕ) (items : List NewItem) (rooms : List Room) → AllByRecursion (HasOrigin old) items
-        → AllByRecursion (NewFits free locals) items → AllByRecursion P (laid_from old starts firsts start first items rooms)
+        → AllByRecursion (NewFits chains calls locals) items → AllByRecursion P (laid_from old starts firsts start first items rooms)
     laid_hold starts firsts start first [] rooms origins fit = tt
     laid_hold starts firsts start first (new ∷ items) [] origins fit = tt
     laid_hold starts firsts start first (new ∷ items) (r ∷ rooms) origins fit =
@@ -117,19 +120,22 @@ kept_fits locals entries starts firsts start item i same (local, operand) = by (
       λ k. record { offset = start; bytes = bytes k; insn = whole k } in
       subst (λ (x : Item). ItemFits locals entries x) (sym made) (local, there)
 
-inserted_fits : (free locals : ℕ) (entries : List Entry) → IsSome (method_ref_at entries free) → (starts firsts : List ℕ) (start : ℕ) (i : Insn) → InsertedFits free locals i
-    → ItemFits locals entries (moved_item starts firsts start None i)
-inserted_fits free locals entries named starts firsts start insn.Null fits = (tt, tt)
-inserted_fits free locals entries named starts firsts start insn.Dup fits = (tt, tt)
-inserted_fits free locals entries named starts firsts start (insn.Load reg.Ref local) fits = (fits, tt)
-inserted_fits free locals entries named starts firsts start (insn.Store reg.Ref local) fits = (fits, tt)
-inserted_fits free locals entries named starts firsts start (insn.Static index) fits = (tt, inl (subst (λ n. IsSome (method_ref_at entries n)) (sym fits) named))
-inserted_fits free locals entries named starts firsts start i fits = absurd fits
+inserted_fits : (chains : Bool) (calls : Calls) (locals : ℕ) (entries : List Entry) → NamesCalls chains calls entries → (starts firsts : List ℕ) (start : ℕ)
+    (i : Insn) → InsertedFits chains calls locals i → ItemFits locals entries (moved_item starts firsts start None i)
+inserted_fits chains calls locals entries named starts firsts start insn.Null fits = (tt, tt)
+inserted_fits chains calls locals entries named starts firsts start insn.Dup fits = (tt, tt)
+inserted_fits chains calls locals entries named starts firsts start (insn.Load reg.Ref local) fits = (fits, tt)
+inserted_fits chains calls locals entries named starts firsts start (insn.Store reg.Ref local) fits = (fits, tt)
+inserted_fits chains calls locals entries named starts firsts start (insn.Static index) fits =
+    (tt, inl (IsSome-from_some (method_ref_at entries index) (method_of fits.0) (ap (method_ref_at entries) fits.2 ∙ named fits.0 fits.1)))
+inserted_fits chains calls locals entries named starts firsts start i fits = absurd fits
 
 -- ---- all items
 
-pub laid_fits : (free locals : ℕ) (entries : List Entry) → IsSome (method_ref_at entries free) → (old : List Item) → AllByRecursion (ItemFits locals entries) old
-    → (starts firsts : List ℕ) (start first : ℕ) (items : List NewItem) (rooms : List Room) → AllByRecursion (HasOrigin old) items
-    → AllByRecursion (NewFits free locals) items → AllByRecursion (ItemFits locals entries) (laid_from old starts firsts start first items rooms)
-laid_fits free locals entries named old known =
-    laid_hold (ItemFits locals entries) (targeted_fits locals entries) free locals old (kept_fits locals entries) (inserted_fits free locals entries named) known
+pub laid_fits : (chains : Bool) (calls : Calls) (locals : ℕ) (entries : List Entry) → NamesCalls chains calls entries → (old : List Item)
+    → AllByRecursion (ItemFits locals entries) old → (starts firsts : List ℕ) (start first : ℕ) (items : List NewItem) (rooms : List Room)
+    → AllByRecursion (HasOrigin old) items → AllByRecursion (NewFits chains calls locals) items
+    → AllByRecursion (ItemFits locals entries) (laid_from old starts firsts start first items rooms)
+laid_fits chains calls locals entries named old known =
+    laid_hold (ItemFits locals entries) (targeted_fits locals entries) chains calls locals old (kept_fits locals entries)
+    (inserted_fits chains calls locals entries named) known

@@ -1,4 +1,5 @@
 pub mod ApartLemmas
+pub mod Growing
 pub mod InsertedFits
 pub mod LaidFits
 pub mod KeptNames

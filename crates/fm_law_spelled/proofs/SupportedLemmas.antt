@@ -1,19 +1,22 @@
 -- A changed class is accepted where the class is: its version, the counts of its methods, and all that stands in it.
-use Rattle.std.proofs.Common.{◌≡◌, ℕ, ◌+◌, inl, inr, ⊎_elim, codes, Bool, true, false, List, [], ◌∷◌, ◌++◌, length, map, Option, Some, None, IfSome, IsSome, refl, sym, ap, subst, ◌∙◌, arith, is_some}
+use Rattle.std.proofs.Common.{◌≡◌, ℕ, ◌+◌, ◌≤◌, inl, inr, ⊎_elim, codes, Bool, true, false, List, [], ◌∷◌, ◌++◌, length, map, Option, Some, None, IfSome, IsSome, refl, sym, ap, subst, ◌∙◌, arith, is_some}
 use Rattle.std.specs.List.{AllByRecursion}
 use Rattle.std.specs.Option.{option_map}
 use Rattle.std.proofs.lemmas.Bool.{false≢true}
 use Rattle.std.proofs.lemmas.List.{length-map}
 use Rattle.fm_base.proofs.ListFacts.{AllByRecursion-get_or, AllByRecursion-weaker}
 use Rattle.fm_base.proofs.OptionFacts.{IsSome-from_some, Some-from_is_some, Some-from_some_and}
+use Rattle.fm_chain.specs.Chained.{added_words, anchors_of, chained, chained_code, has_chain}
+use Rattle.fm_chain.specs.Chaining.{chained_attribute, chained_method, chained_methods, class_calls, class_has_chain, plan_has_chain}
+use Rattle.fm_chain.specs.declared.calls.Calls.{Calls}
 use Rattle.fm_code.specs.AccessFlags.{is_interface}
 use Rattle.fm_code.specs.ConstantPool.{class_name_at, entry_at, EntryIsValid, field_ref_at, interface_method_ref_at, MemberName, method_ref_at, utf8_at}
-use Rattle.fm_code.specs.FreeEntries.{free_class, free_method, sought_free, with_free}
+use Rattle.fm_code.specs.FreeEntries.{free_class}
 use Rattle.fm_code.specs.Members.{code_of, MethodAttrIsValid, MethodIsValid}
 use Rattle.fm_code.specs.CodeRules.{CodeIsValid}
 use Rattle.fm_code.specs.Names.{IsClassName}
 use Rattle.fm_code.specs.Operands.{OperandIsValid}
-use Rattle.fm_code.specs.Profile.{calls_of_class, class_named, CodeIsWithin, FieldIsSupported, HeadIsSupported, is_left_out, is_supported_constant, IsFloatingArray, IsSupportedName, ItemIsSupported, loads_supported, MethodIsSupported, MethodIsWithin}
+use Rattle.fm_code.specs.Profile.{calls_of_class, class_named, CodeIsWithin, FieldIsSupported, HeadIsSupported, is_left_out, is_supported_constant, IsFloatingArray, IsSupportedName, ItemIsSupported, loads_supported, MethodIsSupported, MethodIsWithin, Profile}
 use Rattle.fm_code.specs.declared.class_file.Member.{Member}
 use Rattle.fm_code.specs.declared.class_file.MemberAttr.{MemberAttr}
 use Rattle.fm_code.specs.declared.class_file.MemberAttr.TheVariants as attribute
@@ -31,16 +34,17 @@ use Rattle.fm_layout.specs.Laid.{firsts_from, laid_of, moved_item}
 use Rattle.fm_layout.specs.Rooms.{rooms_of, starts_from, widened_rooms}
 use Rattle.fm_layout.specs.Tables.{moved_handler}
 use Rattle.fm_place.specs.Insertions.{Insertions}
-use Rattle.fm_place.specs.Rewriting.{free_index, Plans, rewritten_attribute, rewritten_method, rewritten_methods}
-use Rattle.fm_place.specs.Woven.{anchors_of, woven, woven_code}
-use Rattle.fm_pool.proofs.FreeEntriesAdded.{free_named, free_supported}
+use Rattle.fm_place.specs.Rewriting.{Plans}
 use Rattle.fm_pool.proofs.GrownPool.{and_kept, class_from, class_kept, entry_kept, method_kept, text_kept, there_kept}
 use Rattle.fm_read_limits.proofs.FloatingLemmas.{array_begins}
 use Rattle.fm_read_limits.proofs.LimitLemmas.{code_is, first_code}
 use Rattle.fm_read_limits.specs.inner.Declared.{PoolIsValid}
-use Rattle.fm_law_spelled.proofs.InsertedFits.{InsertedFits, woven_fits}
+use Rattle.fm_law_spelled.proofs.CodeSpelled.{at_most_two}
+use Rattle.fm_law_spelled.proofs.Growing.{class_of_called, first_may, grown_is, grows, MayChain, more_for, pool_supported, rest_may}
+use Rattle.fm_law_spelled.proofs.InsertedFits.{chained_fit, InsertedFits, NamesCalls}
 use Rattle.fm_law_spelled.proofs.KeptNames.{field_kept, interface_method_kept, such_kept}
 use Rattle.fm_law_spelled.proofs.LaidFits.{HoldsOfTargets, laid_hold}
+use Rattle.fm_law_spelled.specs.Calling.{Grows, method_of}
 use Rattle.fm_law_spelled.specs.Changed.{AttributeCan, CanWeave, ChangedAreAccepted, MethodCan, MethodsCan}
 
 -- ---- instructions
@@ -76,17 +80,19 @@ kept_supported entries starts firsts start item i same supported = by (names_tar
 free_is_no_array : ¬ IsFloatingArray free_class
 free_is_no_array is = false≢true (array_begins free_class is)
 
-inserted_supported : (free locals : ℕ) (entries : List Entry) → method_ref_at entries free ≡ Some free_method → (starts firsts : List ℕ) (start : ℕ) (i : Insn) → InsertedFits free locals i
-    → HasSupportedInsn entries (moved_item starts firsts start None i)
-inserted_supported free locals entries named starts firsts start insn.Null fits = (refl, refl, refl, tt)
-inserted_supported free locals entries named starts firsts start insn.Dup fits = (refl, refl, refl, tt)
-inserted_supported free locals entries named starts firsts start (insn.Load reg.Ref local) fits = (refl, refl, refl, tt)
-inserted_supported free locals entries named starts firsts start (insn.Store reg.Ref local) fits = (refl, refl, refl, tt)
-inserted_supported free locals entries named starts firsts start (insn.Static index) fits =
-    let there : method_ref_at entries index ≡ Some free_method = ap (method_ref_at entries) fits ∙ named in
+inserted_supported : (chains : Bool) (calls : Calls) (locals : ℕ) (entries : List Entry) → NamesCalls chains calls entries → (starts firsts : List ℕ)
+    (start : ℕ) (i : Insn) → InsertedFits chains calls locals i → HasSupportedInsn entries (moved_item starts firsts start None i)
+inserted_supported chains calls locals entries named starts firsts start insn.Null fits = (refl, refl, refl, tt)
+inserted_supported chains calls locals entries named starts firsts start insn.Dup fits = (refl, refl, refl, tt)
+inserted_supported chains calls locals entries named starts firsts start (insn.Load reg.Ref local) fits = (refl, refl, refl, tt)
+inserted_supported chains calls locals entries named starts firsts start (insn.Store reg.Ref local) fits = (refl, refl, refl, tt)
+inserted_supported chains calls locals entries named starts firsts start (insn.Static index) fits =
+    let there : method_ref_at entries index ≡ Some (method_of fits.0) = ap (method_ref_at entries) fits.2 ∙ named fits.0 fits.1 in
     let class : Option (List ℕ) → Type 0 = λ o. IfSome o (λ name. ¬ IsFloatingArray name) in
-    (refl, refl, ap is_some there, subst class (sym (ap (option_map (λ (m : MemberName). m.class)) there)) free_is_no_array)
-inserted_supported free locals entries named starts firsts start i fits = absurd fits
+    let named_class : option_map (λ (m : MemberName). m.class) (method_ref_at entries index) ≡ Some free_class =
+    ap (option_map (λ (m : MemberName). m.class)) there ∙ ap (λ name. Some name) (class_of_called fits.0) in
+    (refl, refl, ap is_some there, subst class (sym named_class) free_is_no_array)
+inserted_supported chains calls locals entries named starts firsts start i fits = absurd fits
 
 -- ---- more entries
 
@@ -164,12 +170,12 @@ are_supported entries = AllByRecursion-weaker (HasSupportedInsn entries) (ItemIs
 -- ---- codes
 
 -- what an attribute's code is with what is inserted
-woven_first : (free : ℕ) (plan : Insertions) (attributes : List MemberAttr)
-    → first_code (map (rewritten_attribute free plan) attributes) ≡ option_map (λ code. woven_code free code plan) (first_code attributes)
-woven_first free plan [] = refl
-woven_first free plan (attribute.Constant name value ∷ attributes) = woven_first free plan attributes
-woven_first free plan (attribute.Coded name code ∷ attributes) = refl
-woven_first free plan (attribute.Other raw ∷ attributes) = woven_first free plan attributes
+chained_first : (calls : Calls) (plan : Insertions) (attributes : List MemberAttr)
+    → first_code (map (chained_attribute calls plan) attributes) ≡ option_map (λ code. chained_code calls code plan) (first_code attributes)
+chained_first calls plan [] = refl
+chained_first calls plan (attribute.Constant name value ∷ attributes) = chained_first calls plan attributes
+chained_first calls plan (attribute.Coded name code ∷ attributes) = refl
+chained_first calls plan (attribute.Other raw ∷ attributes) = chained_first calls plan attributes
 
 -- the first code of valid attributes is valid
 first_valid : (entries : List Entry) (attributes : List MemberAttr) (code : Code) → AllByRecursion (MethodAttrIsValid entries) attributes → first_code attributes ≡ Some code → CodeIsValid entries code
@@ -178,23 +184,26 @@ first_valid entries (attribute.Constant name value ∷ attributes) code valid is
 first_valid entries (attribute.Coded name own ∷ attributes) code valid is = let same : own ≡ code = cc in subst (CodeIsValid entries) same valid.0.1
 first_valid entries (attribute.Other raw ∷ attributes) code valid is = first_valid entries attributes code valid.1 is
 
-first_can : (free : ℕ) (plan : Insertions) (attributes : List MemberAttr) (code : Code) → AllByRecursion (AttributeCan free plan) attributes → first_code attributes ≡ Some code → CanWeave free code plan
-first_can free plan [] code can is = absurd cc
-first_can free plan (attribute.Constant name value ∷ attributes) code can is = first_can free plan attributes code can.1 is
-first_can free plan (attribute.Coded name own ∷ attributes) code can is = let same : own ≡ code = cc in subst (λ (c : Code). CanWeave free c plan) same can.0
-first_can free plan (attribute.Other raw ∷ attributes) code can is = first_can free plan attributes code can.1 is
+first_can : (calls : Calls) (plan : Insertions) (attributes : List MemberAttr) (code : Code) → AllByRecursion (AttributeCan calls plan) attributes
+    → first_code attributes ≡ Some code → CanWeave calls code plan
+first_can calls plan [] code can is = absurd cc
+first_can calls plan (attribute.Constant name value ∷ attributes) code can is = first_can calls plan attributes code can.1 is
+first_can calls plan (attribute.Coded name own ∷ attributes) code can is = let same : own ≡ code = cc in subst (λ (c : Code). CanWeave calls c plan) same can.0
+first_can calls plan (attribute.Other raw ∷ attributes) code can is = first_can calls plan attributes code can.1 is
 
-module _ (entries more : List Entry) (pool : PoolIsValid entries) (free : ℕ) (named : method_ref_at (entries ++ more) free ≡ Some free_method) where
-  code_supported : (code : Code) (plan : Insertions) → CanWeave free code plan → AllByRecursion (OperandIsValid entries) code.items → AllByRecursion (ItemIsSupported entries) code.items
-      → AllByRecursion (ItemIsSupported (entries ++ more)) (woven_code free code plan).items
+module _ (chains : Bool) (entries more : List Entry) (pool : PoolIsValid entries) (calls : Calls) (named : NamesCalls chains calls (entries ++ more)) where
+  code_supported : (code : Code) (plan : Insertions) → (has_chain plan ≡ true → chains ≡ true) → CanWeave calls code plan
+      → AllByRecursion (OperandIsValid entries) code.items → AllByRecursion (ItemIsSupported entries) code.items
+      → AllByRecursion (ItemIsSupported (entries ++ more)) (chained_code calls code plan).items
   unfolding laid_of
-  code_supported code plan can valid supported =
-      let new_items = woven free code plan in
+  code_supported code plan may can valid supported =
+      let new_items = chained calls code plan in
       let rooms = widened_rooms (rooms_of code.items new_items) in
+      let locals = code.max_locals + length plan.holders in
       are_supported (entries ++ more) (laid_of code.items new_items).items
-      (laid_hold (HasSupportedInsn (entries ++ more)) (targeted_supported (entries ++ more)) free (code.max_locals + length plan.holders) code.items (kept_supported (entries ++ more))
-      (inserted_supported free (code.max_locals + length plan.holders) (entries ++ more) named) (items_kept entries more pool code.items valid supported)
-      (starts_from 0 rooms) (firsts_from 0 rooms) 0 0 new_items rooms can.new_items.each (woven_fits free code plan can.suits))
+      (laid_hold (HasSupportedInsn (entries ++ more)) (targeted_supported (entries ++ more)) chains calls locals code.items (kept_supported (entries ++ more))
+      (inserted_supported chains calls locals (entries ++ more) named) (items_kept entries more pool code.items valid supported)
+      (starts_from 0 rooms) (firsts_from 0 rooms) 0 0 new_items rooms can.new_items.each (chained_fit chains calls code plan can.suits may))
 
   -- ---- methods
 
@@ -217,83 +226,94 @@ module _ (entries more : List Entry) (pool : PoolIsValid entries) (free : ℕ) (
         let code_valid = first_valid entries attributes code valid is in
         are_supported (entries ++ more) code.items (items_kept entries more pool code.items code_valid.operands own)
 
-  woven_items : (plan : Insertions) (attributes : List MemberAttr) → AllByRecursion (AttributeCan free plan) attributes → AllByRecursion (MethodAttrIsValid entries) attributes
-      → ItemsIn entries (first_code attributes) → ItemsIn (entries ++ more) (option_map (λ code. woven_code free code plan) (first_code attributes))
-  woven_items plan attributes can valid supported = by (first_code attributes) refl supported where
-    by : (o : Option Code) → first_code attributes ≡ o → ItemsIn entries o → ItemsIn (entries ++ more) (option_map (λ code. woven_code free code plan) o)
+  chained_in : (plan : Insertions) → (has_chain plan ≡ true → chains ≡ true) → (attributes : List MemberAttr)
+      → AllByRecursion (AttributeCan calls plan) attributes → AllByRecursion (MethodAttrIsValid entries) attributes
+      → ItemsIn entries (first_code attributes) → ItemsIn (entries ++ more) (option_map (λ code. chained_code calls code plan) (first_code attributes))
+  chained_in plan may attributes can valid supported = by (first_code attributes) refl supported where
+    by : (o : Option Code) → first_code attributes ≡ o → ItemsIn entries o → ItemsIn (entries ++ more) (option_map (λ code. chained_code calls code plan) o)
     by None is own = tt
-    by (Some code) is own = code_supported code plan (first_can free plan attributes code can is) (first_valid entries attributes code valid is).operands own
+    by (Some code) is own = code_supported code plan may (first_can calls plan attributes code can is) (first_valid entries attributes code valid is).operands own
 
-  method_supported : (in_interface : Bool) (plan : Option Insertions) (m : Member) → MethodCan free plan m → AllByRecursion (MethodAttrIsValid entries) m.attributes
-      → MethodIsSupported in_interface entries m → MethodIsSupported in_interface (entries ++ more) (rewritten_method free plan m)
-  method_supported in_interface None m can valid supported = record {
+  method_supported : (in_interface : Bool) (plan : Option Insertions) (m : Member) → (plan_has_chain plan ≡ true → chains ≡ true) → MethodCan calls plan m
+      → AllByRecursion (MethodAttrIsValid entries) m.attributes → MethodIsSupported in_interface entries m
+      → MethodIsSupported in_interface (entries ++ more) (chained_method calls plan m)
+  method_supported in_interface None m may can valid supported = record {
     head = head_kept in_interface m supported.head;
     items = subst (ItemsIn (entries ++ more)) (sym (code_is m)) (same_items m.attributes valid (subst (ItemsIn entries) (code_is m) supported.items));
   }
-  method_supported in_interface (Some plan) m can valid supported = record {
+  method_supported in_interface (Some plan) m may can valid supported = record {
     head =
         let kept = head_kept in_interface m supported.head in
         record { descriptor = kept.descriptor; not_native = kept.not_native; of_interface = kept.of_interface };
     items =
-        let new = map (rewritten_attribute free plan) m.attributes in
-        let is : code_of (record m { attributes = new }) ≡ option_map (λ code. woven_code free code plan) (first_code m.attributes) = code_is (record m { attributes = new }) ∙ woven_first free plan m.attributes in
-        subst (ItemsIn (entries ++ more)) (sym is) (woven_items plan m.attributes can valid (subst (ItemsIn entries) (code_is m) supported.items));
+        let new = map (chained_attribute calls plan) m.attributes in
+        let is : code_of (record m { attributes = new }) ≡ option_map (λ code. chained_code calls code plan) (first_code m.attributes) = code_is (record m { attributes = new }) ∙ chained_first calls plan m.attributes in
+        subst (ItemsIn (entries ++ more)) (sym is) (chained_in plan may m.attributes can valid (subst (ItemsIn entries) (code_is m) supported.items));
   }
 
-  methods_supported : (in_interface : Bool) (plans : Plans) (first : ℕ) (methods : List Member) → MethodsCan plans free first methods → AllByRecursion (MethodIsValid in_interface entries) methods
-      → AllByRecursion (MethodIsSupported in_interface entries) methods → AllByRecursion (MethodIsSupported in_interface (entries ++ more)) (rewritten_methods plans free first methods)
-  methods_supported in_interface plans first [] can valid supported = tt
-  methods_supported in_interface plans first (m ∷ methods) can valid supported = (
-    method_supported in_interface (plans first) m can.0 valid.0.attributes supported.0,
-    methods_supported in_interface plans (first + 1) methods can.1 valid.1 supported.1,
+  methods_supported : (in_interface : Bool) (plans : Plans) (first : ℕ) (methods : List Member) → MayChain chains plans first methods
+      → MethodsCan plans calls first methods → AllByRecursion (MethodIsValid in_interface entries) methods
+      → AllByRecursion (MethodIsSupported in_interface entries) methods → AllByRecursion (MethodIsSupported in_interface (entries ++ more)) (chained_methods plans calls first methods)
+  methods_supported in_interface plans first [] may can valid supported = tt
+  methods_supported in_interface plans first (m ∷ methods) may can valid supported = (
+    method_supported in_interface (plans first) m (first_may chains plans first m methods may) can.0 valid.0.attributes supported.0,
+    methods_supported in_interface plans (first + 1) methods (rest_may chains plans first m methods may) can.1 valid.1 supported.1,
   )
 
 -- ---- counts
 
--- the counts of a woven code are within their limits
-code_within : (free : ℕ) (code : Code) (plan : Insertions) → CanWeave free code plan → CodeIsWithin code → CodeIsWithin (woven_code free code plan)
-code_within free code plan can within = record {
-  stack = let low = can.stack in omega (arith, low);
+-- the counts of a code with what is inserted are within their limits
+code_within : (calls : Calls) (code : Code) (plan : Insertions) → CanWeave calls code plan → CodeIsWithin code → CodeIsWithin (chained_code calls code plan)
+code_within calls code plan can within = record {
+  stack =
+      let low = can.stack in
+      let words : added_words plan ≤ 2 = at_most_two (has_chain plan) in
+      omega (arith, low, words);
   locals = let room = can.suits.room in omega (arith, room);
   handlers =
-      let same = length-map code.handlers (moved_handler (laid_of code.items (woven free code plan)).firsts (anchors_of plan code.items)) in
+      let same = length-map code.handlers (moved_handler (laid_of code.items (chained calls code plan)).firsts (anchors_of plan code.items)) in
       let own = within.handlers in
       omega (arith, same, own);
 }
 
-woven_within : (free : ℕ) (plan : Insertions) (attributes : List MemberAttr) → AllByRecursion (AttributeCan free plan) attributes → IfSome (first_code attributes) CodeIsWithin
-    → IfSome (option_map (λ code. woven_code free code plan) (first_code attributes)) CodeIsWithin
-woven_within free plan attributes can within = by (first_code attributes) refl within where
-  by : (o : Option Code) → first_code attributes ≡ o → IfSome o CodeIsWithin → IfSome (option_map (λ code. woven_code free code plan) o) CodeIsWithin
+chained_within : (calls : Calls) (plan : Insertions) (attributes : List MemberAttr) → AllByRecursion (AttributeCan calls plan) attributes → IfSome (first_code attributes) CodeIsWithin
+    → IfSome (option_map (λ code. chained_code calls code plan) (first_code attributes)) CodeIsWithin
+chained_within calls plan attributes can within = by (first_code attributes) refl within where
+  by : (o : Option Code) → first_code attributes ≡ o → IfSome o CodeIsWithin → IfSome (option_map (λ code. chained_code calls code plan) o) CodeIsWithin
   by None is own = tt
-  by (Some code) is own = code_within free code plan (first_can free plan attributes code can is) own
+  by (Some code) is own = code_within calls code plan (first_can calls plan attributes code can is) own
 
-method_within : (free : ℕ) (plan : Option Insertions) (m : Member) → MethodCan free plan m → MethodIsWithin m → MethodIsWithin (rewritten_method free plan m)
-method_within free None m can within = within
-method_within free (Some plan) m can within =
-    let new = map (rewritten_attribute free plan) m.attributes in
-    let is : code_of (record m { attributes = new }) ≡ option_map (λ code. woven_code free code plan) (first_code m.attributes) = code_is (record m { attributes = new }) ∙ woven_first free plan m.attributes in
-    subst (λ (o : Option Code). IfSome o CodeIsWithin) (sym is) (woven_within free plan m.attributes can (subst (λ (o : Option Code). IfSome o CodeIsWithin) (code_is m) within))
+method_within : (calls : Calls) (plan : Option Insertions) (m : Member) → MethodCan calls plan m → MethodIsWithin m → MethodIsWithin (chained_method calls plan m)
+method_within calls None m can within = within
+method_within calls (Some plan) m can within =
+    let new = map (chained_attribute calls plan) m.attributes in
+    let is : code_of (record m { attributes = new }) ≡ option_map (λ code. chained_code calls code plan) (first_code m.attributes) = code_is (record m { attributes = new }) ∙ chained_first calls plan m.attributes in
+    subst (λ (o : Option Code). IfSome o CodeIsWithin) (sym is) (chained_within calls plan m.attributes can (subst (λ (o : Option Code). IfSome o CodeIsWithin) (code_is m) within))
 
-methods_within : (free : ℕ) (plans : Plans) (first : ℕ) (methods : List Member) → MethodsCan plans free first methods → AllByRecursion MethodIsWithin methods
-    → AllByRecursion MethodIsWithin (rewritten_methods plans free first methods)
-methods_within free plans first [] can within = tt
-methods_within free plans first (m ∷ methods) can within = (method_within free (plans first) m can.0 within.0, methods_within free plans (first + 1) methods can.1 within.1)
+methods_within : (calls : Calls) (plans : Plans) (first : ℕ) (methods : List Member) → MethodsCan plans calls first methods → AllByRecursion MethodIsWithin methods
+    → AllByRecursion MethodIsWithin (chained_methods plans calls first methods)
+methods_within calls plans first [] can within = tt
+methods_within calls plans first (m ∷ methods) can within = (method_within calls (plans first) m can.0 within.0, methods_within calls plans (first + 1) methods can.1 within.1)
 
 -- ---- classes
 
 pub changed_accepted : ChangedAreAccepted
 changed_accepted plans first c (bytes, spells) profile can =
+    let chains = class_has_chain plans first c in
     let entries = c.pool.entries in
-    let more = (sought_free entries).missing in
-    let named = free_named entries (with_free entries) more (free_index c) refl refl in
-    record {
+    let more = more_for chains entries in
+    let calls = class_calls plans first c in
+    let grow : Grows chains more calls plans first c = grows plans first c in
+    subst Profile (sym (grown_is plans first c)) (record {
       version = inr (omega arith, omega arith, refl);
-      limits = methods_within (free_index c) plans first c.methods can profile.limits;
+      limits = methods_within calls plans first c.methods can profile.limits;
       supported = record {
-        name = and_kept (class_name_at entries c.this_class) (class_name_at (with_free entries) c.this_class) IsSupportedName (class_kept entries more c.this_class) profile.supported.name;
-        fields = AllByRecursion-weaker (FieldIsSupported entries) (FieldIsSupported (with_free entries)) (λ m own. such_kept entries more m.descriptor _ own) c.fields profile.supported.fields;
-        methods = methods_supported entries more spells.pool.entries (free_index c) named (is_interface c.flags) plans first c.methods can spells.methods profile.supported.methods;
-        pool = free_supported entries profile.supported.pool;
+        name = and_kept (class_name_at entries c.this_class) (class_name_at (entries ++ more) c.this_class) IsSupportedName
+            (class_kept entries more c.this_class) profile.supported.name;
+        fields = AllByRecursion-weaker (FieldIsSupported entries) (FieldIsSupported (entries ++ more))
+            (λ m own. such_kept entries more m.descriptor _ own) c.fields profile.supported.fields;
+        methods = methods_supported chains entries more spells.pool.entries calls grow.named (is_interface c.flags) plans first c.methods grow.chained can
+            spells.methods profile.supported.methods;
+        pool = pool_supported chains entries profile.supported.pool;
       };
-    }
+    })

@@ -4,7 +4,6 @@ use Rattle.std.specs.Prelude.{ℕ, ◌+◌, ◌≤◌, List, [], ◌∷◌, leng
 use Rattle.std.specs.List.{AllByRecursion}
 use Rattle.fm_base.specs.declared.limits.TheConstants.{MAX_FILE_BYTES}
 use Rattle.fm_code.specs.ClassBytes.{class_bytes}
-use Rattle.fm_code.specs.FreeEntries.{with_free}
 use Rattle.fm_code.specs.Profile.{Profile}
 use Rattle.fm_code.specs.Spells.{HasSpelling}
 use Rattle.fm_code.specs.declared.class_file.ClassDef.{ClassDef}
@@ -15,36 +14,38 @@ use Rattle.fm_code.specs.declared.code_array.Code.{Code}
 use Rattle.fm_code.specs.declared.code_array.TheConstants.{MAX_CODE_BYTES}
 use Rattle.fm_layout.specs.Conditions.{AreNewItems, AreOldItems}
 use Rattle.fm_layout.specs.Laid.{laid_length}
+use Rattle.fm_chain.specs.Chained.{chained}
+use Rattle.fm_chain.specs.Chaining.{changed_class, class_calls, class_has_chain, entries_for}
+use Rattle.fm_chain.specs.Laws.{CallsSuit}
+use Rattle.fm_chain.specs.declared.calls.Calls.{Calls}
 use Rattle.fm_place.specs.Insertions.{Insertions}
-use Rattle.fm_place.specs.Laws.{Suits}
-use Rattle.fm_place.specs.Rewriting.{free_index, Plans, rewritten_major, rewritten_methods}
-use Rattle.fm_place.specs.Woven.{woven}
+use Rattle.fm_place.specs.Rewriting.{Plans}
 use Rattle.fm_place.specs.declared.limits.TheConstants.{MAX_HOLDING_STACK_WORDS}
 
 -- ---- what is required
 
 -- of a code and its insertions: there is room for what is inserted, and the code isn't too long with it
-pub record CanWeave (free : ℕ) (code : Code) (plan : Insertions) : Type 0 where
+pub record CanWeave (calls : Calls) (code : Code) (plan : Insertions) : Type 0 where
   pub old_items : AreOldItems code.items
   pub stack : code.max_stack ≤ MAX_HOLDING_STACK_WORDS
-  pub suits : Suits free code plan
-  pub new_items : AreNewItems code.items (woven free code plan)
-  pub short : laid_length code.items (woven free code plan) ≤ MAX_CODE_BYTES
+  pub suits : CallsSuit calls code plan
+  pub new_items : AreNewItems code.items (chained calls code plan)
+  pub short : laid_length code.items (chained calls code plan) ≤ MAX_CODE_BYTES
 
 -- of an attribute of a method, which may be its code
-abbrev pub AttributeCan : (free : ℕ) → Insertions → MemberAttr → Type 0
-AttributeCan free plan (attribute.Coded name code) = CanWeave free code plan
-AttributeCan free plan a = Unit {0}
+abbrev pub AttributeCan : Calls → Insertions → MemberAttr → Type 0
+AttributeCan calls plan (attribute.Coded name code) = CanWeave calls code plan
+AttributeCan calls plan a = Unit {0}
 
 -- of a method with its plan, if it has one
-abbrev pub MethodCan : (free : ℕ) → Option Insertions → Member → Type 0
-MethodCan free None m = Unit {0}
-MethodCan free (Some plan) m = AllByRecursion (AttributeCan free plan) m.attributes
+abbrev pub MethodCan : Calls → Option Insertions → Member → Type 0
+MethodCan calls None m = Unit {0}
+MethodCan calls (Some plan) m = AllByRecursion (AttributeCan calls plan) m.attributes
 
 -- of methods, the first of which has this number
-abbrev pub MethodsCan : Plans → (free first : ℕ) → List Member → Type 0
-MethodsCan plans free first [] = Unit {0}
-MethodsCan plans free first (m ∷ methods) = MethodCan free (plans first) m × MethodsCan plans free (first + 1) methods
+abbrev pub MethodsCan : Plans → Calls → (first : ℕ) → List Member → Type 0
+MethodsCan plans calls first [] = Unit {0}
+MethodsCan plans calls first (m ∷ methods) = MethodCan calls (plans first) m × MethodsCan plans calls (first + 1) methods
 
 -- of a class: its file isn't longer than a file may be
 abbrev pub IsShort : ClassDef → Type 0
@@ -52,22 +53,15 @@ IsShort c = length (class_bytes c) ≤ MAX_FILE_BYTES
 
 -- ---- the laws
 
--- the class with what is inserted into its methods, and with the entries of FreeMe.free
-abbrev pub changed : Plans → (first : ℕ) → ClassDef → ClassDef
-changed plans first c = record c {
-  minor = 0;
-  major = rewritten_major;
-  pool = record { entries = with_free c.pool.entries };
-  methods = rewritten_methods plans (free_index c) first c.methods;
-}
-
--- some bytes spell it, as long as its pool isn't full (JVMS 4.1)
+-- some bytes spell a changed class, as long as its pool isn't full (JVMS 4.1)
 abbrev pub ChangedHaveSpellings : Type 0
 ChangedHaveSpellings =
-    (plans : Plans) (first : ℕ) (c : ClassDef) → HasSpelling c → IsShort c → length (with_free c.pool.entries) ≤ 65535
-    → MethodsCan plans (free_index c) first c.methods → HasSpelling (changed plans first c)
+    (plans : Plans) (first : ℕ) (c : ClassDef) → HasSpelling c → IsShort c
+    → length (entries_for (class_has_chain plans first c) c.pool.entries) ≤ 65535
+    → MethodsCan plans (class_calls plans first c) first c.methods → HasSpelling (changed_class plans first c)
 
 -- and it is accepted where the class is: its version is 49.0, its counts are within their limits, and all of it is supported
 abbrev pub ChangedAreAccepted : Type 0
 ChangedAreAccepted =
-    (plans : Plans) (first : ℕ) (c : ClassDef) → HasSpelling c → Profile c → MethodsCan plans (free_index c) first c.methods → Profile (changed plans first c)
+    (plans : Plans) (first : ℕ) (c : ClassDef) → HasSpelling c → Profile c → MethodsCan plans (class_calls plans first c) first c.methods
+    → Profile (changed_class plans first c)

@@ -1,6 +1,6 @@
 -- The classes that are written: each has a spelling, and they are printed under names of their own.
 use Rattle.std.proofs.Common.{◌≡◌, ℕ, suc, ◌+◌, ◌<◌, ◌≤◌, ◌^◌, ◌&&◌, ◌⊎◌, inl, inr, Bool, true, false, cond, List, [], ◌∷◌, ◌++◌, length, map, get_or, Option, Some, None, refl, sym, ap, subst, ◌∙◌, arith, option_and_then}
-use Rattle.std.specs.Prelude.{nat_lt, unwrap_or}
+use Rattle.std.specs.Prelude.{if◌then◌else◌, nat_lt, unwrap_or}
 use Rattle.std.specs.List.{AllByRecursion, flat_map}
 use Rattle.std.specs.Option.{option_map, option_or}
 use Rattle.std.proofs.lemmas.Bool.{cases_lt, ltb-false}
@@ -9,6 +9,10 @@ use Rattle.fm_summ_shapes.proofs.ShapesLemmas.{code_facts}
 use Rattle.fm_summ_shapes.specs.Analysed.{AreAnalysable, IsAccepted}
 use Rattle.fm_base.proofs.ListFacts.{AllByRecursion-weaker}
 use Rattle.fm_base.proofs.OptionFacts.{Some-from_some_and}
+use Rattle.fm_chain.proofs.LaidChains.{chained_is_laid_out}
+use Rattle.fm_chain.proofs.WithoutChains.{calls_same, chained_same, class_none, class_same, none_looped}
+use Rattle.fm_chain.specs.Chained.{chained, has_chain}
+use Rattle.fm_chain.specs.Chaining.{chained_class, changed_class, class_calls, class_has_chain, entries_for, plan_has_chain}
 use Rattle.fm_chain.specs.declared.calls.Calls.{Calls}
 use Rattle.fm_code.specs.AccessFlags.{is_interface}
 use Rattle.fm_code.specs.ConstantPool.{class_name_at, entry_at, method_ref_at}
@@ -29,9 +33,9 @@ use Rattle.fm_conn.specs.Links.{typed_method}
 use Rattle.fm_conn.specs.Nodes.{TypedMethod}
 use Rattle.fm_flow.proofs.CodeFacts.{items_counted}
 use Rattle.fm_layout.specs.Laid.{laid_length, refused_length}
-use Rattle.fm_place.proofs.WovenLemmas.{woven_is_laid_out}
+use Rattle.fm_layout.specs.declared.new_items.NewItem.{NewItem}
+use Rattle.fm_place.proofs.FullLemmas.{method-safe}
 use Rattle.fm_place.specs.Insertions.{all_insertions, full_insertions, Insertions}
-use Rattle.fm_place.specs.Laws.{Suits}
 use Rattle.fm_place.specs.Rewriting.{changes, first_given, free_index, Plans, rewritten_class, rewritten_from}
 use Rattle.fm_place.specs.Safe.{full_plans}
 use Rattle.fm_place.specs.Sites.{held_sites}
@@ -113,10 +117,14 @@ free_within c = by (cases_lt (free_index c) (length (with_free c.pool.entries)))
       let none : None ≡ Some free_method = rw second at named in
       absurd cc
 
+-- by this entry of FreeMe.free, and without chains
+abbrev calls_by : (free : ℕ) → Calls
+calls_by free = record { free = free; link = 0; free_chain = 0 }
+
 -- of a class that changes: there is room in its pool, and in its methods for what is planned for them
 record CanChange (plans : Plans) (first : ℕ) (c : ClassDef) : Type 0 where
   pub room : length (with_free c.pool.entries) ≤ 65535
-  pub methods : MethodsCan plans (free_index c) first c.methods
+  pub methods : MethodsCan plans (calls_by (free_index c)) first c.methods
 
 -- of each of these classes that changes
 abbrev CanChangeAll : Plans → (first : ℕ) → List ClassDef → Type 0
@@ -129,44 +137,46 @@ module _ (p : Program) (facts : Facts) (may : AreAnalysable p) (old : HasOldItem
 
   -- what is planned for a method that has this code may be woven, as long as it isn't too long
   code_can : (free method : ℕ) (code : Code) (plan : Insertions) → free < 2 ^ 16 → code_at p method ≡ Some code → own_plans method ≡ Some plan
-      → long_code free plan code ≡ None → CanWeave free code plan
+      → long_code free plan code ≡ None → CanWeave (calls_by free) code plan
   code_can free method code plan fits is planned short =
       let x = typed_method p facts.typing method code in
       let full : full_insertions facts x ≡ Some plan = sym (ap (λ o. option_and_then (full_insertions facts) (option_map (typed_method p facts.typing method) o)) is) ∙ planned in
       let own = is_all facts x plan full in
       let known = code_facts p method code may is in
       let rules = known.0.spelled in
-      let calls : Calls = record { free = free; link = 0; free_chain = 0 } in
-      let room = all_suits facts x false calls (record { free = fits; link = omega arith; free_chain = omega arith }) known.1.locals in
-      let suits : Suits free code (all_insertions facts x) = record { entry = room.free; room = room.room; before = room.before } in
+      let calls = calls_by free in
+      let suits = all_suits facts x false calls (record { free = fits; link = omega arith; free_chain = omega arith }) known.1.locals in
+      let all = all_insertions facts x in
+      let plain = none_looped plan.holders (method-safe p facts method plan planned).plain in
+      let same : chained calls code all ≡ woven free code all = chained_same calls code all (ap has_chain (sym own.all) ∙ plain) in
       let few = few_items facts x free (items_counted code rules).1 in
       let test = not_refused (nat_lt MAX_CODE_BYTES (laid_length code.items (woven free code plan))) (refused_length code.items (woven free code plan)) short in
-      subst (λ (ins : Insertions). laid_length code.items (woven free code ins) ≤ MAX_CODE_BYTES → CanWeave free code ins) (sym own.all)
+      subst (λ (ins : Insertions). laid_length code.items (woven free code ins) ≤ MAX_CODE_BYTES → CanWeave (calls_by free) code ins) (sym own.all)
       (λ limit. record {
         old_items = old method code is;
         stack = low_stack facts x own.held;
         suits = suits;
-        new_items = woven_is_laid_out free code (all_insertions facts x) (old method code is) suits few;
-        short = limit;
+        new_items = chained_is_laid_out calls code all (old method code is) suits (let count = ap length same in omega (arith, few, count));
+        short = subst (λ (items : List NewItem). laid_length code.items items ≤ MAX_CODE_BYTES) (sym same) limit;
       })
       (omega (arith, ltb-false MAX_CODE_BYTES (laid_length code.items (woven free code plan)) test))
 
   -- each attribute that is code is the method's
-  own_attributes : (free : ℕ) (plan : Insertions) (code : Code) (attributes : List MemberAttr) → AllByRecursion (IsOwnCode code) attributes → CanWeave free code plan
-      → AllByRecursion (AttributeCan free plan) attributes
+  own_attributes : (free : ℕ) (plan : Insertions) (code : Code) (attributes : List MemberAttr) → AllByRecursion (IsOwnCode code) attributes → CanWeave (calls_by free) code plan
+      → AllByRecursion (AttributeCan (calls_by free) plan) attributes
   own_attributes free plan code [] own can = tt
   own_attributes free plan code (attribute.Coded name other ∷ attributes) own can =
-      (subst (λ (c : Code). CanWeave free c plan) (sym own.0) can, own_attributes free plan code attributes own.1 can)
+      (subst (λ (c : Code). CanWeave (calls_by free) c plan) (sym own.0) can, own_attributes free plan code attributes own.1 can)
   own_attributes free plan code (attribute.Constant name value ∷ attributes) own can = (tt, own_attributes free plan code attributes own.1 can)
   own_attributes free plan code (attribute.Other raw ∷ attributes) own can = (tt, own_attributes free plan code attributes own.1 can)
 
   method_can : (in_interface : Bool) (entries : List Entry) (free method : ℕ) (m : Member) → MethodIsValid in_interface entries m → free < 2 ^ 16 → code_at p method ≡ code_of m
-      → long_method free (own_plans method) m ≡ None → MethodCan free (own_plans method) m
+      → long_method free (own_plans method) m ≡ None → MethodCan (calls_by free) (own_plans method) m
   method_can in_interface entries free method m valid fits is short = by (own_plans method) refl short where
-    by : (o : Option Insertions) → own_plans method ≡ o → long_method free o m ≡ None → MethodCan free o m
+    by : (o : Option Insertions) → own_plans method ≡ o → long_method free o m ≡ None → MethodCan (calls_by free) o m
     by None planned long = tt
     by (Some plan) planned long = with_code (code_of m) refl long where
-      with_code : (o : Option Code) → code_of m ≡ o → option_and_then (long_code free plan) o ≡ None → AllByRecursion (AttributeCan free plan) m.attributes
+      with_code : (o : Option Code) → code_of m ≡ o → option_and_then (long_code free plan) o ≡ None → AllByRecursion (AttributeCan (calls_by free) plan) m.attributes
       with_code None none ok =
           let nothing : own_plans method ≡ None = ap (λ o. option_and_then (full_insertions facts) (option_map (typed_method p facts.typing method) o)) (is ∙ none) in
           let no_plan : None ≡ Some plan = sym nothing ∙ planned in
@@ -176,7 +186,7 @@ module _ (p : Program) (facts : Facts) (may : AreAnalysable p) (old : HasOldItem
 
   -- those of a class
   methods_can : (in_interface : Bool) (entries : List Entry) (free first : ℕ) (methods : List Member) → AllByRecursion (MethodIsValid in_interface entries) methods → free < 2 ^ 16
-      → ((i : ℕ) → i < length methods → code_at p (first + i) ≡ get_or (map code_of methods) i None) → long_among own_plans free first methods ≡ None → MethodsCan own_plans free first methods
+      → ((i : ℕ) → i < length methods → code_at p (first + i) ≡ get_or (map code_of methods) i None) → long_among own_plans free first methods ≡ None → MethodsCan own_plans (calls_by free) first methods
   methods_can in_interface entries free first [] valid fits codes short = tt
   methods_can in_interface entries free first (m ∷ methods) valid fits codes short =
       let parts = or_first (option_map (λ (bytes : ℕ). (first, bytes)) (long_method free (own_plans first) m)) (long_among own_plans free (first + 1) methods) short in
@@ -224,29 +234,59 @@ module _ (p : Program) (facts : Facts) (may : AreAnalysable p) (old : HasOldItem
 
 -- ---- a class as it is written
 
-class_spelled : (plans : Plans) (first : ℕ) (c : ClassDef) → HasSpelling c → IsShort c → (changes plans first c ≡ true → CanChange plans first c) → HasSpelling (rewritten_class plans first c)
-class_spelled plans first c spelled small can = subst HasSpelling (sym (rewritten-is plans first c)) (by (changes plans first c) refl) where
+-- none of the plans has a holder of a chain
+abbrev ArePlain : Plans → Type 0
+ArePlain plans = (method : ℕ) → plan_has_chain (plans method) ≡ false
+
+full_plain : (p : Program) (facts : Facts) → ArePlain (full_plans p facts)
+full_plain p facts method = by (full_plans p facts method) refl where
+  by : (o : Option Insertions) → full_plans p facts method ≡ o → plan_has_chain o ≡ false
+  by None is = refl
+  by (Some plan) is = none_looped plan.holders (method-safe p facts method plan is).plain
+
+-- the class that changes
+changed_plain : (plans : Plans) → ArePlain plans → (first : ℕ) (c : ClassDef) → changes plans first c ≡ true → changed_class plans first c ≡ by_change plans first c true
+changed_plain plans plain first c changed_so =
+    let is : chained_class plans first c ≡ changed_class plans first c = ap (λ (b : Bool). if b then changed_class plans first c else c) changed_so in
+    sym is ∙ class_same plans plain first c ∙ rewritten-is plans first c ∙ ap (by_change plans first c) changed_so
+
+methods_plain : (plans : Plans) (plain : ArePlain plans) (first : ℕ) (c : ClassDef) → MethodsCan plans (calls_by (free_index c)) first c.methods
+    → MethodsCan plans (class_calls plans first c) first c.methods
+methods_plain plans plain first c can = subst (λ calls. MethodsCan plans calls first c.methods) (sym (calls_same plans plain first c)) can
+
+room_plain : (plans : Plans) (plain : ArePlain plans) (first : ℕ) (c : ClassDef) → length (with_free c.pool.entries) ≤ 65535
+    → length (entries_for (class_has_chain plans first c) c.pool.entries) ≤ 65535
+room_plain plans plain first c few = subst (λ b. length (entries_for b c.pool.entries) ≤ 65535) (sym (class_none plans plain first c)) few
+
+class_spelled : (plans : Plans) → ArePlain plans → (first : ℕ) (c : ClassDef) → HasSpelling c → IsShort c → (changes plans first c ≡ true → CanChange plans first c) → HasSpelling (rewritten_class plans first c)
+class_spelled plans plain first c spelled small can = subst HasSpelling (sym (rewritten-is plans first c)) (by (changes plans first c) refl) where
   by : (b : Bool) → changes plans first c ≡ b → HasSpelling (by_change plans first c b)
   by false same = spelled
-  by true changed_so = let may = can changed_so in changed_spelled plans first c spelled small may.room may.methods
+  by true changed_so =
+      let may = can changed_so in
+      subst HasSpelling (changed_plain plans plain first c changed_so)
+      (changed_spelled plans first c spelled small (room_plain plans plain first c may.room) (methods_plain plans plain first c may.methods))
 
-class_accepted : (plans : Plans) (first : ℕ) (c : ClassDef) → HasSpelling c → Profile c → (changes plans first c ≡ true → CanChange plans first c) → Profile (rewritten_class plans first c)
-class_accepted plans first c spelled profile can = subst Profile (sym (rewritten-is plans first c)) (by (changes plans first c) refl) where
+class_accepted : (plans : Plans) → ArePlain plans → (first : ℕ) (c : ClassDef) → HasSpelling c → Profile c → (changes plans first c ≡ true → CanChange plans first c) → Profile (rewritten_class plans first c)
+class_accepted plans plain first c spelled profile can = subst Profile (sym (rewritten-is plans first c)) (by (changes plans first c) refl) where
   by : (b : Bool) → changes plans first c ≡ b → Profile (by_change plans first c b)
   by false same = profile
-  by true changed_so = let may = can changed_so in changed_accepted plans first c spelled profile may.methods
+  by true changed_so =
+      let may = can changed_so in
+      subst Profile (changed_plain plans plain first c changed_so)
+      (changed_accepted plans first c spelled profile (methods_plain plans plain first c may.methods))
 
-spelled_from : (plans : Plans) (first : ℕ) (classes : List ClassDef) → AllByRecursion HasSpelling classes → AllByRecursion IsShort classes → CanChangeAll plans first classes
+spelled_from : (plans : Plans) → ArePlain plans → (first : ℕ) (classes : List ClassDef) → AllByRecursion HasSpelling classes → AllByRecursion IsShort classes → CanChangeAll plans first classes
     → AllByRecursion HasSpelling (rewritten_from plans first classes)
-spelled_from plans first [] spelled small can = tt
-spelled_from plans first (c ∷ classes) spelled small can =
-    (class_spelled plans first c spelled.0 small.0 can.0, spelled_from plans (first + length c.methods) classes spelled.1 small.1 can.1)
+spelled_from plans plain first [] spelled small can = tt
+spelled_from plans plain first (c ∷ classes) spelled small can =
+    (class_spelled plans plain first c spelled.0 small.0 can.0, spelled_from plans plain (first + length c.methods) classes spelled.1 small.1 can.1)
 
-accepted_from : (plans : Plans) (first : ℕ) (classes : List ClassDef) → AllByRecursion HasSpelling classes → AllByRecursion Profile classes → CanChangeAll plans first classes
+accepted_from : (plans : Plans) → ArePlain plans → (first : ℕ) (classes : List ClassDef) → AllByRecursion HasSpelling classes → AllByRecursion Profile classes → CanChangeAll plans first classes
     → AllByRecursion Profile (rewritten_from plans first classes)
-accepted_from plans first [] spelled profiles can = tt
-accepted_from plans first (c ∷ classes) spelled profiles can =
-    (class_accepted plans first c spelled.0 profiles.0 can.0, accepted_from plans (first + length c.methods) classes spelled.1 profiles.1 can.1)
+accepted_from plans plain first [] spelled profiles can = tt
+accepted_from plans plain first (c ∷ classes) spelled profiles can =
+    (class_accepted plans plain first c spelled.0 profiles.0 can.0, accepted_from plans plain (first + length c.methods) classes spelled.1 profiles.1 can.1)
 
 -- ---- all classes
 
@@ -264,14 +304,14 @@ pub written_spelled : (given : List ClassDef) (p : Program) (made : Rewritten) �
     → AreRewrittenOf p given made → AllByRecursion HasSpelling made.classes.items
 written_spelled given p made judged small are =
     subst (AllByRecursion HasSpelling) (sym are.full.written_is)
-    (spelled_from (full_plans p are.full.facts) first_given given (judged_spelled given p judged) small (all_can given p made judged are))
+    (spelled_from (full_plans p are.full.facts) (full_plain p are.full.facts) first_given given (judged_spelled given p judged) small (all_can given p made judged are))
 
 -- and they are accepted again
 pub written_accepted : (given : List ClassDef) (p : Program) (made : Rewritten) → AreJudged given p → AllByRecursion Profile given
     → AreRewrittenOf p given made → AllByRecursion Profile made.classes.items
 written_accepted given p made judged profiles are =
     subst (AllByRecursion Profile) (sym are.full.written_is)
-    (accepted_from (full_plans p are.full.facts) first_given given (judged_spelled given p judged) profiles (all_can given p made judged are))
+    (accepted_from (full_plans p are.full.facts) (full_plain p are.full.facts) first_given given (judged_spelled given p judged) profiles (all_can given p made judged are))
 
 -- ---- names
 

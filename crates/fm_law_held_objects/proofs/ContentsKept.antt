@@ -1,0 +1,136 @@
+-- What a holder holds by colours, in other colours, after a step, and once an object joins its chain.
+use Rattle.std.proofs.Common.{◌≡◌, ℕ, Bool, true, false, List, [], ◌∷◌, Contains, Some, refl, sym, ◌∙◌, ap, subst, ⊎_elim}
+use Rattle.std.specs.Prelude.{nat_eq}
+use Rattle.std.specs.List.{AllByRecursion, IsDistinct}
+use Rattle.std.proofs.lemmas.Bool.{cases_Bool, eqb-true}
+use Rattle.std.proofs.lemmas.Option.{none-some, same_Some}
+use Rattle.fm_base.proofs.ContainsFacts.{Contains-cons_cases, Contains-none}
+use Rattle.fm_cells.specs.Changes.{chained_by}
+use Rattle.fm_cells.specs.Objects.{Object}
+use Rattle.fm_cells.specs.Soundness.{IsOrderly}
+use Rattle.fm_cells.specs.Stores.{object_at, Store}
+use Rattle.fm_code.proofs.EdgesLemmas.{Contains-first, Contains-later}
+use Rattle.fm_frames.specs.Acts.{cell_of}
+use Rattle.fm_frames.specs.States.{null}
+use Rattle.fm_frames.specs.declared.values.Value.{Value}
+use Rattle.fm_law_chained.proofs.Links.{chains_are_linked, links_stay}
+use Rattle.fm_law_chained.specs.Chain.{IsChain}
+use Rattle.fm_law_held_objects.proofs.Holdings.{holding_by, nothing_of_null, own_of}
+use Rattle.fm_law_held_objects.proofs.Steps.{may_before}
+use Rattle.fm_law_held_objects.specs.Contents.{Has, Holds, HoldsAll}
+use Rattle.fm_law_holders.specs.Holding.{Holding, HoldsFixed, HoldsFreeable, HoldsNull, HoldsOwn}
+use Rattle.fm_law_holders.specs.NewResults.{KeepsObjects}
+use Rattle.fm_same.specs.Colours.{Colour}
+use Rattle.fm_same.specs.Regions.{Own}
+
+-- ---- a cell has one chain
+
+null_first : (store : Store) (cell birth : ℕ) (births : List ℕ) → IsOrderly store → cell ≡ 0 → IsChain store cell (birth ∷ births) → ⊥
+null_first store cell birth births orderly none (link, rest) =
+    none-some link.object (sym orderly.null_not_held ∙ ap (object_at store) (sym none) ∙ link.held)
+
+pub chain_same : (store : Store) (cell : ℕ) (one two : List ℕ) → IsOrderly store → IsChain store cell one → IsChain store cell two → one ≡ two
+chain_same store cell [] [] orderly first second = refl
+chain_same store cell [] (birth ∷ two) orderly first second = absurd (null_first store cell birth two orderly first second)
+chain_same store cell (birth ∷ one) [] orderly first second = absurd (null_first store cell birth one orderly second first)
+chain_same store cell (birth ∷ one) (other ∷ two) orderly (link, rest) (next, more) =
+    let same : link.object ≡ next.object = same_Some link.object next.object (sym link.held ∙ next.held) in
+    let births : birth ≡ other = sym link.born ∙ ap (λ (o : Object). o.birth) same ∙ next.born in
+    let later : one ≡ two =
+    chain_same store link.object.chain one two orderly rest (subst (λ (o : Object). IsChain store o.chain two) (sym same) more) in
+    (λ k. births k ∷ later k)
+
+-- ---- by colours
+
+pub own_has : (looped : Bool) (store : Store) (colour : Colour) (depth class : ℕ) (v : Value) (birth : ℕ) → IsOrderly store
+    → Holds looped store colour depth class v → Has looped store v birth → colour birth ≡ Own depth class
+own_has false store colour depth class v birth orderly holds has = own_of store colour depth class v birth orderly holds has
+own_has true store colour depth class v birth orderly holds has =
+    holds.own birth
+    (subst (λ births. Contains births birth) (chain_same store (cell_of v) has.births holds.births orderly has.chain holds.chain) has.among)
+
+-- null has nothing
+pub nothing_has : (looped : Bool) (store : Store) (birth : ℕ) → IsOrderly store → Has looped store null birth → ⊥
+nothing_has false store birth orderly has = nothing_of_null store birth orderly has
+nothing_has true store birth orderly has = by_births has.births has.chain has.among where
+  by_births : (births : List ℕ) → IsChain store (cell_of null) births → Contains births birth → ⊥
+  by_births [] chain among = Contains-none birth among
+  by_births (first ∷ births) chain among = null_first store 0 first births orderly refl chain
+
+-- in other colours
+pub holds_by : (looped : Bool) (store : Store) (colour other : Colour) (depth class : ℕ) (v : Value)
+    → ((birth : ℕ) → Has looped store v birth → other birth ≡ colour birth) → Holds looped store colour depth class v → Holds looped store other depth class v
+holds_by false store colour other depth class v same holds = holding_by store colour other depth class v same holds
+holds_by true store colour other depth class v same holds = record {
+  births = holds.births;
+  chain = holds.chain;
+  once = holds.once;
+  own = λ birth among. same birth (record { births = holds.births; chain = holds.chain; among = among }) ∙ holds.own birth among;
+}
+
+-- ---- after a step
+
+module _ (store later : Store) (later_orderly : IsOrderly later) (keeps : KeepsObjects store later) where
+  chain_later : (first : ℕ) (births : List ℕ) → IsChain store first births → IsChain later first births
+  chain_later first births chain =
+      links_stay store later first births
+      (λ cell object held among.
+      let now = keeps cell object held in
+      record { now = now.0; held = now.1; born = now.2; fixed = now.3; chain = now.4 }) chain
+
+  -- what it holds it held before
+  pub has_before : (looped : Bool) (colour : Colour) (depth class : ℕ) (v : Value) (birth : ℕ) → Holds looped store colour depth class v
+      → Has looped later v birth → Has looped store v birth
+  has_before false colour depth class v birth holds has = may_before store later later_orderly keeps colour depth class v birth holds has
+  has_before true colour depth class v birth holds has = record {
+    births = holds.births;
+    chain = holds.chain;
+    among = subst (λ births. Contains births birth)
+        (chain_same later (cell_of v) has.births holds.births later_orderly has.chain (chain_later (cell_of v) holds.births holds.chain)) has.among;
+  }
+
+  plain_later : (colour other : Colour) (depth class : ℕ) (v : Value)
+      → ((birth : ℕ) → HoldsFreeable store v birth → colour birth ≡ Own depth class → other birth ≡ colour birth)
+      → Holding store colour depth class v → Holding later other depth class v
+  plain_later colour other depth class v same (HoldsNull none) = HoldsNull none
+  plain_later colour other depth class v same (HoldsFixed object held fixed) =
+      let now = keeps (cell_of v) object held in HoldsFixed now.0 now.1 (now.3 ∙ fixed)
+  plain_later colour other depth class v same (HoldsOwn object held loose own) =
+      let now = keeps (cell_of v) object held in
+      HoldsOwn now.0 now.1 (now.3 ∙ loose)
+      (ap other now.2 ∙ same object.birth (record { object = object; held = held; not_fixed = loose; birth_is = refl }) own ∙ own)
+
+  -- and what it may hold it may hold
+  pub holds_later : (looped : Bool) (colour other : Colour) (depth class : ℕ) (v : Value)
+      → ((birth : ℕ) → Has looped store v birth → colour birth ≡ Own depth class → other birth ≡ colour birth)
+      → Holds looped store colour depth class v → Holds looped later other depth class v
+  holds_later false colour other depth class v same holds = plain_later colour other depth class v same holds
+  holds_later true colour other depth class v same holds = record {
+    births = holds.births;
+    chain = chain_later (cell_of v) holds.births holds.chain;
+    once = holds.once;
+    own = λ birth among.
+        same birth (record { births = holds.births; chain = holds.chain; among = among }) (holds.own birth among) ∙ holds.own birth among;
+  }
+
+-- ---- an object joins a chain
+
+unlike_each : (birth : ℕ) (births : List ℕ) → (Contains births birth → ⊥) → AllByRecursion (λ other. nat_eq birth other ≡ false) births
+unlike_each birth [] away = tt
+unlike_each birth (other ∷ births) away = (
+  ⊎_elim (λ same. absurd (away (Contains-first other births birth (eqb-true birth other same)))) (λ apart. apart) (cases_Bool (nat_eq birth other)),
+  unlike_each birth births (λ among. away (Contains-later other births birth among)),
+)
+
+pub holds_joined : (store : Store) (colour : Colour) (depth class : ℕ) (v w : Value) (object : Object) → object_at store (cell_of w) ≡ Some object
+    → object.fixed ≡ false → colour object.birth ≡ Own depth class → (holds : HoldsAll store colour depth class v) → (Contains holds.births object.birth → ⊥)
+    → HoldsAll (chained_by store (cell_of w) (cell_of v)) colour depth class w
+unfolding IsDistinct
+holds_joined store colour depth class v w object held loose own holds away = record {
+  births = object.birth ∷ holds.births;
+  chain = chains_are_linked store (cell_of w) (cell_of v) object holds.births held loose away holds.chain;
+  once = (unlike_each object.birth holds.births away, holds.once);
+  own = λ birth among.
+      ⊎_elim (λ (same : birth ≡ object.birth). ap colour same ∙ own) (λ later. holds.own birth later)
+      (Contains-cons_cases object.birth holds.births birth among);
+}
