@@ -95,7 +95,7 @@ module _ (o : Outline) (x : Areas) where
         ⊎_elim (λ same. inr (Contains-first birth births b (eqb-true b link.object.birth same ∙ link.born))) (λ before. inl before)
         (or_cases (b == link.object.birth) (gone.births b) is)
 
-  links_freed : (cells births : List ℕ) (gone : Gone) (y : Areas) → AreasPaired gone o x y → AllZip (IsLink y.store) cells births → IsDistinct nat_eq births
+  pub links_freed : (cells births : List ℕ) (gone : Gone) (y : Areas) → AreasPaired gone o x y → AllZip (IsLink y.store) cells births → IsDistinct nat_eq births
       → AreLinksFreed gone o x y cells births
   links_freed [] [] gone y paired links once = record {
     more = gone;

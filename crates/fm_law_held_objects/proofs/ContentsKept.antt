@@ -1,25 +1,29 @@
 -- What a holder holds by colours, in other colours, after a step, and once an object joins its chain.
-use Rattle.std.proofs.Common.{◌≡◌, ℕ, Bool, true, false, List, [], ◌∷◌, Contains, Some, refl, sym, ◌∙◌, ap, subst, ⊎_elim}
+use Rattle.std.proofs.Common.{◌≡◌, ◌⊎◌, ◌<◌, ℕ, Bool, true, false, List, [], ◌∷◌, length, Contains, Some, refl, sym, ◌∙◌, ap, subst, ⊎_elim}
 use Rattle.std.specs.Prelude.{nat_eq}
 use Rattle.std.specs.List.{AllByRecursion, IsDistinct}
-use Rattle.std.proofs.lemmas.Bool.{cases_Bool, eqb-true}
-use Rattle.std.proofs.lemmas.Option.{none-some, same_Some}
+use Rattle.std.proofs.lemmas.Bool.{cases_Bool, eqb-true, false≢true}
+use Rattle.std.proofs.lemmas.Option.{none-some, same_Some, slice_get_within}
 use Rattle.fm_base.proofs.ContainsFacts.{Contains-cons_cases, Contains-none}
 use Rattle.fm_cells.specs.Changes.{chained_by}
 use Rattle.fm_cells.specs.Objects.{Object}
 use Rattle.fm_cells.specs.Soundness.{IsOrderly}
 use Rattle.fm_cells.specs.Stores.{object_at, Store}
+use Rattle.fm_chain.specs.Chained.{looped_at}
 use Rattle.fm_code.proofs.EdgesLemmas.{Contains-first, Contains-later}
+use Rattle.fm_code.specs.declared.code_array.Code.{Code}
 use Rattle.fm_frames.specs.Acts.{cell_of}
-use Rattle.fm_frames.specs.States.{null}
+use Rattle.fm_frames.specs.States.{null, State}
 use Rattle.fm_frames.specs.declared.values.Value.{Value}
 use Rattle.fm_law_chained.proofs.Links.{chains_are_linked, links_stay}
-use Rattle.fm_law_chained.specs.Chain.{IsChain}
+use Rattle.fm_law_chained.specs.Chain.{IsChain, IsLink}
 use Rattle.fm_law_held_objects.proofs.Holdings.{holding_by, nothing_of_null, own_of}
-use Rattle.fm_law_held_objects.proofs.Steps.{may_before}
-use Rattle.fm_law_held_objects.specs.Contents.{Has, Holds, HoldsAll}
-use Rattle.fm_law_holders.specs.Holding.{Holding, HoldsFixed, HoldsFreeable, HoldsNull, HoldsOwn}
+use Rattle.fm_law_held_objects.specs.Contents.{Has, HasInChain, Holds, HoldsAll}
+use Rattle.fm_law_held_objects.specs.Held.{AreHeld, HolderHas}
+use Rattle.fm_law_holders.specs.Holding.{holder_value, Holding, HoldsFixed, HoldsFreeable, HoldsNull, HoldsOwn}
 use Rattle.fm_law_holders.specs.NewResults.{KeepsObjects}
+use Rattle.fm_law_sound.specs.Sound.{Typings}
+use Rattle.fm_place.specs.Insertions.{Insertions}
 use Rattle.fm_same.specs.Colours.{Colour}
 use Rattle.fm_same.specs.Regions.{Own}
 
@@ -40,6 +44,25 @@ chain_same store cell (birth ∷ one) (other ∷ two) orderly (link, rest) (next
     chain_same store link.object.chain one two orderly rest (subst (λ (o : Object). IsChain store o.chain two) (sym same) more) in
     (λ k. births k ∷ later k)
 
+-- ---- where an object of it is
+
+chain_at : (store : Store) (birth : ℕ) (births : List ℕ) (cell : ℕ) → IsChain store cell births → Contains births birth → (q : ℕ) × IsLink store q birth
+chain_at store birth [] cell chain among = absurd (Contains-none birth among)
+chain_at store birth (first ∷ births) cell (link, rest) among =
+    ⊎_elim (λ (same : birth ≡ first). (cell, subst (IsLink store cell) (sym same) link))
+    (λ (later : Contains births birth). chain_at store birth births link.object.chain rest later)
+    (Contains-cons_cases first births birth among)
+
+pub has_at : (looped : Bool) (store : Store) (v : Value) (birth : ℕ) → Has looped store v birth → (q : ℕ) × IsLink store q birth
+has_at false store v birth has =
+    (cell_of v, record { object = has.object; held = has.held; loose = has.not_fixed; born = has.birth_is })
+has_at true store v birth has = chain_at store birth has.births (cell_of v) has.chain has.among
+
+pub has_born : (looped : Bool) (store : Store) (v : Value) (birth : ℕ) → IsOrderly store → Has looped store v birth → birth < store.births
+has_born looped store v birth orderly has =
+    let at = has_at looped store v birth has in
+    subst (λ n. n < store.births) at.1.born (orderly.born at.0 at.1.object at.1.held)
+
 -- ---- by colours
 
 pub own_has : (looped : Bool) (store : Store) (colour : Colour) (depth class : ℕ) (v : Value) (birth : ℕ) → IsOrderly store
@@ -57,6 +80,13 @@ nothing_has true store birth orderly has = by_births has.births has.chain has.am
   by_births [] chain among = Contains-none birth among
   by_births (first ∷ births) chain among = null_first store 0 first births orderly refl chain
 
+-- and may be in any holder
+pub null_holds : (looped : Bool) (store : Store) (colour : Colour) (depth class : ℕ) (v : Value) → v ≡ null → Holds looped store colour depth class v
+unfolding IsDistinct
+null_holds false store colour depth class v none = HoldsNull none
+null_holds true store colour depth class v none =
+    record { births = []; chain = ap cell_of none; once = tt; own = λ birth among. absurd (Contains-none birth among) }
+
 -- in other colours
 pub holds_by : (looped : Bool) (store : Store) (colour other : Colour) (depth class : ℕ) (v : Value)
     → ((birth : ℕ) → Has looped store v birth → other birth ≡ colour birth) → Holds looped store colour depth class v → Holds looped store other depth class v
@@ -68,9 +98,38 @@ holds_by true store colour other depth class v same holds = record {
   own = λ birth among. same birth (record { births = holds.births; chain = holds.chain; among = among }) ∙ holds.own birth among;
 }
 
+-- holders hold what they held where none of their objects has another colour
+pub held_by : (typings : Typings) (x : State) (colour other : Colour) (depth : ℕ) (store : Store) (code : Code) (plan : Insertions) (locals : List Value)
+    → ((h birth : ℕ) → h < length plan.holders → HolderHas store code plan locals h birth → other birth ≡ colour birth)
+    → AreHeld typings x colour depth store code plan locals → AreHeld typings x other depth store code plan locals
+held_by typings x colour other depth store code plan locals same had = record {
+  holds = λ h holder at.
+      holds_by (looped_at plan h) store colour other depth holder.class (holder_value code locals h)
+      (λ birth has. same h birth (slice_get_within plan.holders h holder at) has) (had.holds h holder at);
+  apart = had.apart;
+  initialised = had.initialised;
+}
+
 -- ---- after a step
 
 module _ (store later : Store) (later_orderly : IsOrderly later) (keeps : KeepsObjects store later) where
+  -- what may be freed might be freed before
+  may_before : (colour : Colour) (depth class : ℕ) (v : Value) (birth : ℕ) → Holding store colour depth class v → HoldsFreeable later v birth
+      → HoldsFreeable store v birth
+  may_before colour depth class v birth (HoldsNull none) may =
+      absurd (none-some may.object (sym later_orderly.null_not_held ∙ ap (λ u. object_at later (cell_of u)) (sym none) ∙ may.held))
+  may_before colour depth class v birth (HoldsFixed object held fixed) may =
+      let now = keeps (cell_of v) object held in
+      absurd (false≢true (sym may.not_fixed ∙ ap (λ (o : Object). o.fixed) (same_Some may.object now.0 (sym may.held ∙ now.1)) ∙ now.3 ∙ fixed))
+  may_before colour depth class v birth (HoldsOwn object held loose own) may =
+      let now = keeps (cell_of v) object held in
+      record {
+        object = object;
+        held = held;
+        not_fixed = loose;
+        birth_is = sym now.2 ∙ ap (λ (o : Object). o.birth) (same_Some now.0 may.object (sym now.1 ∙ may.held)) ∙ may.birth_is;
+      }
+
   chain_later : (first : ℕ) (births : List ℕ) → IsChain store first births → IsChain later first births
   chain_later first births chain =
       links_stay store later first births
@@ -81,7 +140,7 @@ module _ (store later : Store) (later_orderly : IsOrderly later) (keeps : KeepsO
   -- what it holds it held before
   pub has_before : (looped : Bool) (colour : Colour) (depth class : ℕ) (v : Value) (birth : ℕ) → Holds looped store colour depth class v
       → Has looped later v birth → Has looped store v birth
-  has_before false colour depth class v birth holds has = may_before store later later_orderly keeps colour depth class v birth holds has
+  has_before false colour depth class v birth holds has = may_before colour depth class v birth holds has
   has_before true colour depth class v birth holds has = record {
     births = holds.births;
     chain = holds.chain;
@@ -134,3 +193,15 @@ holds_joined store colour depth class v w object held loose own holds away = rec
       ⊎_elim (λ (same : birth ≡ object.birth). ap colour same ∙ own) (λ later. holds.own birth later)
       (Contains-cons_cases object.birth holds.births birth among);
 }
+
+-- so the chain has what it had, and the object
+pub has_joined : (store : Store) (colour : Colour) (depth class : ℕ) (v w : Value) (object : Object) → object_at store (cell_of w) ≡ Some object
+    → object.fixed ≡ false → (holds : HoldsAll store colour depth class v) → (Contains holds.births object.birth → ⊥)
+    → IsOrderly (chained_by store (cell_of w) (cell_of v)) → (birth : ℕ) → HasInChain (chained_by store (cell_of w) (cell_of v)) w birth
+    → (birth ≡ object.birth) ⊎ Contains holds.births birth
+has_joined store colour depth class v w object held loose holds away orderly birth has =
+    Contains-cons_cases object.birth holds.births birth
+    (subst (λ births. Contains births birth)
+    (chain_same (chained_by store (cell_of w) (cell_of v)) (cell_of w) has.births (object.birth ∷ holds.births) orderly has.chain
+    (chains_are_linked store (cell_of w) (cell_of v) object holds.births held loose away holds.chain))
+    has.among)

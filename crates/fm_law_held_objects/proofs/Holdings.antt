@@ -1,18 +1,14 @@
 -- What a holder holds, by the colours of its object, and in other colours.
-use Rattle.std.proofs.Common.{◌≡◌, ◌<◌, ℕ, List, length, refl, sym, ◌∙◌, ap}
+use Rattle.std.proofs.Common.{◌≡◌, ℕ, refl, sym, ◌∙◌, ap}
 use Rattle.std.proofs.lemmas.Bool.{false≢true}
-use Rattle.std.proofs.lemmas.Option.{none-some, same_Some, slice_get_within}
+use Rattle.std.proofs.lemmas.Option.{none-some, same_Some}
 use Rattle.fm_cells.specs.Objects.{Object}
 use Rattle.fm_cells.specs.Soundness.{IsOrderly}
 use Rattle.fm_cells.specs.Stores.{object_at, Store}
-use Rattle.fm_code.specs.declared.code_array.Code.{Code}
 use Rattle.fm_frames.specs.Acts.{cell_of}
-use Rattle.fm_frames.specs.States.{null, State}
+use Rattle.fm_frames.specs.States.{null}
 use Rattle.fm_frames.specs.declared.values.Value.{Value}
-use Rattle.fm_law_held_objects.specs.Held.{AreHeld}
-use Rattle.fm_law_holders.specs.Holding.{holder_value, Holding, HoldsFixed, HoldsNull, HoldsOwn, HoldsFreeable}
-use Rattle.fm_law_sound.specs.Sound.{Typings}
-use Rattle.fm_place.specs.Insertions.{Insertions}
+use Rattle.fm_law_holders.specs.Holding.{Holding, HoldsFixed, HoldsNull, HoldsOwn, HoldsFreeable}
 use Rattle.fm_same.specs.Colours.{Colour}
 use Rattle.fm_same.specs.Regions.{Own}
 
@@ -38,15 +34,3 @@ holding_by store colour other depth class v same (HoldsNull null_is) = HoldsNull
 holding_by store colour other depth class v same (HoldsFixed object held fixed) = HoldsFixed object held fixed
 holding_by store colour other depth class v same (HoldsOwn object held loose own) =
     HoldsOwn object held loose (same object.birth (record { object = object; held = held; not_fixed = loose; birth_is = refl }) ∙ own)
-
--- holders hold what they held where none of their objects has another colour
-pub held_by : (typings : Typings) (x : State) (colour other : Colour) (depth : ℕ) (store : Store) (code : Code) (plan : Insertions) (locals : List Value)
-    → ((h birth : ℕ) → h < length plan.holders → HoldsFreeable store (holder_value code locals h) birth → other birth ≡ colour birth)
-    → AreHeld typings x colour depth store code plan locals → AreHeld typings x other depth store code plan locals
-held_by typings x colour other depth store code plan locals same had = record {
-  holds = λ h holder at.
-      holding_by store colour other depth holder.class (holder_value code locals h)
-      (λ birth may. same h birth (slice_get_within plan.holders h holder at) may) (had.holds h holder at);
-  apart = had.apart;
-  initialised = had.initialised;
-}

@@ -1,10 +1,12 @@
 pub mod Initialised
 pub mod Holdings
+pub mod ContentsKept
+pub mod ContentsBut
+pub mod HolderSet
 pub mod OneFree
 pub mod AllFrees
 pub mod Retired
 pub mod Steps
-pub mod ContentsKept
 pub mod Keeping
 pub mod Cleaned
 pub mod FramesUnder

@@ -1,203 +1,137 @@
--- A frame frees one holder: what it leads to is held, and all others hold what they held.
-use Rattle.std.proofs.Common.{◌≡◌, ◌≢◌, ◌<◌, ◌+◌, ◌==◌, ℕ, zero, suc, false, cond, List, ◌∷◌, length, Some, None, refl, sym, ◌∙◌, ap, subst, inl, inr, arith, slice_get, slice_set, ⊎_elim}
-use Rattle.std.proofs.lemmas.Bool.{cases_eq, eq-eqb, eqb-true, false≢true, ne_eqb, or_cases, or_right}
-use Rattle.std.proofs.lemmas.List.{get_or-set_other, get_or-set_same}
-use Rattle.std.proofs.lemmas.Option.{none-some, same_Some, slice_get_within}
-use Rattle.fm_cells.proofs.Changes.{object_at-without_object}
-use Rattle.fm_cells.proofs.Elements.{freed_by-some}
-use Rattle.fm_cells.proofs.Soundness.{IsOrderly-without_object}
-use Rattle.fm_cells.specs.Changes.{freed_by, without_object}
+-- A frame frees one holder, or all of its chain: what it has is held, and all others hold what they held.
+use Rattle.std.proofs.Common.{◌≡◌, ◌≢◌, ◌⊎◌, ◌<◌, ◌+◌, ℕ, zero, suc, Bool, true, false, cond, List, [], ◌∷◌, length, Some, None, Contains, refl, sym, ◌∙◌, ap, subst, inl, inr, arith, slice_get, slice_set, ⊎_elim}
+use Rattle.std.specs.Prelude.{nat_eq}
+use Rattle.std.specs.List.{AllZip, IsDistinct}
+use Rattle.std.proofs.lemmas.Bool.{cases_eq}
+use Rattle.std.proofs.lemmas.Option.{none-some, slice_get_within}
+use Rattle.fm_base.proofs.ContainsFacts.{Contains-cons_cases, Contains-none}
+use Rattle.fm_cells.specs.Changes.{freed_by}
 use Rattle.fm_cells.specs.Objects.{Object, object_words}
 use Rattle.fm_cells.specs.Soundness.{IsOrderly}
-use Rattle.fm_cells.specs.Stores.{object_at, Store}
+use Rattle.fm_cells.specs.Stores.{object_at}
+use Rattle.fm_chain.specs.Chained.{looped_at}
 use Rattle.fm_code.proofs.EdgesLemmas.{Contains-first}
 use Rattle.fm_code.specs.declared.code_array.Code.{Code}
-use Rattle.fm_frames.specs.Acts.{cell_of, freed, freed_object}
+use Rattle.fm_frames.specs.Acts.{all_freed, cell_of, freed, freed_object}
 use Rattle.fm_frames.specs.States.{Areas, null, State}
 use Rattle.fm_frames.specs.declared.values.Value.{Value}
-use Rattle.fm_frames.specs.declared.values.Value.TheVariants as value
-use Rattle.fm_law_held_objects.proofs.Holdings.{nothing_of_null, own_of}
-use Rattle.fm_law_held_objects.specs.Freeing.{AreFreed}
-use Rattle.fm_law_held_objects.specs.Held.{AreHeld}
-use Rattle.fm_law_holders.specs.Holding.{holder_value, Holding, HoldsFixed, HoldsNull, HoldsOwn, HoldsFreeable}
+use Rattle.fm_law_chained.proofs.FreedChains.{links_freed}
+use Rattle.fm_law_chained.proofs.Links.{links_stay}
+use Rattle.fm_law_chained.proofs.Walked.{chains_are_walked}
+use Rattle.fm_law_chained.specs.Chain.{IsLink}
+use Rattle.fm_law_chained.specs.Laws.{AreLinksFreed}
+use Rattle.fm_law_held_objects.proofs.ContentsBut.{held_but, linked_at, others_held_but, StaysBut}
+use Rattle.fm_law_held_objects.proofs.ContentsKept.{nothing_has, null_holds, own_has}
+use Rattle.fm_law_held_objects.proofs.HolderSet.{has_here, has_there, set_held}
+use Rattle.fm_law_held_objects.specs.Contents.{Has, Holds, HoldsAll}
+use Rattle.fm_law_held_objects.specs.Freeing.{AreFreed, IsHadBy, IsOfHolder}
+use Rattle.fm_law_held_objects.specs.Held.{AreHeld, HolderHas}
+use Rattle.fm_law_holders.specs.Holding.{holder_value, Holding, HoldsFixed, HoldsNull, HoldsOwn}
 use Rattle.fm_law_sound.specs.Sound.{Typings}
-use Rattle.fm_law_two_memories.proofs.FreesSame.{freed_areas, freed_frames}
-use Rattle.fm_law_two_memories.specs.Pairing.{AreasPaired, Gone, with_gone}
-use Rattle.fm_law_unwoven.specs.Doing.{freed_from}
+use Rattle.fm_law_two_memories.specs.Pairing.{AreasPaired, Gone}
+use Rattle.fm_law_unwoven.proofs.TodoLocals.{freed_one}
+use Rattle.fm_law_unwoven.specs.Doing.{areas_after, freed_along, freed_from, locals_after, Misses}
+use Rattle.fm_law_unwoven.specs.Laid.{to_free}
 use Rattle.fm_place.specs.Insertions.{Holder, Insertions}
 use Rattle.fm_place.specs.Woven.{local_of}
 use Rattle.fm_same.specs.Colours.{Colour}
 use Rattle.fm_same.specs.Regions.{Own}
 use Rattle.fm_world.specs.Programs.{Outline}
 
-module _ (gone : Gone) (o : Outline) (typings : Typings) (x : State) (colour : Colour) (depth : ℕ) (y : Areas) (paired : AreasPaired gone o x.areas y) (code : Code) (plan : Insertions) (locals : List Value) (had : AreHeld typings x colour depth y.store code plan locals) (width : length locals ≡ code.max_locals + length plan.holders) (h : ℕ) (holder : Holder) (at : slice_get plan.holders h ≡ Some holder) (rest : List ℕ) where
+-- the objects that are freed of a value: those to which it leads, each once, in these cells
+record IsFound (code : Code) (stack locals : List Value) (y : Areas) (h : ℕ) (v : Value) (looped : Bool) : Type 0 where
+  cells : List ℕ
+  births : List ℕ
+  links : AllZip (IsLink y.store) cells births
+  once : IsDistinct nat_eq births
+  mine : (birth : ℕ) → Contains births birth → Has looped y.store v birth
+  areas : areas_after code stack locals (to_free looped h) y ≡ all_freed y cells
+
+module _ (gone : Gone) (o : Outline) (typings : Typings) (x : State) (colour : Colour) (depth : ℕ) (y : Areas) (paired : AreasPaired gone o x.areas y) (code : Code) (plan : Insertions) (stack locals : List Value) (had : AreHeld typings x colour depth y.store code plan locals) (width : length locals ≡ code.max_locals + length plan.holders) (h : ℕ) (holder : Holder) (at : slice_get plan.holders h ≡ Some holder) (rest : List ℕ) where
   abbrev v : Value
   v = holder_value code locals h
-
-  abbrev changed : List Value
-  changed = slice_set locals (local_of code h) null
 
   abbrev orderly : IsOrderly y.store
   orderly = paired.store.other_orderly
 
-  -- what the areas lead to
-  abbrev Leads : Areas → Type 0
-  Leads later = AreFreed o typings x colour depth code plan (h ∷ rest) gone y later changed
+  -- what the areas lead to, where the holder is null then
+  abbrev Leads : Areas → List Value → Type 0
+  Leads later values = AreFreed o typings x colour depth code plan (h ∷ rest) gone y later locals values
 
   inside : h < length plan.holders
   inside = slice_get_within plan.holders h holder at
 
-  -- ---- holders afterwards
+  -- ---- the holder is null
 
-  value_here : (k : ℕ) → k ≡ h → holder_value code changed k ≡ null
-  value_here k same =
-      let within = inside in
-      ap (holder_value code changed) same ∙ get_or-set_same locals (local_of code h) null value.Top (omega (arith, within, width))
+  nulled : AreHeld typings x colour depth y.store code plan (slice_set locals (local_of code h) null)
+  nulled =
+      set_held y.store code plan locals width h inside null typings x colour depth had
+      (λ found there. null_holds (looped_at plan h) y.store colour depth found.class null refl)
+      (λ birth has. absurd (nothing_has (looped_at plan h) y.store birth orderly has))
+      (λ k birth within away has theirs. nothing_has (looped_at plan h) y.store birth orderly has)
 
-  value_there : (k : ℕ) → k ≢ h → holder_value code changed k ≡ holder_value code locals k
-  value_there k away = get_or-set_other locals (local_of code h) (local_of code k) null value.Top (λ same. away (omega (arith, same)))
+  -- ---- its objects are freed
 
-  changed_held : (later : Store) → IsOrderly later
-      → ((k : ℕ) (found : Holder) → slice_get plan.holders k ≡ Some found → k ≢ h → Holding later colour depth found.class (holder_value code locals k))
-      → ((w : Value) (birth : ℕ) → HoldsFreeable later w birth → HoldsFreeable y.store w birth) → AreHeld typings x colour depth later code plan changed
-  changed_held later later_orderly holds before = record {
-    holds = λ k found there. ⊎_elim
-        (λ same. HoldsNull (value_here k same))
-        (λ away. subst (Holding later colour depth found.class) (sym (value_there k away)) (holds k found there away))
-        (cases_eq k h);
-    apart = λ k second birth within inside_too one two.
-        had.apart k second birth within inside_too (old_may k birth one) (old_may second birth two);
-    initialised = λ k birth within may. had.initialised k birth within (old_may k birth may);
-  } where
-    old_may : (k birth : ℕ) → HoldsFreeable later (holder_value code changed k) birth → HoldsFreeable y.store (holder_value code locals k) birth
-    old_may k birth may = ⊎_elim
-        (λ same. absurd (nothing_of_null later birth later_orderly (subst (λ w. HoldsFreeable later w birth) (value_here k same) may)))
-        (λ away. before (holder_value code locals k) birth (subst (λ w. HoldsFreeable later w birth) (value_there k away) may))
+  module _ (cells births : List ℕ) (links : AllZip (IsLink y.store) cells births) (once : IsDistinct nat_eq births)
+      (mine : (birth : ℕ) → Contains births birth → HolderHas y.store code plan locals h birth) where
+    freed_are : AreLinksFreed gone o x.areas y cells births
+    freed_are = links_freed o x.areas cells births gone y paired links once
+
+    but : StaysBut births y.store (all_freed y cells).store
+    but = record {
+      orderly = orderly;
+      later_orderly = freed_are.areas.store.other_orderly;
+      stays = freed_are.kept;
+      was = λ cell object held. record { old = object; held = freed_are.before cell object held; born = refl; fixed = refl };
+      loose = linked_at y.store cells births links;
+    }
+
+    own_region : (birth : ℕ) → Contains births birth → colour birth ≡ Own depth holder.class
+    own_region birth among = own_has (looped_at plan h) y.store colour depth holder.class v birth orderly (had.holds h holder at) (mine birth among)
+
+    own : (birth : ℕ) → Contains births birth → (class : ℕ) × (colour birth ≡ Own depth class)
+    own birth among = (holder.class, own_region birth among)
+
+    -- no holder has them then
+    none : (k birth : ℕ) → k < length plan.holders → Contains births birth → HolderHas y.store code plan (slice_set locals (local_of code h) null) k birth → ⊥
+    none k birth within among has = ⊎_elim
+        (λ (same : k ≡ h).
+        nothing_has (looped_at plan h) y.store birth orderly (has_here y.store code plan locals width h inside null k birth same has))
+        (λ (away : k ≢ h).
+        away (had.apart k h birth within inside (has_there y.store code plan locals width h inside null k birth away has) (mine birth among)))
         (cases_eq k h)
 
-  -- ---- nothing is freed
+    of_holder : (birth : ℕ) → Contains births birth → IsOfHolder colour depth plan (h ∷ rest) birth
+    of_holder birth among =
+        record { number = h; among = Contains-first h rest h refl; holder = holder; is = at; own = own_region birth among }
 
-  stays : Leads y
-  stays = record {
-    more = gone;
-    paired = paired;
-    frames = λ fs gs are. are;
-    was = λ birth is. inl is;
-    stays = λ birth is. is;
-    words = refl;
-    held = changed_held y.store orderly (λ k found there away. had.holds k found there) (λ w birth may. may);
-    others = λ other second inserted values apart are. are;
-  }
+    had_by : (birth : ℕ) → Contains births birth → IsHadBy y.store code plan locals (h ∷ rest) birth
+    had_by birth among = record { number = h; among = Contains-first h rest h refl; has = mine birth among }
 
-  -- ---- the object is freed
-
-  module _ (object : Object) (held : object_at y.store (cell_of v) ≡ Some object) (loose : object.fixed ≡ false) (own : colour object.birth ≡ Own depth holder.class) where
-    abbrev cell : ℕ
-    cell = cell_of v
-
-    abbrev following : Store
-    following = without_object y.store cell object
-
-    -- the areas with this store
-    abbrev areas_with : Store → Areas
-    areas_with store = record y { store = store; frees = y.frees + 1; freed_words = y.freed_words + object_words object }
-
-    freed_is : freed y cell ≡ areas_with following
-    freed_is =
-        ap (freed_object y cell) held
-        ∙ ap (λ b. cond b y (areas_with (freed_by y.store cell))) loose
-        ∙ ap areas_with (freed_by-some y.store cell object held ∙ ap (λ b. cond b y.store (without_object y.store cell object)) loose)
-
-    following_orderly : IsOrderly following
-    following_orderly = IsOrderly-without_object y.store cell object orderly
-
-    still : (q : ℕ) (found : Object) → object_at y.store q ≡ Some found → q ≢ cell → object_at following q ≡ Some found
-    still q found there away =
-        object_at-without_object y.store cell object q ∙ ap (λ b. cond b None (object_at y.store q)) (ne_eqb q cell away) ∙ there
-
-    held_before : (q : ℕ) (found : Object) → object_at following q ≡ Some found → object_at y.store q ≡ Some found
-    held_before q found there = ⊎_elim
-        (λ here. absurd (none-some found
-        (ap (λ b. cond b None (object_at y.store q)) (sym (eq-eqb q cell here)) ∙ sym (object_at-without_object y.store cell object q) ∙ there)))
-        (λ away. ap (λ b. cond b None (object_at y.store q)) (sym (ne_eqb q cell away)) ∙ sym (object_at-without_object y.store cell object q) ∙ there)
-        (cases_eq q cell)
-
-    may_before : (w : Value) (birth : ℕ) → HoldsFreeable following w birth → HoldsFreeable y.store w birth
-    may_before w birth may = record {
-      object = may.object;
-      held = held_before (cell_of w) may.object may.held;
-      not_fixed = may.not_fixed;
-      birth_is = may.birth_is;
+    had_back : (looped : Bool) (w : Value) (birth : ℕ) → Has looped (all_freed y cells).store w birth → Has looped y.store w birth
+    had_back false w birth has =
+        record { object = has.object; held = freed_are.before (cell_of w) has.object has.held; not_fixed = has.not_fixed; birth_is = has.birth_is }
+    had_back true w birth has = record {
+      births = has.births;
+      chain = links_stay (all_freed y cells).store y.store (cell_of w) has.births
+          (λ cell object held among. record { now = object; held = freed_are.before cell object held; born = refl; fixed = refl; chain = refl }) has.chain;
+      among = has.among;
     }
 
-    -- what doesn't lead to the object is held still
-    holding_still : (d class : ℕ) (w : Value) → ¬ HoldsFreeable y.store w object.birth → Holding y.store colour d class w → Holding following colour d class w
-    holding_still d class w none (HoldsNull null_is) = HoldsNull null_is
-    holding_still d class w none (HoldsFixed found there fixed) =
-        HoldsFixed found
-        (still (cell_of w) found there (λ same. false≢true (sym loose
-        ∙ ap (λ (a : Object). a.fixed) (same_Some object found (sym held ∙ ap (object_at y.store) (sym same) ∙ there)) ∙ fixed)))
-        fixed
-    holding_still d class w none (HoldsOwn found there free region) =
-        HoldsOwn found
-        (still (cell_of w) found there (λ same. none (record {
-          object = found;
-          held = there;
-          not_fixed = free;
-          birth_is = ap (λ (a : Object). a.birth) (same_Some found object (sym there ∙ ap (object_at y.store) same ∙ held));
-        })))
-        free region
-
-    of_holder : HoldsFreeable y.store v object.birth
-    of_holder = record { object = object; held = held; not_fixed = loose; birth_is = refl }
-
-    freed_held : AreHeld typings x colour depth following code plan changed
-    freed_held =
-        changed_held following following_orderly
-        (λ k found there away. holding_still depth found.class (holder_value code locals k)
-        (λ may. away (had.apart k h object.birth (slice_get_within plan.holders k found there) inside may of_holder)) (had.holds k found there))
-        may_before
-
-    others_held : (other : ℕ) (second : Code) (inserted : Insertions) (values : List Value) → other ≢ depth
-        → AreHeld typings x colour other y.store second inserted values → AreHeld typings x colour other following second inserted values
-    others_held other second inserted values apart are = record {
-      holds = λ k found there. holding_still other found.class (holder_value second values k)
-          (λ may.
-          let region : Own other found.class ≡ Own depth holder.class =
-          sym (own_of y.store colour other found.class (holder_value second values k) object.birth orderly (are.holds k found there) may) ∙ own in
-          let depths : other ≡ depth = cc in
-          apart depths)
-          (are.holds k found there);
-      apart = λ k l birth within inside_too one two. are.apart k l birth within inside_too
-          (may_before (holder_value second values k) birth one) (may_before (holder_value second values l) birth two);
-      initialised = λ k birth within may. are.initialised k birth within (may_before (holder_value second values k) birth may);
+    leads : Leads (all_freed y cells) (slice_set locals (local_of code h) null)
+    leads = record {
+      more = freed_are.more;
+      paired = freed_are.areas;
+      frames = freed_are.frames;
+      was = λ birth is. ⊎_elim (λ before. inl before) (λ among. inr (of_holder birth among)) (freed_are.was birth is);
+      had = λ birth is. ⊎_elim (λ before. inl before) (λ among. inr (had_by birth among)) (freed_are.was birth is);
+      stays = freed_are.stays;
+      words = freed_are.words;
+      held = held_but births y.store (all_freed y cells).store but typings x colour depth code plan (slice_set locals (local_of code h) null) none nulled;
+      others = λ other second inserted values apart are.
+          others_held_but births y.store (all_freed y cells).store but typings x colour depth own other second inserted values apart are;
+      back = had_back;
     }
-
-    freed_leads : Leads (freed y cell)
-    freed_leads =
-        let store_is : following ≡ (freed y cell).store = ap (λ (a : Areas). a.store) (sym freed_is) in
-        let counted : (freed y cell).freed_words ≡ y.freed_words + object_words object = ap (λ (a : Areas). a.freed_words) freed_is in
-        let total : (with_gone gone object).words ≡ gone.words + object_words object = refl in
-        record {
-          more = with_gone gone object;
-          paired = freed_areas gone o x.areas y paired cell object held loose;
-          frames = freed_frames gone o x.areas y paired cell object held loose;
-          was = λ birth is. ⊎_elim
-              (λ same. inr (record {
-                number = h;
-                among = Contains-first h rest h refl;
-                holder = holder;
-                is = at;
-                own = ap colour (eqb-true birth object.birth same) ∙ own;
-              }))
-              (λ before. inl before)
-              (or_cases (birth == object.birth) (gone.births birth) is);
-          stays = λ birth is. or_right (birth == object.birth) (gone.births birth) is;
-          words = omega (arith, counted, total);
-          held = subst (λ store. AreHeld typings x colour depth store code plan changed) store_is freed_held;
-          others = λ other second inserted values apart are.
-              subst (λ store. AreHeld typings x colour other store second inserted values) store_is (others_held other second inserted values apart are);
-        }
 
   -- ---- whatever the holder has
 
@@ -205,23 +139,72 @@ module _ (gone : Gone) (o : Outline) (typings : Typings) (x : State) (colour : C
   from_is zero object held = absurd (none-some object (sym orderly.null_not_held ∙ held))
   from_is (suc c) object held = refl
 
-  by_holding : Holding y.store colour depth holder.class v → Leads (freed_from y (cell_of v))
-  by_holding (HoldsNull null_is) = subst (λ w. Leads (freed_from y (cell_of w))) (sym null_is) stays
-  by_holding (HoldsFixed object held fixed) =
-      subst Leads
-      (sym (from_is (cell_of v) object held ∙ ap (freed_object y (cell_of v)) held
-      ∙ ap (λ b. cond b y (record y { store = freed_by y.store (cell_of v); frees = y.frees + 1; freed_words = y.freed_words + object_words object })) fixed))
-      stays
-  by_holding (HoldsOwn object held loose own) = subst Leads (sym (from_is (cell_of v) object held)) (freed_leads object held loose own)
+  plain_found : (class : ℕ) → Holding y.store colour depth class v → IsFound code stack locals y h v false
+  unfolding IsDistinct
+  plain_found class (HoldsNull null_is) = record {
+    cells = [];
+    births = [];
+    links = tt;
+    once = tt;
+    mine = λ birth among. absurd (Contains-none birth among);
+    areas = ap (λ w. freed_from y (cell_of w)) null_is;
+  }
+  plain_found class (HoldsFixed object held fixed) = record {
+    cells = [];
+    births = [];
+    links = tt;
+    once = tt;
+    mine = λ birth among. absurd (Contains-none birth among);
+    areas = from_is (cell_of v) object held ∙ ap (freed_object y (cell_of v)) held
+        ∙ ap (λ b. cond b y (record y { store = freed_by y.store (cell_of v); frees = y.frees + 1; freed_words = y.freed_words + object_words object })) fixed;
+  }
+  plain_found class (HoldsOwn object held loose own) = record {
+    cells = cell_of v ∷ [];
+    births = object.birth ∷ [];
+    links = (record { object = object; held = held; loose = loose; born = refl }, tt);
+    once = (tt, tt);
+    mine = λ birth among. ⊎_elim
+        (λ (same : birth ≡ object.birth). record { object = object; held = held; not_fixed = loose; birth_is = sym same })
+        (λ (later : Contains [] birth). absurd (Contains-none birth later))
+        (Contains-cons_cases object.birth [] birth among);
+    areas = from_is (cell_of v) object held;
+  }
 
-  pub one_free : Leads (freed_from y (cell_of v))
-  one_free = by_holding (had.holds h holder at)
+  chain_found : (class : ℕ) → HoldsAll y.store colour depth class v → IsFound code stack locals y h v true
+  chain_found class holds =
+      let walked = chains_are_walked y.store (cell_of v) holds.births orderly holds.chain holds.once in
+      record {
+        cells = walked.cells;
+        births = holds.births;
+        links = walked.links;
+        once = holds.once;
+        mine = λ birth among. record { births = holds.births; chain = holds.chain; among = among };
+        areas = ap (freed_along y) walked.found;
+      }
+
+  found_by : (looped : Bool) → Holds looped y.store colour depth holder.class v → IsFound code stack locals y h v looped
+  found_by false holds = plain_found holder.class holds
+  found_by true holds = chain_found holder.class holds
+
+  pub one_free : Leads (areas_after code stack locals (to_free (looped_at plan h) h) y) (locals_after code stack (to_free (looped_at plan h) h) locals)
+  one_free =
+      let f = found_by (looped_at plan h) (had.holds h holder at) in
+      subst (Leads (areas_after code stack locals (to_free (looped_at plan h) h) y)) (sym (freed_one code stack (looped_at plan h) h locals))
+      (subst (λ later. Leads later (slice_set locals (local_of code h) null)) (sym f.areas) (leads f.cells f.births f.links f.once f.mine))
+
+  -- ---- nothing is lost
 
   lost_by : (cell : ℕ) → Holding y.store colour depth holder.class v → cell_of v ≡ suc cell → object_at y.store (suc cell) ≡ None → ⊥
   lost_by cell (HoldsNull null_is) is lost = let zero_is : suc cell ≡ 0 = sym is ∙ ap cell_of null_is in absurd (omega (arith, zero_is))
   lost_by cell (HoldsFixed object held fixed) is lost = none-some object (sym lost ∙ ap (object_at y.store) (sym is) ∙ held)
   lost_by cell (HoldsOwn object held loose own) is lost = none-some object (sym lost ∙ ap (object_at y.store) (sym is) ∙ held)
 
-  -- its cell is held
-  pub not_lost : (cell : ℕ) → cell_of v ≡ suc cell → object_at y.store (suc cell) ≡ None → ⊥
-  not_lost cell is lost = lost_by cell (had.holds h holder at) is lost
+  missed_by : (looped : Bool) → Holds looped y.store colour depth holder.class v → Misses code y stack locals (to_free looped h) → ⊥
+  missed_by false holds misses = lost_by misses.0 holds misses.1 misses.2
+  missed_by true holds misses =
+      let walked = chains_are_walked y.store (cell_of v) holds.births orderly holds.chain holds.once in
+      none-some walked.cells (sym misses ∙ walked.found)
+
+  -- what it has is held
+  pub not_lost : Misses code y stack locals (to_free (looped_at plan h) h) → ⊥
+  not_lost misses = missed_by (looped_at plan h) (had.holds h holder at) misses

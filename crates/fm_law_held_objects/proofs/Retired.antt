@@ -2,15 +2,18 @@
 use Rattle.std.proofs.Common.{◌≡◌, ◌⊎◌, ℕ, zero, suc, false, List, [], ◌∷◌, length, Some, refl, sym, ◌∙◌, ap, subst, inl, inr, arith, get_or, slice_get, Contains, ⊎_elim}
 use Rattle.std.proofs.lemmas.Bool.{false≢true}
 use Rattle.std.proofs.lemmas.Option.{same_Some, slice_get-get_or}
+use Rattle.fm_chain.specs.Chained.{looped_at}
 use Rattle.fm_code.proofs.EdgesLemmas.{Contains-first, Contains-later}
 use Rattle.fm_code.specs.declared.code_array.Code.{Code}
 use Rattle.fm_conn.specs.Facts.{Facts}
 use Rattle.fm_conn.specs.Links.{typed_method}
 use Rattle.fm_frames.specs.States.{Frame, State}
-use Rattle.fm_law_held_objects.proofs.Holdings.{held_by, nothing_of_null, own_of}
+use Rattle.fm_law_held_objects.proofs.ContentsKept.{held_by, nothing_has, own_has}
+use Rattle.fm_law_held_objects.specs.Contents.{Has}
 use Rattle.fm_law_held_objects.specs.Freeing.{AreRetired, IsOfHolder}
+use Rattle.fm_law_held_objects.specs.Held.{HolderHas}
 use Rattle.fm_law_held_objects.specs.Laws.{FreedClassesRetire, RetiringKeepsHeld}
-use Rattle.fm_law_holders.specs.Holding.{holder_value, HoldsFreeable}
+use Rattle.fm_law_holders.specs.Holding.{holder_value}
 use Rattle.fm_place.specs.Insertions.{Holder, Insertions}
 use Rattle.fm_place.specs.Places.{is_busy}
 use Rattle.fm_place.specs.Safe as safe
@@ -124,16 +127,17 @@ retiring_keeps_held p facts x colour depth plan hs r method item code may other 
     (λ (theirs : IsOfHolder colour depth plan hs birth).
     absurd (apart h birth mine (get_or inserted.holders h theirs.holder) (slice_get-get_or inserted.holders h theirs.holder within) theirs))
     (r.or_same birth)) are where
-      apart : (h birth : ℕ) → HoldsFreeable store (holder_value second locals h) birth → (holder : Holder) → slice_get inserted.holders h ≡ Some holder
+      apart : (h birth : ℕ) → HolderHas store second inserted locals h birth → (holder : Holder) → slice_get inserted.holders h ≡ Some holder
           → IsOfHolder colour depth plan hs birth → ⊥
       apart h birth mine holder at theirs =
           let region : Own other holder.class ≡ Own depth theirs.holder.class =
-          sym (own_of store colour other holder.class (holder_value second locals h) birth orderly (are.holds h holder at) mine) ∙ theirs.own in
+          sym (own_has (looped_at inserted h) store colour other holder.class (holder_value second locals h) birth orderly (are.holds h holder at) mine)
+          ∙ theirs.own in
           let depths : other ≡ depth = cc in
           let classes : theirs.holder.class ≡ holder.class = cc in
           let m : safe.MayFree facts (typed_method p facts.typing method code) plan item theirs.number = may theirs.number theirs.among in
           let found : m.holder.class ≡ holder.class = ap (λ (k : Holder). k.class) (same_Some m.holder theirs.holder (sym m.is ∙ theirs.is)) ∙ classes in
           ⊎_elim
-          (λ null_is. nothing_of_null store birth orderly (subst (λ v. HoldsFreeable store v birth) null_is mine))
+          (λ null_is. nothing_has (looped_at inserted h) store birth orderly (subst (λ v. Has (looped_at inserted h) store v birth) null_is mine))
           (λ busy. false≢true (sym m.quiet ∙ ap (λ class. is_busy facts (typed_method p facts.typing method code) class item) found ∙ busy))
           (there depths h holder at)
