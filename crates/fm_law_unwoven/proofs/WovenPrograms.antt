@@ -366,7 +366,6 @@ module _ (numbered : ClassTypesAreNumbered) (given : List ClassDef) (main : List
     methods = λ method code is.
         method_woven numbered given main plans spelled resolved first facts method code is (plans method) refl (λ plan so. safe method code plan is so);
     safe = safe;
-    plain = plain;
   }
 
   pub written_woven : (written : List ClassDef) (marks : Marks) → written ≡ chained_classes plans given → marks ≡ chained_marks_with plans given

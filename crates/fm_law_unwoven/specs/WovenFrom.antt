@@ -18,7 +18,7 @@ use Rattle.fm_law_same_runs.specs.Programs.{AreTaken}
 use Rattle.fm_law_unwoven.specs.Laid.{IsLaid, mark_at}
 use Rattle.fm_place.specs.Insertions.{Insertions}
 use Rattle.fm_place.specs.Rewriting.{Plans}
-use Rattle.fm_place.specs.Safe.{AreSafe, HoldsNoChain, IsProgramOf, SafeOf}
+use Rattle.fm_place.specs.Safe.{AreSafe, IsProgramOf, SafeOf}
 use Rattle.fm_types.specs.Typed.{use_by, use_in}
 use Rattle.fm_world.specs.Programs.{code_at, Program, program_of}
 
@@ -59,7 +59,7 @@ pub record HasInserted (q : Program) (marks : Marks) (method : ℕ) (old : Code)
 
 -- ---- two programs
 
--- the second program has the outline of the first one, and its methods with what these plans insert, which is safe; no holder holds a chain
+-- the second program has the outline of the first one, and its methods with what these plans insert, which is safe
 pub record IsWovenFrom (p q : Program) (facts : Facts) (plans : Plans) (marks : Marks) : Type 0 where
   pub outline : q.outline ≡ p.outline
   pub bare : (method : ℕ) → code_at p method ≡ None → code_at q method ≡ None
@@ -68,7 +68,6 @@ pub record IsWovenFrom (p q : Program) (facts : Facts) (plans : Plans) (marks : 
   pub methods : (method : ℕ) (code : Code) → code_at p method ≡ Some code → HasInserted q marks method code (inserted_by (plans method))
   pub safe : (method : ℕ) (code : Code) (plan : Insertions) → code_at p method ≡ Some code → plans method ≡ Some plan
       → AreSafe facts (typed_method p facts.typing method code) plan
-  pub plain : (method : ℕ) (plan : Insertions) → plans method ≡ Some plan → HoldsNoChain plan
 
 -- so do classes with safe insertions and the classes that were given, whose program may be narrowed
 abbrev pub SafeProgramsAreWoven : Type 0
