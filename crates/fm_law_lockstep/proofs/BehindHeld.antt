@@ -1,23 +1,26 @@
--- Behind an item of the second program its holders keep what that gave: the frame of the first program goes on there too.
-use Rattle.std.proofs.Common.{◌≡◌, ◌+◌, ◌⊎◌, inl, inr, ℕ, false, List, [], ◌∷◌, ◌++◌, length, map, Some, None, Contains, slice_set, unwrap_or, refl, sym, ap, subst, ◌∙◌}
+-- Behind an item of the second program its holders keep what that gave, or put it before their chains: the frame of the first program goes on there too.
+use Rattle.std.proofs.Common.{◌≡◌, ◌+◌, ◌⊎◌, inl, inr, ℕ, true, false, List, [], ◌∷◌, ◌++◌, length, map, Some, None, Contains, unwrap_or, refl, sym, ap, subst, ◌∙◌}
 use Rattle.std.specs.List.{AllByRecursion, AllZip}
 use Rattle.std.proofs.lemmas.List.Elements.{length_all_zip}
 use Rattle.std.proofs.lemmas.List.{length-map}
 use Rattle.fm_cells.specs.Choices.{lawful}
+use Rattle.fm_chain.specs.Chained.{looped_at}
 use Rattle.fm_code.proofs.EdgesLemmas.{Contains-first}
 use Rattle.fm_code.specs.declared.code_array.Code.{Code}
 use Rattle.fm_conn.specs.Links.{typed_method}
-use Rattle.fm_frames.specs.Acts.{Choose}
+use Rattle.fm_frames.specs.Acts.{cell_of, Choose}
 use Rattle.fm_frames.specs.Effects.{Effect, Falls, Returns}
-use Rattle.fm_frames.specs.States.{Frame, State, word_at}
+use Rattle.fm_frames.specs.States.{Areas, Frame, State, word_at}
 use Rattle.fm_frames.specs.Steps.{is_start, next_effect, step}
 use Rattle.fm_frames.specs.declared.values.Value.{Value}
 use Rattle.fm_law_held_objects.specs.Above.{NewResultsAreInitialised}
 use Rattle.fm_law_held_objects.specs.Held.{AreHeld}
+use Rattle.fm_law_held_objects.specs.Keeping.{AreKept}
 use Rattle.fm_law_held_objects.specs.Laws.{KeepingKeepsHeld}
 use Rattle.fm_law_holders.specs.Laws.{KeptResultsAreOwn, SitesGiveNew}
 use Rattle.fm_law_holders.specs.NewResults.{GoesOnBehind, HasNewResult, IsDone, IsReturnedTo, KeepsObjects}
-use Rattle.fm_law_lockstep.proofs.KeptHeld.{known_at, result, result_kept}
+use Rattle.fm_law_lockstep.proofs.FoundTodos.{FindsAll}
+use Rattle.fm_law_lockstep.proofs.KeptHeld.{known_at, result, result_found, result_kept}
 use Rattle.fm_law_unwoven.proofs.OneKept.{one_kept, safe_holders}
 use Rattle.fm_law_lockstep.proofs.Seen.{retired_is_unseen}
 use Rattle.fm_law_lockstep.proofs.StepHeld.{still_retired}
@@ -27,22 +30,38 @@ use Rattle.fm_law_lockstep.specs.Known.{IsKnownOn, IsLinked}
 use Rattle.fm_law_lockstep.specs.Stepping.{AreWithin}
 use Rattle.fm_law_lockstep.specs.Together.{GoTogetherAt}
 use Rattle.fm_law_two_memories.proofs.EffectsSame.{effects_same}
-use Rattle.fm_law_two_memories.specs.Pairing.{FramesPaired, SameValue, StatesPaired}
-use Rattle.fm_law_unwoven.specs.Doing.{all_locals_after}
+use Rattle.fm_law_sound.specs.Sound.{Typings}
+use Rattle.fm_law_two_memories.specs.Pairing.{AreasPaired, FramesPaired, Gone, SameValue, StatesPaired}
+use Rattle.fm_law_unwoven.specs.Doing.{all_areas_after, all_locals_after, joins_in}
 use Rattle.fm_law_unwoven.specs.Kept.{GoesPast, old_frame, old_item, old_state, PastBranch, PastCall, PastItem, WasAt}
-use Rattle.fm_law_unwoven.specs.Laid.{ToKeep}
+use Rattle.fm_law_unwoven.specs.Laid.{to_keep, Todo}
 use Rattle.fm_law_unwoven.specs.WovenFrom.{inserted_by, IsWovenFrom}
 use Rattle.fm_place.specs.Insertions.{after_at, Insertions}
 use Rattle.fm_place.specs.Safe.{IsSafeHolder}
-use Rattle.fm_place.specs.Woven.{local_of}
+use Rattle.fm_same.specs.Colours.{Colour}
 use Rattle.fm_same.specs.Covering.{CoversAt}
+use Rattle.fm_same.specs.Regions.{Retired}
 use Rattle.fm_same.specs.Standing.{Stand}
-use Rattle.fm_world.specs.Programs.{code_at}
+use Rattle.fm_world.specs.Programs.{code_at, Outline}
 
 -- the first of the words has the first one's twin
 first_same : {A : Type 0} (R : A → Value → Type 0) (v : A) (vs : List A) (ws : List Value) → AllZip R (v ∷ vs) ws → R v (word_at ws 0)
 first_same R v vs [] each = absurd each
 first_same R v vs (w ∷ ws) each = each.0
+
+-- where nothing is done, holders are as they were
+pub nothing_kept : (o : Outline) (typings : Typings) (x : State) (colour : Colour) (depth : ℕ) (code : Code) (plan : Insertions) (hs : List ℕ) (given : Value)
+    (gone : Gone) (y : Areas) (locals : List Value) → AreasPaired gone o x.areas y → AreHeld typings x colour depth y.store code plan locals
+    → AreKept o typings x colour depth code plan hs given gone y y locals locals
+nothing_kept o typings x colour depth code plan hs given gone y locals paired held = record {
+  paired = paired;
+  frames = λ fs gs are. are;
+  words = refl;
+  held = held;
+  others = λ other second inserted values apart are. are;
+  had = λ h birth within has. inl has;
+  others_had = λ other second inserted values apart are h birth within has. has;
+}
 
 module _ (b : Both) (from : IsWovenFrom b.one b.other b.facts b.plans b.marks) (linked : IsLinked b.one b.facts) (first second : Choose) (x y : State) (t : GoTogetherAt b x y)
     (on : IsKnownOn b.one b.facts x (step b.one (lawful first) x).state t.colour t.made)
@@ -128,10 +147,20 @@ module _ (b : Both) (from : IsWovenFrom b.one b.other b.facts b.plans b.marks) (
     abbrev plan : Insertions
     plan = inserted_by (b.plans g.method)
 
+    -- what is done for these holders
+    abbrev pub keeps_of : List ℕ → List Todo
+    keeps_of hs =
+        map (λ h. to_keep (looped_at (inserted_by (b.plans g.method)) h) (joins_in following.areas.store (cell_of (word_at g.stack 0))) h) hs
+
     -- what holders of the frame hold then
-    abbrev pub HeldThen : List ℕ → Type 0
-    HeldThen hs =
-        AreHeld b.facts.typing next on.fewer (length below) following.areas.store code (inserted_by (b.plans g.method)) (all_locals_after code g.stack (map ToKeep hs) g.locals)
+    abbrev pub KeptThen : List ℕ → Type 0
+    KeptThen hs =
+        AreKept b.one.outline b.facts.typing next on.fewer (length below) code (inserted_by (b.plans g.method)) hs (word_at g.stack 0) t.gone following.areas
+        (all_areas_after code g.stack (keeps_of hs) g.locals following.areas) g.locals (all_locals_after code g.stack (keeps_of hs) g.locals)
+        × FindsAll code g.stack (keeps_of hs) g.locals following.areas
+
+    none_kept : KeptThen []
+    none_kept = (nothing_kept b.one.outline b.facts.typing next on.fewer (length below) code plan [] (word_at g.stack 0) t.gone following.areas g.locals paired.areas have, tt)
 
     module _ (there : GoesThere g below j) (only : ℕ) (is : after_at (inserted_by (b.plans g.method)) j ≡ only ∷ []) where
       code_there : code_at b.one there.f.method ≡ Some code
@@ -159,24 +188,40 @@ module _ (b : Both) (from : IsWovenFrom b.one b.other b.facts b.plans b.marks) (
           (subst (AllZip (SameValue t.gone next.areas.store following.areas.store) (given.result ∷ given.below)) (sym stack)
           (subst (λ fs. AllZip (FramesPaired t.gone next.areas.store following.areas.store) fs (f ∷ callers)) given.frames_are paired.frames).0.stack)
 
-      keeps_one : HeldThen (only ∷ [])
-      keeps_one =
-          subst (λ n. AreHeld b.facts.typing next on.fewer n following.areas.store code plan (slice_set g.locals (local_of code only) (word_at g.stack 0))) there.count
-          (result_kept new own b.one b.facts linked first x t.colour t.made t.known on t.goes_on going stand covers next_stand there.f there.callers there.behind
-          code code_there plan safe_there only among keeping fresh t.gone
-          (still_retired b from linked first second x y t on going other_going within) y.areas.store following.areas.store t.paired.areas.store.other_orderly
-          t.paired.areas.store.births stays paired.areas.store g.locals
-          (subst (λ n. AreHeld b.facts.typing x t.colour n y.areas.store code plan g.locals) (sym there.count) had)
-          (subst (λ n. AreHeld b.facts.typing next on.fewer n following.areas.store code plan g.locals) (sym there.count) have)
-          width (word_at g.stack 0) top_same)
+      keeps_one : KeptThen (only ∷ [])
+      keeps_one = (
+        subst (λ n.
+            AreKept b.one.outline b.facts.typing next on.fewer n code plan (only ∷ []) (word_at g.stack 0) t.gone following.areas
+            (all_areas_after code g.stack (keeps_of (only ∷ [])) g.locals following.areas) g.locals
+            (all_locals_after code g.stack (keeps_of (only ∷ [])) g.locals)) there.count
+            (result_kept new own b.one b.facts linked first x t.colour t.made t.known on t.goes_on going stand covers next_stand there.f there.callers
+            there.behind code code_there plan safe_there only among keeping fresh t.gone retired y.areas.store following.areas
+            t.paired.areas.store.other_orderly t.paired.areas.store.births stays paired.areas g.locals had_there have_there width g.stack top_same),
+        (
+          (λ misses.
+              result_found new own b.one b.facts linked first x t.colour t.made t.known on t.goes_on going stand covers next_stand there.f there.callers
+              there.behind code code_there plan safe_there only among keeping fresh t.gone retired y.areas.store following.areas
+              t.paired.areas.store.other_orderly t.paired.areas.store.births stays paired.areas g.locals had_there have_there width g.stack top_same
+              (looped_at plan only) (joins_in following.areas.store (cell_of (word_at g.stack 0))) misses),
+          tt,
+        ),
+      ) where
+        retired : (birth : ℕ) → t.gone.births birth ≡ true → on.fewer birth ≡ Retired
+        retired = still_retired b from linked first second x y t on going other_going within
+
+        had_there : AreHeld b.facts.typing x t.colour (length there.callers) y.areas.store code (inserted_by (b.plans g.method)) g.locals
+        had_there = subst (λ n. AreHeld b.facts.typing x t.colour n y.areas.store code plan g.locals) (sym there.count) had
+
+        have_there : AreHeld b.facts.typing next on.fewer (length there.callers) following.areas.store code (inserted_by (b.plans g.method)) g.locals
+        have_there = subst (λ n. AreHeld b.facts.typing next on.fewer n following.areas.store code plan g.locals) (sym there.count) have
 
     -- so it is of all holders of the item
     pub keeps_held : (was : WasAt b.one b.marks y.frames g below j) → GoesPast b.one b.marks y was.above (inserted_by (b.plans g.method)) j
-        → HeldThen (after_at (inserted_by (b.plans g.method)) j)
+        → KeptThen (after_at (inserted_by (b.plans g.method)) j)
     keeps_held was past = by_past (goes_past g below j was past) (one_kept b.one b.other b.facts b.plans b.marks from g.method code code_is j) where
       by_past : (after_at (inserted_by (b.plans g.method)) j ≡ []) ⊎ GoesThere g below j
           → (after_at (inserted_by (b.plans g.method)) j ≡ []) ⊎ ((only : ℕ) × (after_at (inserted_by (b.plans g.method)) j ≡ only ∷ []))
-          → HeldThen (after_at (inserted_by (b.plans g.method)) j)
-      by_past (inl none) some = subst HeldThen (sym none) have
-      by_past (inr there) (inl none) = subst HeldThen (sym none) have
-      by_past (inr there) (inr one) = subst HeldThen (sym one.1) (keeps_one there one.0 one.1)
+          → KeptThen (after_at (inserted_by (b.plans g.method)) j)
+      by_past (inl none) some = subst KeptThen (sym none) none_kept
+      by_past (inr there) (inl none) = subst KeptThen (sym none) none_kept
+      by_past (inr there) (inr one) = subst KeptThen (sym one.1) (keeps_one there one.0 one.1)

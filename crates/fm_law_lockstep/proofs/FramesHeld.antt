@@ -6,15 +6,17 @@ use Rattle.std.proofs.lemmas.List.{get_or-drop, length-map}
 use Rattle.std.proofs.lemmas.Option.{slice_get-get_or, slice_get_within}
 use Rattle.fm_cells.specs.Soundness.{IsOrderly}
 use Rattle.fm_cells.specs.Stores.{Store}
+use Rattle.fm_chain.specs.Chained.{looped_at}
 use Rattle.fm_code.specs.declared.code_array.Code.{Code}
 use Rattle.fm_conn.specs.Facts.{Facts}
 use Rattle.fm_frames.specs.States.{Frame, null, State}
 use Rattle.fm_frames.specs.Steps.{max_locals_of}
 use Rattle.fm_frames.specs.declared.values.Value.{Value}
 use Rattle.fm_frames.specs.declared.values.Value.TheVariants as value
-use Rattle.fm_law_held_objects.proofs.Holdings.{nothing_of_null}
-use Rattle.fm_law_held_objects.specs.Held.{AreHeld, FrameIsHeld, FramesAreHeld}
-use Rattle.fm_law_holders.specs.Holding.{holder_value, Holding, HoldsNull, HoldsFreeable}
+use Rattle.fm_law_held_objects.proofs.ContentsKept.{nothing_has, null_holds}
+use Rattle.fm_law_held_objects.specs.Contents.{Has, Holds}
+use Rattle.fm_law_held_objects.specs.Held.{AreHeld, FrameIsHeld, FramesAreHeld, HolderHas}
+use Rattle.fm_law_holders.specs.Holding.{holder_value}
 use Rattle.fm_law_same_runs.specs.Beside.{kept_item, Marks}
 use Rattle.fm_law_sound.proofs.CallsStand.{max_locals_in}
 use Rattle.fm_law_sound.specs.Sound.{Typings}
@@ -35,20 +37,26 @@ module _ (typings : Typings) (x : State) (colour : Colour) (depth : ℕ) (store 
   pub held_alike : (locals others : List Value) → ((h : ℕ) → holder_value code others h ≡ holder_value code locals h)
       → AreHeld typings x colour depth store code plan locals → AreHeld typings x colour depth store code plan others
   held_alike locals others same had = record {
-    holds = λ h holder at. subst (Holding store colour depth holder.class) (sym (same h)) (had.holds h holder at);
-    apart = λ h second birth within inside one two.
-        had.apart h second birth within inside (subst (λ v. HoldsFreeable store v birth) (same h) one) (subst (λ v. HoldsFreeable store v birth) (same second) two);
-    initialised = λ h birth within may. had.initialised h birth within (subst (λ v. HoldsFreeable store v birth) (same h) may);
-  }
+    holds = λ h holder at. subst (Holds (looped_at plan h) store colour depth holder.class) (sym (same h)) (had.holds h holder at);
+    apart = λ h second birth within inside one two. had.apart h second birth within inside (back h birth one) (back second birth two);
+    initialised = λ h birth within has. had.initialised h birth within (back h birth has);
+  } where
+    back : (h birth : ℕ) → HolderHas store code plan others h birth → HolderHas store code plan locals h birth
+    back h birth has = subst (λ v. Has (looped_at plan h) store v birth) (same h) has
+
+  -- a holder that is null has nothing
+  pub null_has : IsOrderly store → (locals : List Value) (h birth : ℕ) → holder_value code locals h ≡ null → HolderHas store code plan locals h birth → ⊥
+  null_has orderly locals h birth none has =
+      nothing_has (looped_at plan h) store birth orderly (subst (λ v. Has (looped_at plan h) store v birth) none has)
 
   -- holders that are all null hold what they may
   pub nulls_held : IsOrderly store → (locals : List Value) → ((h : ℕ) → h < length plan.holders → holder_value code locals h ≡ null)
       → AreHeld typings x colour depth store code plan locals
   nulls_held orderly locals nulls = record {
-    holds = λ h holder at. HoldsNull (nulls h (slice_get_within plan.holders h holder at));
-    apart = λ h second birth within inside_too one two.
-        absurd (nothing_of_null store birth orderly (subst (λ v. HoldsFreeable store v birth) (nulls h within) one));
-    initialised = λ h birth within may. absurd (nothing_of_null store birth orderly (subst (λ v. HoldsFreeable store v birth) (nulls h within) may));
+    holds = λ h holder at.
+        null_holds (looped_at plan h) store colour depth holder.class (holder_value code locals h) (nulls h (slice_get_within plan.holders h holder at));
+    apart = λ h second birth within inside_too one two. absurd (null_has orderly locals h birth (nulls h within) one);
+    initialised = λ h birth within has. absurd (null_has orderly locals h birth (nulls h within) has);
   }
 
   -- where there are none, nothing is asked

@@ -11,11 +11,11 @@ use Rattle.fm_frames.specs.declared.values.Value.{Value}
 use Rattle.fm_law_held_objects.specs.Above.{AreSomeOf, FewerAreForNoneAbove}
 use Rattle.fm_law_held_objects.specs.Freeing.{AreFreed, AreRetired}
 use Rattle.fm_law_held_objects.specs.Held.{AreHeld, FrameIsHeld, FramesAreHeld}
-use Rattle.fm_law_held_objects.specs.Laws.{AreThere, FreedClassesRetire, FreesKeepHeld, NothingIsLost, RetiringKeepsHeld}
+use Rattle.fm_law_held_objects.specs.Laws.{AreThere, FreedClassesRetire, frees_of, FreesKeepHeld, NothingIsLost, RetiringKeepsHeld}
 use Rattle.fm_law_holders.specs.Holding.{holder_value}
 use Rattle.fm_law_holders.specs.Uninitialised.{Made}
 use Rattle.fm_law_lockstep.proofs.FramesHeld.{frames_go}
-use Rattle.fm_law_lockstep.proofs.QuietTodos.{todos_keep_limits}
+use Rattle.fm_law_lockstep.proofs.FoundTodos.{todos_keep_limits}
 use Rattle.fm_law_lockstep.specs.Both.{Both}
 use Rattle.fm_law_lockstep.specs.Known.{IsKnown}
 use Rattle.fm_law_lockstep.specs.Together.{AreLimited, GoTogetherAt}
@@ -24,7 +24,6 @@ use Rattle.fm_law_two_memories.specs.Pairing.{EndAlike, FramesPaired, Gone, Stat
 use Rattle.fm_law_two_memories.specs.Results.{KeepsLimits}
 use Rattle.fm_law_unwoven.specs.Doing.{all_areas_after, all_locals_after, IsLost}
 use Rattle.fm_law_unwoven.specs.Kept.{IsAtKept, old_frame, old_state}
-use Rattle.fm_law_unwoven.specs.Laid.{ToFree}
 use Rattle.fm_law_unwoven.specs.WovenFrom.{inserted_by}
 use Rattle.fm_place.specs.Insertions.{Holder, Insertions}
 use Rattle.fm_place.specs.Places.{is_busy}
@@ -69,21 +68,22 @@ module _ (laws : FreeLaws) (b : Both) (x z : State) (f g : Frame) (callers below
   plan = inserted_by (b.plans g.method)
 
   abbrev later : Areas
-  later = all_areas_after code g.stack (map ToFree hs) locals z.areas
+  later = all_areas_after code g.stack (frees_of (inserted_by (b.plans g.method)) hs) locals z.areas
 
   abbrev values : List Value
-  values = all_locals_after code g.stack (map ToFree hs) locals
+  values = all_locals_after code g.stack (frees_of (inserted_by (b.plans g.method)) hs) locals
 
   there : AreThere plan hs
   there number among = let m = may number among in (m.holder, m.is)
 
   -- no free meets an empty cell
-  pub nothing_lost : ¬ IsLost code (record g { locals = locals }) z.areas (map ToFree hs)
+  pub nothing_lost : ¬ IsLost code (record g { locals = locals }) z.areas (frees_of (inserted_by (b.plans g.method)) hs)
   nothing_lost =
       laws.found h.gone b.one.outline b.facts.typing x h.colour (length below) z.areas h.paired.areas code plan (record g { locals = locals }) hs there h.width h.top
 
-  freed : AreFreed b.one.outline b.facts.typing x h.colour (length below) code (inserted_by (b.plans g.method)) hs h.gone z.areas
-      (all_areas_after code g.stack (map ToFree hs) locals z.areas) (all_locals_after code g.stack (map ToFree hs) locals)
+  pub freed : AreFreed b.one.outline b.facts.typing x h.colour (length below) code (inserted_by (b.plans g.method)) hs h.gone z.areas
+      (all_areas_after code g.stack (frees_of (inserted_by (b.plans g.method)) hs) locals z.areas) locals
+      (all_locals_after code g.stack (frees_of (inserted_by (b.plans g.method)) hs) locals)
   freed =
       laws.frees h.gone b.one.outline b.facts.typing x h.colour (length below) z.areas h.paired.areas code plan (record g { locals = locals }) hs there h.width h.top
 
@@ -123,12 +123,12 @@ module _ (laws : FreeLaws) (b : Both) (x z : State) (f g : Frame) (callers below
 
   module _ (item : ℕ) (item_is : kept_item b.marks g.method item ≡ Some f.item) (steps : ℕ) where
     abbrev top_after : Frame
-    top_after = record { method = g.method; item = item; locals = all_locals_after code g.stack (map ToFree hs) locals; stack = g.stack }
+    top_after = record { method = g.method; item = item; locals = all_locals_after code g.stack (frees_of (inserted_by (b.plans g.method)) hs) locals; stack = g.stack }
 
     abbrev pub state_freed : State
     state_freed = record z {
-      frames = record { method = g.method; item = item; locals = all_locals_after code g.stack (map ToFree hs) locals; stack = g.stack } ∷ below;
-      areas = all_areas_after code g.stack (map ToFree hs) locals z.areas;
+      frames = record { method = g.method; item = item; locals = all_locals_after code g.stack (frees_of (inserted_by (b.plans g.method)) hs) locals; stack = g.stack } ∷ below;
+      areas = all_areas_after code g.stack (frees_of (inserted_by (b.plans g.method)) hs) locals z.areas;
       steps = steps;
       ended = None;
     }
@@ -137,7 +137,7 @@ module _ (laws : FreeLaws) (b : Both) (x z : State) (f g : Frame) (callers below
         (olds : map (old_frame b.one b.marks) (state_freed).frames ≡ f ∷ callers) where
       -- each holder of the frame is null, or its class is busy
       busy : (number : ℕ) (holder : Holder) → slice_get (inserted_by (b.plans g.method)).holders number ≡ Some holder
-          → (holder_value code (all_locals_after code g.stack (map ToFree hs) locals) number ≡ null)
+          → (holder_value code (all_locals_after code g.stack (frees_of (inserted_by (b.plans g.method)) hs) locals) number ≡ null)
           ⊎ (is_busy b.facts (typed_method b.one b.facts.typing g.method code) holder.class f.item ≡ true)
       busy number holder at =
           let stands = kept.frames.0 in
@@ -178,7 +178,7 @@ module _ (laws : FreeLaws) (b : Both) (x z : State) (f g : Frame) (callers below
 
       limits_then : AreLimited b x.areas.store later.store
       limits_then =
-          let keep : KeepsLimits z.areas.store later.store = todos_keep_limits code g.stack (map ToFree hs) locals z.areas in
+          let keep : KeepsLimits z.areas.store later.store = todos_keep_limits code g.stack (frees_of (inserted_by (b.plans g.method)) hs) locals z.areas in
           record {
             unlimited = h.limits.unlimited;
             limited = keep.limit ∙ h.limits.limited;

@@ -1,5 +1,5 @@
 -- Along two runs that go together: what the second one lacks was retired before in the first one.
-use Rattle.std.proofs.Common.{◌≡◌, ◌⊎◌, inl, inr, ℕ, suc, ◌+◌, ◌-◌, ◌<◌, ◌≤◌, true, false, List, [], ◌∷◌, Some, None, refl, sym, ap, subst, ◌∙◌, arith, ⊎_elim}
+use Rattle.std.proofs.Common.{◌≡◌, ◌⊎◌, inl, inr, ℕ, suc, ◌+◌, ◌-◌, ◌<◌, ◌≤◌, true, false, List, [], ◌∷◌, ◌++◌, Some, None, refl, sym, ap, subst, ◌∙◌, arith, ⊎_elim}
 use Rattle.std.specs.List.{AllByRecursion, AllZip}
 use Rattle.std.proofs.lemmas.Bool.{cases_lt, false≢true}
 use Rattle.std.proofs.lemmas.Option.{none-some, slice_get_within}
@@ -7,6 +7,7 @@ use Rattle.fm_base.specs.declared.limits.TheConstants.{MAX_LIVE_WORDS, MAX_MADE_
 use Rattle.fm_cells.specs.Choices.{lawful, never_choice}
 use Rattle.fm_cells.specs.Soundness.{IsOrderly}
 use Rattle.fm_cells.specs.Stores.{opened, Store}
+use Rattle.fm_chain.specs.Chained.{looped_at}
 use Rattle.fm_code.specs.declared.code_array.Code.{Code}
 use Rattle.fm_conn.specs.Facts.{Facts}
 use Rattle.fm_conn.specs.Links.{typed_method}
@@ -17,10 +18,12 @@ use Rattle.fm_frames.specs.Steps.{step}
 use Rattle.fm_frames.specs.declared.ends.Ended.TheVariants as end
 use Rattle.fm_frames.specs.declared.values.Value.{Value}
 use Rattle.fm_law_chained.specs.Called.{with_frame}
-use Rattle.fm_law_held_objects.proofs.Holdings.{nothing_of_null}
-use Rattle.fm_law_holders.specs.Holding.{HoldsFreeable}
+use Rattle.fm_law_held_objects.proofs.ContentsKept.{nothing_has}
+use Rattle.fm_law_held_objects.specs.Contents.{Has}
+use Rattle.fm_law_held_objects.specs.Laws.{frees_of}
+use Rattle.fm_law_lockstep.proofs.Ahead.{ahead_is, first_ahead, freed_ahead, given_ahead}
+use Rattle.fm_law_lockstep.proofs.AheadHeld.{before_frees, before_gone, CatchLaws, IsReady, ready}
 use Rattle.fm_law_lockstep.proofs.NothingFreed.{FreesNothing, nothing_freed}
-use Rattle.fm_law_lockstep.proofs.PlainTodos.{ahead_plain, plain_ahead}
 use Rattle.fm_law_lockstep.proofs.Paced.{at_kept, first_goes, first_printed, goes_along, inserted, is_kept, keeps_pace, reached, second_goes, second_goes_on, second_printed, want}
 use Rattle.fm_law_lockstep.proofs.Since.{FramesSince}
 use Rattle.fm_law_lockstep.proofs.StepHeld.{frees_nothing}
@@ -40,11 +43,10 @@ use Rattle.fm_law_sound.specs.Making.{ArgumentsFit}
 use Rattle.fm_law_sound.specs.Sound.{IsSoundBy}
 use Rattle.fm_law_two_memories.specs.Pairing.{FramesPaired, StatesPaired}
 use Rattle.fm_law_two_memories.specs.Runs.{LacksWords}
-use Rattle.fm_law_two_memories.specs.Whole.{NextEffectsAreAlike}
 use Rattle.fm_law_unwoven.specs.Doing.{all_steps_to, IsPassed}
-use Rattle.fm_law_unwoven.specs.Kept.{KeptStepsAreSteps, StatesGo}
+use Rattle.fm_law_unwoven.specs.Kept.{StatesGo}
 use Rattle.fm_law_unwoven.specs.Laid.{Todo}
-use Rattle.fm_law_unwoven.specs.Reached.{AllReached, FramesReachKept, IsReached, jumps_ahead, OneMissed, Reached, state_reached}
+use Rattle.fm_law_unwoven.specs.Reached.{AllReached, IsReached, jumps_ahead, OneMissed, Reached, state_reached}
 use Rattle.fm_law_unwoven.specs.WovenFrom.{inserted_by, IsWovenFrom}
 use Rattle.fm_place.specs.Sites.{is_captured}
 use Rattle.fm_same.specs.Laws.{SitesMakeBusy}
@@ -138,9 +140,7 @@ pub record HistoryLaws (b : Both) : Type 0 where
   pub known_on : StepsStayKnown
   pub costs : ShallowStepsCost
   pub catch_up : BothCatchUp b
-  pub alike : NextEffectsAreAlike
-  pub kept : KeptStepsAreSteps
-  pub reach : FramesReachKept
+  pub ahead : CatchLaws
   pub busy : SitesMakeBusy
 
 module _ (b : Both) (from : IsWovenFrom b.one b.other b.facts b.plans b.marks) (linked : IsLinked b.one b.facts) (laws : HistoryLaws b) (steps : ℕ) (job : Job) (choose : Choose)
@@ -289,34 +289,55 @@ module _ (b : Both) (from : IsWovenFrom b.one b.other b.facts b.plans b.marks) (
           (known b from linked laws.kept_go laws.known_on laws.costs laws.catch_up never_choice choose x y t words within.not_over).1 t.goes_on first_going
 
       still : FreesNothing y.areas following.areas
-      still = frees_nothing b from linked never_choice choose x y t on first_going other_going within laws.alike laws.kept
+      still = frees_nothing b from linked never_choice choose x y t on first_going other_going within laws.ahead.alike laws.ahead.kept
 
       x_still : FreesNothing x.areas next.areas
-      x_still = nothing_freed laws.alike b.one b.facts.typing linked.without never_choice x t.goes_on t.known.whole.sound first_going
+      x_still = nothing_freed laws.ahead.alike b.one b.facts.typing linked.without never_choice x t.goes_on t.known.whole.sound first_going
 
-      r : Reached b.one b.other b.facts b.plans b.marks (lawful choose) following f g below (plain_ahead b.one b.other b.facts b.plans b.marks y f g below go.top)
+      r : Reached b.one b.other b.facts b.plans b.marks (lawful choose) following f g below
+          (first_ahead b.one b.other b.facts b.plans b.marks y following.areas.store f g below go.top
+          ++ frees_of (inserted_by (b.plans g.method)) (freed_ahead b.one b.other b.facts b.plans b.marks y following.areas.store f g below go.top))
           (jumps_ahead b.one b.other b.facts b.plans b.marks y f g below go.top)
       r =
-          subst (λ todos.
-          Reached b.one b.other b.facts b.plans b.marks (lawful choose) following f g below todos
+          subst (λ all. Reached b.one b.other b.facts b.plans b.marks (lawful choose) following f g below all
           (jumps_ahead b.one b.other b.facts b.plans b.marks y f g below go.top))
-          (ahead_plain b.one b.other b.facts b.plans b.marks from y following.areas.store f g below go.top)
-          (laws.reach b.one b.other b.facts b.plans b.marks from linked.without.steps choose y following f g callers below go
+          (ahead_is b.one b.other b.facts b.plans b.marks y following.areas.store f g below go.top)
+          (laws.ahead.reach b.one b.other b.facts b.plans b.marks from linked.without.steps choose y following f g callers below go
           (record { typed = sound.typed; areas = sound.areas; frames = sound.frames; running = λ goes. omega arith; within = sound.within })
           (subst (λ n. n ≤ MAX_LIVE_WORDS) (sym (step_budget b.other (lawful choose) y)) t.kept.words))
 
-      same : state_reached r.code following g below (plain_ahead b.one b.other b.facts b.plans b.marks y f g below go.top)
+      same : state_reached r.code following g below
+          (first_ahead b.one b.other b.facts b.plans b.marks y following.areas.store f g below go.top
+          ++ frees_of (inserted_by (b.plans g.method)) (freed_ahead b.one b.other b.facts b.plans b.marks y following.areas.store f g below go.top))
           (jumps_ahead b.one b.other b.facts b.plans b.marks y f g below go.top) r.number ≡ z
-      same = there_is f g below news _ _ r
+      same = there_is f g below news
+          (first_ahead b.one b.other b.facts b.plans b.marks y following.areas.store f g below go.top ++ frees_of (inserted_by (b.plans g.method)) (freed_ahead b.one b.other b.facts b.plans b.marks y following.areas.store f g below go.top))
+          (jumps_ahead b.one b.other b.facts b.plans b.marks y f g below go.top) r
+
+      ready_then : IsReady b next following on.fewer t.gone f g below r.code
+          (first_ahead b.one b.other b.facts b.plans b.marks y following.areas.store f g below go.top)
+          (given_ahead b.one b.other b.facts b.plans b.marks y following.areas.store f g below go.top)
+          (freed_ahead b.one b.other b.facts b.plans b.marks y following.areas.store f g below go.top)
+      ready_then =
+          ready laws.ahead b from linked never_choice choose x y t on first_going other_going within f g callers below paired go r.code r.code_is r.number r.number_is
+          r.width go.top
 
       by_next : (fs : List Frame) → next.frames ≡ fs → AllZip (FramesPaired t.gone next.areas.store following.areas.store) fs (f ∷ callers) → Then next z
       by_next [] are pairs = absurd pairs
       by_next (fx ∷ cx) are pairs =
           subst (Then next) same
-          (told_on b from linked laws.busy x y next following t x_still still f g callers below paired go (HeldSince b.facts runs k) (HeldSince b.facts runs (suc k))
-          (WasRetired b.facts runs k) (WasRetired b.facts runs (suc k))
+          (told_on b from linked laws.busy laws.ahead.frees x y next following t x_still still on.fewer f g callers below paired go (HeldSince b.facts runs k)
+          (HeldSince b.facts runs (suc k)) (WasRetired b.facts runs k) (WasRetired b.facts runs (suc k))
           (subst (λ s. TellsOn b s (HeldSince b.facts runs k) (HeldSince b.facts runs (suc k)) (WasRetired b.facts runs k) (WasRetired b.facts runs (suc k))) next_is (tells k))
-          history.0 history.1 (lawful choose) fx cx are go.top r (subst (GoTogetherAt b next) (sym same) together))
+          history.0 history.1 (lawful choose) fx cx are go.top r ready_then
+          (before_frees laws.ahead b from linked never_choice choose x y t on first_going other_going within f g callers below paired go r.code r.code_is r.number
+          r.number_is r.width (first_ahead b.one b.other b.facts b.plans b.marks y following.areas.store f g below go.top)
+          (given_ahead b.one b.other b.facts b.plans b.marks y following.areas.store f g below go.top)
+          (freed_ahead b.one b.other b.facts b.plans b.marks y following.areas.store f g below go.top) ready_then)
+          (before_gone laws.ahead b from linked never_choice choose x y t on first_going other_going within f g callers below paired go r.code r.code_is r.number
+          r.number_is r.width (first_ahead b.one b.other b.facts b.plans b.marks y following.areas.store f g below go.top)
+          (given_ahead b.one b.other b.facts b.plans b.marks y following.areas.store f g below go.top)
+          (freed_ahead b.one b.other b.facts b.plans b.marks y following.areas.store f g below go.top) ready_then))
 
     by_goes : KeptStepGoes b.one b.other b.facts b.plans b.marks t.gone x y (step b.one (lawful never_choice) x) (step b.other (lawful choose) y) → Then next z
     by_goes (BothGo frames going other printed rise within paired sound go) = by_frames frames within paired sound following.frames refl go
@@ -338,10 +359,10 @@ module _ (b : Both) (from : IsWovenFrom b.one b.other b.facts b.plans b.marks) (
       → FramesSince b.one b.facts b.plans b.marks S store frames
   fresh_frames S store orderly [] empty = tt
   fresh_frames S store orderly (g ∷ frames) empty = (
-    λ item code item_is code_is h holder is birth may.
-        absurd (nothing_of_null store birth orderly
-        (subst (λ v. HoldsFreeable store v birth)
-        (empty.0 item code h item_is code_is (slice_get_within (inserted_by (b.plans g.method)).holders h holder is)) may)),
+    λ item code item_is code_is h holder is birth has.
+        absurd (nothing_has (looped_at (inserted_by (b.plans g.method)) h) store birth orderly
+        (subst (λ v. Has (looped_at (inserted_by (b.plans g.method)) h) store v birth)
+        (empty.0 item code h item_is code_is (slice_get_within (inserted_by (b.plans g.method)).holders h holder is)) has)),
     fresh_frames S store orderly frames empty.1,
   )
 

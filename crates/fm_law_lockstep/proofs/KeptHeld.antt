@@ -1,36 +1,40 @@
 -- Behind a site its holder gets what the first program's site gave: an object that no other holder has.
-use Rattle.std.proofs.Common.{◌≡◌, ◌⊎◌, ◌+◌, inl, inr, ℕ, true, false, List, length, Some, None, Contains, slice_get, slice_set, sym, ap, subst, ◌∙◌, arith}
+use Rattle.std.proofs.Common.{◌≡◌, ◌⊎◌, ◌+◌, inl, inr, ℕ, suc, Bool, true, false, List, [], ◌∷◌, length, Some, None, Contains, slice_get, sym, ap, subst, ◌∙◌, arith}
 use Rattle.std.specs.Prelude.{is_some, nat_eq}
 use Rattle.std.specs.List.{AllByRecursion}
 use Rattle.std.proofs.lemmas.Bool.{and_parts, eqb-true}
+use Rattle.std.proofs.lemmas.Option.{none-some}
 use Rattle.fm_base.proofs.ListFacts.{AllByRecursion-at}
 use Rattle.fm_cells.specs.Choices.{lawful}
 use Rattle.fm_cells.specs.Soundness.{IsOrderly}
-use Rattle.fm_cells.specs.Stores.{Store}
+use Rattle.fm_cells.specs.Stores.{object_at, Store}
+use Rattle.fm_chain.specs.Chained.{looped_at}
 use Rattle.fm_code.specs.declared.code_array.Code.{Code}
 use Rattle.fm_conn.specs.Facts.{Facts}
 use Rattle.fm_conn.specs.Links.{typed_method}
 use Rattle.fm_conn.specs.Nodes.{TypedMethod}
-use Rattle.fm_frames.specs.Acts.{Choose}
-use Rattle.fm_frames.specs.States.{Frame, State}
+use Rattle.fm_frames.specs.Acts.{cell_of, Choose}
+use Rattle.fm_frames.specs.States.{Areas, Frame, State, word_at}
 use Rattle.fm_frames.specs.Steps.{is_start, step}
 use Rattle.fm_frames.specs.declared.values.Value.{Value}
 use Rattle.fm_law_held_objects.specs.Above.{NewResultsAreInitialised}
 use Rattle.fm_law_held_objects.specs.Held.{AreHeld}
 use Rattle.fm_law_held_objects.specs.Initialised.{IsInitialised}
+use Rattle.fm_law_held_objects.specs.Keeping.{AreKept}
 use Rattle.fm_law_held_objects.specs.Laws.{KeepingKeepsHeld}
-use Rattle.fm_law_holders.specs.Holding.{Holding, HoldsFreeable}
+use Rattle.fm_law_holders.specs.Holding.{Holding, HoldsFixed, HoldsFreeable, HoldsNull, HoldsOwn}
 use Rattle.fm_law_holders.specs.Laws.{KeptResultsAreOwn, SitesGiveNew}
 use Rattle.fm_law_holders.specs.NewResults.{GoesOnBehind, HasNewResult, IsDone, IsReturnedTo, KeepsObjects}
 use Rattle.fm_law_holders.specs.Uninitialised.{AreMadeIn, FrameIsMade, Made, made_after}
 use Rattle.fm_law_lockstep.proofs.HeldTwins.{twin_holds, twin_may}
 use Rattle.fm_law_lockstep.specs.Known.{IsKnown, IsKnownOn, IsLinked}
-use Rattle.fm_law_two_memories.specs.Pairing.{ArePaired, Gone, SameValue}
+use Rattle.fm_law_two_memories.specs.Pairing.{AreasPaired, Gone, SameValue}
+use Rattle.fm_law_unwoven.specs.Doing.{areas_after, IsNotHeld, joins_in, locals_after, Misses}
+use Rattle.fm_law_unwoven.specs.Laid.{to_keep}
 use Rattle.fm_place.proofs.FullLemmas.{Numbered, numbers-found}
 use Rattle.fm_place.specs.Insertions.{after_at, Holder, Insertions}
 use Rattle.fm_place.specs.Safe.{IsSafeHolder}
 use Rattle.fm_place.specs.Sites.{is_captured, is_captured_site, site_class, site_kind}
-use Rattle.fm_place.specs.Woven.{local_of}
 use Rattle.fm_same.specs.Colours.{Colour}
 use Rattle.fm_same.specs.Covering.{CoversAt}
 use Rattle.fm_same.specs.Regions.{Retired}
@@ -38,6 +42,12 @@ use Rattle.fm_same.specs.Standing.{Called, Stand, Waits}
 use Rattle.fm_types.specs.States.{TypeState}
 use Rattle.fm_types.specs.Typed.{state_at}
 use Rattle.fm_world.specs.Programs.{code_at, Program}
+
+-- what a value leads to that a holder may hold is held
+holding_found : (store : Store) (colour : Colour) (depth class : ℕ) (v : Value) → Holding store colour depth class v → IsNotHeld store (cell_of v) → ⊥
+holding_found store colour depth class v (HoldsNull none) misses = let no : suc misses.0 ≡ 0 = sym misses.1 ∙ ap cell_of none in omega (arith, no)
+holding_found store colour depth class v (HoldsFixed object held fixed) misses = none-some object (sym misses.2 ∙ ap (object_at store) (sym misses.1) ∙ held)
+holding_found store colour depth class v (HoldsOwn object held loose own) misses = none-some object (sym misses.2 ∙ ap (object_at store) (sym misses.1) ∙ held)
 
 module _ (new : SitesGiveNew) (own : KeptResultsAreOwn) (p : Program) (facts : Facts) (linked : IsLinked p facts) (choose : Choose) (x : State) (colour : Colour) (made : Made)
     (known : IsKnown p facts x colour made) (on : IsKnownOn p facts x (step p (lawful choose) x).state colour made) (going : x.ended ≡ None)
@@ -116,16 +126,28 @@ module _ (new : SitesGiveNew) (own : KeptResultsAreOwn) (p : Program) (facts : F
           next_stand on.known.made_at code code_is captured known.for_none_above on.known.for_none_above
 
       module _ (keeping : KeepingKeepsHeld) (fresh : NewResultsAreInitialised) (gone : Gone)
-          (retired : (birth : ℕ) → gone.births birth ≡ true → on.fewer birth ≡ Retired) (store later : Store) (orderly : IsOrderly store)
-          (births : store.births ≡ x.areas.store.births) (stays : KeepsObjects store later) (paired : ArePaired gone p.outline next.areas.store later)
+          (retired : (birth : ℕ) → gone.births birth ≡ true → on.fewer birth ≡ Retired) (store : Store) (y : Areas) (orderly : IsOrderly store)
+          (births : store.births ≡ x.areas.store.births) (stays : KeepsObjects store y.store) (paired : AreasPaired gone p.outline next.areas y)
           (locals : List Value) (had : AreHeld facts.typing x colour (length callers) store code plan locals)
-          (have : AreHeld facts.typing next on.fewer (length callers) later code plan locals) (width : length locals ≡ code.max_locals + length plan.holders)
-          (w : Value) (same : SameValue gone next.areas.store later result.result w) where
-        -- its holder keeps the twin of that
-        pub result_kept : AreHeld facts.typing next on.fewer (length callers) later code plan (slice_set locals (local_of code only) w)
+          (have : AreHeld facts.typing next on.fewer (length callers) y.store code plan locals) (width : length locals ≡ code.max_locals + length plan.holders)
+          (stack : List Value) (same : SameValue gone next.areas.store y.store result.result (word_at stack 0)) where
+        holding : Holding y.store on.fewer (length callers) listed.holder.class (word_at stack 0)
+        holding =
+            twin_holds gone p.outline next.areas.store y.store paired.store on.fewer retired (length callers) listed.holder.class result.result
+            (word_at stack 0) same result_holds
+
+        -- its holder keeps the twin of that, or that joins its chain
+        pub result_kept : AreKept p.outline facts.typing next on.fewer (length callers) code plan (only ∷ []) (word_at stack 0) gone y
+            (areas_after code stack locals (to_keep (looped_at plan only) (joins_in y.store (cell_of (word_at stack 0))) only) y) locals
+            (locals_after code stack (to_keep (looped_at plan only) (joins_in y.store (cell_of (word_at stack 0))) only) locals)
         result_kept =
-            keeping p facts x next colour on.fewer made known_at.0 f callers behind known_at.1 result paired.orderly made_in store later orderly
-            paired.other_orderly births stays code plan locals had have width only listed.holder holder_at w
-            (twin_holds gone p.outline next.areas.store later paired on.fewer retired (length callers) listed.holder.class result.result w same result_holds)
-            (twin_may gone p.outline next.areas.store later paired on.fewer retired (length callers) listed.holder.class result.result w same result_holds)
+            keeping p facts x next colour on.fewer made known_at.0 f callers behind known_at.1 result paired.store.orderly made_in gone p.outline store y
+            orderly paired births stays code plan locals had have width only listed.holder holder_at stack holding
+            (twin_may gone p.outline next.areas.store y.store paired.store on.fewer retired (length callers) listed.holder.class result.result
+            (word_at stack 0) same result_holds)
             (initialised fresh)
+
+        -- and it is held, if it isn't null
+        pub result_found : (looped joins : Bool) → Misses code y stack locals (to_keep looped joins only) → ⊥
+        result_found false joins misses = misses
+        result_found true joins misses = holding_found y.store on.fewer (length callers) listed.holder.class (word_at stack 0) holding misses

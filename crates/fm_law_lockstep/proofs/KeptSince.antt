@@ -6,6 +6,7 @@ use Rattle.std.proofs.lemmas.Bool.{and_parts, cases_Bool, eqb-true}
 use Rattle.std.proofs.lemmas.Option.{same_Some}
 use Rattle.std.proofs.lemmas.Slice.Zip.{AllZip-long}
 use Rattle.fm_base.proofs.ListFacts.{AllByRecursion-at}
+use Rattle.fm_cells.specs.Stores.{Store}
 use Rattle.fm_code.specs.declared.code_array.Code.{Code}
 use Rattle.fm_conn.specs.Facts.{Facts}
 use Rattle.fm_conn.specs.Links.{typed_method}
@@ -14,14 +15,14 @@ use Rattle.fm_frames.specs.Acts.{cell_of}
 use Rattle.fm_frames.specs.States.{Frame, State, word_at}
 use Rattle.fm_frames.specs.declared.values.Value.{Value}
 use Rattle.fm_law_holders.specs.Holding.{HoldsFreeable}
+use Rattle.fm_law_holders.specs.Uninitialised.{Made}
 use Rattle.fm_law_lockstep.proofs.HeldTwins.{there_may}
 use Rattle.fm_law_lockstep.proofs.Seen.{itself}
 use Rattle.fm_law_lockstep.specs.Both.{Both}
-use Rattle.fm_law_lockstep.specs.Known.{IsLinked}
-use Rattle.fm_law_lockstep.specs.Together.{GoTogetherAt}
+use Rattle.fm_law_lockstep.specs.Known.{IsKnown, IsLinked}
 use Rattle.fm_law_sound.proofs.FramesStand.{typing_of}
 use Rattle.fm_law_sound.specs.Sound.{AreTyped, HasKind, Stand, StandsWithout}
-use Rattle.fm_law_two_memories.specs.Pairing.{SameValue}
+use Rattle.fm_law_two_memories.specs.Pairing.{ArePaired, Gone, SameValue}
 use Rattle.fm_law_two_memories.specs.Seeing.{IsThere}
 use Rattle.fm_place.proofs.BusyLemmas.{depth_of}
 use Rattle.fm_place.proofs.FullLemmas.{Numbered, numbers-found}
@@ -30,9 +31,10 @@ use Rattle.fm_place.specs.Places.{is_busy}
 use Rattle.fm_place.specs.Safe.{IsSafeHolder}
 use Rattle.fm_place.specs.Sites.{is_captured, is_captured_site, site_class, site_kind}
 use Rattle.fm_same.proofs.Retiring.{dead_if_retired}
-use Rattle.fm_same.specs.Colours.{node_of_word}
+use Rattle.fm_same.specs.Colours.{Colour, node_of_word}
 use Rattle.fm_same.specs.DeadRegions.{InWord, InWordOf, IsHeldAt, IsRoot, LeadsTo}
 use Rattle.fm_same.specs.Laws.{SitesMakeBusy}
+use Rattle.fm_same.specs.Regions.{Retired}
 use Rattle.fm_types.specs.Typed.{state_at}
 use Rattle.fm_world.specs.Programs.{code_at, Program}
 
@@ -79,9 +81,11 @@ module _ (p : Program) (facts : Facts) (linked : IsLinked p facts) (busy : Sites
 
 -- ---- on top of the stack
 
-module _ (b : Both) (next z : State) (u : GoTogetherAt b next z) (fx : Frame) (cx : List Frame) (are : next.frames ≡ fx ∷ cx) where
+module _ (b : Both) (next : State) (colour : Colour) (made : Made) (known : IsKnown b.one b.facts next colour made) (gone : Gone)
+    (retired : (birth : ℕ) → gone.births birth ≡ true → colour birth ≡ Retired) (other : Store) (paired : ArePaired gone b.one.outline next.areas.store other)
+    (fx : Frame) (cx : List Frame) (are : next.frames ≡ fx ∷ cx) where
   stands : StandsWithout b.one b.facts.typing 0 fx
-  stands = (subst (Stand b.one b.facts.typing) are u.known.whole.sound.frames).0
+  stands = (subst (Stand b.one b.facts.typing) are known.whole.sound.frames).0
 
   -- the node of the highest word is that on top by the typing
   pub top_node : (method : ℕ) (code : Code) (item : ℕ) → fx.method ≡ method → fx.item ≡ item
@@ -95,11 +99,11 @@ module _ (b : Both) (next z : State) (u : GoTogetherAt b next z) (fx : Frame) (c
       (λ k. Slot (item_is k) (same k))
 
   -- what a root leads to isn't gone
-  root_there : (v : Value) → IsRoot b.facts next.frames v → IsThere u.gone next.areas.store (cell_of v)
+  root_there : (v : Value) → IsRoot b.facts next.frames v → IsThere gone next.areas.store (cell_of v)
   root_there v root found held =
       ⊎_elim
       (λ lost.
-      absurd ((dead_if_retired b.one b.facts next next u.colour found.birth u.known.coloured (u.retired found.birth lost) (itself b.one b.facts next u.colour u.known.coloured)).no_root
+      absurd ((dead_if_retired b.one b.facts next next colour found.birth known.coloured (retired found.birth lost) (itself b.one b.facts next colour known.coloured)).no_root
       v root
       (record {
         trail = [];
@@ -107,10 +111,10 @@ module _ (b : Both) (next z : State) (u : GoTogetherAt b next z) (fx : Frame) (c
         follows = refl;
         object = found;
         held = held;
-        not_fixed = u.paired.areas.store.loose (cell_of v) found held lost;
+        not_fixed = paired.loose (cell_of v) found held lost;
         is = refl;
       })))
-      (λ here. here) (cases_Bool (u.gone.births found.birth))
+      (λ here. here) (cases_Bool (gone.births found.birth))
 
   -- what the second frame's highest word leads to, the first one's does, and its class holds it
   pub record IsOnTop (depth class birth : ℕ) : Type 0 where
@@ -119,22 +123,22 @@ module _ (b : Both) (next z : State) (u : GoTogetherAt b next z) (fx : Frame) (c
     pub leads : LeadsTo b.one.outline next.areas.store value birth
 
   pub on_top : (depth class birth : ℕ) (stack : List Value) → length cx ≡ depth → b.facts.class fx.method (node_of_word fx 0) ≡ class
-      → AllZip (SameValue u.gone next.areas.store z.areas.store) fx.stack stack → 0 < length stack → HoldsFreeable z.areas.store (word_at stack 0) birth
+      → AllZip (SameValue gone next.areas.store other) fx.stack stack → 0 < length stack → HoldsFreeable other (word_at stack 0) birth
       → IsOnTop depth class birth
   on_top depth class birth stack count class_is same some may = by_stack fx.stack refl stack same some may where
-    by_value : (v w : Value) → slice_get fx.stack 0 ≡ Some v → SameValue u.gone next.areas.store z.areas.store v w → HoldsFreeable z.areas.store w birth
+    by_value : (v w : Value) → slice_get fx.stack 0 ≡ Some v → SameValue gone next.areas.store other v w → HoldsFreeable other w birth
         → IsOnTop depth class birth
     by_value v w at twin theirs =
         let root : IsRoot b.facts next.frames v = subst (λ fs. IsRoot b.facts fs v) (sym are) (inl (InWord 0 at)) in
-        let mine = there_may u.gone b.one.outline next.areas.store z.areas.store u.paired.areas.store u.colour u.retired v w twin (root_there v root) birth theirs in
+        let mine = there_may gone b.one.outline next.areas.store other paired colour retired v w twin (root_there v root) birth theirs in
         record {
           value = v;
           held = subst (λ fs. IsHeldAt b.facts depth class fs v) (sym are) (inl (count, InWordOf 0 at class_is));
           leads = record { trail = []; last = cell_of v; follows = refl; object = mine.object; held = mine.held; not_fixed = mine.not_fixed; is = mine.birth_is };
         }
 
-    by_stack : (vs : List Value) → fx.stack ≡ vs → (ws : List Value) → AllZip (SameValue u.gone next.areas.store z.areas.store) vs ws → 0 < length ws
-        → HoldsFreeable z.areas.store (word_at ws 0) birth → IsOnTop depth class birth
+    by_stack : (vs : List Value) → fx.stack ≡ vs → (ws : List Value) → AllZip (SameValue gone next.areas.store other) vs ws → 0 < length ws
+        → HoldsFreeable other (word_at ws 0) birth → IsOnTop depth class birth
     by_stack [] is [] twins more theirs = absurd (omega (arith, more))
     by_stack [] is (w ∷ ws) twins more theirs = absurd twins
     by_stack (v ∷ vs) is [] twins more theirs = absurd twins

@@ -11,12 +11,13 @@ pub mod StepsTogether
 pub mod NothingFreed
 pub mod HeldTwins
 pub mod FramesHeld
-pub mod PlainTodos
-pub mod QuietTodos
+pub mod Ahead
+pub mod FoundTodos
 pub mod StepHeld
 pub mod KeptHeld
 pub mod BehindHeld
 pub mod FreedTogether
+pub mod AheadHeld
 pub mod CatchUp
 pub mod Paced
 pub mod OpeningWords

@@ -1,9 +1,11 @@
 -- In matched states what the second run lacks was retired, so all else has another cell.
 use Rattle.fm_cells.specs.Choices.{lawful, never_choice}
+use Rattle.fm_law_lockstep.proofs.AheadHeld.{CatchLaws}
+use Rattle.fm_law_lockstep.proofs.CatchUp.{programs_catch_up}
 use Rattle.fm_law_lockstep.proofs.Histories.{HistoryLaws, IsPaceSince, keep_paces_since}
 use Rattle.fm_law_lockstep.proofs.Renamed.{missing_renamed}
 use Rattle.fm_law_lockstep.specs.Both.{Both}
-use Rattle.fm_law_lockstep.specs.Composing.{LockstepsStep, ProgramsCatchUp}
+use Rattle.fm_law_lockstep.specs.Composing.{LockstepsStep}
 use Rattle.fm_law_lockstep.specs.Known.{IsLinked, StepsStayKnown}
 use Rattle.fm_law_lockstep.specs.Limits.{ShallowStepsCost}
 use Rattle.fm_law_lockstep.specs.Opening.{OpeningsAreTogether}
@@ -14,9 +16,6 @@ use Rattle.fm_law_same_runs.proofs.Openings.{runs_go}
 use Rattle.fm_law_same_runs.proofs.Paces.{matches_keep_pace}
 use Rattle.fm_law_same_runs.specs.Beside.{Beside, runs_of}
 use Rattle.fm_law_same_runs.specs.Renaming.{WasRetired}
-use Rattle.fm_law_two_memories.specs.Whole.{NextEffectsAreAlike}
-use Rattle.fm_law_unwoven.specs.Kept.{KeptStepsAreSteps}
-use Rattle.fm_law_unwoven.specs.Reached.{FramesReachKept}
 use Rattle.fm_law_unwoven.specs.WovenFrom.{IsWovenFrom}
 use Rattle.fm_same.specs.Laws.{SitesMakeBusy}
 
@@ -25,10 +24,7 @@ pub record RetiringLaws : Type 0 where
   pub kept_go : KeptStepsGoTogether
   pub known_on : StepsStayKnown
   pub step_costs : ShallowStepsCost
-  pub catch_up : ProgramsCatchUp
-  pub alike : NextEffectsAreAlike
-  pub kept : KeptStepsAreSteps
-  pub reach : FramesReachKept
+  pub ahead : CatchLaws
   pub busy : SitesMakeBusy
   pub costs : TogetherCostsSame
   pub steps : LockstepsStep
@@ -39,10 +35,8 @@ history_laws laws b from linked = record {
   kept_go = laws.kept_go;
   known_on = laws.known_on;
   costs = laws.step_costs;
-  catch_up = laws.catch_up b from linked;
-  alike = laws.alike;
-  kept = laws.kept;
-  reach = laws.reach;
+  catch_up = programs_catch_up laws.ahead b from linked;
+  ahead = laws.ahead;
   busy = laws.busy;
 }
 

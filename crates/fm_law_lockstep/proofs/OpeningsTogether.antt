@@ -1,11 +1,12 @@
 -- The openings of both programs go together: the second one's first frames have no holders that hold anything.
 use Rattle.std.proofs.Common.{◌≡◌, ℕ, false, ◌+◌, ◌<◌, ◌≤◌, List, [], ◌∷◌, ◌++◌, append-nil, length, map, take, Option, Some, None, Contains, get_or, unwrap_or, refl, sym, ap, subst, ◌∙◌, arith}
-use Rattle.std.specs.List.{AllByRecursion, AllZip}
+use Rattle.std.specs.List.{AllByRecursion, AllZip, range_with_len}
 use Rattle.std.proofs.lemmas.Bool.{false≢true}
 use Rattle.std.proofs.lemmas.Option.{none-some, same_Some, slice_get-get_or, slice_get_within}
 use Rattle.fm_base.specs.declared.limits.TheConstants.{MAX_LIVE_WORDS, MAX_MADE_WORDS}
 use Rattle.fm_cells.specs.Choices.{lawful}
 use Rattle.fm_cells.specs.Stores.{opened, Store}
+use Rattle.fm_chain.specs.Chained.{looped_at}
 use Rattle.fm_conn.specs.Links.{typed_method}
 use Rattle.fm_conn.specs.Nodes.{TypedMethod}
 use Rattle.fm_frames.specs.Acts.{Choose}
@@ -21,8 +22,7 @@ use Rattle.fm_law_held_objects.specs.Held.{AreHeld, FrameIsHeld, FramesAreHeld}
 use Rattle.fm_law_lockstep.proofs.FramesHeld.{news_held, nulls_held}
 use Rattle.fm_law_lockstep.proofs.NullsFreed.{nulls_areas, nulls_not_lost}
 use Rattle.fm_law_lockstep.proofs.OpeningWords.{IsFresh, opening_fresh}
-use Rattle.fm_law_lockstep.proofs.PlainTodos.{ahead_plain, plain_ahead}
-use Rattle.fm_law_lockstep.proofs.QuietTodos.{starts_quiet}
+use Rattle.fm_law_lockstep.proofs.FoundTodos.{FindsAll, starts_areas, starts_find}
 use Rattle.fm_law_lockstep.specs.Both.{Both}
 use Rattle.fm_law_lockstep.specs.Known.{IsKnown, IsLinked}
 use Rattle.fm_law_lockstep.specs.Opening.{OpeningsAreTogether}
@@ -43,11 +43,11 @@ use Rattle.fm_law_two_memories.specs.Pairing.{EndAlike, FramesPaired, none_gone,
 use Rattle.fm_law_two_memories.specs.Runs.{LacksWords}
 use Rattle.fm_law_unwoven.proofs.HoldersGo.{started_null}
 use Rattle.fm_law_unwoven.proofs.KeptSites.{safe_at}
-use Rattle.fm_law_unwoven.proofs.TodoLocals.{after_both, length_after, null_after, old_after}
+use Rattle.fm_law_unwoven.proofs.TodoLocals.{after_both, frees_same, length_after, null_after, old_after}
 use Rattle.fm_law_unwoven.specs.Doing.{all_areas_after, all_locals_after, all_steps_to, IsPassed}
 use Rattle.fm_law_unwoven.specs.Kept.{Begins, BeginsOn, BothDo, BothFault, but_frames, FrameGoes, FramesGo, HasWaited, InMethod, IsAtKept, IsNew, old_frame, old_state, OpeningsAreOpenings, Resumes, StatesGo, StepsAlike}
-use Rattle.fm_law_unwoven.specs.Laid.{starts_of, Todo, ToFree}
-use Rattle.fm_law_unwoven.specs.Reached.{AllReached, FramesReachKept, IsReached, jumps_ahead, OneMissed, Reached, state_reached}
+use Rattle.fm_law_unwoven.specs.Laid.{frees_at, starts_of, Todo}
+use Rattle.fm_law_unwoven.specs.Reached.{AllReached, FramesReachKept, IsReached, jumps_ahead, OneMissed, Reached, state_reached, todos_ahead}
 use Rattle.fm_law_unwoven.specs.WovenFrom.{inserted_by, IsWovenFrom}
 use Rattle.fm_law_unwoven.proofs.Cleared.{none_at_first}
 use Rattle.fm_place.specs.Insertions.{before_at, Holder, Insertions}
@@ -199,12 +199,12 @@ module _ (laws : OpeningLaws) (b : Both) (from : IsWovenFrom b.one b.other b.fac
 
     module _ (go : FramesGo b.one b.other b.facts b.plans b.marks (but_frames z) f g callers below) (first_item : f.item ≡ 0)
         (news : AllByRecursion (λ (h : Frame). h.item ≡ 0) below)
-        (r : Reached b.one b.other b.facts b.plans b.marks (lawful second) z f g below (starts_of plan ++ map ToFree (before_at plan f.item)) 0) where
+        (r : Reached b.one b.other b.facts b.plans b.marks (lawful second) z f g below (starts_of plan ++ frees_at plan f.item) 0) where
       abbrev x_method : TypedMethod
       x_method = typed_method b.one b.facts.typing g.method r.code
 
       abbrev todos : List Todo
-      todos = starts_of plan ++ map ToFree (before_at plan f.item)
+      todos = starts_of plan ++ frees_at plan f.item
 
       abbrev started_locals : List Value
       started_locals = all_locals_after r.code g.stack (starts_of plan) g.locals
@@ -224,6 +224,12 @@ module _ (laws : OpeningLaws) (b : Both) (from : IsWovenFrom b.one b.other b.fac
       inside : (h : ℕ) → h < length plan.holders → local_of r.code h < length started_locals
       inside h few = let size = wide in omega (arith, size, few)
 
+      starts_found : FindsAll r.code g.stack (starts_of plan) g.locals z.areas
+      starts_found = starts_find r.code g.stack (range_with_len 0 (length plan.holders)) g.locals z.areas
+
+      starts_same : all_areas_after r.code g.stack (starts_of plan) g.locals z.areas ≡ z.areas
+      starts_same = starts_areas r.code g.stack (range_with_len 0 (length plan.holders)) g.locals z.areas
+
       abbrev caught : State
       caught = state_reached r.code z g below todos 0 r.number
 
@@ -232,11 +238,14 @@ module _ (laws : OpeningLaws) (b : Both) (from : IsWovenFrom b.one b.other b.fac
 
       areas_are : all_areas_after r.code g.stack todos g.locals z.areas ≡ z.areas
       areas_are =
-          nulls_areas r.code g z.areas (starts_of plan) (starts_quiet _) (before_at plan f.item) (λ h there. inside h (among h there)) (λ h there. all_null h (among h there))
+          nulls_areas r.code g z.areas (starts_of plan) starts_found starts_same (looped_at plan) (before_at plan f.item) (λ h there. inside h (among h there))
+          (λ h there. all_null h (among h there))
 
       null_then : (h : ℕ) → h < length plan.holders → word_at top.locals (local_of r.code h) ≡ null
       null_then h few =
-          ap (λ ls. word_at ls (local_of r.code h)) (after_both r.code g.stack (starts_of plan) (map ToFree (before_at plan f.item)) g.locals)
+          ap (λ ls. word_at ls (local_of r.code h))
+          (after_both r.code g.stack (starts_of plan) (frees_at plan f.item) g.locals
+          ∙ frees_same r.code g.stack (looped_at plan) (before_at plan f.item) started_locals)
           ∙ null_after r.code g.stack h (before_at plan f.item) started_locals (inside h few) (all_null h few)
 
       top_held : FrameIsHeld b.one b.facts b.plans b.marks x colour (length below) z.areas.store top
@@ -304,7 +313,8 @@ module _ (laws : OpeningLaws) (b : Both) (from : IsWovenFrom b.one b.other b.fac
 
       by_done : IsReached b.one b.other b.facts b.plans b.marks (lawful second) r.code z g below todos 0 r.number → CatchesUpEmpty
       by_done (OneMissed lost number last end fewer passed inserted printed ended) =
-          absurd (nulls_not_lost r.code g z.areas (starts_of plan) (starts_quiet _) (before_at plan f.item) (λ h there. inside h (among h there))
+          absurd (nulls_not_lost r.code g z.areas (starts_of plan) starts_found starts_same (looped_at plan) (before_at plan f.item)
+          (λ h there. inside h (among h there))
           (λ h there. all_null h (among h there)) lost)
       by_done (AllReached passed kept) = (
         record {
@@ -324,7 +334,8 @@ module _ (laws : OpeningLaws) (b : Both) (from : IsWovenFrom b.one b.other b.fac
 
     abbrev Reaches : FrameGoes b.one b.other b.facts b.plans b.marks (but_frames z) f g below → Type 0
     Reaches way =
-        Reached b.one b.other b.facts b.plans b.marks (lawful second) z f g below (plain_ahead b.one b.other b.facts b.plans b.marks (but_frames z) f g below way)
+        Reached b.one b.other b.facts b.plans b.marks (lawful second) z f g below
+        (todos_ahead b.one b.other b.facts b.plans b.marks (but_frames z) z.areas.store f g below way)
         (jumps_ahead b.one b.other b.facts b.plans b.marks (but_frames z) f g below way)
 
     -- none was there before
@@ -346,12 +357,8 @@ module _ (laws : OpeningLaws) (b : Both) (from : IsWovenFrom b.one b.other b.fac
     pub caught_up : FramesGo b.one b.other b.facts b.plans b.marks (but_frames z) f g callers below → CatchesUpEmpty
     caught_up go =
         onwards go go.top
-        (subst (λ todos.
-        Reached b.one b.other b.facts b.plans b.marks (lawful second) z f g below todos
-        (jumps_ahead b.one b.other b.facts b.plans b.marks (but_frames z) f g below go.top))
-        (ahead_plain b.one b.other b.facts b.plans b.marks from (but_frames z) z.areas.store f g below go.top)
         (laws.reach b.one b.other b.facts b.plans b.marks from linked.without.steps second (but_frames z) z f g callers below go held_sound
-        (subst (λ n. n ≤ MAX_LIVE_WORDS) (sym (opening_budget b.one (lawful second) job two)) other_few)))
+        (subst (λ n. n ≤ MAX_LIVE_WORDS) (sym (opening_budget b.one (lawful second) job two)) other_few))
 
   by_frames : AlikeStill none_gone b.one.outline b.words b.other_words (Some MAX_MADE_WORDS) x z → z.ended ≡ None → x.ended ≡ None → but_frames y ≡ but_frames z
       → (fs gs : List Frame) → z.frames ≡ fs → y.frames ≡ gs → StatesGo b.one b.other b.facts b.plans b.marks (but_frames z) fs gs → CatchesUpEmpty

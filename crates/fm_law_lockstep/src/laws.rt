@@ -146,13 +146,18 @@ pub fn law_retired()
     law_known();
     law_kept_together();
     law_step_costs();
-    law_caught_up();
     law_lockstep();
     law_opens();
     law_costs();
     law_kept_steps();
     law_reached();
     law_sites();
+    law_within();
+    law_new_results();
+    law_held_steps();
+    law_keeping();
+    law_new_initialised();
+    law_frees();
     fm_law_two_memories::law_rows();
 }
 

@@ -1,6 +1,6 @@
--- Inserted items that free nothing, before those that do: what is lost is lost by the latter. And no free changes the limits of a store.
-use Rattle.std.proofs.Common.{◌≡◌, ℕ, zero, suc, ◌+◌, Bool, true, false, cond, List, [], ◌∷◌, ◌++◌, map, Option, Some, None, refl, ap, subst, ◌∙◌}
-use Rattle.std.specs.List.{AllByRecursion}
+-- What is done one after the other: what finds what it needs isn't lost, so what is lost is lost by what comes behind. And nothing that is done changes the limits
+-- of a store.
+use Rattle.std.proofs.Common.{◌≡◌, ℕ, zero, suc, ◌+◌, Bool, true, false, cond, List, [], ◌∷◌, ◌++◌, append-nil, map, Option, Some, None, refl, sym, subst}
 use Rattle.fm_cells.specs.Changes.{freed_by, on_object, with_chain, with_object, without_object}
 use Rattle.fm_cells.specs.Objects.{Object, object_words}
 use Rattle.fm_cells.specs.Stores.{object_at, Store}
@@ -14,101 +14,78 @@ use Rattle.fm_law_unwoven.specs.Doing.{all_areas_after, all_locals_after, areas_
 use Rattle.fm_law_unwoven.specs.Laid.{Todo, ToFree, ToFreeAll, ToKeep, ToLink, ToStart}
 use Rattle.fm_place.specs.Woven.{local_of}
 
--- nothing is freed
-abbrev pub IsQuiet : Todo → Type 0
-IsQuiet (ToStart h) = Unit {0}
-IsQuiet (ToKeep h) = Unit {0}
-IsQuiet (ToLink h joins) = ⊥
-IsQuiet (ToFree h) = ⊥
-IsQuiet (ToFreeAll h) = ⊥
+module _ (old : Code) (stack : List Value) where
+  -- each thing finds what it needs, after those before it are done
+  abbrev pub FindsAll : List Todo → List Value → Areas → Type 0
+  FindsAll [] locals areas = Unit {0}
+  FindsAll (t ∷ todos) locals areas =
+      (Misses old areas stack locals t → ⊥) × FindsAll todos (locals_after old stack t locals) (areas_after old stack locals t areas)
 
--- nothing is put before a chain, and no chain is freed
-abbrev pub IsPlain : Todo → Type 0
-IsPlain (ToStart h) = Unit {0}
-IsPlain (ToKeep h) = Unit {0}
-IsPlain (ToLink h joins) = ⊥
-IsPlain (ToFree h) = Unit {0}
-IsPlain (ToFreeAll h) = ⊥
+  pub finds_both : (one two : List Todo) (locals : List Value) (areas : Areas) → FindsAll one locals areas
+      → FindsAll two (all_locals_after old stack one locals) (all_areas_after old stack one locals areas) → FindsAll (one ++ two) locals areas
+  finds_both [] two locals areas first second = second
+  finds_both (t ∷ one) two locals areas first second =
+      (first.0, finds_both one two (locals_after old stack t locals) (areas_after old stack locals t areas) first.1 second)
 
-plain_frees : (hs : List ℕ) → AllByRecursion IsPlain (map ToFree hs)
-plain_frees [] = tt
-plain_frees (h ∷ hs) = (tt, plain_frees hs)
+  -- one after the other
+  pub areas_both : (one two : List Todo) (locals : List Value) (areas : Areas)
+      → all_areas_after old stack (one ++ two) locals areas
+      ≡ all_areas_after old stack two (all_locals_after old stack one locals) (all_areas_after old stack one locals areas)
+  areas_both [] two locals areas = refl
+  areas_both (t ∷ one) two locals areas = areas_both one two (locals_after old stack t locals) (areas_after old stack locals t areas)
 
-plain_one : (t : Todo) → IsQuiet t → IsPlain t
-plain_one (ToStart h) quiet = tt
-plain_one (ToKeep h) quiet = tt
-plain_one (ToLink h joins) quiet = absurd quiet
-plain_one (ToFree h) quiet = absurd quiet
-plain_one (ToFreeAll h) quiet = absurd quiet
+  -- ---- at the start
 
-pub plain_before : (quiet : List Todo) → AllByRecursion IsQuiet quiet → (hs : List ℕ) → AllByRecursion IsPlain (quiet ++ map ToFree hs)
-plain_before [] all hs = plain_frees hs
-plain_before (t ∷ quiet) all hs = (plain_one t all.0, plain_before quiet all.1 hs)
+  pub starts_find : (hs : List ℕ) (locals : List Value) (areas : Areas) → FindsAll (map ToStart hs) locals areas
+  starts_find [] locals areas = tt
+  starts_find (h ∷ hs) locals areas = ((λ misses. misses), starts_find hs (locals_after old stack (ToStart h) locals) areas)
 
-pub starts_quiet : (hs : List ℕ) → AllByRecursion IsQuiet (map ToStart hs)
-starts_quiet [] = tt
-starts_quiet (h ∷ hs) = (tt, starts_quiet hs)
-
-pub keeps_quiet : (hs : List ℕ) → AllByRecursion IsQuiet (map ToKeep hs)
-keeps_quiet [] = tt
-keeps_quiet (h ∷ hs) = (tt, keeps_quiet hs)
+  pub starts_areas : (hs : List ℕ) (locals : List Value) (areas : Areas) → all_areas_after old stack (map ToStart hs) locals areas ≡ areas
+  starts_areas [] locals areas = refl
+  starts_areas (h ∷ hs) locals areas = starts_areas hs (locals_after old stack (ToStart h) locals) areas
 
 module _ (old : Code) where
-  one_quiet : (stack : List Value) (t : Todo) → IsQuiet t → (locals : List Value) (areas : Areas) → areas_after old stack locals t areas ≡ areas
-  one_quiet stack (ToStart h) quiet locals areas = refl
-  one_quiet stack (ToKeep h) quiet locals areas = refl
-  one_quiet stack (ToLink h joins) quiet locals areas = absurd quiet
-  one_quiet stack (ToFree h) quiet locals areas = absurd quiet
-  one_quiet stack (ToFreeAll h) quiet locals areas = absurd quiet
-
-  -- the areas are those of what is behind
-  pub quiet_areas : (stack : List Value) (quiet rest : List Todo) → AllByRecursion IsQuiet quiet → (locals : List Value) (areas : Areas)
-      → all_areas_after old stack (quiet ++ rest) locals areas ≡ all_areas_after old stack rest (all_locals_after old stack quiet locals) areas
-  quiet_areas stack [] rest all locals areas = refl
-  quiet_areas stack (t ∷ quiet) rest all locals areas =
-      ap (all_areas_after old stack (quiet ++ rest) (locals_after old stack t locals)) (one_quiet stack t all.0 locals areas)
-      ∙ quiet_areas stack quiet rest all.1 (locals_after old stack t locals) areas
-
   -- ---- what is lost
 
   -- the frame with what these leave in its locals
   abbrev pub frame_after : Frame → List Todo → Frame
-  frame_after f quiet = record f { locals = all_locals_after old f.stack quiet f.locals }
+  frame_after f first = record f { locals = all_locals_after old f.stack first f.locals }
 
   module _ (f : Frame) (areas : Areas) where
-    misses_none : (t : Todo) → IsQuiet t → Misses old areas f.stack f.locals t → ⊥
-    misses_none (ToStart h) quiet misses = misses
-    misses_none (ToKeep h) quiet misses = misses
-    misses_none (ToLink h joins) quiet misses = quiet
-    misses_none (ToFree h) quiet misses = quiet
-    misses_none (ToFreeAll h) quiet misses = quiet
-
-    behind_one : (t : Todo) → IsQuiet t → (todos before : List Todo) (todo : Todo) (behind : List Todo) → t ∷ todos ≡ before ++ todo ∷ behind
+    behind_one : (t : Todo) → (Misses old areas f.stack f.locals t → ⊥) → (todos before : List Todo) (todo : Todo) (behind : List Todo)
+        → t ∷ todos ≡ before ++ todo ∷ behind
         → Misses old (all_areas_after old f.stack before f.locals areas) f.stack (all_locals_after old f.stack before f.locals) todo
-        → IsLost old (frame_after f (t ∷ [])) areas todos
-    behind_one t quiet todos [] todo behind is misses =
-        let same : todo ≡ t = cc in absurd (misses_none t quiet (subst (Misses old areas f.stack f.locals) same misses))
-    behind_one t quiet todos (u ∷ before) todo behind is misses =
+        → IsLost old (frame_after f (t ∷ [])) (areas_after old f.stack f.locals t areas) todos
+    behind_one t finds todos [] todo behind is misses =
+        let same : todo ≡ t = cc in absurd (finds (subst (Misses old areas f.stack f.locals) same misses))
+    behind_one t finds todos (u ∷ before) todo behind is misses =
         let same : u ≡ t = cc in
         let others : todos ≡ before ++ todo ∷ behind = cc in
-        let later : List Value = locals_after old f.stack t f.locals in
         record {
           before = before;
           todo = todo;
           behind = behind;
           is = others;
-          misses = subst (λ a. Misses old (all_areas_after old f.stack before later a) f.stack (all_locals_after old f.stack before later) todo)
-              (one_quiet f.stack t quiet f.locals areas)
-              (subst (λ v.
-              Misses old (all_areas_after old f.stack (v ∷ before) f.locals areas) f.stack (all_locals_after old f.stack (v ∷ before) f.locals) todo) same misses);
+          misses = subst (λ v.
+              Misses old (all_areas_after old f.stack (v ∷ before) f.locals areas) f.stack (all_locals_after old f.stack (v ∷ before) f.locals) todo) same misses;
         }
 
-  pub lost_behind : (f : Frame) (areas : Areas) (quiet rest : List Todo) → AllByRecursion IsQuiet quiet → IsLost old f areas (quiet ++ rest)
-      → IsLost old (frame_after f quiet) areas rest
-  lost_behind f areas [] rest all lost = lost
-  lost_behind f areas (t ∷ quiet) rest all lost =
-      lost_behind (frame_after f (t ∷ [])) areas quiet rest all.1
-      (behind_one f areas t all.0 (quiet ++ rest) lost.before lost.todo lost.behind lost.is lost.misses)
+  pub lost_behind : (f : Frame) (areas : Areas) (first rest : List Todo) → FindsAll old f.stack first f.locals areas → IsLost old f areas (first ++ rest)
+      → IsLost old (frame_after f first) (all_areas_after old f.stack first f.locals areas) rest
+  lost_behind f areas [] rest finds lost = lost
+  lost_behind f areas (t ∷ first) rest finds lost =
+      lost_behind (frame_after f (t ∷ [])) (areas_after old f.stack f.locals t areas) first rest finds.1
+      (behind_one f areas t finds.0 (first ++ rest) lost.before lost.todo lost.behind lost.is lost.misses)
+
+  nothing_to_lose : (before behind : List Todo) (todo : Todo) → [] ≡ before ++ todo ∷ behind → ⊥
+  nothing_to_lose [] behind todo is = cc
+  nothing_to_lose (t ∷ before) behind todo is = cc
+
+  -- nothing is, where all find what they need
+  pub none_lost : (f : Frame) (areas : Areas) (todos : List Todo) → FindsAll old f.stack todos f.locals areas → IsLost old f areas todos → ⊥
+  none_lost f areas todos finds lost =
+      let last = lost_behind f areas todos [] finds (subst (IsLost old f areas) (sym (append-nil todos)) lost) in
+      nothing_to_lose last.before last.behind last.todo last.is
 
   -- ---- limits
 
