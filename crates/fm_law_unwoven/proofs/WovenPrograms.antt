@@ -44,19 +44,18 @@ use Rattle.fm_law_retyped.proofs.SafeMethods.{safe_can}
 use Rattle.fm_law_retyped.proofs.WrittenMethods.{HasMember, IsWritten, written_method}
 use Rattle.fm_law_retyped.proofs.WrittenUses.{called, handler_use, insn_use, outlines_same, program_outline, used_by_item}
 use Rattle.fm_law_same_runs.specs.Beside.{Marks}
-use Rattle.fm_law_same_runs.specs.Programs.{AreTaken}
 use Rattle.fm_law_unwoven.proofs.InsertedCalls.{inserted_call}
 use Rattle.fm_law_unwoven.proofs.LaidTodos.{laid}
 use Rattle.fm_law_unwoven.specs.Laid.{IsKept, IsLaid, IsSplit, IsWhole, mark_at, moved_to}
 use Rattle.fm_law_unwoven.proofs.LaidSame.{same_laid}
-use Rattle.fm_law_unwoven.specs.WovenFrom.{AreCalls, HasInserted, inserted_by, IsWovenFrom, NamesTheSame, nothing_inserted, own_marks, SafeProgramsAreWoven}
+use Rattle.fm_law_unwoven.specs.WovenFrom.{AreCalls, ChainedProgramsAreWoven, HasInserted, inserted_by, IsWovenFrom, NamesTheSame, nothing_inserted, own_marks, SafeProgramsAreWoven}
 use Rattle.fm_law_woven_flow.specs.Roles.{CanStand, IsOpposite, IsRetargeted}
 use Rattle.fm_layout.specs.Spelling.{conditional, opposite}
 use Rattle.fm_link_supers.proofs.ParentRefusals.{some_entries, spelled_at}
 use Rattle.fm_place.proofs.SameTypings.{used_same}
 use Rattle.fm_place.specs.Insertions.{Insertions}
 use Rattle.fm_place.specs.Rewriting.{Plans}
-use Rattle.fm_place.specs.Safe.{AreSafe, HoldsNoChain, IsProgramOf, narrowed_to, SafeOf}
+use Rattle.fm_place.specs.Safe.{AreSafe, narrowed_to, SafeOf}
 use Rattle.fm_same.specs.Resolved.{IsResolved}
 use Rattle.fm_types.specs.Typed.{use_by, use_in}
 use Rattle.fm_world.specs.BuiltIns.{built_in, free_me_row}
@@ -332,8 +331,7 @@ module _ (numbered : ClassTypesAreNumbered) (given : List ClassDef) (main : List
 -- the plans may have holders of chains
 module _ (numbered : ClassTypesAreNumbered) (given : List ClassDef) (main : List ℕ) (spelled : AllByRecursion HasSpelling given)
     (resolved : IsResolved (program_of given main)) (made : Option (List Bool)) (facts : Facts) (plans : Plans)
-    (safe : ArePlannedSafely (narrowed_to (program_of given main) made) facts plans)
-    (plain : (method : ℕ) (plan : Insertions) → plans method ≡ Some plan → HoldsNoChain plan) where
+    (safe : ArePlannedSafely (narrowed_to (program_of given main) made) facts plans) where
   abbrev whole : Program
   whole = program_of given main
 
@@ -380,20 +378,15 @@ programs_woven numbered resolve given main taken p is written marks =
     (λ safe.
     let first = narrowed_to (program_of given main) p.made in
     written_woven numbered given main taken.spelled (resolve given main taken.spelled taken.linked taken.few) p.made safe.facts safe.plans
-    (planned_safely first safe.facts safe.plans safe.methods) (λ method plan so. (safe.methods method plan so).plain) written marks
+    (planned_safely first safe.facts safe.plans safe.methods) written marks
     (written_chained first given written marks safe) (marks_chained first given written marks safe))
 
 -- so are those where holders of sites in loops hold chains
-pub chains_woven : ClassTypesAreNumbered → ProgramsAreResolved → (given : List ClassDef) (main : List ℕ) → AreTaken given main → (p : Program)
-    → IsProgramOf given main p → (written : List ClassDef) (marks : Marks) (safe : SafeChainsOf p given written marks)
-    → ((method : ℕ) (plan : Insertions) → looped_plans p safe.plans method ≡ Some plan → HoldsNoChain plan)
-    → IsWovenFrom p (program_of written main) safe.facts (looped_plans p safe.plans) marks
+pub chains_woven : ClassTypesAreNumbered → ProgramsAreResolved → ChainedProgramsAreWoven
 chains_woven numbered resolve given main taken p is written marks =
-    subst (λ r. (safe : SafeChainsOf r given written marks)
-    → ((method : ℕ) (plan : Insertions) → looped_plans r safe.plans method ≡ Some plan → HoldsNoChain plan)
-    → IsWovenFrom r (program_of written main) safe.facts (looped_plans r safe.plans) marks) (sym is)
-    (λ safe plain.
+    subst (λ r. (safe : SafeChainsOf r given written marks) → IsWovenFrom r (program_of written main) safe.facts (looped_plans r safe.plans) marks) (sym is)
+    (λ safe.
     let first = narrowed_to (program_of given main) p.made in
     written_woven numbered given main taken.spelled (resolve given main taken.spelled taken.linked taken.few) p.made safe.facts
-    (looped_plans first safe.plans) (looped_safely first safe.facts safe.plans (planned_safely first safe.facts safe.plans safe.methods)) plain written
-    marks safe.written_is safe.marks_are)
+    (looped_plans first safe.plans) (looped_safely first safe.facts safe.plans (planned_safely first safe.facts safe.plans safe.methods)) written marks
+    safe.written_is safe.marks_are)

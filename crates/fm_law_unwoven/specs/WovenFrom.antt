@@ -1,6 +1,7 @@
 -- What is known of a program and of one that has more in its methods. All laws of the second program rest on it, and on nothing else of class files.
 use Rattle.std.specs.Prelude.{◌≡◌, ℕ, List, [], Option, Some, None, Contains}
 use Rattle.std.specs.List.{slice_index_or}
+use Rattle.fm_chain.specs.SafeChains.{looped_plans, SafeChainsOf}
 use Rattle.fm_chain.specs.declared.calls.Calls.{Calls}
 use Rattle.fm_code.specs.Edges.{insn_of, MeetsCodeRules}
 use Rattle.fm_code.specs.declared.class_file.ClassDef.{ClassDef}
@@ -75,3 +76,10 @@ SafeProgramsAreWoven =
     (given : List ClassDef) (main : List ℕ) → AreTaken given main → (p : Program) → IsProgramOf given main p
     → (written : List ClassDef) (marks : Marks) (safe : SafeOf p given written marks)
     → IsWovenFrom p (program_of written main) safe.facts safe.plans marks
+
+-- and so do classes where holders of sites in loops hold chains
+abbrev pub ChainedProgramsAreWoven : Type 0
+ChainedProgramsAreWoven =
+    (given : List ClassDef) (main : List ℕ) → AreTaken given main → (p : Program) → IsProgramOf given main p
+    → (written : List ClassDef) (marks : Marks) (safe : SafeChainsOf p given written marks)
+    → IsWovenFrom p (program_of written main) safe.facts (looped_plans p safe.plans) marks

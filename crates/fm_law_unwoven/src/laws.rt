@@ -7,7 +7,7 @@ ghost use Rattle.fm_law_same_runs.specs.Programs.{HoldersAreCleared};
 ghost use Rattle.fm_law_unwoven.specs.Laid.{CodesAreLaid};
 ghost use Rattle.fm_law_unwoven.specs.Runs.{AllRunsAreCleared, FewAreInsertedInRuns, KeptStatesGoOn, OpeningsComeToKept, SafeRunsAreCleared};
 ghost use Rattle.fm_law_unwoven.specs.UnseenCode.{LocalsAreUnseen, OnlyNamedIsUsed, OppositesExchange, TargetsAreUnseen};
-ghost use Rattle.fm_law_unwoven.specs.WovenFrom.{SafeProgramsAreWoven};
+ghost use Rattle.fm_law_unwoven.specs.WovenFrom.{ChainedProgramsAreWoven, SafeProgramsAreWoven};
 
 use fm_law_linked::{law_main, law_makeable, law_resolved, law_sound_steps};
 use fm_law_sound::law_sound;
@@ -18,6 +18,15 @@ use fm_world::law_class_types;
 /// is inserted: its instructions and catch types name the same, and the inserted calls are of FreeMe.free.
 pub fn law_woven()
     ensures { SafeProgramsAreWoven }
+{
+    // By these laws.
+    law_class_types();
+    law_resolved();
+}
+
+/// So it is where holders of sites in loops hold chains: the inserted calls are of FreeMe's three methods.
+pub fn law_chained_woven()
+    ensures { ChainedProgramsAreWoven }
 {
     // By these laws.
     law_class_types();
