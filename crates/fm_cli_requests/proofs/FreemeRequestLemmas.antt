@@ -107,7 +107,15 @@ asks_one words a b p q =
     let folder = same_value (first_of (codes "out") (matched_in words)) a.folder b.folder p.values.folder q.values.folder in
     let classes = named_once (codes "main") (matched_in words) a.main b.main a.files b.files a.made b.made p.values.classes q.values.classes in
     let rapid = same_test a.rapid b.rapid (λ given. q.values.rapid.1 (p.values.rapid.0 given)) (λ given. p.values.rapid.1 (q.values.rapid.0 given)) in
-    λ i. record { folder = folder i; main = classes.main_is i; files = classes.files_are i; made = classes.made_is i; rapid = rapid i }
+    let chains = same_test a.chains b.chains (λ given. q.values.chains.1 (p.values.chains.0 given)) (λ given. p.values.chains.1 (q.values.chains.0 given)) in
+    λ i. record {
+      folder = folder i;
+      main = classes.main_is i;
+      files = classes.files_are i;
+      made = classes.made_is i;
+      rapid = rapid i;
+      chains = chains i;
+    }
 
 -- for one audit at most
 pub audits_one : (words : List (List ℕ)) (a b : AuditJob) → AskToAudit words a → AskToAudit words b → a ≡ b

@@ -12,10 +12,11 @@ pub record AuditJob : Type 0 where
   pub files : List (List ℕ)
 
 -- what clap matched is the job: the folder and the class files; there is no folder to write into, no class is made, and
--- `--rapid` isn't given
+-- neither `--rapid` nor `--chains` is given
 pub record HasAuditOf (matches : List Row) (job : AuditJob) : Type 0 where
   pub no_out : first_of (codes "out") matches ≡ None
   pub no_rapid : ¬ IsGiven (codes "rapid") matches
+  pub no_chains : ¬ IsGiven (codes "chains") matches
   pub folder : first_of (codes "audit") matches ≡ Some job.folder
   pub folder_is_value : IsValue job.folder
   pub classes : NameClasses (codes "main") matches job.main job.files None

@@ -10,23 +10,24 @@ use Rattle.fm_cli_requests.specs.declared.freeme_request.FreemeRequest.{FreemeRe
 use Rattle.fm_cli_requests.specs.declared.freeme_request.FreemeRequest.TheVariants as request
 use Rattle.fm_cli_requests.specs.declared.freeme_request.WriteRequest.{WriteRequest}
 
--- the folder to write into, the main class, the files to read in order, the number of the class that is made, if one is, and whether targets are
--- looked for only in classes of which reachable code makes objects
+-- the folder to write into, the main class, the files to read in order, the number of the class that is made, if one is, whether targets are
+-- looked for only in classes of which reachable code makes objects, and whether all objects that a site in a loop gives are freed
 pub record FreemeJob : Type 0 where
   pub folder : List ℕ
   pub main : List ℕ
   pub files : List (List ℕ)
   pub made : Option ℕ
   pub rapid : Bool
+  pub chains : Bool
 
--- what may be among the words: four options, a flag and the files
+-- what may be among the words: four options, two flags and the files
 abbrev pub freeme_rules : List Rule
 freeme_rules =
     option_rule (codes "out") ∷ option_rule (codes "audit") ∷ option_rule (codes "main") ∷ option_rule (codes "make") ∷ flag_rule (codes "rapid")
-    ∷ files_rule ∷ []
+    ∷ flag_rule (codes "chains") ∷ files_rule ∷ []
 
--- the command `freeme [--out DIR] [--audit DIR] [--main CLASS] [--make N] [--rapid] [FILE...]`, as clap reads it: which of them go together is not
--- its matter
+-- the command `freeme [--out DIR] [--audit DIR] [--main CLASS] [--make N] [--rapid] [--chains] [FILE...]`, as clap reads it: which of them go
+-- together is not its matter
 unfoldable pub freeme_command : App
 freeme_command = command_with (codes "freeme") freeme_rules
 
@@ -38,15 +39,17 @@ faults_in words = fault_of freeme_command words
 unfoldable pub matched_in : List (List ℕ) → List Row
 matched_in words = matches_of freeme_command words
 
--- what clap matched is the job: the folder, the class files or the class that is made, and whether `--rapid` is given, which no class is made
--- beside; there is no folder to audit
+-- what clap matched is the job: the folder, the class files or the class that is made, and whether `--rapid` and `--chains` are given, beside
+-- which no class is made; there is no folder to audit
 pub record HasValuesOf (matches : List Row) (job : FreemeJob) : Type 0 where
   pub no_audit : first_of (codes "audit") matches ≡ None
   pub folder : first_of (codes "out") matches ≡ Some job.folder
   pub folder_is_value : IsValue job.folder
   pub classes : NameClasses (codes "main") matches job.main job.files job.made
   pub rapid : IsTrue job.rapid ↔ IsGiven (codes "rapid") matches
+  pub chains : IsTrue job.chains ↔ IsGiven (codes "chains") matches
   pub of_files : IsTrue job.rapid → job.made ≡ None
+  pub chains_of_files : IsTrue job.chains → job.made ≡ None
 
 -- what clap matched is no job
 abbrev pub HasNoValues : List Row → Type 0
@@ -91,6 +94,7 @@ job_of r = record {
   files = map (λ file. file.now) r.files.items;
   made = r.made;
   rapid = r.rapid;
+  chains = r.chains;
 }
 
 -- ---- a request of either kind

@@ -22,7 +22,7 @@ pub struct AuditRequest<'a> {
 }
 
 /// The request to audit this folder that was matched, or None where a value is missing, empty or too
-/// long, or there is a folder to write into, `--rapid` or the number of a class that is made.
+/// long, or there is a folder to write into, `--rapid`, `--chains` or the number of a class that is made.
 pub(crate) fn audit_in<'a>(
     alloc: Global,
     matches: &ArgMatches<'a>,
@@ -37,6 +37,9 @@ pub(crate) fn audit_in<'a>(
         return Ok(None);
     }
     if is_given(matches, "rapid") {
+        return Ok(None);
+    }
+    if is_given(matches, "chains") {
         return Ok(None);
     }
     if !is_value(folder) {

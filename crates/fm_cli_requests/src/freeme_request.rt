@@ -22,7 +22,7 @@ pub enum FreemeRequest<'a> {
     Audit(AuditRequest<'a>),
 }
 
-/// What the words `--out DIR --main CLASS [--rapid] FILE...` or `--out DIR --make N` name.
+/// What the words `--out DIR --main CLASS [--rapid] [--chains] FILE...` or `--out DIR --make N` name.
 #[derive(Drop)]
 pub struct WriteRequest<'a> {
     /// The folder to write into.
@@ -35,6 +35,8 @@ pub struct WriteRequest<'a> {
     pub made: Option<u32>,
     /// Whether targets are looked for only in classes of which reachable code makes objects.
     pub rapid: bool,
+    /// Whether all objects that a site in a loop gives are freed, and not only the last one.
+    pub chains: bool,
 }
 
 /// What the words ask for, or None where they aren't of that form.
@@ -62,6 +64,7 @@ fn freeme_command<'a>(alloc: Global) -> Result<Command<'a>, NoMemory>
         .arg(option(alloc, "main"))?
         .arg(option(alloc, "make"))?
         .arg(flag(alloc, "rapid"))?
+        .arg(flag(alloc, "chains"))?
         .arg(files(alloc))?;
     Ok(command)
 }
@@ -88,7 +91,7 @@ fn request_in<'a>(
 }
 
 // The request to write that was matched, where no folder to audit was, or None as well where a class is
-// made beside `--rapid`.
+// made beside `--rapid` or `--chains`.
 fn write_in<'a>(
     alloc: Global,
     matches: &ArgMatches<'a>,
@@ -112,11 +115,16 @@ fn write_in<'a>(
     if rapid && made.is_some() {
         return Ok(None);
     }
+    let chains = is_given(matches, "chains");
+    if chains && made.is_some() {
+        return Ok(None);
+    }
     Ok(Some(WriteRequest {
         folder,
         main,
         files,
         made,
         rapid,
+        chains,
     }))
 }

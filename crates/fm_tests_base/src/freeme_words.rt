@@ -7,7 +7,7 @@ use std::alloc::Global;
 use std::test::Fail;
 
 // The words, a `|` between each two, and the values of the job or the audit that they ask for, or nothing.
-const CASES: [(&str, &str); 57] = [
+const CASES: [(&str, &str); 68] = [
     ("--out|d|--main|M|M.class", "d M M.class"),
     ("--main|M|--out|d|M.class", "d M M.class"),
     ("M.class|--main|M|--out|d", "d M M.class"),
@@ -58,6 +58,21 @@ const CASES: [(&str, &str); 57] = [
     ("--out|d|--main|M|--rapid", ""),
     ("--out|d|--make|1|--rapid", ""),
     ("--rapid", ""),
+    ("--out|d|--main|M|--chains|M.class", "d M M.class chains"),
+    ("M.class|--chains|--main|M|--out|d", "d M M.class chains"),
+    (
+        "--chains|--out|d|A.class|--rapid|--main|M|B.class",
+        "d M A.class B.class rapid chains",
+    ),
+    (
+        "--rapid|--chains|--out=d|--main=M|--|--chains",
+        "d M --chains rapid chains",
+    ),
+    ("--out|d|--main|M|--chains|--chains|M.class", ""),
+    ("--out|d|--main|M|--chains=yes|M.class", ""),
+    ("--out|d|--main|M|--chain|M.class", ""),
+    ("--out|d|--main|M|--chains", ""),
+    ("--chains|--out|d|--make|1", ""),
     ("--audit|d|--main|M|M.class", "audit d M M.class"),
     (
         "A.class|--main=M|B.class|--audit=d",
@@ -74,6 +89,8 @@ const CASES: [(&str, &str); 57] = [
     ("--audit|d|--make|1|--out|d", ""),
     ("--audit", ""),
     ("--audit|d|--main|M|--rapid|M.class", ""),
+    ("--audit|d|--main|M|M.class|--chains", ""),
+    ("--chains|--audit|d|--main|M|--rapid|M.class", ""),
 ];
 
 // The values of a request, a space between each two.
@@ -88,7 +105,7 @@ fn values(alloc: Global, request: &FreemeRequest<'_>) -> Result<String, NoMemory
     }
 }
 
-// Those of a job, with the number of the class that is made, and its flag.
+// Those of a job, with the number of the class that is made, and its flags.
 fn job_values(alloc: Global, job: &WriteRequest<'_>) -> Result<String, NoMemory> {
     let mut text = format!(in alloc; "{} {}", job.folder, job.main)?;
     push_all(&mut text, &job.files)?;
@@ -98,6 +115,9 @@ fn job_values(alloc: Global, job: &WriteRequest<'_>) -> Result<String, NoMemory>
     }
     if job.rapid {
         text.push_str(" rapid")?;
+    }
+    if job.chains {
+        text.push_str(" chains")?;
     }
     Ok(text)
 }

@@ -12,6 +12,9 @@ returns-then-not-lacks_value c = λ job h. false≢true (c.if-not-lacks_value.en
 pub returns-then-is_given : goal.returns-then-is_given
 returns-then-is_given c = λ job h. h.no_rapid (c.if-is_given.ensures.0 refl)
 
+pub returns-then-is_given-2 : goal.returns-then-is_given-2
+returns-then-is_given-2 c = λ job h. h.no_chains (c.if-is_given-2.ensures.0 refl)
+
 pub returns-then-not-is_value : goal.returns-then-not-is_value
 returns-then-not-is_value c = λ job h.
     untested IsValue _ c.args.folder.now job.folder c.if-not-is_value.ensures.1 c.requires h.folder h.folder_is_value
