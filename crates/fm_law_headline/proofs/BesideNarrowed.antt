@@ -232,7 +232,7 @@ module _ (made : Option (List Bool)) (b : Beside) where
 -- ---- all runs
 
 module _ (p other : Program) (made : Option (List Bool)) (marks : Marks) where
-  in_all : (Kept Holds : Beside → Type 0) → ((b : Beside) → Kept (narrowed_beside made b) → Holds b) → InAllRuns (narrowed_to p made) other marks Kept
+  pub in_all : (Kept Holds : Beside → Type 0) → ((b : Beside) → Kept (narrowed_beside made b) → Holds b) → InAllRuns (narrowed_to p made) other marks Kept
       → InAllRuns p other marks Holds
   in_all Kept Holds whole each job given steps words other_words few other_few choose free has_words =
       let b : Beside = runs_of p other marks steps words other_words job choose free in

@@ -5,6 +5,7 @@ use Rattle.fm_base.specs.declared.limits.TheConstants.{MAX_CLASS_FILES}
 use Rattle.fm_code.specs.Profile.{IsSupported}
 use Rattle.fm_code.specs.Spells.{HasSpelling}
 use Rattle.fm_code.specs.declared.class_file.ClassDef.{ClassDef}
+use Rattle.fm_conn.specs.Facts.{AreFacts, Facts}
 use Rattle.fm_place.specs.Rewriting.{first_given, Plans, rewritten_from}
 use Rattle.fm_place.specs.Safe.{FullOf, IsProgramOf, SafeOf}
 use Rattle.fm_rapid.specs.Reach.{narrowed}
@@ -13,7 +14,7 @@ use Rattle.fm_law_cells_made.specs.MostHeld.{MadeIsMostHeld}
 use Rattle.fm_law_headline.proofs.Alike.{typed_of}
 use Rattle.fm_law_headline.specs.Alike.{SafeClassesDoAlike}
 use Rattle.fm_law_headline.proofs.BesideNarrowed.{alike_whole, objects_whole, reached_whole}
-use Rattle.fm_law_headline.specs.Headline.{AreRenamedInRuns, ClassesDoTheSame, DoesTheSame, NarrowedClassesDoTheSame}
+use Rattle.fm_law_headline.specs.Headline.{AreRenamedInRuns, ClassesDoTheSame, DoesTheSame, HoldersStayClear, NarrowedClassesDoTheSame}
 use Rattle.fm_law_headline.specs.InStep.{DoAlike}
 use Rattle.fm_law_headline.specs.Renamed.{ObjectsAreRenamed, SafeClassesAreRenamed}
 use Rattle.fm_law_headline.specs.WholeRuns.{SameProgramsEndTheSame}
@@ -33,9 +34,48 @@ as_many plans first [] = refl
 as_many plans first (c ∷ given) = ap suc (as_many plans (first + length c.methods) given)
 
 -- no program of class files is narrowed
-whole_sets : (given : List ClassDef) (main : List ℕ) → HasClosedSets (program_of given main)
+pub whole_sets : (given : List ClassDef) (main : List ℕ) → HasClosedSets (program_of given main)
 unfolding program_of
 whole_sets given main = tt
+
+-- ---- what programs do beside one another makes the record
+
+module _ (made : MadeIsMostHeld) (ends : SameProgramsEndTheSame) (given : List ClassDef) (main : List ℕ) (taken : AreTaken given main)
+    (p : Program) (is : IsProgramOf given main p) (written : List ClassDef) (marks : Marks) (facts : Facts) where
+  abbrev whole : Program
+  whole = program_of given main
+
+  abbrev other : Program
+  other = program_of written main
+
+  -- what holds of a program that may be narrowed holds of the one that isn't
+  both : DoAlike p other marks → DoAlike whole other marks
+  both alike = alike_whole whole other p.made marks (subst (λ (r : Program). DoAlike r other marks) is alike)
+
+  reached : AreRenamedInRuns p other facts marks → AreRenamedInRuns whole other facts marks
+  reached each = reached_whole whole other p.made marks facts (subst (λ (r : Program). AreRenamedInRuns r other facts marks) is each)
+
+  renamed : InAllRuns p other marks (λ b. (k l : ℕ) → AreMatched b k l → StatesAreRenamed facts b k l)
+      → InAllRuns whole other marks (λ b. (k l : ℕ) → AreMatched b k l → StatesAreRenamed facts b k l)
+  renamed each =
+      objects_whole whole other p.made marks facts
+      (subst (λ (r : Program). InAllRuns r other marks (λ b. (k l : ℕ) → AreMatched b k l → StatesAreRenamed facts b k l)) is each)
+
+  pub make_the_record : AreFacts p facts → DoAlike p other marks → AreRenamedInRuns p other facts marks
+      → InAllRuns p other marks (λ b. (k l : ℕ) → AreMatched b k l → StatesAreRenamed facts b k l) → HoldersStayClear p other facts marks → CanRun other
+      → DoesTheSame p given main written marks facts
+  make_the_record exact alike reach rename cleared can_run = record {
+    same = (both alike).same;
+    faultless = (both alike).faultless;
+    renamed = renamed rename;
+    reached = reached reach;
+    balanced = (both alike).balanced;
+    cleared = cleared;
+    most_held = made other can_run;
+    ends = ends given main taken facts.typing (typed_of given main p is facts exact) other marks (both alike).same;
+  }
+
+-- ---- without chains
 
 module _ (links : SafeClassesLink) (can_run : ProgramsCanRun) (made : MadeIsMostHeld) (ends : SameProgramsEndTheSame) (cleared : HoldersAreCleared)
     (alike : SafeClassesDoAlike) (reach : SafeClassesAreRenamed) (rename : ObjectsAreRenamed) where
@@ -46,47 +86,16 @@ module _ (links : SafeClassesLink) (can_run : ProgramsCanRun) (made : MadeIsMost
       (subst (λ n. n ≤ MAX_CLASS_FILES)
       (sym (ap (λ (classes : List ClassDef). length classes) safe.written_is ∙ as_many safe.plans first_given given)) taken.few)
 
-  -- ---- by the program of the classes given, which may be narrowed
-
-  module _ (given : List ClassDef) (main : List ℕ) (taken : AreTaken given main) (p : Program) (is : IsProgramOf given main p) (closed : HasClosedSets p)
-      (written : List ClassDef) (marks : Marks) where
-    abbrev whole : Program
-    whole = program_of given main
-
-    abbrev other : Program
-    other = program_of written main
-
-    both : SafeOf p given written marks → DoAlike whole other marks
-    both safe =
-        alike_whole whole other p.made marks (subst (λ (r : Program). DoAlike r other marks) is (alike given main taken p is closed written marks safe))
-
-    reached : (safe : SafeOf p given written marks) → AreRenamedInRuns whole other safe.facts marks
-    reached safe =
-        reached_whole whole other p.made marks safe.facts
-        (subst (λ (r : Program). AreRenamedInRuns r other safe.facts marks) is (reach given main taken p is closed written marks safe))
-
-    renamed : (safe : SafeOf p given written marks)
-        → InAllRuns whole other marks (λ b. (k l : ℕ) → AreMatched b k l → StatesAreRenamed safe.facts b k l)
-    renamed safe =
-        objects_whole whole other p.made marks safe.facts
-        (subst (λ (r : Program). InAllRuns r other marks (λ b. (k l : ℕ) → AreMatched b k l → StatesAreRenamed safe.facts b k l)) is
-        (rename given main taken p is closed written marks safe))
-
-    programs_same : (full : FullOf p given written marks) → AllByRecursion HasSpelling written → AllByRecursion IsSupported written
-        → DoesTheSame given main written marks full
-    unfolding safe_of
-    programs_same full spelled supported =
-        let safe : SafeOf p given written marks = safe_of p given written marks full in
-        record {
-          same = (both safe).same;
-          faultless = (both safe).faultless;
-          renamed = renamed safe;
-          reached = reached safe;
-          balanced = (both safe).balanced;
-          cleared = cleared given main taken p is written marks full;
-          most_held = made other (written_can_run given main taken p written marks safe spelled supported);
-          ends = ends given main taken full.facts.typing (typed_of given main p is full.facts full.exact) other marks (both safe).same;
-        }
+  -- by the program of the classes given, which may be narrowed
+  programs_same : (given : List ClassDef) (main : List ℕ) → AreTaken given main → (p : Program) → IsProgramOf given main p → HasClosedSets p
+      → (written : List ClassDef) (marks : Marks) (full : FullOf p given written marks) → AllByRecursion HasSpelling written
+      → AllByRecursion IsSupported written → DoesTheSame p given main written marks full.facts
+  unfolding safe_of
+  programs_same given main taken p is closed written marks full spelled supported =
+      let safe : SafeOf p given written marks = safe_of p given written marks full in
+      make_the_record made ends given main taken p is written marks full.facts full.exact (alike given main taken p is closed written marks safe)
+      (reach given main taken p is closed written marks safe) (rename given main taken p is closed written marks safe)
+      (cleared given main taken p is written marks full) (written_can_run given main taken p written marks safe spelled supported)
 
   pub the_same : ClassesDoTheSame
   the_same given main taken written marks full =

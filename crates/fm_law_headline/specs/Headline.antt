@@ -41,21 +41,21 @@ AreRenamedInRuns one other facts marks = InAllRuns one other marks (λ b. (k l :
 
 -- What the classes written do, beside those that were given. Where no cell is taken twice, and that is one of the ways in which memory may choose, each use
 -- of a freed cell is a fault: so none is read, written or freed again on such memory. The sites are those of the program `p`, the given one or that one
--- narrowed; the runs are those of the given one.
-pub record DoesTheSame {p : Program} (given : List ClassDef) (main : List ℕ) (written : List ClassDef) (marks : Marks) (full : FullOf p given written marks) : Type 0 where
+-- narrowed, by its facts; the runs are those of the given one.
+pub record DoesTheSame (p : Program) (given : List ClassDef) (main : List ℕ) (written : List ClassDef) (marks : Marks) (facts : Facts) : Type 0 where
   -- step for matched step they print and read the same, no more words live, few inserted steps follow one another, and they end alike
   pub same : Same (program_of given main) (program_of written main) marks
   -- no freed cell is read, written or freed again
   pub faultless : InAllRuns (program_of given main) (program_of written main) marks IsWithoutFault
   -- at matched states what isn't retired is the same under other cells
   pub renamed : InAllRuns (program_of given main) (program_of written main) marks
-      (λ b. (k l : ℕ) → AreMatched b k l → StatesAreRenamed full.facts b k l)
+      (λ b. (k l : ℕ) → AreMatched b k l → StatesAreRenamed facts b k l)
   -- they are at one item, and live locals, stacks and static fields lead to the same, so nothing is read from a cell that has another object now
-  pub reached : AreRenamedInRuns (program_of given main) (program_of written main) full.facts marks
+  pub reached : AreRenamedInRuns (program_of given main) (program_of written main) facts marks
   -- at matched states the words that live, with those that were freed, are the words that live in the first run
   pub balanced : InAllRuns (program_of given main) (program_of written main) marks (λ b. (k l : ℕ) → AreMatched b k l → WordsAreBalanced b k l)
   -- holders of what isn't busy are null
-  pub cleared : HoldersStayClear p (program_of written main) full.facts marks
+  pub cleared : HoldersStayClear p (program_of written main) facts marks
   -- freed cells serve again
   pub most_held : MakesAsHeld (program_of written main)
   -- in whole runs over cells that serve again in both programs
@@ -66,11 +66,12 @@ abbrev pub ClassesDoTheSame : Type 0
 ClassesDoTheSame =
     (given : List ClassDef) (main : List ℕ) → AreTaken given main → (written : List ClassDef) (marks : Marks)
     → (full : Full given main written marks) → AllByRecursion HasSpelling written → AllByRecursion IsSupported written
-    → DoesTheSame given main written marks full
+    → DoesTheSame (program_of given main) given main written marks full.facts
 
 -- So do they where the program is narrowed to the classes of closed sets: its sites are more, as its virtual calls lead to fewer methods.
 abbrev pub NarrowedClassesDoTheSame : Type 0
 NarrowedClassesDoTheSame =
     (given : List ClassDef) (main : List ℕ) → AreTaken given main → (methods made : List Bool) → IsClosed (program_of given main) methods made
     → (written : List ClassDef) (marks : Marks) → (full : FullOf (narrowed (program_of given main) made) given written marks)
-    → AllByRecursion HasSpelling written → AllByRecursion IsSupported written → DoesTheSame given main written marks full
+    → AllByRecursion HasSpelling written → AllByRecursion IsSupported written
+    → DoesTheSame (narrowed (program_of given main) made) given main written marks full.facts
