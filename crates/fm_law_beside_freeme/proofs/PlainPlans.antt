@@ -47,7 +47,7 @@ numbers_plain : (j n : ℕ) (holders : List Holder) → numbers_of (λ h. h.site
 numbers_plain j n [] = refl
 numbers_plain j n (h ∷ holders) = ap (λ ks. cond (h.site == j) (n ∷ ks) ks) (numbers_plain j (n + 1) holders)
 
-after_plain : (plan : Insertions) (j : ℕ) → after_at (plain plan) j ≡ after_at plan j
+pub after_plain : (plan : Insertions) (j : ℕ) → after_at (plain plan) j ≡ after_at plan j
 after_plain plan j = numbers_plain j 0 plan.holders
 
 count_plain : (plan : Insertions) (j : ℕ) → count_at (plain plan) j ≡ count_at plan j
@@ -142,7 +142,7 @@ module _ (plans : Plans) where
   methods_plain free first [] = refl
   methods_plain free first (m ∷ methods) = (λ k. method_plain free (plans first) m k ∷ methods_plain free (first + 1) methods k)
 
-  changes_plain : (first : ℕ) (c : ClassDef) → changes (plains plans) first c ≡ changes plans first c
+  pub changes_plain : (first : ℕ) (c : ClassDef) → changes (plains plans) first c ≡ changes plans first c
   changes_plain first c = λ k. list_any (λ method. is_some_plain (plans method) k) (range_with_len first (length c.methods))
 
   class_by_plain : (first : ℕ) (c : ClassDef) (b : Bool) → by_change (plains plans) first c b ≡ by_change plans first c b
@@ -180,7 +180,7 @@ module _ (plans : Plans) where
     frees = sum (map (λ method. free_count_plain (plans method) k) (range_with_len first (length c.methods)));
   }
 
-  counts_plain : (first : ℕ) (given : List ClassDef) → counts_from (plains plans) first given ≡ counts_from plans first given
+  pub counts_plain : (first : ℕ) (given : List ClassDef) → counts_from (plains plans) first given ≡ counts_from plans first given
   counts_plain first [] = refl
   counts_plain first (c ∷ given) = (λ k. count_of_plain first c k ∷ counts_plain (first + length c.methods) given k)
 

@@ -62,7 +62,7 @@ module _ (plans : Plans) (none : (method : ℕ) → plan_has_chain (plans method
       (λ k. option_or (chains.long_among plans (calls_same plans none first c k) first c.methods) (long_from_same (first + length c.methods) given k))
       ∙ ap (λ o. option_or o (long_from plans (first + length c.methods) given)) (long_among_same (plain_calls plans none c) first c.methods)
 
-  cause_same : (given : List ClassDef) → chains.first_cause plans given ≡ first_cause plans given
+  pub cause_same : (given : List ClassDef) → chains.first_cause plans given ≡ first_cause plans given
   cause_same given =
       λ k. option_or (option_map pool_full (full_from_same (length built_in) first_given given k)) (option_map method_too_long (long_from_same first_given given k))
 
@@ -84,7 +84,7 @@ full_plain facts x = of_sites (held_sites facts x) where
   of_sites [] = refl
   of_sites (site ∷ sites) = no_chain facts x (held_sites facts x)
 
-plans_plain : (p : Program) (facts : Facts) (method : ℕ) → plan_has_chain (full_plans p facts method) ≡ false
+pub plans_plain : (p : Program) (facts : Facts) (method : ℕ) → plan_has_chain (full_plans p facts method) ≡ false
 plans_plain p facts method = by_method (method_in_facts p facts method) where
   by_method : (found : Option TypedMethod) → plan_has_chain (option_and_then (full_insertions facts) found) ≡ false
   by_method None = refl

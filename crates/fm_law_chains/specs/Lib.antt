@@ -1,0 +1,3 @@
+pub mod FreesAll
+pub mod Chains
+pub mod Exact
