@@ -6,6 +6,7 @@ use Rattle.std.specs.List.{AllByRecursion}
 use Rattle.std.specs.Str.{bytes_eq}
 use Rattle.std.proofs.lemmas.List.{ext_get_or}
 use Rattle.std.proofs.lemmas.Result.{IfOk-weaker}
+use Rattle.std.proofs.lemmas.Bool.{false≢true}
 use Rattle.std.proofs.lemmas.List.Quantifiers.{position-Some}
 use Rattle.fm_base.proofs.ListFacts.{AllByRecursion-weaker}
 use Rattle.fm_base.proofs.TestFacts.{same_test}
@@ -13,16 +14,20 @@ use Rattle.fm_base.specs.Rows.{has}
 use Rattle.fm_code.specs.Profile.{IsSupported}
 use Rattle.fm_code.specs.Spells.{HasSpelling}
 use Rattle.fm_code.specs.declared.class_file.ClassDef.{ClassDef}
+use Rattle.fm_law_chains.specs.Chains.{ChainedClassesDoTheSame, ChainedClassesFreeAll}
+use Rattle.fm_law_chains.specs.FreesAll.{FreesAll}
+use Rattle.fm_law_headline.proofs.Parts.{whole_sets}
 use Rattle.fm_law_headline.specs.Headline.{ClassesDoTheSame, DoesTheSame, NarrowedClassesDoTheSame}
 use Rattle.fm_law_linked.proofs.MainMethod.{main_ready}
+use Rattle.fm_law_reached.proofs.Closed.{closed_narrowed}
+use Rattle.fm_law_reached.specs.Reached.{HasClosedSets}
 use Rattle.fm_law_same_runs.specs.Beside.{Marks}
 use Rattle.fm_law_same_runs.specs.Programs.{AreTaken}
-use Rattle.fm_place.specs.Safe.{full_plans, FullOf, IsProgramOf}
+use Rattle.fm_place.specs.Safe.{FullOf, IsProgramOf}
 use Rattle.fm_rapid.specs.Opening.{HasOpening}
 use Rattle.fm_rapid.specs.Reach.{IsWithin, narrowed, Reach}
 use Rattle.fm_rewrite.proofs.FreeCallsLemmas.{first_call_is}
 use Rattle.fm_rewrite.proofs.JudgedLemmas.{classes_counted}
-use Rattle.fm_rewrite.specs.Rewritten.{AreNotRewrittenOf, AreRewrittenOf, first_cause}
 use Rattle.fm_rewrite.specs.declared.error.RewriteFail.{RewriteFail}
 use Rattle.fm_rewrite.specs.declared.error.RewriteFail.TheVariants as fail
 use Rattle.fm_rewrite.specs.declared.rewriting.Rewritten.{Rewritten}
@@ -38,11 +43,12 @@ use Rattle.fm_world.specs.declared.declarations.DeclaredClass.{DeclaredClass}
 use Rattle.fm_cli.specs.declared.status.TheConstants.{DONE}
 use Rattle.fm_cli_requests.specs.FreemeRequest.{FreemeJob}
 use Rattle.fm_conn.specs.Facts.{AreFacts, Facts}
-use Rattle.fm_law_beside_freeme.specs.Exact.{LeastFactsServeAlike}
 use Rattle.fm_load.proofs.VerdictLemmas.{Ends, EndsOnce}
 use Rattle.freeme.specs.Causes.{BecomesAs, BecomesByFacts, cause_status}
+use Rattle.freeme.proofs.RewritingLemmas.{CausesAgree, full_exact}
 use Rattle.freeme.specs.Jobs.{IsAnalysed, IsJobProgram, main_name}
 use Rattle.freeme.specs.Refusal.{rewrite_status}
+use Rattle.freeme.specs.Rewriting.{AreNotRewrittenBy, AreRewrittenBy, cause_by, facts_by, IsFullBy, own_facts}
 use Rattle.freeme.specs.TopCall.{IsFirstCause}
 use Rattle.freeme.specs.declared.status.TheConstants.{CALLS_FREE}
 
@@ -82,8 +88,8 @@ abbrev pub Rewrites : FreemeJob → Ends
 Rewrites job classes status = BecomesAs status job classes (first_call (program_of classes (main_name job)))
 
 -- one does, as exact facts over least typings serve alike, and of one program
-pub rewrites_once : LeastFactsServeAlike → (job : FreemeJob) → EndsOnce (Rewrites job)
-rewrites_once alike job classes s t = by (first_call (program_of classes (main_name job))) where
+pub rewrites_once : CausesAgree → (job : FreemeJob) → EndsOnce (Rewrites job)
+rewrites_once agree job classes s t = by (first_call (program_of classes (main_name job))) where
   by : (call : Option (ℕ × ℕ)) → BecomesAs s job classes call → BecomesAs t job classes call → s ≡ t
   by (Some call) a b = sym a ∙ b
   by None a b =
@@ -91,9 +97,9 @@ rewrites_once alike job classes s t = by (first_call (program_of classes (main_n
       let one : b.program ≡ p = analysed_once job.rapid (program_of classes (main_name job)) b.program p b.analysed a.analysed in
       let exact = subst (λ (q : Program). AreFacts q b.facts) one b.exact in
       let least = subst (λ (q : Program). AreLeastTypings q b.facts.typing) one b.least in
-      let status = subst (λ (q : Program). cause_status (first_cause (full_plans q b.facts) classes) ≡ t) one b.status_is in
-      let same = alike classes p a.facts b.facts (record { exact = a.exact; least = a.least }) (record { exact = exact; least = least }) in
-      sym a.status_is ∙ ap cause_status same.cause ∙ status
+      let status = subst (λ (q : Program). cause_status (cause_by job.chains q b.facts classes) ≡ t) one b.status_is in
+      let same = agree job.chains classes p a.facts b.facts (record { exact = a.exact; least = a.least }) (record { exact = exact; least = least }) in
+      sym a.status_is ∙ ap cause_status same ∙ status
 
 -- by facts, where there is no call of FreeMe
 becomes_by : (job : FreemeJob) (classes : List ClassDef) (status : ℕ) → first_call (program_of classes (main_name job)) ≡ None → BecomesByFacts status job classes
@@ -105,7 +111,7 @@ module _ (job : FreemeJob) (classes : List ClassDef) (p : Program) (analysed : I
   call_same = first_call_is classes (main_name job) p (is_program job.rapid classes (main_name job) p analysed)
 
   by_facts : (status : ℕ) → first_call p ≡ None → (facts : Facts) → AreFacts p facts → AreLeastTypings p facts.typing
-      → cause_status (first_cause (full_plans p facts) classes) ≡ status → Rewrites job classes status
+      → cause_status (cause_by job.chains p facts classes) ≡ status → Rewrites job classes status
   by_facts status none facts exact least is = becomes_by job classes status (sym call_same ∙ none) (record {
     program = p;
     analysed = analysed;
@@ -115,11 +121,11 @@ module _ (job : FreemeJob) (classes : List ClassDef) (p : Program) (analysed : I
     status_is = is;
   })
 
-  by_cause : (cause : RewriteFail) → AreNotRewrittenOf p classes cause → Rewrites job classes (rewrite_status cause)
+  by_cause : (cause : RewriteFail) → AreNotRewrittenBy job.chains p classes cause → Rewrites job classes (rewrite_status cause)
   by_cause cause refused = by_facts (rewrite_status cause) refused.no_call refused.facts refused.exact refused.least (ap cause_status refused.first)
 
   -- the first cause gives its status
-  pub cause_becomes : (cause : RewriteFail) → IsFirstCause p classes cause → Rewrites job classes (rewrite_status cause)
+  pub cause_becomes : (cause : RewriteFail) → IsFirstCause job.chains p classes cause → Rewrites job classes (rewrite_status cause)
   cause_becomes (fail.CallsFree method offset) first =
       let P : Option (ℕ × ℕ) → Type 0 = BecomesAs CALLS_FREE job classes in subst P (sym (sym call_same ∙ first)) refl
   cause_becomes (fail.PoolFull class indices) first = by_cause (fail.PoolFull class indices) first
@@ -127,20 +133,52 @@ module _ (job : FreemeJob) (classes : List ClassDef) (p : Program) (analysed : I
   cause_becomes fail.NoMemory first = absurd first
 
   -- and so do classes that are rewritten
-  pub done_becomes : (made : Rewritten) → AreRewrittenOf p classes made → Rewrites job classes DONE
-  done_becomes made are = by_facts DONE are.no_call are.full.facts are.full.exact are.least (ap cause_status are.no_cause)
+  pub done_becomes : (made : Rewritten) → AreRewrittenBy job.chains p classes made → Rewrites job classes DONE
+  done_becomes made are =
+      by_facts DONE are.no_call (own_facts are) (full_exact job.chains p classes made.classes.items are.marks are.full) are.least (ap cause_status are.no_cause)
 
 -- ---- what the classes written do
 
-pub does_analysed : (rapid : Bool) (given : List ClassDef) (main : List ℕ) (p : Program) → IsAnalysed rapid (program_of given main) p → ClassesDoTheSame
+does_analysed : (rapid : Bool) (given : List ClassDef) (main : List ℕ) (p : Program) → IsAnalysed rapid (program_of given main) p → ClassesDoTheSame
     → NarrowedClassesDoTheSame → AreTaken given main → (written : List ClassDef) (marks : Marks) (full : FullOf p given written marks)
-    → AllByRecursion HasSpelling written → AllByRecursion IsSupported written → DoesTheSame given main written marks full
+    → AllByRecursion HasSpelling written → AllByRecursion IsSupported written → DoesTheSame p given main written marks full.facts
 does_analysed false given main p is same narrow taken written marks full spelled supported =
-    let P : Program → Type 0 = λ q. (own : FullOf q given written marks) → DoesTheSame given main written marks own in
+    let P : Program → Type 0 = λ q. (own : FullOf q given written marks) → DoesTheSame q given main written marks own.facts in
     subst P (sym is) (λ own. same given main taken written marks own spelled supported) full
 does_analysed true given main p is same narrow taken written marks full spelled supported =
-    let P : Program → Type 0 = λ q. (own : FullOf q given written marks) → DoesTheSame given main written marks own in
+    let P : Program → Type 0 = λ q. (own : FullOf q given written marks) → DoesTheSame q given main written marks own.facts in
     subst P (sym is.narrowed_is) (λ own. narrow given main taken is.methods is.made is.reached.closed written marks own spelled supported) full
+
+-- a program that is narrowed has the classes of closed sets
+closed_of : (rapid : Bool) (given : List ClassDef) (main : List ℕ) (p : Program) → IsAnalysed rapid (program_of given main) p → HasClosedSets p
+closed_of false given main p is = subst HasClosedSets (sym is) (whole_sets given main)
+closed_of true given main p is =
+    let whole = program_of given main in
+    subst HasClosedSets (sym is.narrowed_is) (is.methods, closed_narrowed whole (Some is.made) is.methods is.made is.reached.closed)
+
+-- what classes do with chains and without
+pub record DoLaws : Type 0 where
+  pub same : ClassesDoTheSame
+  pub narrow : NarrowedClassesDoTheSame
+  pub linked : ChainedClassesDoTheSame
+  pub all : ChainedClassesFreeAll
+
+-- so it is in the mode of a job
+pub does_by : (chains rapid : Bool) (given : List ClassDef) (main : List ℕ) (p : Program) → IsAnalysed rapid (program_of given main) p → DoLaws → AreTaken given main
+    → (written : List ClassDef) (marks : Marks) (full : IsFullBy chains p given written marks) → AllByRecursion HasSpelling written
+    → AllByRecursion IsSupported written → DoesTheSame p given main written marks (facts_by chains p given written marks full)
+does_by false rapid given main p is laws taken written marks full spelled supported =
+    does_analysed rapid given main p is laws.same laws.narrow taken written marks full spelled supported
+does_by true rapid given main p is laws taken written marks full spelled supported =
+    laws.linked given main taken p (is_program rapid given main p is) (closed_of rapid given main p is) written marks full spelled supported
+
+-- with chains all that sites in loops gave is freed
+pub frees_by : (chains rapid : Bool) (given : List ClassDef) (main : List ℕ) (p : Program) → IsAnalysed rapid (program_of given main) p → DoLaws → AreTaken given main
+    → (written : List ClassDef) (marks : Marks) (full : IsFullBy chains p given written marks) → chains ≡ true
+    → FreesAll p (program_of given main) (program_of written main) (facts_by chains p given written marks full) marks
+frees_by false rapid given main p is laws taken written marks full chained = absurd (false≢true chained)
+frees_by true rapid given main p is laws taken written marks full chained =
+    laws.all given main taken p (is_program rapid given main p is) (closed_of rapid given main p is) written marks full
 
 -- ---- what the walk over reachable code needs
 

@@ -14,7 +14,6 @@ use Rattle.fm_cli.proofs.LineLemmas.{instead_for_file, instead_for_words, told_a
 use Rattle.fm_cli.proofs.OutsideLemmas.{no_fault_where_same}
 use Rattle.fm_cli.specs.declared.status.TheConstants.{DONE, WORDS, READ, MALFORMED, VERSION, LIMIT, UNSUPPORTED, LINK, CHECK, WRITE, OUT_OF_MEMORY}
 use Rattle.fm_code.specs.declared.class_file.ClassDef.{ClassDef}
-use Rattle.fm_law_beside_freeme.specs.Exact.{LeastFactsServeAlike}
 use Rattle.fm_link_refusals.specs.Refused.{refusal_of}
 use Rattle.fm_rewrite.specs.declared.error.RewriteFail.{RewriteFail}
 use Rattle.fm_rewrite.specs.declared.error.RewriteFail.TheVariants as fail
@@ -40,6 +39,7 @@ use Rattle.fm_load.specs.Refusal.{IsRefusedBy, many_line}
 use Rattle.fm_cli.specs.CommandRefusal.{memory_line}
 use Rattle.freeme.proofs.AnalysedLemmas.{cause_becomes, done_becomes, Rewrites, rewrites_once}
 use Rattle.freeme.proofs.JobLemmas.{reads_within}
+use Rattle.freeme.proofs.RewritingLemmas.{CausesAgree}
 use Rattle.freeme.proofs.ReportedLemmas.{IsLinePut, both_kept, line_faultless, line_put, outcome_line, outcome_status, own_sink, own_reports, put_failed, reported_silent, is_unreported}
 use Rattle.fm_load.proofs.ReadLemmas.{reads_none}
 use Rattle.fm_cli_requests.proofs.FreemeRequestLemmas.{asks_one}
@@ -260,7 +260,7 @@ module _ (job : FreemeJob) (old new : Disk) (held : Bytes → Option Bytes) (see
   verdict_of (Err (free_refusal.Job (job_refusal.Write name))) comes = inr (inr (inl refl))
 
   -- files of this verdict have its status, unless there was a fault or memory was lacking
-  status_of : LeastFactsServeAlike → (status : ℕ) (o : Outcome) → JobVerdict held job status → ComesTo job old new o → Contains (status ∷ instead_for_file) (outcome_status o)
+  status_of : CausesAgree → (status : ℕ) (o : Outcome) → JobVerdict held job status → ComesTo job old new o → Contains (status ∷ instead_for_file) (outcome_status o)
   status_of alike status o verdict comes = go (verdict_of o comes) where
     once : EndsOnce (Behind job.made (Links (Rewrites job) (main_name job)))
     once = behind_once job.made (Links (Rewrites job) (main_name job)) (links_once (Rewrites job) (main_name job) (rewrites_once alike job))
@@ -335,7 +335,7 @@ not_for_words job old new o comes is = omega arith
 abbrev pub faultless_statuses : List ℕ
 faultless_statuses = DONE ∷ WORDS ∷ MALFORMED ∷ VERSION ∷ LIMIT ∷ UNSUPPORTED ∷ LINK ∷ CHECK ∷ CALLS_FREE ∷ POOL_FULL ∷ METHOD_TOO_LONG ∷ NOT_SAFE ∷ []
 
-module _ (words : List Bytes) (old new : Disk) (o : Outcome) (comes : ComesOf words old new o) (alike : LeastFactsServeAlike) where
+module _ (words : List Bytes) (old new : Disk) (o : Outcome) (comes : ComesOf words old new o) (alike : CausesAgree) where
   -- the job that was asked for comes out so, or memory was lacking before
   of_job : (job : FreemeJob) → Asks words job → ComesTo job old new o ⊎ (outcome_status o ≡ OUT_OF_MEMORY)
   of_job job asked = go comes where
@@ -433,7 +433,7 @@ pub is_for_text : (words : List Bytes) (old new : Disk) (before after report rep
     → IsForText words old new before after report report' result
 is_for_text words old new before after report report' result none asked asks = absurd (none asked asks)
 
-module _ {words : List Bytes} {old new : Disk} (before after report report' : Output) (result : ℕ) (o : Outcome) (comes : ComesOf words old new o) (reports : IsReported o before after report report' result) (alike : LeastFactsServeAlike) where
+module _ {words : List Bytes} {old new : Disk} (before after report report' : Output) (result : ℕ) (o : Outcome) (comes : ComesOf words old new o) (reports : IsReported o before after report report' result) (alike : CausesAgree) where
   -- the sink of the lines, before and after
   abbrev from : Output
   from = own_sink o before report

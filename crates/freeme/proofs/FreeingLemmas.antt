@@ -1,24 +1,29 @@
 -- What a refusal names is there: the method or the class has a number of the program.
-use Rattle.std.proofs.Common.{◌≡◌, ℕ, zero, suc, ◌+◌, ◌<◌, ◌⊎◌, inl, inr, ⊎_elim, List, [], ◌∷◌, length, Option, Some, None, Err, refl, sym, ap, ◌∙◌, arith}
+use Rattle.std.proofs.Common.{◌≡◌, ℕ, zero, suc, ◌+◌, ◌<◌, ◌⊎◌, inl, inr, ⊎_elim, Bool, List, [], ◌∷◌, length, Option, Some, None, Err, refl, sym, ap, ◌∙◌, arith}
 use Rattle.std.specs.Prelude.{unwrap_or}
 use Rattle.std.specs.List.{range_with_len}
 use Rattle.std.specs.Option.{option_map, option_or}
 use Rattle.fm_base.specs.declared.ids.ClassId.{ClassId}
 use Rattle.fm_base.specs.declared.ids.MethodId.{MethodId}
+use Rattle.fm_chain.specs.Chaining.{class_calls}
+use Rattle.fm_chain.specs.declared.calls.Calls.{Calls}
 use Rattle.fm_code.specs.declared.class_file.ClassDef.{ClassDef}
 use Rattle.fm_code.specs.declared.class_file.Member.{Member}
-use Rattle.fm_place.specs.Rewriting.{first_given, free_index, Plans}
-use Rattle.fm_place.specs.Safe.{full_plans, IsProgramOf}
+use Rattle.fm_place.specs.Rewriting.{first_given, Plans}
+use Rattle.fm_place.specs.Safe.{IsProgramOf}
 use Rattle.fm_rewrite.proofs.JudgedLemmas.{classes_counted}
 use Rattle.fm_rewrite.proofs.ProgramMeantLemmas.{methods_counted}
 use Rattle.fm_rewrite.specs.FreeCalls.{call_among, call_in_method, first_call}
-use Rattle.fm_rewrite.specs.Rewritten.{AreNotRewrittenOf, ComesOfRewritingOf, first_cause, first_full, first_long, full_from, full_pool, long_among, long_from, long_method, method_too_long, pool_full}
+use Rattle.fm_rewrite.specs.Rewritten.{method_too_long, pool_full}
+use Rattle.fm_rewrite.specs.RewrittenWithChains.{first_cause, full_from, full_pool, long_among, long_from, long_method, plans_for}
 use Rattle.fm_rewrite.specs.declared.error.RewriteFail.{RewriteFail}
 use Rattle.fm_rewrite.specs.declared.error.RewriteFail.TheVariants as fail
 use Rattle.fm_rewrite.specs.inner.ByPlans.{method_count}
 use Rattle.fm_world.specs.BuiltIns.{built_in}
 use Rattle.fm_world.specs.Members.{methods_of}
 use Rattle.fm_world.specs.Programs.{Program}
+use Rattle.freeme.proofs.RewritingLemmas.{cause_is}
+use Rattle.freeme.specs.Rewriting.{AreNotRewrittenBy, ComesOfRewritingBy}
 use Rattle.freeme.specs.inner.Freeing.{ComesOfFreeing, IsNamed, IsThere}
 use Rattle.freeme.specs.declared.refusal.FreeRefusal.TheVariants as free_refusal
 
@@ -52,21 +57,30 @@ full_inside plans class first (c ∷ given) full e = ⊎_elim
     let rest = full_inside plans (class + 1) (first + length c.methods) given full later in omega (arith, rest))
     (either (option_map (λ indices. (class, indices)) (full_pool plans first c)) (full_from plans (class + 1) (first + length c.methods) given) full e)
 
-long_inside : (plans : Plans) (free first : ℕ) (methods : List Member) (long : ℕ × ℕ) → long_among plans free first methods ≡ Some long → long.0 < first + length methods
-long_inside plans free first [] long e = absurd cc
-long_inside plans free first (m ∷ methods) long e = ⊎_elim
-    (λ (here : option_map (λ bytes. (first, bytes)) (long_method free (plans first) m) ≡ Some long). let is = numbered first (long_method free (plans first) m) long here in omega (arith, is))
-    (λ (later : long_among plans free (first + 1) methods ≡ Some long). let rest = long_inside plans free (first + 1) methods long later in omega (arith, rest))
-    (either (option_map (λ bytes. (first, bytes)) (long_method free (plans first) m)) (long_among plans free (first + 1) methods) long e)
+long_inside : (plans : Plans) (calls : Calls) (first : ℕ) (methods : List Member) (long : ℕ × ℕ) → long_among plans calls first methods ≡ Some long
+    → long.0 < first + length methods
+long_inside plans calls first [] long e = absurd cc
+long_inside plans calls first (m ∷ methods) long e = ⊎_elim
+    (λ (here : option_map (λ bytes. (first, bytes)) (long_method calls (plans first) m) ≡ Some long). let is = numbered first (long_method calls (plans first) m) long here in omega (arith, is))
+    (λ (later : long_among plans calls (first + 1) methods ≡ Some long). let rest = long_inside plans calls (first + 1) methods long later in omega (arith, rest))
+    (either (option_map (λ bytes. (first, bytes)) (long_method calls (plans first) m)) (long_among plans calls (first + 1) methods) long e)
 
 all_long_inside : (plans : Plans) (first : ℕ) (given : List ClassDef) (long : ℕ × ℕ) → long_from plans first given ≡ Some long → long.0 < first + method_count given
 all_long_inside plans first [] long e = absurd cc
 all_long_inside plans first (c ∷ given) long e = ⊎_elim
-    (λ (here : long_among plans (free_index c) first c.methods ≡ Some long). let own = long_inside plans (free_index c) first c.methods long here in omega (arith, own))
+    (λ (here : long_among plans (class_calls plans first c) first c.methods ≡ Some long).
+    let own = long_inside plans (class_calls plans first c) first c.methods long here in omega (arith, own))
     (λ (later : long_from plans (first + length c.methods) given ≡ Some long). let rest = all_long_inside plans (first + length c.methods) given long later in omega (arith, rest))
-    (either (long_among plans (free_index c) first c.methods) (long_from plans (first + length c.methods) given) long e)
+    (either (long_among plans (class_calls plans first c) first c.methods) (long_from plans (first + length c.methods) given) long e)
 
 -- ---- causes
+
+-- the first pool that is full, and the first method that is too long
+abbrev first_full : Plans → List ClassDef → Option (ℕ × ℕ)
+first_full plans given = full_from plans (length built_in) first_given given
+
+abbrev first_long : Plans → List ClassDef → Option (ℕ × ℕ)
+first_long plans given = long_from plans first_given given
 
 -- the number of what a cause names
 abbrev number_of : RewriteFail → ℕ
@@ -116,30 +130,33 @@ method_inside plans given method bytes e = by (first_full plans given) refl (fir
 
 -- ---- numbers of a program
 
-module _ (given : List ClassDef) (main : List ℕ) (p : Program) (program_is : IsProgramOf given main p) where
-  pool_there : (class : ClassId) (indices : ℕ) → AreNotRewrittenOf p given (fail.PoolFull class indices) → class.0 < length p.outline.classes
+module _ (given : List ClassDef) (main : List ℕ) (p : Program) (program_is : IsProgramOf given main p) (chains : Bool) where
+  pool_there : (class : ClassId) (indices : ℕ) → AreNotRewrittenBy chains p given (fail.PoolFull class indices) → class.0 < length p.outline.classes
   pool_there class indices refused =
-      let inside = pool_inside (full_plans p refused.facts) given class indices refused.first in
+      let first = sym (cause_is chains p refused.facts given) ∙ refused.first in
+      let inside = pool_inside (plans_for chains p refused.facts) given class indices first in
       let count = classes_counted given main p program_is in
       omega (arith, inside, count)
 
-  method_there : (method : MethodId) (bytes : ℕ) → AreNotRewrittenOf p given (fail.MethodTooLong method bytes) → method.0 < length (methods_of p.outline.classes)
+  method_there : (method : MethodId) (bytes : ℕ) → AreNotRewrittenBy chains p given (fail.MethodTooLong method bytes)
+      → method.0 < length (methods_of p.outline.classes)
   method_there method bytes refused =
-      let inside = method_inside (full_plans p refused.facts) given method bytes refused.first in
+      let first = sym (cause_is chains p refused.facts given) ∙ refused.first in
+      let inside = method_inside (plans_for chains p refused.facts) given method bytes first in
       let count = methods_counted given main p program_is in
       omega (arith, inside, count)
 
   -- what a cause names is there
-  pub cause_there : (cause : RewriteFail) → ComesOfRewritingOf p given (Err cause) → IsThere p.outline cause
+  pub cause_there : (cause : RewriteFail) → ComesOfRewritingBy chains p given (Err cause) → IsThere p.outline cause
   cause_there (fail.CallsFree method offset) comes = call_inside p (method.0, offset) comes
   cause_there (fail.PoolFull class indices) comes = pool_there class indices comes
   cause_there (fail.MethodTooLong method bytes) comes = method_there method bytes comes
   cause_there fail.NoMemory comes = tt
 
 -- and is reported by its name
-pub cause_reported : (given : List ClassDef) (p : Program) (cause : RewriteFail) (name : List ℕ) → ComesOfRewritingOf p given (Err cause)
-    → IsNamed p.outline cause name → ComesOfFreeing p given (Err (free_refusal.Rewrite cause name))
-cause_reported given p (fail.CallsFree method offset) name comes named = (comes, named)
-cause_reported given p (fail.PoolFull class indices) name comes named = (comes, named)
-cause_reported given p (fail.MethodTooLong method bytes) name comes named = (comes, named)
-cause_reported given p fail.NoMemory name comes named = absurd named
+pub cause_reported : (chains : Bool) (given : List ClassDef) (p : Program) (cause : RewriteFail) (name : List ℕ) → ComesOfRewritingBy chains p given (Err cause)
+    → IsNamed p.outline cause name → ComesOfFreeing chains p given (Err (free_refusal.Rewrite cause name))
+cause_reported chains given p (fail.CallsFree method offset) name comes named = (comes, named)
+cause_reported chains given p (fail.PoolFull class indices) name comes named = (comes, named)
+cause_reported chains given p (fail.MethodTooLong method bytes) name comes named = (comes, named)
+cause_reported chains given p fail.NoMemory name comes named = absurd named

@@ -1,13 +1,11 @@
 -- What a job leaves after its files are read, and after its classes are written.
-use Rattle.std.proofs.Common.{false, ◌≡◌, ◌≢◌, ◌≤◌, ℕ, ◌+◌, inl, inr, ⊎_elim, List, [], ◌∷◌, ◌++◌, length, map, take, Contains, Option, Some, None, IfSome, IsSomeAnd, Bor, Result, Ok, Err, string_bytes, refl, sym, ap, ◌∙◌, subst, arith}
+use Rattle.std.proofs.Common.{false, ◌≡◌, ◌≢◌, ◌≤◌, ℕ, ◌+◌, inl, inr, ⊎_elim, true, List, [], ◌∷◌, ◌++◌, length, map, take, Contains, Option, Some, None, IfSome, IsSomeAnd, Bor, Result, Ok, Err, string_bytes, refl, sym, ap, ◌∙◌, subst, arith}
 use Rattle.std.specs.List.{AllByRecursion, slice_get}
 use Rattle.std.proofs.lemmas.List.{take-map}
 use Rattle.std.proofs.lemmas.List.Elements.{All-contains, All-from_recursion}
 use Rattle.std.proofs.lemmas.Option.{slice_get-map}
 use Rattle.std.specs.Option.{option_map}
 use Rattle.fm_summ_shapes.specs.Analysed.{AreAnalysable, IsAccepted}
-use Rattle.fm_law_beside_freeme.specs.Written.{WrittenHaveLengthsAlone}
-use Rattle.fm_law_relinked.specs.Again.{SafeClassesLink}
 use Rattle.fm_base.proofs.ListFacts.{AllByRecursion-both, AllByRecursion-weaker}
 use Rattle.fm_base.proofs.OptionFacts.{Some-from_some_and, IsSome-from_some}
 use Rattle.fm_base.proofs.TestFacts.{same_or_other}
@@ -21,23 +19,24 @@ use Rattle.fm_cli.specs.Outside.{HasNoFileFault, HasWriteFault}
 use Rattle.fm_cli.specs.declared.command_refusal.CommandRefusal.TheVariants as refusal
 use Rattle.fm_check_program.specs.Untyped.{AreTyped}
 use Rattle.fm_link_refusals.specs.Refused.{refusal_of}
-use Rattle.fm_law_headline.specs.Headline.{ClassesDoTheSame, DoesTheSame, NarrowedClassesDoTheSame}
+use Rattle.fm_law_chains.specs.FreesAll.{FreesAll}
+use Rattle.fm_law_headline.specs.Headline.{DoesTheSame}
 use Rattle.fm_law_headline.specs.Taken.{CheckedAreTaken}
-use Rattle.fm_law_retyped.specs.Retyped.{SafeClassesAreTyped}
 use Rattle.fm_place.specs.Safe.{IsProgramOf}
 use Rattle.fm_rapid.specs.Opening.{HasOpening}
 use Rattle.fm_rewrite.proofs.FreeCallsLemmas.{first_call_is}
 use Rattle.fm_rewrite.proofs.JudgedLemmas.{judged_analysable, judged_spelled}
-use Rattle.fm_rewrite.specs.Rewritten.{AreJudged, AreRewrittenOf}
+use Rattle.fm_law_same_runs.specs.Programs.{AreTaken}
+use Rattle.fm_rewrite.specs.Rewritten.{AreJudged}
 use Rattle.fm_rewrite.specs.declared.counts.Count.{Count}
 use Rattle.fm_rewrite.specs.declared.error.RewriteFail.{RewriteFail}
 use Rattle.fm_rewrite.specs.declared.rewriting.Rewritten.{Rewritten}
 use Rattle.fm_world.specs.Causes.{Refusal}
 use Rattle.fm_world.specs.Linking.{refusals, IsLinked}
 use Rattle.fm_world.specs.Programs.{Program, program_of}
-use Rattle.freeme.proofs.AnalysedLemmas.{does_analysed, is_program, opens}
+use Rattle.freeme.proofs.AnalysedLemmas.{does_by, DoLaws, frees_by, is_program, opens}
 use Rattle.freeme.proofs.WrittenLemmas.{one_count_each, written_accepted, written_apart, written_spelled}
-use Rattle.freeme.proofs.TakenAgain.{again_taken}
+use Rattle.freeme.proofs.TakenAgain.{again_taken, AgainLaws}
 use Rattle.freeme.proofs.UnheldLemmas.{are_still}
 use Rattle.fm_law_spelled.specs.Names.{AreNew}
 use Rattle.fm_load.specs.Given.{AreGiven, Given, IsFirstUntypedName, IsMadeAlone, IsUntouched, IsNotLinked, IsNotTyped, AreChecked, given_program, made_classes}
@@ -45,6 +44,7 @@ use Rattle.fm_load.specs.Changes.{RisesOnlyAt, ChangesOnlyAt}
 use Rattle.fm_cli_requests.specs.FreemeRequest.{FreemeJob, job_of}
 use Rattle.freeme.specs.Jobs.{given_of, IsAnalysed, IsJobProgram, main_name}
 use Rattle.fm_load.specs.Taking.{AllTaken, ClassIsSpelled}
+use Rattle.freeme.specs.Rewriting.{AreRewrittenBy, own_facts}
 use Rattle.freeme.specs.TopCall.{AreFreed, AreTakenAgain, IsFirstCause, IsNotFreed, StaysWithin, IsDone, ComesTo, cause_name}
 use Rattle.freeme.specs.Writing.{HasName, class_text, written_name, class_lines, IsClassFileIn, IsFileOf, AreWritten, AllWritten, class_writes}
 use Rattle.fm_load.specs.Judging.{ComesOfProgram}
@@ -121,7 +121,7 @@ module _ (job : FreemeJob) (old new : Disk) (classes : List ClassDef) (source : 
 
   -- there is a cause not to rewrite it
   pub is_not_freed : (p : Program) → IsJobProgram job classes p → (cause : RewriteFail) (name : Bytes) → AreChecked (given_of job) old.contents classes
-      → IsFirstCause p classes cause → name ≡ cause_name (given_program (given_of job) classes).outline cause → IsNotFreed job cause name old new
+      → IsFirstCause job.chains p classes cause → name ≡ cause_name (given_program (given_of job) classes).outline cause → IsNotFreed job cause name old new
   is_not_freed p analysed cause name checked refused is = record {
     classes = classes;
     checked = checked;
@@ -352,7 +352,7 @@ module _ {request : WriteRequest} {names : List (Bor Bytes)} {classes : List Cla
 
   -- a program that isn't rewritten
   pub ends_not_freed : (p : Program) → AreChecked (given_of (job_of request)) old.contents classes → IsJobProgram (job_of request) classes p → (r : FreeRefusal)
-      → ComesOfFreeing p classes (Err r) → ComesTo (job_of request) old between (Err r)
+      → ComesOfFreeing request.chains p classes (Err r) → ComesTo (job_of request) old between (Err r)
   ends_not_freed p checked analysed (free_refusal.Rewrite cause name) now =
       is_not_freed (job_of request) old between classes reads.source reads.faultless reads.calls reads.all p analysed cause name checked now.0
       (now.1 ∙ ap (λ (q : Program). cause_name q.outline cause) (of_given p analysed))
@@ -360,37 +360,44 @@ module _ {request : WriteRequest} {names : List (Bor Bytes)} {classes : List Cla
   ends_not_freed p checked analysed r now = absurd now
 
   -- the classes that are rewritten, with what is reported of them
-  module _ (checked : AreChecked (given_of (job_of request)) old.contents classes) {p : Program} (analysed : IsJobProgram (job_of request) classes p) (made : Rewritten) (rewritten : AreRewrittenOf p classes made) where
+  module _ (checked : AreChecked (given_of (job_of request)) old.contents classes) {p : Program} (analysed : IsJobProgram (job_of request) classes p) (made : Rewritten) (rewritten : AreRewrittenBy request.chains p classes made) where
     abbrev own_judged : AreJudged classes p
     own_judged = judged p checked analysed
 
     made_spelled : AllByRecursion ClassIsSpelled made.classes.items
     made_spelled =
         are_spelled_so made.classes.items
-        (written_spelled classes p made own_judged (given_short reads.source) rewritten)
+        (written_spelled classes p made own_judged rewritten (given_short reads.source))
 
-    taken_again : SafeClassesLink → SafeClassesAreTyped → WrittenHaveLengthsAlone → AreTakenAgain p classes (main_name (job_of request)) made rewritten
-    taken_again link retype lengths =
-        again_taken classes (main_name (job_of request)) p (of_given p analysed) made (judged_spelled classes p own_judged) checked.linked.linked rewritten link
-        retype lengths
+    taken_again : AgainLaws → AreTakenAgain p (main_name (job_of request)) made (own_facts rewritten)
+    taken_again again =
+        again_taken request.chains classes (main_name (job_of request)) p (of_given p analysed) made (judged_spelled classes p own_judged) checked.linked.linked
+        again rewritten.marks rewritten.full
 
     made_profiles : AllByRecursion Profile made.classes.items
-    made_profiles =
-        written_accepted classes p made own_judged (given_accepted reads.source) rewritten
+    made_profiles = written_accepted classes p made own_judged rewritten (given_accepted reads.source)
 
-    does_the_same : CheckedAreTaken → ClassesDoTheSame → NarrowedClassesDoTheSame
-        → DoesTheSame classes (main_name (job_of request)) made.classes.items rewritten.marks rewritten.full
-    does_the_same taken same narrow =
-        let main = main_name (job_of request) in
-        let no_call = sym (first_call_is classes main p (of_given p analysed)) ∙ rewritten.no_call in
-        does_analysed request.rapid classes main p analysed same narrow (taken (given_of (job_of request)) old.contents classes checked no_call)
-        made.classes.items rewritten.marks rewritten.full
+    -- what is tested of the class files is all that the laws require
+    are_taken : CheckedAreTaken → AreTaken classes (main_name (job_of request))
+    are_taken taken =
+        let no_call = sym (first_call_is classes (main_name (job_of request)) p (of_given p analysed)) ∙ rewritten.no_call in
+        taken (given_of (job_of request)) old.contents classes checked no_call
+
+    does_the_same : CheckedAreTaken → DoLaws
+        → DoesTheSame p classes (main_name (job_of request)) made.classes.items rewritten.marks (own_facts rewritten)
+    does_the_same taken laws =
+        does_by request.chains request.rapid classes (main_name (job_of request)) p analysed laws (are_taken taken) made.classes.items rewritten.marks rewritten.full
         (AllByRecursion-weaker ClassIsSpelled HasSpelling (λ c spells. (class_bytes c, spells)) made.classes.items made_spelled)
         (AllByRecursion-weaker Profile IsSupported (λ c profile. profile.supported) made.classes.items made_profiles)
 
-    abbrev freed : SafeClassesLink → SafeClassesAreTyped → WrittenHaveLengthsAlone → CheckedAreTaken → ClassesDoTheSame → NarrowedClassesDoTheSame
-        → AreFreed (job_of request) old.contents made
-    freed link retype lengths taken same narrow = record {
+    frees_all : CheckedAreTaken → DoLaws → request.chains ≡ true
+        → FreesAll p (program_of classes (main_name (job_of request))) (program_of made.classes.items (main_name (job_of request))) (own_facts rewritten)
+        rewritten.marks
+    frees_all taken laws =
+        frees_by request.chains request.rapid classes (main_name (job_of request)) p analysed laws (are_taken taken) made.classes.items rewritten.marks rewritten.full
+
+    abbrev freed : AgainLaws → CheckedAreTaken → DoLaws → AreFreed (job_of request) old.contents made
+    freed again taken laws = record {
       classes = classes;
       checked = checked;
       program = p;
@@ -398,8 +405,9 @@ module _ {request : WriteRequest} {names : List (Bor Bytes)} {classes : List Cla
       rewritten = rewritten;
       spelled = made_spelled;
       profile = made_profiles;
-      again = taken_again link retype lengths;
-      does = does_the_same taken same narrow;
+      again = taken_again again;
+      does = does_the_same taken laws;
+      all = frees_all taken laws;
     }
 
     -- and by slices of both
@@ -421,15 +429,15 @@ module _ {request : WriteRequest} {names : List (Bor Bytes)} {classes : List Cla
     pub ends_within : (r : Result Unit JobRefusal) → ComesOfClasses request.folder.now written between new r → StaysWithin (job_of request) old new
     ends_within r comes = writes_within (job_of request) old between new reads.all keeps (writes_in request.folder.now written between new r comes)
 
-  module _ {new : Disk} (keeps : KeepsReads between new) (link : SafeClassesLink) (retype : SafeClassesAreTyped) (lengths : WrittenHaveLengthsAlone) (taken : CheckedAreTaken) (same : ClassesDoTheSame) (narrow : NarrowedClassesDoTheSame) (checked : AreChecked (given_of (job_of request)) old.contents classes) {p : Program} (analysed : IsJobProgram (job_of request) classes p) (made : Rewritten) (rewritten : AreRewrittenOf p classes made) {written : List ClassDef} (lent : written ≡ made.classes.items) where
+  module _ {new : Disk} (keeps : KeepsReads between new) (again : AgainLaws) (taken : CheckedAreTaken) (laws : DoLaws) (checked : AreChecked (given_of (job_of request)) old.contents classes) {p : Program} (analysed : IsJobProgram (job_of request) classes p) (made : Rewritten) (rewritten : AreRewrittenBy request.chains p classes made) {written : List ClassDef} (lent : written ≡ made.classes.items) where
     pub ends_done : {counts : List Count} (lines : List ℕ) → counts ≡ made.counts.items → lines ≡ class_lines written counts → AllWritten request.folder.now written between new
         → IsDone (job_of request) lines old new
     ends_done lines reported is now =
         let P : List ClassDef → Type 0 = λ cs. AllWritten request.folder.now cs between new in
-        is_done (job_of request) old between new reads.all keeps made reads.faultless (freed checked analysed made rewritten link retype lengths taken same narrow) reads.calls lines
+        is_done (job_of request) old between new reads.all keeps made reads.faultless (freed checked analysed made rewritten again taken laws) reads.calls lines
         (is ∙ ap (class_lines written) reported ∙ ap (λ (cs : List ClassDef). class_lines cs made.counts.items) lent) (subst P lent now)
 
     pub ends_unwritten : (r : JobRefusal) → ComesOfClasses request.folder.now written between new (Err r) → ComesTo (job_of request) old new (Err (free_refusal.Job r))
     ends_unwritten r now =
         let P : List ClassDef → Type 0 = λ cs. ComesOfClasses request.folder.now cs between new (Err r) in
-        write_ended (job_of request) old between new reads.all keeps made reads.faultless (freed checked analysed made rewritten link retype lengths taken same narrow) reads.calls r (subst P lent now)
+        write_ended (job_of request) old between new reads.all keeps made reads.faultless (freed checked analysed made rewritten again taken laws) reads.calls r (subst P lent now)

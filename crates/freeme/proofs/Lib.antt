@@ -7,7 +7,8 @@ pub mod PutLemmas
 pub mod ReportedLemmas
 pub mod StatusLemmas
 pub mod UnheldLemmas
-pub mod WovenFew
+pub mod RewritingLemmas
+pub mod ChainedFew
 pub mod WriteLemmas
 pub mod WrittenLemmas
 pub mod TakenAgain

@@ -39,6 +39,7 @@ keeps_meaning words old new before after report report' result done is = by_said
     rewritten = said.done.freed.rewritten;
     written = said.done.written;
     does = said.done.freed.does;
+    all = said.done.freed.all;
   })
 
 -- where no class is made, there is a class for each file

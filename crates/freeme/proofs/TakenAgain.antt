@@ -1,20 +1,23 @@
 -- The classes that are written are taken again.
-use Rattle.std.proofs.Common.{◌≡◌, ℕ, List, [], Option, Some, None, IsSome, refl}
+use Rattle.std.proofs.Common.{◌≡◌, ℕ, Bool, true, false, List, [], Option, Some, None, IsSome, refl}
 use Rattle.std.specs.List.{AllByRecursion}
 use Rattle.std.proofs.lemmas.Bool.{false≢true}
+use Rattle.fm_law_beside_freeme.specs.Lengths.{AcceptedHaveLengthsAlone}
 use Rattle.fm_law_beside_freeme.specs.Written.{WrittenHaveLengthsAlone}
-use Rattle.fm_law_relinked.specs.Again.{SafeClassesLink}
+use Rattle.fm_law_chains.proofs.OwnPlans.{own_chains}
+use Rattle.fm_law_relinked.specs.Again.{ChainedClassesLink, SafeClassesLink}
+use Rattle.fm_law_same_runs.specs.Beside.{Marks}
 use Rattle.fm_code.specs.Spells.{HasSpelling}
 use Rattle.fm_code.specs.declared.class_file.ClassDef.{ClassDef}
 use Rattle.fm_code.specs.declared.code_array.Code.{Code}
 use Rattle.fm_place.proofs.FullLemmas.{method-safe}
-use Rattle.fm_place.specs.Safe.{full_plans, IsProgramOf, SafeOf}
-use Rattle.fm_law_retyped.specs.Retyped.{SafeClassesAreTyped}
-use Rattle.fm_rewrite.specs.Rewritten.{AreRewrittenOf}
+use Rattle.fm_place.specs.Safe.{full_plans, FullOf, IsProgramOf, SafeOf}
+use Rattle.fm_law_retyped.specs.Retyped.{ChainedClassesAreTyped, SafeClassesAreTyped}
 use Rattle.fm_rewrite.specs.declared.rewriting.Rewritten.{Rewritten}
 use Rattle.fm_types.specs.Typed.{Typed}
 use Rattle.fm_world.specs.Linking.{refusals}
 use Rattle.fm_world.specs.Programs.{code_at, Program, program_of}
+use Rattle.freeme.specs.Rewriting.{facts_by, IsFullBy}
 use Rattle.freeme.specs.TopCall.{AreTakenAgain}
 
 -- a method that is typed with each code that it may have
@@ -25,24 +28,44 @@ typed_if_coded p method with_code some = by (code_at p method) refl some where
   by (Some code) is some = with_code code is
 
 -- what is inserted by the facts by which the classes are rewritten is safe
-abbrev own_safe : (p : Program) (given : List ClassDef) (made : Rewritten) (are : AreRewrittenOf p given made) → SafeOf p given made.classes.items are.marks
-own_safe p given made are = record {
-  facts = are.full.facts;
-  exact = are.full.exact;
-  plans = full_plans p are.full.facts;
-  methods = method-safe p are.full.facts;
-  written_is = are.full.written_is;
-  marks_are = are.full.marks_are;
+abbrev own_safe : (p : Program) (given written : List ClassDef) (marks : Marks) → FullOf p given written marks → SafeOf p given written marks
+own_safe p given written marks full = record {
+  facts = full.facts;
+  exact = full.exact;
+  plans = full_plans p full.facts;
+  methods = method-safe p full.facts;
+  written_is = full.written_is;
+  marks_are = full.marks_are;
 }
 
-pub again_taken : (given : List ClassDef) (main : List ℕ) (p : Program) → IsProgramOf given main p → (made : Rewritten) → AllByRecursion HasSpelling given
-    → refusals given main ≡ [] → (are : AreRewrittenOf p given made) → SafeClassesLink → SafeClassesAreTyped → WrittenHaveLengthsAlone
-    → AreTakenAgain p given main made are
-again_taken given main p is made spelled linked are link retype lengths =
+-- that classes are taken again, with chains and without
+pub record AgainLaws : Type 0 where
+  pub link : SafeClassesLink
+  pub typed : SafeClassesAreTyped
+  pub files : WrittenHaveLengthsAlone
+  pub chains_link : ChainedClassesLink
+  pub chains_typed : ChainedClassesAreTyped
+  pub accepted : AcceptedHaveLengthsAlone
+
+pub again_taken : (chains : Bool) (given : List ClassDef) (main : List ℕ) (p : Program) → IsProgramOf given main p → (made : Rewritten) → AllByRecursion HasSpelling given
+    → refusals given main ≡ [] → AgainLaws → (marks : Marks) (full : IsFullBy chains p given made.classes.items marks)
+    → AreTakenAgain p main made (facts_by chains p given made.classes.items marks full)
+again_taken false given main p is made spelled linked laws marks full =
     let written = made.classes.items in
-    let safe = own_safe p given made are in
+    let safe = own_safe p given written marks full in
     record {
-      links = (link given main p written are.marks spelled linked safe).links;
-      typed = λ ready method. typed_if_coded (program_of written main) method (retype given main p is written are.marks spelled linked safe ready method);
-      files = λ ready. lengths given main p is written are.marks spelled linked safe ready;
+      links = (laws.link given main p written marks spelled linked safe).links;
+      typed = λ ready method. typed_if_coded (program_of written main) method (laws.typed given main p is written marks spelled linked safe ready method);
+      files = λ ready. laws.files given main p is written marks spelled linked safe ready;
+    }
+again_taken true given main p is made spelled linked laws marks full =
+    let written = made.classes.items in
+    let safe = own_chains p given written marks full in
+    let links = (laws.chains_link given main p written marks spelled linked safe).links in
+    record {
+      links = links;
+      typed = λ ready method. typed_if_coded (program_of written main) method (laws.chains_typed given main p is written marks spelled linked safe ready method);
+      files = λ ready held files are old known.
+          laws.accepted held (record { files = files; made = None; main = main }) written refl are links
+          (λ method. typed_if_coded (program_of written main) method (laws.chains_typed given main p is written marks spelled linked safe ready method)) old known;
     }

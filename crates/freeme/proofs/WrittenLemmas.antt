@@ -1,6 +1,6 @@
--- The classes that are written: each has a spelling, and they are printed under names of their own.
-use Rattle.std.proofs.Common.{◌≡◌, ℕ, suc, ◌+◌, ◌<◌, ◌≤◌, ◌^◌, ◌&&◌, ◌⊎◌, inl, inr, Bool, true, false, cond, List, [], ◌∷◌, ◌++◌, length, map, get_or, Option, Some, None, refl, sym, ap, subst, ◌∙◌, arith, option_and_then}
-use Rattle.std.specs.Prelude.{if◌then◌else◌, nat_lt, unwrap_or}
+-- The classes that are written, with chains or without: each has a spelling, and they are printed under names of their own.
+use Rattle.std.proofs.Common.{◌≡◌, ℕ, suc, ◌+◌, ◌<◌, ◌≤◌, ◌&&◌, ◌⊎◌, inl, inr, Bool, true, false, cond, List, [], ◌∷◌, ◌++◌, length, map, get_or, Option, Some, None, refl, sym, ap, subst, ◌∙◌, arith, option_and_then, if◌then◌else◌}
+use Rattle.std.specs.Prelude.{nat_lt, unwrap_or}
 use Rattle.std.specs.List.{AllByRecursion, flat_map}
 use Rattle.std.specs.Option.{option_map, option_or}
 use Rattle.std.proofs.lemmas.Bool.{cases_lt, ltb-false}
@@ -9,13 +9,15 @@ use Rattle.fm_summ_shapes.proofs.ShapesLemmas.{code_facts}
 use Rattle.fm_summ_shapes.specs.Analysed.{AreAnalysable, IsAccepted}
 use Rattle.fm_base.proofs.ListFacts.{AllByRecursion-weaker}
 use Rattle.fm_base.proofs.OptionFacts.{Some-from_some_and}
+use Rattle.fm_chain.proofs.ChainEntriesAdded.{calls_are_named}
 use Rattle.fm_chain.proofs.LaidChains.{chained_is_laid_out}
-use Rattle.fm_chain.proofs.WithoutChains.{calls_same, chained_same, class_none, class_same, none_looped}
-use Rattle.fm_chain.specs.Chained.{chained, has_chain}
-use Rattle.fm_chain.specs.Chaining.{chained_class, changed_class, class_calls, class_has_chain, entries_for, plan_has_chain}
+use Rattle.fm_chain.specs.ChainEntries.{sought_chain}
+use Rattle.fm_chain.specs.Chained.{chained}
+use Rattle.fm_chain.specs.Chaining.{calls_for, chained_class, chained_from, changed_class, class_calls, class_has_chain, entries_for}
+use Rattle.fm_chain.specs.SafeChains.{looped_plan, with_loops}
 use Rattle.fm_chain.specs.declared.calls.Calls.{Calls}
 use Rattle.fm_code.specs.AccessFlags.{is_interface}
-use Rattle.fm_code.specs.ConstantPool.{class_name_at, entry_at, method_ref_at}
+use Rattle.fm_code.specs.ConstantPool.{class_name_at, entry_at, MemberName, method_ref_at}
 use Rattle.fm_code.specs.FreeEntries.{free_method, sought_free, with_free}
 use Rattle.fm_code.specs.Members.{code_of, MethodIsValid}
 use Rattle.fm_code.specs.Profile.{NameIsSupported, Profile}
@@ -33,13 +35,9 @@ use Rattle.fm_conn.specs.Links.{typed_method}
 use Rattle.fm_conn.specs.Nodes.{TypedMethod}
 use Rattle.fm_flow.proofs.CodeFacts.{items_counted}
 use Rattle.fm_layout.specs.Laid.{laid_length, refused_length}
-use Rattle.fm_layout.specs.declared.new_items.NewItem.{NewItem}
-use Rattle.fm_place.proofs.FullLemmas.{method-safe}
 use Rattle.fm_place.specs.Insertions.{all_insertions, full_insertions, Insertions}
-use Rattle.fm_place.specs.Rewriting.{changes, first_given, free_index, Plans, rewritten_class, rewritten_from}
-use Rattle.fm_place.specs.Safe.{full_plans}
+use Rattle.fm_place.specs.Rewriting.{changes, first_given, Plans}
 use Rattle.fm_place.specs.Sites.{held_sites}
-use Rattle.fm_place.specs.Woven.{woven}
 use Rattle.fm_place.specs.declared.limits.TheConstants.{MAX_HOLDING_STACK_WORDS}
 use Rattle.fm_pool.proofs.FreeEntriesAdded.{free_named}
 use Rattle.fm_pool.proofs.GrownPool.{class_kept}
@@ -48,19 +46,21 @@ use Rattle.fm_rewrite.proofs.JudgedLemmas.{judged_analysable, judged_old, judged
 use Rattle.fm_rewrite.proofs.MeantLemmas.{codes_own}
 use Rattle.fm_rewrite.proofs.ProgramMeantLemmas.{code_given}
 use Rattle.fm_rewrite.specs.Alike.{IsOwnCode}
-use Rattle.fm_rewrite.specs.Plans.{HasOldItems}
-use Rattle.fm_rewrite.specs.Rewritten.{AreJudged, AreRewrittenOf, counts_from, first_full, first_long, full_from, full_pool, long_among, long_code, long_from, long_method, method_too_long, pool_full}
+use Rattle.fm_rewrite.specs.Plans.{CallsFit, HasOldItems, inserted_for}
+use Rattle.fm_rewrite.specs.Rewritten.{AreJudged, counts_from, method_too_long, pool_full}
+use Rattle.fm_rewrite.specs.RewrittenWithChains.{full_from, full_pool, long_among, long_code, long_from, long_method, plans_for}
 use Rattle.fm_rewrite.specs.inner.ByPlans.{method_count}
 use Rattle.fm_rewrite.specs.declared.rewriting.Rewritten.{Rewritten}
 use Rattle.fm_cli.specs.Printed.{printed}
 use Rattle.fm_world.specs.BuiltIns.{built_in}
 use Rattle.fm_world.specs.Causes.{own_name}
 use Rattle.fm_world.specs.Programs.{code_at, Program}
-use Rattle.fm_place_weave.proofs.ClassLawLemmas.{by_change, rewritten-is}
 use Rattle.fm_law_spelled.proofs.ApartLemmas.{names_apart, printed_name}
 use Rattle.fm_law_spelled.proofs.ClassSpelled.{changed_spelled}
 use Rattle.fm_law_spelled.proofs.SupportedLemmas.{changed_accepted}
-use Rattle.freeme.proofs.WovenFew.{few_items}
+use Rattle.freeme.proofs.ChainedFew.{few_items}
+use Rattle.freeme.proofs.RewritingLemmas.{cause_is, full_written}
+use Rattle.freeme.specs.Rewriting.{AreRewrittenBy, own_facts}
 use Rattle.fm_law_spelled.specs.Names.{AreNew}
 use Rattle.fm_law_spelled.specs.Changed.{AttributeCan, CanWeave, IsShort, MethodCan, MethodsCan}
 
@@ -104,111 +104,159 @@ low_stack facts x held = by (nat_lt MAX_HOLDING_STACK_WORDS x.code.max_stack) re
       let none : length (held_sites facts x) ≡ 0 = rw high refl in absurd (omega (arith, none, held))
   by false low = omega (arith, ltb-false MAX_HOLDING_STACK_WORDS x.code.max_stack low)
 
--- the index of FreeMe.free is one of the pool
-free_within : (c : ClassDef) → free_index c < length (with_free c.pool.entries)
-free_within c = by (cases_lt (free_index c) (length (with_free c.pool.entries))) where
-  named : method_ref_at (with_free c.pool.entries) (free_index c) ≡ Some free_method
-  named = free_named c.pool.entries (with_free c.pool.entries) (sought_free c.pool.entries).missing (free_index c) refl refl
+-- ---- the entries by which FreeMe's methods are called
 
-  by : (free_index c < length (with_free c.pool.entries)) ⊎ (length (with_free c.pool.entries) ≤ free_index c) → free_index c < length (with_free c.pool.entries)
+-- an index by which a method is named is one of the pool
+named_within : (entries : List Entry) (index : ℕ) (m : MemberName) → method_ref_at entries index ≡ Some m → index < length entries
+named_within entries index m named = by (cases_lt index (length entries)) where
+  by : (index < length entries) ⊎ (length entries ≤ index) → index < length entries
   by (inl inside) = inside
   by (inr past) =
-      let second : entry_at (with_free c.pool.entries) (free_index c) ≡ entry.Second = get_or_past (with_free c.pool.entries) (free_index c) entry.Second past in
-      let none : None ≡ Some free_method = rw second at named in
+      let second : entry_at entries index ≡ entry.Second = get_or_past entries index entry.Second past in
+      let none : None ≡ Some m = rw second at named in
       absurd cc
 
--- by this entry of FreeMe.free, and without chains
-abbrev calls_by : (free : ℕ) → Calls
-calls_by free = record { free = free; link = 0; free_chain = 0 }
+-- so the three indices fit an instruction
+calls_fit : (chains : Bool) (entries : List Entry) → length (entries_for chains entries) ≤ 65535 → CallsFit (calls_for chains entries)
+calls_fit false entries few =
+    let named = free_named entries (with_free entries) (sought_free entries).missing (sought_free entries).index refl refl in
+    let free = named_within (with_free entries) (sought_free entries).index free_method named in
+    record { free = omega (arith, free, few); link = omega arith; free_chain = omega arith }
+calls_fit true entries few =
+    let named = calls_are_named entries in
+    let free = named_within (entries_for true entries) _ _ named.free in
+    let link = named_within (entries_for true entries) _ _ named.link in
+    let chain = named_within (entries_for true entries) _ _ named.free_chain in
+    record { free = omega (arith, free, few); link = omega (arith, link, few); free_chain = omega (arith, chain, few) }
 
--- of a class that changes: there is room in its pool, and in its methods for what is planned for them
+-- ---- a class that changes
+
+-- there is room in its pool, and in its methods for what is planned for them
 record CanChange (plans : Plans) (first : ℕ) (c : ClassDef) : Type 0 where
-  pub room : length (with_free c.pool.entries) ≤ 65535
-  pub methods : MethodsCan plans (calls_by (free_index c)) first c.methods
+  pub room : length (entries_for (class_has_chain plans first c) c.pool.entries) ≤ 65535
+  pub methods : MethodsCan plans (class_calls plans first c) first c.methods
 
 -- of each of these classes that changes
 abbrev CanChangeAll : Plans → (first : ℕ) → List ClassDef → Type 0
 CanChangeAll plans first [] = Unit {0}
 CanChangeAll plans first (c ∷ classes) = (changes plans first c ≡ true → CanChange plans first c) × CanChangeAll plans (first + length c.methods) classes
 
-module _ (p : Program) (facts : Facts) (may : AreAnalysable p) (old : HasOldItems p) where
+-- ---- what is planned
+
+-- all that can be inserted into a method with this code, where a site is held
+record IsAllFor (chains : Bool) (facts : Facts) (x : TypedMethod) (plan : Insertions) : Type 0 where
+  pub all : plan ≡ inserted_for chains x.code (all_insertions facts x)
+  pub held : 0 < length (held_sites facts x)
+
+looped_all : (facts : Facts) (x : TypedMethod) (o : Option Insertions) (plan : Insertions) → full_insertions facts x ≡ o → looped_plan (Some x.code) o ≡ Some plan
+    → IsAllFor true facts x plan
+looped_all facts x None plan full is = absurd cc
+looped_all facts x (Some own) plan full is =
+    let all = is_all facts x own full in
+    let same : plan ≡ with_loops x.code own = ap (λ (o : Option Insertions). unwrap_or o plan) (sym is) in
+    record { all = same ∙ ap (with_loops x.code) all.all; held = all.held }
+
+-- the plan of a method that has code
+plan_of_code : (chains : Bool) (p : Program) (facts : Facts) (method : ℕ) (code : Code) (plan : Insertions) → code_at p method ≡ Some code
+    → plans_for chains p facts method ≡ Some plan → IsAllFor chains facts (typed_method p facts.typing method code) plan
+plan_of_code false p facts method code plan is planned =
+    let x = typed_method p facts.typing method code in
+    let full : full_insertions facts x ≡ Some plan = sym (ap (λ o. option_and_then (full_insertions facts) (option_map (typed_method p facts.typing method) o)) is) ∙ planned in
+    let own = is_all facts x plan full in
+    record { all = own.all; held = own.held }
+plan_of_code true p facts method code plan is planned =
+    let x = typed_method p facts.typing method code in
+    let found : looped_plan (Some code) (full_insertions facts x) ≡ Some plan =
+    sym (ap (λ (o : Option Code). looped_plan o (option_and_then (full_insertions facts) (option_map (typed_method p facts.typing method) o))) is) ∙ planned in
+    looped_all facts x (full_insertions facts x) plan refl found
+
+-- one without code has none
+no_plan : (chains : Bool) (p : Program) (facts : Facts) (method : ℕ) → code_at p method ≡ None → plans_for chains p facts method ≡ None
+no_plan false p facts method none = ap (λ o. option_and_then (full_insertions facts) (option_map (typed_method p facts.typing method) o)) none
+no_plan true p facts method none =
+    ap (λ (o : Option Code). looped_plan o (option_and_then (full_insertions facts) (option_map (typed_method p facts.typing method) o))) none
+    ∙ bare (option_and_then (full_insertions facts) None) where
+      bare : (o : Option Insertions) → looped_plan None o ≡ None
+      bare None = refl
+      bare (Some plan) = refl
+
+module _ (chains : Bool) (p : Program) (facts : Facts) (may : AreAnalysable p) (old : HasOldItems p) where
   abbrev own_plans : Plans
-  own_plans = full_plans p facts
+  own_plans = plans_for chains p facts
 
   -- what is planned for a method that has this code may be woven, as long as it isn't too long
-  code_can : (free method : ℕ) (code : Code) (plan : Insertions) → free < 2 ^ 16 → code_at p method ≡ Some code → own_plans method ≡ Some plan
-      → long_code free plan code ≡ None → CanWeave (calls_by free) code plan
-  code_can free method code plan fits is planned short =
+  code_can : (calls : Calls) (method : ℕ) (code : Code) (plan : Insertions) → CallsFit calls → code_at p method ≡ Some code → own_plans method ≡ Some plan
+      → long_code calls plan code ≡ None → CanWeave calls code plan
+  code_can calls method code plan fits is planned short =
       let x = typed_method p facts.typing method code in
-      let full : full_insertions facts x ≡ Some plan = sym (ap (λ o. option_and_then (full_insertions facts) (option_map (typed_method p facts.typing method) o)) is) ∙ planned in
-      let own = is_all facts x plan full in
+      let own = plan_of_code chains p facts method code plan is planned in
       let known = code_facts p method code may is in
       let rules = known.0.spelled in
-      let calls = calls_by free in
-      let suits = all_suits facts x false calls (record { free = fits; link = omega arith; free_chain = omega arith }) known.1.locals in
-      let all = all_insertions facts x in
-      let plain = none_looped plan.holders (method-safe p facts method plan planned).plain in
-      let same : chained calls code all ≡ woven free code all = chained_same calls code all (ap has_chain (sym own.all) ∙ plain) in
-      let few = few_items facts x free (items_counted code rules).1 in
-      let test = not_refused (nat_lt MAX_CODE_BYTES (laid_length code.items (woven free code plan))) (refused_length code.items (woven free code plan)) short in
-      subst (λ (ins : Insertions). laid_length code.items (woven free code ins) ≤ MAX_CODE_BYTES → CanWeave (calls_by free) code ins) (sym own.all)
+      let all = inserted_for chains code (all_insertions facts x) in
+      let suits = all_suits facts x chains calls fits known.1.locals in
+      let few = few_items facts x chains calls (items_counted code rules).1 in
+      let test = not_refused (nat_lt MAX_CODE_BYTES (laid_length code.items (chained calls code plan))) (refused_length code.items (chained calls code plan)) short in
+      subst (λ (ins : Insertions). laid_length code.items (chained calls code ins) ≤ MAX_CODE_BYTES → CanWeave calls code ins) (sym own.all)
       (λ limit. record {
         old_items = old method code is;
         stack = low_stack facts x own.held;
         suits = suits;
-        new_items = chained_is_laid_out calls code all (old method code is) suits (let count = ap length same in omega (arith, few, count));
-        short = subst (λ (items : List NewItem). laid_length code.items items ≤ MAX_CODE_BYTES) (sym same) limit;
+        new_items = chained_is_laid_out calls code all (old method code is) suits few;
+        short = limit;
       })
-      (omega (arith, ltb-false MAX_CODE_BYTES (laid_length code.items (woven free code plan)) test))
+      (omega (arith, ltb-false MAX_CODE_BYTES (laid_length code.items (chained calls code plan)) test))
 
   -- each attribute that is code is the method's
-  own_attributes : (free : ℕ) (plan : Insertions) (code : Code) (attributes : List MemberAttr) → AllByRecursion (IsOwnCode code) attributes → CanWeave (calls_by free) code plan
-      → AllByRecursion (AttributeCan (calls_by free) plan) attributes
-  own_attributes free plan code [] own can = tt
-  own_attributes free plan code (attribute.Coded name other ∷ attributes) own can =
-      (subst (λ (c : Code). CanWeave (calls_by free) c plan) (sym own.0) can, own_attributes free plan code attributes own.1 can)
-  own_attributes free plan code (attribute.Constant name value ∷ attributes) own can = (tt, own_attributes free plan code attributes own.1 can)
-  own_attributes free plan code (attribute.Other raw ∷ attributes) own can = (tt, own_attributes free plan code attributes own.1 can)
+  own_attributes : (calls : Calls) (plan : Insertions) (code : Code) (attributes : List MemberAttr) → AllByRecursion (IsOwnCode code) attributes
+      → CanWeave calls code plan → AllByRecursion (AttributeCan calls plan) attributes
+  own_attributes calls plan code [] own can = tt
+  own_attributes calls plan code (attribute.Coded name other ∷ attributes) own can =
+      (subst (λ (c : Code). CanWeave calls c plan) (sym own.0) can, own_attributes calls plan code attributes own.1 can)
+  own_attributes calls plan code (attribute.Constant name value ∷ attributes) own can = (tt, own_attributes calls plan code attributes own.1 can)
+  own_attributes calls plan code (attribute.Other raw ∷ attributes) own can = (tt, own_attributes calls plan code attributes own.1 can)
 
-  method_can : (in_interface : Bool) (entries : List Entry) (free method : ℕ) (m : Member) → MethodIsValid in_interface entries m → free < 2 ^ 16 → code_at p method ≡ code_of m
-      → long_method free (own_plans method) m ≡ None → MethodCan (calls_by free) (own_plans method) m
-  method_can in_interface entries free method m valid fits is short = by (own_plans method) refl short where
-    by : (o : Option Insertions) → own_plans method ≡ o → long_method free o m ≡ None → MethodCan (calls_by free) o m
+  method_can : (in_interface : Bool) (entries : List Entry) (calls : Calls) (method : ℕ) (m : Member) → MethodIsValid in_interface entries m → CallsFit calls
+      → code_at p method ≡ code_of m → long_method calls (own_plans method) m ≡ None → MethodCan calls (own_plans method) m
+  method_can in_interface entries calls method m valid fits is short = by (own_plans method) refl short where
+    by : (o : Option Insertions) → own_plans method ≡ o → long_method calls o m ≡ None → MethodCan calls o m
     by None planned long = tt
     by (Some plan) planned long = with_code (code_of m) refl long where
-      with_code : (o : Option Code) → code_of m ≡ o → option_and_then (long_code free plan) o ≡ None → AllByRecursion (AttributeCan (calls_by free) plan) m.attributes
+      with_code : (o : Option Code) → code_of m ≡ o → option_and_then (long_code calls plan) o ≡ None → AllByRecursion (AttributeCan calls plan) m.attributes
       with_code None none ok =
-          let nothing : own_plans method ≡ None = ap (λ o. option_and_then (full_insertions facts) (option_map (typed_method p facts.typing method) o)) (is ∙ none) in
-          let no_plan : None ≡ Some plan = sym nothing ∙ planned in
+          let nothing : None ≡ Some plan = sym (no_plan chains p facts method (is ∙ none)) ∙ planned in
           absurd cc
       with_code (Some code) own ok =
-          own_attributes free plan code m.attributes (codes_own in_interface entries m code valid own) (code_can free method code plan fits (is ∙ own) planned ok)
+          own_attributes calls plan code m.attributes (codes_own in_interface entries m code valid own) (code_can calls method code plan fits (is ∙ own) planned ok)
 
   -- those of a class
-  methods_can : (in_interface : Bool) (entries : List Entry) (free first : ℕ) (methods : List Member) → AllByRecursion (MethodIsValid in_interface entries) methods → free < 2 ^ 16
-      → ((i : ℕ) → i < length methods → code_at p (first + i) ≡ get_or (map code_of methods) i None) → long_among own_plans free first methods ≡ None → MethodsCan own_plans (calls_by free) first methods
-  methods_can in_interface entries free first [] valid fits codes short = tt
-  methods_can in_interface entries free first (m ∷ methods) valid fits codes short =
-      let parts = or_first (option_map (λ (bytes : ℕ). (first, bytes)) (long_method free (own_plans first) m)) (long_among own_plans free (first + 1) methods) short in
-      let own = map_none (λ (bytes : ℕ). (first, bytes)) (long_method free (own_plans first) m) parts.0 in
+  methods_can : (in_interface : Bool) (entries : List Entry) (calls : Calls) (first : ℕ) (methods : List Member)
+      → AllByRecursion (MethodIsValid in_interface entries) methods → CallsFit calls
+      → ((i : ℕ) → i < length methods → code_at p (first + i) ≡ get_or (map code_of methods) i None) → long_among own_plans calls first methods ≡ None
+      → MethodsCan own_plans calls first methods
+  methods_can in_interface entries calls first [] valid fits codes short = tt
+  methods_can in_interface entries calls first (m ∷ methods) valid fits codes short =
+      let parts = or_first (option_map (λ (bytes : ℕ). (first, bytes)) (long_method calls (own_plans first) m)) (long_among own_plans calls (first + 1) methods) short in
+      let own = map_none (λ (bytes : ℕ). (first, bytes)) (long_method calls (own_plans first) m) parts.0 in
       let here : first ≡ first + 0 = omega arith in (
-        method_can in_interface entries free first m valid.0 fits (ap (code_at p) here ∙ codes 0 (omega arith)) own,
-        methods_can in_interface entries free (first + 1) methods valid.1 fits
+        method_can in_interface entries calls first m valid.0 fits (ap (code_at p) here ∙ codes 0 (omega arith)) own,
+        methods_can in_interface entries calls (first + 1) methods valid.1 fits
             (λ i inside. let place : first + 1 + i ≡ first + suc i = omega arith in ap (code_at p) place ∙ codes (suc i) (omega (arith, inside))) parts.1,
       )
 
   -- a class that changes has room in its pool, and in its methods for what is planned for them
   class_can : (first : ℕ) (c : ClassDef) → HasSpelling c → ((i : ℕ) → i < length c.methods → code_at p (first + i) ≡ get_or (map code_of c.methods) i None)
-      → full_pool own_plans first c ≡ None → long_among own_plans (free_index c) first c.methods ≡ None → changes own_plans first c ≡ true → CanChange own_plans first c
+      → full_pool own_plans first c ≡ None → long_among own_plans (class_calls own_plans first c) first c.methods ≡ None → changes own_plans first c ≡ true
+      → CanChange own_plans first c
   class_can first c spelled codes room short changed_so =
-      let size = length (with_free c.pool.entries) in
+      let chains = class_has_chain own_plans first c in
+      let size = length (entries_for chains c.pool.entries) in
       let test : (changes own_plans first c && nat_lt 65535 size) ≡ false = not_refused (changes own_plans first c && nat_lt 65535 size) size room in
       let over : nat_lt 65535 size ≡ false = sym (ap (λ b. b && nat_lt 65535 size) changed_so) ∙ test in
       let few : size ≤ 65535 = omega (arith, ltb-false 65535 size over) in
-      let free = free_within c in
       record {
         room = few;
-        methods = methods_can (is_interface c.flags) c.pool.entries (free_index c) first c.methods spelled.1.methods (omega (arith, few, free)) codes short;
+        methods = methods_can (is_interface c.flags) c.pool.entries (class_calls own_plans first c) first c.methods spelled.1.methods
+            (calls_fit chains c.pool.entries few) codes short;
       }
 
   classes_can : (class first : ℕ) (classes : List ClassDef) → AllByRecursion HasSpelling classes
@@ -220,7 +268,7 @@ module _ (p : Program) (facts : Facts) (may : AreAnalysable p) (old : HasOldItem
       let later = flat_map (λ (d : ClassDef). map code_of d.methods) classes in
       let count : length (map code_of c.methods) ≡ n = length-map c.methods code_of in
       let rooms = or_first (option_map (λ (indices : ℕ). (class, indices)) (full_pool own_plans first c)) (full_from own_plans (class + 1) (first + n) classes) room in
-      let shorts = or_first (long_among own_plans (free_index c) first c.methods) (long_from own_plans (first + n) classes) short in (
+      let shorts = or_first (long_among own_plans (class_calls own_plans first c) first c.methods) (long_from own_plans (first + n) classes) short in (
         class_can first c spelled.0
             (λ i inside. codes i (omega (arith, inside)) ∙ get_or_append_left (map code_of c.methods) later None i (omega (arith, inside, count)))
             (map_none (λ (indices : ℕ). (class, indices)) (full_pool own_plans first c) rooms.0) shorts.0,
@@ -234,111 +282,89 @@ module _ (p : Program) (facts : Facts) (may : AreAnalysable p) (old : HasOldItem
 
 -- ---- a class as it is written
 
--- none of the plans has a holder of a chain
-abbrev ArePlain : Plans → Type 0
-ArePlain plans = (method : ℕ) → plan_has_chain (plans method) ≡ false
-
-full_plain : (p : Program) (facts : Facts) → ArePlain (full_plans p facts)
-full_plain p facts method = by (full_plans p facts method) refl where
-  by : (o : Option Insertions) → full_plans p facts method ≡ o → plan_has_chain o ≡ false
-  by None is = refl
-  by (Some plan) is = none_looped plan.holders (method-safe p facts method plan is).plain
-
--- the class that changes
-changed_plain : (plans : Plans) → ArePlain plans → (first : ℕ) (c : ClassDef) → changes plans first c ≡ true → changed_class plans first c ≡ by_change plans first c true
-changed_plain plans plain first c changed_so =
-    let is : chained_class plans first c ≡ changed_class plans first c = ap (λ (b : Bool). if b then changed_class plans first c else c) changed_so in
-    sym is ∙ class_same plans plain first c ∙ rewritten-is plans first c ∙ ap (by_change plans first c) changed_so
-
-methods_plain : (plans : Plans) (plain : ArePlain plans) (first : ℕ) (c : ClassDef) → MethodsCan plans (calls_by (free_index c)) first c.methods
-    → MethodsCan plans (class_calls plans first c) first c.methods
-methods_plain plans plain first c can = subst (λ calls. MethodsCan plans calls first c.methods) (sym (calls_same plans plain first c)) can
-
-room_plain : (plans : Plans) (plain : ArePlain plans) (first : ℕ) (c : ClassDef) → length (with_free c.pool.entries) ≤ 65535
-    → length (entries_for (class_has_chain plans first c) c.pool.entries) ≤ 65535
-room_plain plans plain first c few = subst (λ b. length (entries_for b c.pool.entries) ≤ 65535) (sym (class_none plans plain first c)) few
-
-class_spelled : (plans : Plans) → ArePlain plans → (first : ℕ) (c : ClassDef) → HasSpelling c → IsShort c → (changes plans first c ≡ true → CanChange plans first c) → HasSpelling (rewritten_class plans first c)
-class_spelled plans plain first c spelled small can = subst HasSpelling (sym (rewritten-is plans first c)) (by (changes plans first c) refl) where
-  by : (b : Bool) → changes plans first c ≡ b → HasSpelling (by_change plans first c b)
+class_spelled : (plans : Plans) (first : ℕ) (c : ClassDef) → HasSpelling c → IsShort c → (changes plans first c ≡ true → CanChange plans first c)
+    → HasSpelling (chained_class plans first c)
+class_spelled plans first c spelled small can = by (changes plans first c) refl where
+  by : (b : Bool) → changes plans first c ≡ b → HasSpelling (if b then changed_class plans first c else c)
   by false same = spelled
-  by true changed_so =
-      let may = can changed_so in
-      subst HasSpelling (changed_plain plans plain first c changed_so)
-      (changed_spelled plans first c spelled small (room_plain plans plain first c may.room) (methods_plain plans plain first c may.methods))
+  by true changed_so = let may = can changed_so in changed_spelled plans first c spelled small may.room may.methods
 
-class_accepted : (plans : Plans) → ArePlain plans → (first : ℕ) (c : ClassDef) → HasSpelling c → Profile c → (changes plans first c ≡ true → CanChange plans first c) → Profile (rewritten_class plans first c)
-class_accepted plans plain first c spelled profile can = subst Profile (sym (rewritten-is plans first c)) (by (changes plans first c) refl) where
-  by : (b : Bool) → changes plans first c ≡ b → Profile (by_change plans first c b)
+class_accepted : (plans : Plans) (first : ℕ) (c : ClassDef) → HasSpelling c → Profile c → (changes plans first c ≡ true → CanChange plans first c)
+    → Profile (chained_class plans first c)
+class_accepted plans first c spelled profile can = by (changes plans first c) refl where
+  by : (b : Bool) → changes plans first c ≡ b → Profile (if b then changed_class plans first c else c)
   by false same = profile
-  by true changed_so =
-      let may = can changed_so in
-      subst Profile (changed_plain plans plain first c changed_so)
-      (changed_accepted plans first c spelled profile (methods_plain plans plain first c may.methods))
+  by true changed_so = let may = can changed_so in changed_accepted plans first c spelled profile may.methods
 
-spelled_from : (plans : Plans) → ArePlain plans → (first : ℕ) (classes : List ClassDef) → AllByRecursion HasSpelling classes → AllByRecursion IsShort classes → CanChangeAll plans first classes
-    → AllByRecursion HasSpelling (rewritten_from plans first classes)
-spelled_from plans plain first [] spelled small can = tt
-spelled_from plans plain first (c ∷ classes) spelled small can =
-    (class_spelled plans plain first c spelled.0 small.0 can.0, spelled_from plans plain (first + length c.methods) classes spelled.1 small.1 can.1)
+spelled_from : (plans : Plans) (first : ℕ) (classes : List ClassDef) → AllByRecursion HasSpelling classes → AllByRecursion IsShort classes → CanChangeAll plans first classes
+    → AllByRecursion HasSpelling (chained_from plans first classes)
+spelled_from plans first [] spelled small can = tt
+spelled_from plans first (c ∷ classes) spelled small can =
+    (class_spelled plans first c spelled.0 small.0 can.0, spelled_from plans (first + length c.methods) classes spelled.1 small.1 can.1)
 
-accepted_from : (plans : Plans) → ArePlain plans → (first : ℕ) (classes : List ClassDef) → AllByRecursion HasSpelling classes → AllByRecursion Profile classes → CanChangeAll plans first classes
-    → AllByRecursion Profile (rewritten_from plans first classes)
-accepted_from plans plain first [] spelled profiles can = tt
-accepted_from plans plain first (c ∷ classes) spelled profiles can =
-    (class_accepted plans plain first c spelled.0 profiles.0 can.0, accepted_from plans plain (first + length c.methods) classes spelled.1 profiles.1 can.1)
+accepted_from : (plans : Plans) (first : ℕ) (classes : List ClassDef) → AllByRecursion HasSpelling classes → AllByRecursion Profile classes → CanChangeAll plans first classes
+    → AllByRecursion Profile (chained_from plans first classes)
+accepted_from plans first [] spelled profiles can = tt
+accepted_from plans first (c ∷ classes) spelled profiles can =
+    (class_accepted plans first c spelled.0 profiles.0 can.0, accepted_from plans (first + length c.methods) classes spelled.1 profiles.1 can.1)
 
 -- ---- all classes
 
-all_can : (given : List ClassDef) (p : Program) (made : Rewritten) → AreJudged given p → (are : AreRewrittenOf p given made)
-    → CanChangeAll (full_plans p are.full.facts) first_given given
-all_can given p made judged are =
-    let plans = full_plans p are.full.facts in
-    let parts = or_first (option_map pool_full (first_full plans given)) (option_map method_too_long (first_long plans given)) are.no_cause in
-    classes_can p are.full.facts (judged_analysable given p judged) (judged_old given p judged) (length built_in) first_given given (judged_spelled given p judged)
-    (λ i inside. code_given given judged.main p judged.program_is i) (map_none pool_full (first_full plans given) parts.0)
-    (map_none method_too_long (first_long plans given) parts.1)
+module _ {chains : Bool} (given : List ClassDef) (p : Program) (made : Rewritten) (judged : AreJudged given p) (are : AreRewrittenBy chains p given made) where
+  abbrev plans : Plans
+  plans = plans_for chains p (own_facts are)
 
--- they have spellings, as those that were read are no longer than a file may be
-pub written_spelled : (given : List ClassDef) (p : Program) (made : Rewritten) → AreJudged given p → AllByRecursion IsShort given
-    → AreRewrittenOf p given made → AllByRecursion HasSpelling made.classes.items
-written_spelled given p made judged small are =
-    subst (AllByRecursion HasSpelling) (sym are.full.written_is)
-    (spelled_from (full_plans p are.full.facts) (full_plain p are.full.facts) first_given given (judged_spelled given p judged) small (all_can given p made judged are))
+  all_can : CanChangeAll plans first_given given
+  all_can =
+      let none = sym (cause_is chains p (own_facts are) given) ∙ are.no_cause in
+      let parts = or_first (option_map pool_full (full_from plans (length built_in) first_given given)) (option_map method_too_long (long_from plans first_given given)) none in
+      classes_can chains p (own_facts are) (judged_analysable given p judged) (judged_old given p judged) (length built_in) first_given given (judged_spelled given p judged)
+      (λ i inside. code_given given judged.main p judged.program_is i) (map_none pool_full (full_from plans (length built_in) first_given given) parts.0)
+      (map_none method_too_long (long_from plans first_given given) parts.1)
 
--- and they are accepted again
-pub written_accepted : (given : List ClassDef) (p : Program) (made : Rewritten) → AreJudged given p → AllByRecursion Profile given
-    → AreRewrittenOf p given made → AllByRecursion Profile made.classes.items
-written_accepted given p made judged profiles are =
-    subst (AllByRecursion Profile) (sym are.full.written_is)
-    (accepted_from (full_plans p are.full.facts) (full_plain p are.full.facts) first_given given (judged_spelled given p judged) profiles (all_can given p made judged are))
+  -- they have spellings, as those that were read are no longer than a file may be
+  pub written_spelled : AllByRecursion IsShort given → AllByRecursion HasSpelling made.classes.items
+  written_spelled small =
+      subst (AllByRecursion HasSpelling) (sym (full_written chains p given made.classes.items are.marks are.full))
+      (spelled_from plans first_given given (judged_spelled given p judged) small all_can)
+
+  -- and they are accepted again
+  pub written_accepted : AllByRecursion Profile given → AllByRecursion Profile made.classes.items
+  written_accepted profiles =
+      subst (AllByRecursion Profile) (sym (full_written chains p given made.classes.items are.marks are.full))
+      (accepted_from plans first_given given (judged_spelled given p judged) profiles all_can)
 
 -- ---- names
 
 -- a class that is written has its own name
-name_kept : (plans : Plans) (first : ℕ) (c : ClassDef) → HasSpelling c → own_name (rewritten_class plans first c) ≡ own_name c
-name_kept plans first c (bytes, spells) = ap own_name (rewritten-is plans first c) ∙ by (changes plans first c) where
-  by : (b : Bool) → own_name (by_change plans first c b) ≡ own_name c
+name_kept : (plans : Plans) (first : ℕ) (c : ClassDef) → HasSpelling c → own_name (chained_class plans first c) ≡ own_name c
+name_kept plans first c (bytes, spells) = by (changes plans first c) where
+  stays : (chains : Bool) → class_name_at (entries_for chains c.pool.entries) c.this_class ≡ class_name_at c.pool.entries c.this_class
+  stays false =
+      let found = Some-from_some_and (class_name_at c.pool.entries c.this_class) _ spells.this_class in
+      class_kept c.pool.entries (sought_free c.pool.entries).missing c.this_class found.0 found.1 ∙ sym found.1
+  stays true =
+      let found = Some-from_some_and (class_name_at c.pool.entries c.this_class) _ spells.this_class in
+      class_kept c.pool.entries (sought_chain c.pool.entries).missing c.this_class found.0 found.1 ∙ sym found.1
+
+  by : (b : Bool) → own_name (if b then changed_class plans first c else c) ≡ own_name c
   by false = refl
-  by true =
-      let entries = c.pool.entries in
-      let found = Some-from_some_and (class_name_at entries c.this_class) _ spells.this_class in
-      let stays = class_kept entries (sought_free entries).missing c.this_class found.0 found.1 in
-      ap (λ o. unwrap_or o []) (stays ∙ sym found.1)
+  by true = ap (λ o. unwrap_or o []) (stays (class_has_chain plans first c))
 
 names_kept : (plans : Plans) (first : ℕ) (classes : List ClassDef) → AllByRecursion HasSpelling classes
-    → map printed_name (rewritten_from plans first classes) ≡ map printed_name classes
+    → map printed_name (chained_from plans first classes) ≡ map printed_name classes
 names_kept plans first [] spelled = refl
 names_kept plans first (c ∷ classes) spelled =
     λ k. printed (name_kept plans first c spelled.0 k) ∷ names_kept plans (first + length c.methods) classes spelled.1 k
 
 -- so do all
-pub names_same : (given : List ClassDef) {p : Program} (made : Rewritten) → AllByRecursion HasSpelling given → AreRewrittenOf p given made
+pub names_same : {chains : Bool} (given : List ClassDef) {p : Program} (made : Rewritten) → AllByRecursion HasSpelling given → AreRewrittenBy chains p given made
     → map printed_name made.classes.items ≡ map printed_name given
-names_same given {p} made spelled are =
-    ap (map printed_name) are.full.written_is ∙ names_kept (full_plans p are.full.facts) first_given given spelled
+names_same {chains} given {p} made spelled are =
+    ap (map printed_name) (full_written chains p given made.classes.items are.marks are.full)
+    ∙ names_kept (plans_for chains p (own_facts are)) first_given given spelled
 
-pub written_apart : (given : List ClassDef) (p : Program) (made : Rewritten) → AreJudged given p → AreRewrittenOf p given made
+pub written_apart : {chains : Bool} (given : List ClassDef) (p : Program) (made : Rewritten) → AreJudged given p → AreRewrittenBy chains p given made
     → AreNew (map printed_name made.classes.items)
 written_apart given p made judged are =
     let spelled = judged_spelled given p judged in
@@ -347,11 +373,13 @@ written_apart given p made judged are =
 
 -- ---- counts
 
-counts_counted : (plans : Plans) (first : ℕ) (classes : List ClassDef) → length (counts_from plans first classes) ≡ length (rewritten_from plans first classes)
+counts_counted : (plans : Plans) (first : ℕ) (classes : List ClassDef) → length (counts_from plans first classes) ≡ length (chained_from plans first classes)
 counts_counted plans first [] = refl
 counts_counted plans first (c ∷ classes) = ap suc (counts_counted plans (first + length c.methods) classes)
 
 -- there is one count for each class that is written
-pub one_count_each : (given : List ClassDef) {p : Program} (made : Rewritten) → AreRewrittenOf p given made → length made.counts.items ≡ length made.classes.items
-one_count_each given {p} made are =
-    ap length are.counts_are ∙ counts_counted (full_plans p are.full.facts) first_given given ∙ ap length (sym are.full.written_is)
+pub one_count_each : {chains : Bool} (given : List ClassDef) {p : Program} (made : Rewritten) → AreRewrittenBy chains p given made
+    → length made.counts.items ≡ length made.classes.items
+one_count_each {chains} given {p} made are =
+    ap length are.counts_are ∙ counts_counted (plans_for chains p (own_facts are)) first_given given
+    ∙ ap length (sym (full_written chains p given made.classes.items are.marks are.full))

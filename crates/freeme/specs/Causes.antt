@@ -8,10 +8,8 @@ use Rattle.fm_cli.specs.CommandRefusal.{words_line, read_line, memory_line}
 use Rattle.fm_cli.specs.Status.{ComesExactly}
 use Rattle.fm_cli.specs.declared.status.TheConstants.{DONE, WORDS, READ, MALFORMED, VERSION, LIMIT, UNSUPPORTED, LINK, CHECK, WRITE, OUT_OF_MEMORY}
 use Rattle.fm_conn.specs.Facts.{AreFacts, Facts}
-use Rattle.fm_place.specs.Safe.{full_plans}
 use Rattle.fm_summ_shapes.specs.Analysed.{AreLeastTypings}
 use Rattle.fm_rewrite.specs.FreeCalls.{first_call}
-use Rattle.fm_rewrite.specs.Rewritten.{first_cause}
 use Rattle.fm_rewrite.specs.declared.error.RewriteFail.{RewriteFail}
 use Rattle.fm_world.specs.Causes.{Refusal}
 use Rattle.fm_world.specs.Programs.{Program}
@@ -25,6 +23,7 @@ use Rattle.fm_cli_requests.specs.FreemeRequest.{AskForNone, AskNoAudit, AskNothi
 use Rattle.fm_cli_requests.specs.ProgramText.{AskForText}
 use Rattle.fm_cli_requests.specs.declared.program_text.ProgramText.{ProgramText}
 use Rattle.freeme.specs.Jobs.{given_of, IsJobProgram}
+use Rattle.freeme.specs.Rewriting.{cause_by}
 use Rattle.freeme.specs.TopCall.{StaysWithin, IsDone, IsUnwritten, IsBroken, IsNotFreed, IsTextPut, IsUnreported, Outcome, ComesOf}
 use Rattle.freeme.specs.declared.status.TheConstants.{CALLS_FREE, POOL_FULL, METHOD_TOO_LONG, NOT_SAFE}
 use Rattle.fm_load.specs.Causes.{FailsARead, FailsAWrite, HasTooMany, IsMissing, IsKnownLong, IsKnownRefused, IsKnownUnlinked, IsKnownUntyped}
@@ -190,7 +189,7 @@ pub record BecomesByFacts (status : ℕ) (job : FreemeJob) (classes : List Class
   pub facts : Facts
   pub exact : AreFacts program facts
   pub least : AreLeastTypings program facts.typing
-  pub status_is : cause_status (first_cause (full_plans program facts) classes) ≡ status
+  pub status_is : cause_status (cause_by job.chains program facts classes) ≡ status
 
 -- this status comes of them: as their program calls FreeMe, or else by facts
 abbrev pub BecomesAs : ℕ → FreemeJob → List ClassDef → Option (ℕ × ℕ) → Type 0

@@ -9,13 +9,12 @@ use Rattle.fm_files.specs.Files.{Bytes, Contents, Disk}
 use Rattle.fm_files.specs.Sink.{Output}
 use Rattle.fm_load.specs.Given.{AreChecked, given_program}
 use Rattle.fm_load.specs.Taking.{AllTaken}
-use Rattle.fm_place.specs.Safe.{full_plans}
 use Rattle.fm_rewrite.specs.FreeCalls.{first_call}
-use Rattle.fm_rewrite.specs.Rewritten.{first_cause}
 use Rattle.fm_summ_shapes.specs.Analysed.{AreLeastTypings}
 use Rattle.fm_world.specs.Programs.{Program, program_of}
 use Rattle.freeme.specs.Audits.{audited_files, given_in}
 use Rattle.freeme.specs.Jobs.{given_of, IsJobProgram, main_name}
+use Rattle.freeme.specs.Rewriting.{cause_by}
 use Rattle.freeme.specs.Writing.{IsClassFileIn, IsFileOf}
 use Rattle.freeme.specs.declared.status.TheConstants.{NOT_SAFE}
 
@@ -33,7 +32,7 @@ pub record CanBeDone (job : FreemeJob) (contents : Contents) (classes : List Cla
   pub facts : Facts
   pub exact : AreFacts program facts
   pub least : AreLeastTypings program facts.typing
-  pub no_cause : first_cause (full_plans program facts) classes ≡ None
+  pub no_cause : cause_by job.chains program facts classes ≡ None
 
 -- In this call no read of a file of the job failed, no write of the file of one of these classes, and no put of the lines or of a refusal's.
 -- Over `SureFiles` and `SureSink` of `fm_files` this always holds: their counts are 0.

@@ -1,5 +1,6 @@
 pub mod inner
 pub mod Jobs
+pub mod Rewriting
 pub mod Refusal
 pub mod Writing
 pub mod Audits

@@ -1,25 +1,27 @@
 -- That the classes which are written mean what those mean that are read.
-use Rattle.std.specs.Prelude.{◌≡◌, ◌⊎◌, ◌++◌, ℕ, List, None, length, map}
+use Rattle.std.specs.Prelude.{◌≡◌, ◌⊎◌, ◌++◌, ℕ, true, List, None, length, map}
 use Rattle.std.specs.List.{AllByRecursion}
 use Rattle.fm_files.specs.Files.{Bytes, Disk}
 use Rattle.fm_cli.specs.declared.status.TheConstants.{DONE}
 use Rattle.fm_code.specs.declared.class_file.ClassDef.{ClassDef}
 use Rattle.fm_cli_requests.specs.AuditRequest.{AuditJob}
 use Rattle.fm_cli_requests.specs.FreemeRequest.{AskOnlyForText, AskToAudit, Asks, FreemeJob}
+use Rattle.fm_law_chains.specs.FreesAll.{FreesAll}
 use Rattle.fm_law_headline.specs.Headline.{DoesTheSame, EndTheSame, MakesAsHeld}
 use Rattle.fm_law_same_runs.specs.Beside.{InAllRuns, IsWithoutFault, Marks, Same}
 use Rattle.fm_load.specs.Given.{AreChecked}
 use Rattle.fm_load.specs.Returned.{ReadsAs, returned}
 use Rattle.fm_load.specs.Taking.{ClassIsSpelled}
-use Rattle.fm_rewrite.specs.Rewritten.{AreRewrittenOf}
 use Rattle.fm_rewrite.specs.declared.rewriting.Rewritten.{Rewritten}
 use Rattle.fm_world.specs.Programs.{Program, program_of}
 use Rattle.freeme.specs.Audits.{audited_files, given_in}
 use Rattle.freeme.specs.Jobs.{given_of, IsJobProgram, main_name}
+use Rattle.freeme.specs.Rewriting.{AreRewrittenBy, own_facts}
 use Rattle.freeme.specs.Writing.{AllWritten, class_text}
 
 -- The classes whose bytes the reads of this call returned, and those whose bytes it wrote for them, which do the same (JVMS 2.6, 2.10, 2.11): step for matched step on
--- memory that reuses cells in any way, no freed cell is used, and holders of what isn't needed are null.
+-- memory that reuses cells in any way, no freed cell is used, and holders of what isn't needed are null. With chains nothing is held of what a site in a loop gave, where
+-- that isn't needed.
 pub record HasKeptMeaning (words : List Bytes) (old new : Disk) : Type 0 where
   pub job : FreemeJob
   pub asked : Asks words job
@@ -29,9 +31,11 @@ pub record HasKeptMeaning (words : List Bytes) (old new : Disk) : Type 0 where
   pub program : Program
   pub analysed : IsJobProgram job classes program
   pub made : Rewritten
-  pub rewritten : AreRewrittenOf program classes made
+  pub rewritten : AreRewrittenBy job.chains program classes made
   pub written : AllWritten job.folder made.classes.items old new
-  pub does : DoesTheSame classes (main_name job) made.classes.items rewritten.marks rewritten.full
+  pub does : DoesTheSame program classes (main_name job) made.classes.items rewritten.marks (own_facts rewritten)
+  pub all : job.chains ≡ true
+      → FreesAll program (program_of classes (main_name job)) (program_of made.classes.items (main_name job)) (own_facts rewritten) rewritten.marks
 
 -- where it is done, unless the words ask for a text
 abbrev pub KeepsMeaning : List Bytes → Disk → Disk → ℕ → Type 0

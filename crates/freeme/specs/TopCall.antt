@@ -1,17 +1,18 @@
 -- What one call of the program does to the files, to its output and to the sink of its report.
 use Rattle.std.specs.declared.alloc.Global.{Global}
-use Rattle.std.specs.Prelude.{◌≡◌, ℕ, ◌⊎◌, List, [], ◌∷◌, Contains, Option, Some, None, IfSome, Result, Ok, Err, String, string_bytes}
+use Rattle.std.specs.Prelude.{◌≡◌, ℕ, ◌⊎◌, Bool, true, List, [], ◌∷◌, Contains, Option, Some, None, IfSome, Result, Ok, Err, String, string_bytes}
 use Rattle.std.specs.List.{AllByRecursion}
 use Rattle.fm_files.specs.Files.{Bytes, Contents, Disk}
 use Rattle.fm_files.specs.Sink.{Output, FailsPut}
 use Rattle.fm_code.specs.Profile.{Profile}
 use Rattle.fm_code.specs.declared.class_file.ClassDef.{ClassDef}
+use Rattle.fm_conn.specs.Facts.{Facts}
 use Rattle.fm_place.specs.Safe.{full_plans}
 use Rattle.fm_link_refusals.specs.Refused.{refusal_of}
 use Rattle.fm_law_beside_freeme.specs.Lengths.{AreHeld, HasLengthsAlone}
+use Rattle.fm_law_chains.specs.FreesAll.{FreesAll}
 use Rattle.fm_law_headline.specs.Headline.{DoesTheSame}
 use Rattle.fm_law_retyped.specs.Retyped.{NoneUnready}
-use Rattle.fm_rewrite.specs.Rewritten.{AreRewrittenOf, ComesOfRewritingOf}
 use Rattle.fm_rewrite.specs.declared.counts.Count.{Count}
 use Rattle.fm_rewrite.specs.declared.error.RewriteFail.{RewriteFail}
 use Rattle.fm_rewrite.specs.declared.error.RewriteFail.TheVariants as fail
@@ -35,6 +36,7 @@ use Rattle.fm_cli_requests.specs.declared.program_text.ProgramText.{ProgramText}
 use Rattle.fm_cli_requests.specs.declared.program_text.ProgramText.TheVariants as text
 use Rattle.freeme.specs.Audits.{AuditsTo, OnlyReads}
 use Rattle.freeme.specs.Jobs.{given_of, IsJobProgram, main_name}
+use Rattle.freeme.specs.Rewriting.{AreRewrittenBy, ComesOfRewritingBy, own_facts}
 use Rattle.freeme.specs.Writing.{IsClassFileIn, written_name, class_lines, AllWritten, SomeWritten, FailsToWrite}
 use Rattle.freeme.specs.declared.program_text.TheConstants.{HELP, VERSION_LINE}
 use Rattle.freeme.specs.declared.refusal.FreeRefusal.{FreeRefusal}
@@ -55,8 +57,8 @@ pub record StaysWithin (job : FreemeJob) (old new : Disk) : Type 0 where
 -- In no method, by the facts by which the classes are rewritten, does a local hold a copy of a held object where its constructor is called
 -- and a handler's range ends right behind the call (JVMS 4.10.2.4): what is inserted there is in the range too, and the handler would get
 -- the copy both before it is initialised and after.
-abbrev pub AreLocalsReady : (p : Program) (given : List ClassDef) (made : Rewritten) → AreRewrittenOf p given made → Type 0
-AreLocalsReady p given made are = NoneUnready p are.full.facts (full_plans p are.full.facts)
+abbrev pub AreLocalsReady : Program → Facts → Type 0
+AreLocalsReady p facts = NoneUnready p facts (full_plans p facts)
 
 -- files that hold the classes that are written aren't refused with the same main class, but for their number or their lengths, as far
 -- as contents decide
@@ -67,26 +69,29 @@ AreFilesTaken main made =
 
 -- The classes that are written are taken again: they link, and where locals are ready their methods that have code are typed, and files
 -- that hold them are taken.
-pub record AreTakenAgain (p : Program) (given : List ClassDef) (main : List ℕ) (made : Rewritten) (are : AreRewrittenOf p given made) : Type 0 where
+pub record AreTakenAgain (p : Program) (main : List ℕ) (made : Rewritten) (facts : Facts) : Type 0 where
   pub links : refusals made.classes.items main ≡ []
-  pub typed : AreLocalsReady p given made are → AreTyped (program_of made.classes.items main)
-  pub files : AreLocalsReady p given made are → AreFilesTaken main made
+  pub typed : AreLocalsReady p facts → AreTyped (program_of made.classes.items main)
+  pub files : AreLocalsReady p facts → AreFilesTaken main made
 
 -- Its class files make a program of typed methods that calls no FreeMe, and these are its classes
 -- with a holder for each held site that is freed at all its places, where it may hold something and
 -- its class isn't busy, with the counts of each; no pool of them is full, and no method too long. What
--- is held is found by their program, narrowed where the job says so.
--- The bytes of each class spell it, it is of the profile, and all of them are taken again. They do what the classes read do.
+-- is held is found by their program, narrowed where the job says so; and where it says so, the holders of sites in loops hold chains.
+-- The bytes of each class spell it, it is of the profile, and all of them are taken again. They do what the classes read do, and with chains they free all that a site
+-- in a loop gave.
 pub record AreFreed (job : FreemeJob) (contents : Contents) (made : Rewritten) : Type 0 where
   pub classes : List ClassDef
   pub checked : AreChecked (given_of job) contents classes
   pub program : Program
   pub analysed : IsJobProgram job classes program
-  pub rewritten : AreRewrittenOf program classes made
+  pub rewritten : AreRewrittenBy job.chains program classes made
   pub spelled : AllByRecursion ClassIsSpelled made.classes.items
   pub profile : AllByRecursion Profile made.classes.items
-  pub again : AreTakenAgain program classes (main_name job) made rewritten
-  pub does : DoesTheSame classes (main_name job) made.classes.items rewritten.marks rewritten.full
+  pub again : AreTakenAgain program (main_name job) made (own_facts rewritten)
+  pub does : DoesTheSame program classes (main_name job) made.classes.items rewritten.marks (own_facts rewritten)
+  pub all : job.chains ≡ true
+      → FreesAll program (program_of classes (main_name job)) (program_of made.classes.items (main_name job)) (own_facts rewritten) rewritten.marks
 
 -- where contents are known, the name holds now what the file held before
 abbrev pub HoldsStill : (file name : Bytes) → (old new : Contents) → Type 0
@@ -130,10 +135,10 @@ cause_name o (fail.PoolFull class indices) = (class_info o class.0).name
 cause_name o (fail.MethodTooLong method bytes) = method_text (declared_name o.classes method.0)
 cause_name o fail.NoMemory = []
 
--- class files aren't rewritten by this program for this cause, which is the first one
-abbrev pub IsFirstCause : Program → List ClassDef → RewriteFail → Type 0
-IsFirstCause p classes fail.NoMemory = ⊥
-IsFirstCause p classes cause = ComesOfRewritingOf p classes (Err cause)
+-- class files aren't rewritten by this program, with chains or without, for this cause, which is the first one
+abbrev pub IsFirstCause : (chains : Bool) → Program → List ClassDef → RewriteFail → Type 0
+IsFirstCause chains p classes fail.NoMemory = ⊥
+IsFirstCause chains p classes cause = ComesOfRewritingBy chains p classes (Err cause)
 
 -- its class files make a program of typed methods, and this is the first cause for which it isn't rewritten: a method calls
 -- FreeMe, or else the pool of a class with a held site is full, or else a method is too long
@@ -143,7 +148,7 @@ pub record IsNotFreed (job : FreemeJob) (cause : RewriteFail) (name : Bytes) (ol
   pub reads : ReadsAs job.files classes old new
   pub program : Program
   pub analysed : IsJobProgram job classes program
-  pub refused : IsFirstCause program classes cause
+  pub refused : IsFirstCause job.chains program classes cause
   pub name_is : name ≡ cause_name (given_program (given_of job) classes).outline cause
   pub untouched : IsUntouched old new
 

@@ -4,6 +4,7 @@ ghost use Rattle.std.specs.Prelude.{◌≡◌, ◌<◌, IfOk, length, string_byt
 ghost use Rattle.std.specs.List.{AllByRecursion};
 ghost use Rattle.fm_rewrite.specs.Rewritten.{AreJudged};
 ghost use Rattle.fm_world.specs.Programs.{class_info};
+ghost use Rattle.freeme.specs.Rewriting.{ComesOfRewritingBy};
 ghost use Rattle.freeme.specs.Writing.{HasName, class_line, class_lines};
 ghost use Rattle.freeme.specs.inner.Freeing.{ComesOfFreeing, IsNamed, IsThere};
 
@@ -12,27 +13,46 @@ use crate::writing::class_text;
 use fm_base::{ClassId, Name, NoMemory};
 use fm_code::ClassDef;
 use fm_load::method_text;
-use fm_rewrite::{Count, RewriteFail, Rewritten, rewrite};
+use fm_rewrite::{Count, RewriteFail, Rewritten, rewrite, rewrite_chains};
 use fm_world::Program;
 use std::alloc::Global;
 
 /// The classes of a program, each held site with a holder that is freed at all its places, where it
-/// may hold something and its class isn't busy, and what is reported of each; where there is a cause
-/// against it, they are refused for the first one.
+/// may hold something and its class isn't busy, and what is reported of each; with `chains` the holder of a
+/// site in a loop holds all that the site gave. Where there is a cause against it, they are refused for the
+/// first one.
 pub fn freed_classes<'a>(
     alloc: Global,
     program: &Program,
     classes: &[ClassDef],
+    chains: bool,
 ) -> Result<Rewritten, FreeRefusal<'a>>
     requires { AreJudged classes.now program.now }
-    ensures { ComesOfFreeing program.now classes.now result }
+    ensures { ComesOfFreeing chains program.now classes.now result }
 {
-    match rewrite(alloc, program, classes) {
+    match rewritten(alloc, program, classes, chains) {
         Ok(made) => Ok(made),
         Err(fail) => {
             let name = cause_name(alloc, program, fail)?;
             Err(FreeRefusal::Rewrite(fail, name))
         }
+    }
+}
+
+// The classes written again, with chains or without.
+fn rewritten(
+    alloc: Global,
+    program: &Program,
+    classes: &[ClassDef],
+    chains: bool,
+) -> Result<Rewritten, RewriteFail>
+    requires { AreJudged classes.now program.now }
+    ensures { ComesOfRewritingBy chains program.now classes.now result }
+{
+    if chains {
+        rewrite_chains(alloc, program, classes)
+    } else {
+        rewrite(alloc, program, classes)
     }
 }
 

@@ -26,10 +26,11 @@ use fm_cli_requests::freeme_request::request_of;
 use fm_cli_requests::{FreemeRequest, ProgramText, WriteRequest};
 use fm_code::ClassDef;
 use fm_files::{Files, Sink};
-use fm_law_beside_freeme::{law_exact, law_written};
+use fm_law_beside_freeme::{law_exact, law_lengths, law_written};
+use fm_law_chains::{law_chains, law_chains_exact};
 use fm_law_headline::{law_headline, law_rapid, law_taken};
 use fm_law_relinked::law_links;
-use fm_law_retyped::law_typed;
+use fm_law_retyped::{law_chained_typed, law_typed};
 use fm_load::{JobRefusal, given_classes, judge_program};
 use fm_rewrite::Count;
 use std::alloc::Global;
@@ -136,6 +137,7 @@ pub fn freeme_run<F: Files, O: Sink, R: Sink>(
 {
     // For its clauses: it makes no difference which exact facts are taken.
     law_exact();
+    law_chains_exact();
     match ProgramText::asked_by(words) {
         Some(asked) => put_text(alloc, asked, out),
         None => do_words(alloc, words, files, out, report),
@@ -190,15 +192,18 @@ fn do_job<'a, F: Files>(
     let classes: &[ClassDef] = &read;
     let judged = judge_program(alloc, classes, request.main)?;
     let program = analysed(alloc, judged, request.rapid)?;
-    let made = freed_classes(alloc, &program, classes)?;
+    let made = freed_classes(alloc, &program, classes, request.chains)?;
     // For their clauses: the classes written link, their methods are typed, files that hold them are taken, and they
     // do what those read do.
     law_links();
     law_typed();
+    law_chained_typed();
     law_written();
+    law_lengths();
     law_taken();
     law_headline();
     law_rapid();
+    law_chains();
     let written: &[ClassDef] = &made.classes;
     let counts: &[Count] = &made.counts;
     let lines = class_lines(alloc, written, counts)?;

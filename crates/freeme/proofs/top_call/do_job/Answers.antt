@@ -102,7 +102,22 @@ returns-in_err-write_classes-clause-comes g c =
     let reads = reads_of c.args.request c.requires c.deref-names.ensures.value c.deref-classes.ensures.value c.given_classes.ensures.within c.in_ok-read.ensures.comes in
     let handed = err_from_is_err_and c.from_residual-in_err-write_classes.result c.from_residual-in_err-write_classes.ensures.1 in
     rw (handed.1, handed.2)
-    (ends_unwritten reads c.write_classes.ensures.keeps c.law_links.ensures.safe c.law_typed.ensures c.law_written.ensures c.law_taken.ensures.files c.law_headline.ensures c.law_rapid.ensures (are_checked reads c.in_ok-judged.ensures) (is_analysed reads _ c.in_ok-judged.ensures c.in_ok-program.ensures) _ c.in_ok-made.ensures
+    (ends_unwritten reads c.write_classes.ensures.keeps (record {
+      link = c.law_links.ensures.safe;
+      typed = c.law_typed.ensures;
+      files = c.law_written.ensures;
+      chains_link = c.law_links.ensures.chains;
+      chains_typed = c.law_chained_typed.ensures;
+      accepted = c.law_lengths.ensures;
+    })
+    c.law_taken.ensures.files
+    (record {
+      same = c.law_headline.ensures;
+      narrow = c.law_rapid.ensures;
+      linked = c.law_chains.ensures.same;
+      all = c.law_chains.ensures.all;
+    })
+    (are_checked reads c.in_ok-judged.ensures) (is_analysed reads _ c.in_ok-judged.ensures c.in_ok-program.ensures) _ c.in_ok-made.ensures
     c.deref-written.ensures.value c.in_err-write_classes.field-0.0 c.in_err-write_classes.ensures.comes)
 
 pub returns-clause-within : goal.returns-clause-within
@@ -113,5 +128,20 @@ returns-clause-within g c =
 pub returns-clause-comes : goal.returns-clause-comes
 returns-clause-comes g c =
     let reads = reads_of c.args.request c.requires c.deref-names.ensures.value c.deref-classes.ensures.value c.given_classes.ensures.within c.in_ok-read.ensures.comes in
-    ends_done reads c.write_classes.ensures.keeps c.law_links.ensures.safe c.law_typed.ensures c.law_written.ensures c.law_taken.ensures.files c.law_headline.ensures c.law_rapid.ensures (are_checked reads c.in_ok-judged.ensures) (is_analysed reads _ c.in_ok-judged.ensures c.in_ok-program.ensures) _ c.in_ok-made.ensures
+    ends_done reads c.write_classes.ensures.keeps (record {
+      link = c.law_links.ensures.safe;
+      typed = c.law_typed.ensures;
+      files = c.law_written.ensures;
+      chains_link = c.law_links.ensures.chains;
+      chains_typed = c.law_chained_typed.ensures;
+      accepted = c.law_lengths.ensures;
+    })
+    c.law_taken.ensures.files
+    (record {
+      same = c.law_headline.ensures;
+      narrow = c.law_rapid.ensures;
+      linked = c.law_chains.ensures.same;
+      all = c.law_chains.ensures.all;
+    })
+    (are_checked reads c.in_ok-judged.ensures) (is_analysed reads _ c.in_ok-judged.ensures c.in_ok-program.ensures) _ c.in_ok-made.ensures
     c.deref-written.ensures.value _ c.deref-counts.ensures.value c.in_ok-lines.ensures c.in_ok-write_classes.ensures.comes

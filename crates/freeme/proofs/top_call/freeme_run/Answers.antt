@@ -7,6 +7,7 @@ use Rattle.freeme.proofs.AuditLemmas.{audit_changes, audit_complete, audit_fault
 use Rattle.freeme.proofs.CauseLemmas.{is_for_words, is_for_read, is_for_bytes, is_for_limit, is_for_link, is_for_check, is_for_returned, is_for_rewrite, is_for_done, is_for_text, is_for_write, is_for_memory, is_faultless, is_silent, keeps_contents, changes_only}
 use Rattle.freeme.proofs.CompleteLemmas.{is_complete}
 use Rattle.freeme.proofs.PutLemmas.{puts_once}
+use Rattle.freeme.proofs.RewritingLemmas.{causes_agree}
 use Rattle.freeme.proofs.StatusLemmas.{is_status}
 use Rattle.freeme.proofs.MeaningLemmas.{audits_alike, keeps_meaning, runs_alike}
 use Rattle.freeme.proofs.TextLemmas.{text_alike, text_audited, text_changes, text_check, text_done, text_faultless, text_kept, text_limit, text_link, text_memory, text_not_safe, text_of_bytes, text_once, text_read, text_returned, text_rewrite, text_safe, text_silent, text_status, text_text, text_unwritten, text_whole, text_words, text_write}
@@ -73,7 +74,7 @@ returns-in-None g c =
     let report = g.R.Sink.output c.args.report.now in
     let report' = g.R.Sink.output c.do_words.new.report in
     let result = c.do_words.result in
-    let alike = c.law_exact.ensures.alike in
+    let alike = causes_agree c.law_exact.ensures.alike c.law_chains_exact.ensures in
     ⊎_elim
     (λ (job : IsJobCall words old new before after report report' result).
     let o = job.outcome in
