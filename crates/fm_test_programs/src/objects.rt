@@ -141,7 +141,7 @@ const POINTS_IN_LOOP_WRITTEN: ClassFile<'static> = ClassFile {
     },
 };
 
-const POINTS_IN_LOOP_POINT: ClassFile<'static> = ClassFile {
+pub(crate) const POINTS_IN_LOOP_POINT: ClassFile<'static> = ClassFile {
     name: "Point.class",
     bytes: Repeated {
         start: b"\
@@ -302,7 +302,7 @@ const CHAINS_WRITTEN: ClassFile<'static> = ClassFile {
     },
 };
 
-const CHAINS_NODE: ClassFile<'static> = ClassFile {
+pub(crate) const CHAINS_NODE: ClassFile<'static> = ClassFile {
     name: "Node.class",
     bytes: Repeated {
         start: b"\

@@ -120,6 +120,51 @@ const RAPID: [Row; 4] = [
     ),
 ];
 
+// Where holders of sites in loops hold chains.
+const CHAINED: [Row; 6] = [
+    (
+        CHAINS_CHAINED,
+        0,
+        "M: 1 sites, 1 frees\nNode: 0 sites, 0 frees\n",
+    ),
+    (
+        POINTS_IN_LOOP_CHAINED,
+        0,
+        "M: 1 sites, 1 frees\nPoint: 0 sites, 0 frees\n",
+    ),
+    (JUMP_TO_START_CHAINED, 0, "M: 1 sites, 1 frees\n"),
+    (
+        LINKED_NODES,
+        0,
+        "M: 2 sites, 2 frees\nNode: 0 sites, 0 frees\n",
+    ),
+    (ESCAPING_STATIC, 0, "M: 0 sites, 0 frees\n"),
+    (
+        CHAINS_BY_HAND,
+        72,
+        "refused: calls FreeMe M.main([Ljava/lang/String;)V 8\n",
+    ),
+];
+
+// The same beside narrowed targets.
+const CHAINED_RAPID: [Row; 3] = [
+    (
+        CHAINS_CHAINED,
+        0,
+        "M: 1 sites, 1 frees\nNode: 0 sites, 0 frees\n",
+    ),
+    (
+        VIRTUAL_ESCAPE_RAPID,
+        0,
+        "M: 2 sites, 2 frees\nA: 0 sites, 0 frees\nB: 0 sites, 0 frees\n",
+    ),
+    (
+        VIRTUAL_SECOND,
+        0,
+        "M: 2 sites, 2 frees\nA: 0 sites, 0 frees\nB: 0 sites, 0 frees\n",
+    ),
+];
+
 // The words of a call for a program, of which some stand before the files.
 fn words_for(alloc: Global, program: &TestProgram, more: &str) -> Result<String, NoMemory> {
     let mut words = String::from_str(alloc, "--out d --main M")?;
@@ -189,5 +234,12 @@ fn long_methods_and_pools_are_laid_out(rt: HostRuntime) -> Result<(), Fail> {
 #[test]
 fn classes_that_are_not_made_are_no_targets(rt: HostRuntime) -> Result<(), Fail> {
     assert_eq!(rt; first_other(rt.alloc(), &RAPID, " --rapid")?, None);
+    Ok(())
+}
+
+#[test]
+fn objects_of_loops_are_chained(rt: HostRuntime) -> Result<(), Fail> {
+    assert_eq!(rt; first_other(rt.alloc(), &CHAINED, " --chains")?, None);
+    assert_eq!(rt; first_other(rt.alloc(), &CHAINED_RAPID, " --rapid --chains")?, None);
     Ok(())
 }
