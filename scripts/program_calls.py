@@ -113,11 +113,12 @@ def status_of(text):
     return int(text.split()[1])
 
 
-def differences(programs, folder, kind="classes"):
+def differences(programs, folder, kind="classes", flags=()):
     """What differs of one program, a text for each thing, and its two report lines.
 
-    It is run as it was read, then freed, then run as it was written. It agrees where all that expect.txt gives is so, where an audit
-    finds the files written safe, and where they print the same and end alike, with no more words at their peak."""
+    It is run as it was read, then freed, with these flags, then run as it was written. It agrees where all that expect.txt gives is so, but
+    for numbers that a flag may change, where an audit finds the files written safe, unless they have chains, of which it knows nothing, and
+    where they print the same and end alike, with no more words at their peak."""
     due = sections((folder / "expect.txt").read_text())
     main = due["main class"][0]
     words = words_of(folder, due["words of fmrun before CLASS FILE..."][0])
@@ -138,16 +139,17 @@ def differences(programs, folder, kind="classes"):
     if lines:
         compare("report", before[2], lines[0])
     with tempfile.TemporaryDirectory() as written:
-        freed = programs.free(written, main, files)
+        freed = programs.free(written, main, files, *flags)
         compare("freeme's status", freed[0], 0)
-        if "freeme" in due:
+        if "freeme" in due and "--rapid" not in flags:
             compare("freeme's lines", freed[1], due["freeme"][1])
-        audited = programs.audit(written, main, files)
-        compare("the audit", audited, (0, [re.sub(r": \d+ sites, \d+ frees$", ": safe", line) for line in freed[1]]))
+        if not flags:
+            audited = programs.audit(written, main, files)
+            compare("the audit", audited, (0, [re.sub(r": \d+ sites, \d+ frees$", ": safe", line) for line in freed[1]]))
         after = programs.run(words, main, files_of(Path(written)))
     compare("status of the files written", after[0], status_of(status))
     compare("output of the files written", after[1], printed)
-    if "fmrun on the files written" in due:
+    if "fmrun on the files written" in due and not flags:
         compare("report of the files written", after[2], due["fmrun on the files written"][1][0])
     if peak(after[2]) > peak(before[2]):
         wrong.append("more words at the peak")
