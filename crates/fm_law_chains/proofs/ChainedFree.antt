@@ -1,5 +1,5 @@
 -- Classes with chains free all that sites in loops gave: what is shown along the runs holds of matched states, and of the runs of the program that isn't narrowed.
-use Rattle.std.proofs.Common.{ℕ, List, subst, sym, None}
+use Rattle.std.proofs.Common.{ℕ, List, subst}
 use Rattle.fm_cells.specs.Choices.{lawful, never_choice}
 use Rattle.fm_chain.specs.SafeChains.{full_chains, FullChainsOf}
 use Rattle.fm_code.specs.declared.class_file.ClassDef.{ClassDef}

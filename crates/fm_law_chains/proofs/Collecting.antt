@@ -1,13 +1,10 @@
 -- What becomes of an object that a site in a loop gave: while its frame is there, it is in the chain of the site's holder, or it has been freed. Along two runs
 -- that go together this goes on; where the class of the holder isn't busy the holder is null, and so it has been freed.
-use Rattle.std.proofs.Common.{◌≡◌, ◌⊎◌, inl, inr, ⊎_elim, ℕ, suc, ◌+◌, ◌-◌, ◌<◌, ◌≤◌, true, false, List, [], ◌∷◌, Contains, length, Option, Some, None, option_map, refl, sym, ap, subst, ◌∙◌, arith}
+use Rattle.std.proofs.Common.{◌≡◌, ◌⊎◌, inl, inr, ⊎_elim, ℕ, suc, ◌+◌, ◌-◌, ◌<◌, ◌≤◌, true, false, List, [], ◌∷◌, Contains, length, Some, option_map, sym, ap, subst, ◌∙◌, arith}
 use Rattle.std.specs.Prelude.{slice_get}
-use Rattle.std.specs.List.{AllByRecursion}
 use Rattle.std.proofs.lemmas.Bool.{cases_lt, false≢true}
 use Rattle.std.proofs.lemmas.Option.{none-some, same_Some}
 use Rattle.fm_base.proofs.ContainsFacts.{Contains-none}
-use Rattle.fm_base.specs.declared.limits.TheConstants.{MAX_LIVE_WORDS}
-use Rattle.fm_cells.specs.Choices.{lawful, never_choice}
 use Rattle.fm_cells.specs.Soundness.{IsOrderly}
 use Rattle.fm_cells.specs.Stores.{Store}
 use Rattle.fm_code.specs.declared.code_array.Code.{Code}
