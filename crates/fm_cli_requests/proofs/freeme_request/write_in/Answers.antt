@@ -6,7 +6,7 @@ use Rattle.fm_cli_requests.specs.Values.{IsValue}
 use Rattle.fm_cli_requests.proofs.ClassFilesLemmas.{IsNamedBy}
 use Rattle.fm_cli_requests.proofs.MatchLemmas.{first_found, first_missing, untested}
 use Rattle.fm_cli_requests.proofs.freeme_request.write_in.Goals as goal
-use Rattle.fm_cli_requests.proofs.freeme_request.write_in.Goals.{else-rapid-via-then-rapid+else-is_some, else-rapid-via-else-rapid, else-chains-via-then-chains+else-is_some, else-chains-via-else-chains}
+use Rattle.fm_cli_requests.proofs.freeme_request.write_in.Goals.{else-rapid-via-then-rapid+else-is_some, else-rapid-via-else-rapid, else-chains-via-then-chains+else-is_some-2, else-chains-via-else-chains}
 
 pub returns-in_default : goal.returns-in_default
 returns-in_default c = λ job h.
@@ -35,8 +35,8 @@ returns c = record {
     | else-rapid-via-else-rapid w ↦ absurd (false≢true (sym w.if-rapid.false ∙ given))
   ];
   chains_of_files = λ given. elim c.else-chains.branch [
-    | else-chains-via-then-chains+else-is_some w ↦
-        None-from_not_some c.in-Some-2.named.made (λ some. false≢true (sym w.if-is_some.false ∙ w.is_some.ensures ∙ some))
+    | else-chains-via-then-chains+else-is_some-2 w ↦
+        None-from_not_some c.in-Some-2.named.made (λ some. false≢true (sym w.if-is_some-2.false ∙ w.is_some-then-chains.ensures ∙ some))
     | else-chains-via-else-chains w ↦ absurd (false≢true (sym w.if-chains.false ∙ given))
   ];
 }
