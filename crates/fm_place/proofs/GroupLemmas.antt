@@ -212,6 +212,16 @@ module _ (g : Groups) (count : ℕ) (test : ℕ → ℕ → Bool) (rows : List (
     each = λ class n there j inside. are.each class n there j inside ∙ same class j inside;
   }
 
+  -- the same, where it agrees on the classes that holders have
+  pub rows_kept : (other : ℕ → ℕ → Bool)
+      → ((class n : ℕ) → number_in g.numbers class ≡ Some n → (j : ℕ) → j < count → test j class ≡ other j class) → AreRowsIn g count test rows
+      → AreRowsIn g count other rows
+  rows_kept other same are = record {
+    one_each = are.one_each;
+    wide = are.wide;
+    each = λ class n there j inside. are.each class n there j inside ∙ same class n there j inside;
+  }
+
   -- a class that no holder has sets no item
   pub rows_unmarked : (class : Option ℕ) (item : ℕ) → ((c n : ℕ) → number_in g.numbers c ≡ Some n → is_class class c ≡ false) → AreRowsIn g count test rows
       → AreRowsIn g count (λ j c. test j c || (is_class class c && nat_eq item j)) rows

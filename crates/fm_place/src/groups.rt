@@ -42,6 +42,16 @@ impl<'a> Groups<'a> {
         })
     }
 
+    /// The number of a class, if a holder has it. Takes no memory.
+    pub fn number(&self, class: u32) -> Option<u32>
+        ensures { result ≡ number_in self.now.numbers class }
+    {
+        match self.numbers.get(&class) {
+            Some(number) => Some(*number),
+            None => None,
+        }
+    }
+
     /// Sets the item in the row of the class, if there is one.
     pub fn mark(&self, class: Option<u32>, item: u32, rows: &mut Vec<Row>)
         requires groups { AreGroups self.now }

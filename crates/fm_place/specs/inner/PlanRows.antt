@@ -1,5 +1,5 @@
 -- What is known of a method while its plan is made: rows of bits with a bit for each item.
-use Rattle.std.specs.Prelude.{◌≡◌, ◌⊎◌, ◌↔◌, ◌+◌, ◌<◌, ◌≤◌, ◌||◌, ◌&&◌, ◌==◌, not, ℕ, Bool, true, false, List, [], ◌∷◌, length, map, filter, Option, Some, None, Contains, nat_lt, slice_get}
+use Rattle.std.specs.Prelude.{◌≡◌, ◌⊎◌, ◌↔◌, ◌+◌, ◌<◌, ◌≤◌, ◌||◌, ◌&&◌, ◌==◌, not, ℕ, Bool, true, false, List, [], ◌∷◌, length, map, filter, Option, Some, None, is_some, Contains, nat_lt, slice_get}
 use Rattle.std.specs.BTreeMap as tree
 use Rattle.std.specs.List.{filter_map, flat_map, list_any, range_with_len, slice_index}
 use Rattle.std.specs.Option.{option_map}
@@ -9,11 +9,12 @@ use Rattle.fm_base.specs.declared.limits.TheConstants.{MAX_LOCAL_WORDS}
 use Rattle.fm_code.specs.Edges.{IsEdge}
 use Rattle.fm_conn.specs.Classes.{class_of}
 use Rattle.fm_conn.specs.Facts.{Facts}
-use Rattle.fm_conn.specs.Nodes.{TypedMethod}
+use Rattle.fm_conn.specs.Nodes.{depth_at, TypedMethod}
 use Rattle.fm_conn.specs.inner.PairLists.{IsTypedAs, method_in}
 use Rattle.fm_flow.specs.Flow.{IsFlowOf}
 use Rattle.fm_flow.specs.LiveRows.{is_live, IsLiveRowsOf}
 use Rattle.fm_flow.specs.inner.LiveWalks.{HaveWidth, row_of}
+use Rattle.fm_types.specs.Typed.{state_at}
 use Rattle.fm_place.specs.Places.{is_busy, is_local_in, is_place, is_word_in, may_hold, MayHold}
 use Rattle.fm_place.specs.PlansBy.{HasNodesOf, paired}
 use Rattle.fm_place.specs.declared.busy_rows.Seen.{Seen}
@@ -97,26 +98,45 @@ pub record AreRowsIn (g : Groups) (count : ℕ) (test : ℕ → ℕ → Bool) (r
 abbrev pub is_in_words : Seen → (item depth : ℕ) → ℕ → Bool
 is_in_words s item depth class = list_any (is_word_in (facts_seen s) (typed_seen s) class item) (range_with_len 0 depth)
 
--- whether some word is in the class, or some live local below this one
-abbrev pub is_in_locals : Seen → (item depth local : ℕ) → ℕ → Bool
-is_in_locals s item depth local class =
-    is_in_words s item depth class || list_any (is_local_in (facts_seen s) (typed_seen s) class item) (range_with_len 0 local)
+-- whether an item can be reached
+abbrev pub is_reached : Seen → ℕ → Bool
+is_reached s j = is_some (state_at (typed_seen s).states j)
+
+-- whether an item before this one can be reached
+abbrev pub reached_before : Seen → (item : ℕ) → ℕ → Bool
+reached_before s item j = nat_lt j item && is_reached s j
 
 -- whether a class is busy at an item
 abbrev pub is_busy_at : Seen → ℕ → ℕ → Bool
 is_busy_at s item class = is_busy (facts_seen s) (typed_seen s) class item
 
--- whether a class is busy at an item before this one
-abbrev pub busy_before : Seen → (item : ℕ) → ℕ → ℕ → Bool
-busy_before s item j class = nat_lt j item && is_busy_at s j class
+-- whether an item can be reached, and some word there is in the class
+abbrev pub has_word_at : Seen → ℕ → ℕ → Bool
+has_word_at s j class = is_reached s j && is_in_words s j (depth_at (typed_seen s) j) class
+
+-- the same, at an item before this one
+abbrev pub words_before : Seen → (item : ℕ) → ℕ → ℕ → Bool
+words_before s item j class = nat_lt j item && has_word_at s j class
 
 -- the same, or at this item some word below this depth is in the class
 abbrev pub busy_by_words : Seen → (item depth : ℕ) → ℕ → ℕ → Bool
-busy_by_words s item depth j class = busy_before s item j class || (is_in_words s item depth class && (item == j))
+busy_by_words s item depth j class = words_before s item j class || (is_in_words s item depth class && (item == j))
 
--- the same, or at this item some word is in the class, or some live local below this one
-abbrev pub busy_by_locals : Seen → (item depth local : ℕ) → ℕ → ℕ → Bool
-busy_by_locals s item depth local j class = busy_before s item j class || (is_in_locals s item depth local class && (item == j))
+-- whether some live local below this one is in the class
+abbrev pub is_in_locals : Seen → (item local : ℕ) → ℕ → Bool
+is_in_locals s item local class = list_any (is_local_in (facts_seen s) (typed_seen s) class item) (range_with_len 0 local)
+
+-- whether an item can be reached, and some word is in the class, or some live local below this one
+abbrev pub busy_with : Seen → (local : ℕ) → ℕ → ℕ → Bool
+busy_with s local j class = is_reached s j && (is_in_words s j (depth_at (typed_seen s) j) class || is_in_locals s j local class)
+
+-- whether an item can be reached, and this local is live there and in the class
+abbrev pub has_local_at : Seen → (local : ℕ) → ℕ → ℕ → Bool
+has_local_at s local j class = is_reached s j && is_local_in (facts_seen s) (typed_seen s) class j local
+
+-- busy with the locals below this one, or with it at an item before this one
+abbrev pub busy_by_local : Seen → (local item : ℕ) → ℕ → ℕ → Bool
+busy_by_local s local item j class = busy_with s local j class || (nat_lt j item && has_local_at s local j class)
 
 -- whether a holder may hold something at an item
 abbrev pub may_hold_at : Seen → ℕ → ℕ × ℕ → Bool

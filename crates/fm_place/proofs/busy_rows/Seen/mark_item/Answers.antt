@@ -13,5 +13,5 @@ returns-in_default c = item_unreached c.args.self.now c.args.groups.now c.args.i
 
 pub returns : goal.returns
 returns c =
-    item_done c.args.self.now c.args.groups.now c.args.item c.depth_within-depth.result c.mark_locals.new.rows.items (known_state c.in-Some.state.now)
-    c.in-Some.ensures (c.depth_within-depth.ensures ∙ c.depth.ensures) c.mark_locals.ensures
+    item_done c.args.self.now c.args.groups.now c.args.item c.depth_within-depth.result c.mark_words.new.rows.items (known_state c.in-Some.state.now)
+    c.in-Some.ensures (c.depth_within-depth.ensures ∙ c.depth.ensures) c.mark_words.ensures

@@ -1,5 +1,5 @@
-use Rattle.fm_place.specs.inner.PlanRows.{AreRowsIn, busy_by_locals, count_of}
+use Rattle.fm_place.specs.inner.PlanRows.{AreRowsIn, busy_with, count_of}
 use Rattle.fm_place.proofs.busy_rows.Seen.mark_locals.Given as goal
 
 abbrev pub invariant-loop-local : goal.invariant-loop-local
-invariant-loop-local l = AreRowsIn l.groups (count_of l.self) (busy_by_locals l.self l.item l.depth l.local) l.rows.items
+invariant-loop-local l = AreRowsIn l.groups (count_of l.self) (busy_with l.self l.local) l.rows.items
