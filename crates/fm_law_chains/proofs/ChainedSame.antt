@@ -19,7 +19,7 @@ use Rattle.fm_frames.specs.Runs.{Job}
 use Rattle.fm_frames.specs.States.{Frame, null, word_at}
 use Rattle.fm_law_can_step.specs.Ready.{CanRun}
 use Rattle.fm_law_cells_made.specs.MostHeld.{MadeIsMostHeld}
-use Rattle.fm_law_chains.proofs.OwnPlans.{ChainedProgramsAreWoven, own_chains}
+use Rattle.fm_law_chains.proofs.OwnPlans.{own_chains}
 use Rattle.fm_law_chains.specs.Chains.{ChainedClassesDoTheSame}
 use Rattle.fm_law_headline.proofs.Alike.{are_linked, both_of, woven_alike}
 use Rattle.fm_law_headline.proofs.Parts.{make_the_record}
@@ -44,7 +44,7 @@ use Rattle.fm_law_sound.specs.Making.{MakesAreResolved}
 use Rattle.fm_law_sound.specs.Resolved.{MainIsReady, StepsAreResolved}
 use Rattle.fm_law_unwoven.proofs.NarrowedLinks.{main_narrowed, makes_narrowed, steps_narrowed}
 use Rattle.fm_law_unwoven.specs.Runs.{AllRunsAreCleared, AreCleared, IsCleared, RunsAreCleared}
-use Rattle.fm_law_unwoven.specs.WovenFrom.{inserted_by, IsWovenFrom}
+use Rattle.fm_law_unwoven.specs.WovenFrom.{ChainedProgramsAreWoven, inserted_by, IsWovenFrom}
 use Rattle.fm_place.specs.Insertions.{full_insertions, Holder}
 use Rattle.fm_place.specs.Places.{is_busy}
 use Rattle.fm_place.specs.Rewriting.{first_given, Plans}

@@ -11,7 +11,7 @@ use fm_law_linked::{
 };
 use fm_law_lockstep::{law_costs, law_lockstep, law_opens, law_renamed, law_retired};
 use fm_law_relinked::law_links;
-use fm_law_unwoven::law_runs;
+use fm_law_unwoven::{law_chained_woven, law_runs};
 
 /// Classes with all held sites and all places, where holders of sites in loops hold chains, do what those given
 /// do, by the sites of their program or of that one narrowed to the classes of closed sets; and where the class of
@@ -21,6 +21,7 @@ pub fn law_chains()
     ensures all { ChainedClassesFreeAll }
 {
     // By these laws, of linked programs and of their runs.
+    law_chained_woven();
     law_links();
     law_resolved();
     law_cells();

@@ -1,11 +1,10 @@
 use Rattle.fm_law_chains.proofs.ChainedFree.{chained_free_all, programs_collect}
 use Rattle.fm_law_chains.proofs.ChainedSame.{chained_do_the_same}
-use Rattle.fm_law_chains.proofs.OwnPlans.{chained_programs_are_woven}
 use Rattle.fm_law_chains.proofs.laws.law_chains.Goals as goal
 
 pub returns-clause-same : goal.returns-clause-same
 returns-clause-same c = chained_do_the_same (record {
-    woven = chained_programs_are_woven;
+    woven = c.law_chained_woven.ensures;
     links = c.law_links.ensures.chains;
     resolved = c.law_resolved.ensures;
     cells = c.law_cells.ensures;
@@ -27,7 +26,7 @@ returns-clause-same c = chained_do_the_same (record {
 pub returns-clause-all : goal.returns-clause-all
 returns-clause-all c =
     chained_free_all (record {
-    woven = chained_programs_are_woven;
+    woven = c.law_chained_woven.ensures;
     links = c.law_links.ensures.chains;
     resolved = c.law_resolved.ensures;
     cells = c.law_cells.ensures;
