@@ -10,11 +10,12 @@ use Rattle.fm_frames.specs.States.{Areas, null, State}
 use Rattle.fm_frames.specs.declared.values.Value.{Value}
 use Rattle.fm_law_held_objects.proofs.ContentsKept.{nothing_has}
 use Rattle.fm_law_held_objects.proofs.HolderSet.{has_here, has_there}
-use Rattle.fm_law_held_objects.proofs.OneFree.{not_lost, one_free}
+use Rattle.fm_law_held_objects.proofs.OneFree.{not_lost, one_forth, one_free}
+use Rattle.fm_law_held_objects.specs.Forth.{FreesEmptyChains, ChainsAreFreed}
 use Rattle.fm_law_held_objects.specs.Freeing.{AreFreed, IsHadBy, IsOfHolder}
 use Rattle.fm_law_held_objects.specs.Held.{AreHeld, HolderHas}
 use Rattle.fm_law_held_objects.specs.Laws.{AreThere, frees_of, FreesKeepHeld, NothingIsLost}
-use Rattle.fm_law_holders.specs.Holding.{holder_value}
+use Rattle.fm_law_holders.specs.Holding.{HasOther, holder_value}
 use Rattle.fm_law_sound.specs.Sound.{Typings}
 use Rattle.fm_law_two_memories.specs.Pairing.{AreasPaired, Gone}
 use Rattle.fm_law_unwoven.proofs.TodoLocals.{freed_one}
@@ -115,6 +116,33 @@ module _ (o : Outline) (typings : Typings) (x : State) (colour : Colour) (depth 
       (all_locals_after code stack (frees_of plan (h ∷ hs)) locals) first later
       (had_there gone y paired locals width h (slice_get_within plan.holders h found.0 found.1))
 
+  -- what chains had they have, or it is gone
+  all_forth : (hs : List ℕ) (gone : Gone) (y : Areas) → AreasPaired gone o x.areas y → AreThere plan hs → (locals : List Value) → Wide locals
+      → AreHeld typings x colour depth y.store code plan locals
+      → ChainsAreFreed typings x colour depth code plan y (all_areas_after code stack (frees_of plan hs) locals y) locals
+      (all_locals_after code stack (frees_of plan hs) locals)
+  all_forth [] gone y paired there locals width had = record {
+    stays = λ h birth within loops has. inl has;
+    others = λ other second inserted values apart are h birth within has. has;
+    absent = λ birth none cell. none cell;
+  }
+  all_forth (h ∷ hs) gone y paired there locals width had =
+      let found = there h (Contains-first h hs h refl) in
+      let first = one_free gone o typings x colour depth y paired code plan stack locals had width h found.0 found.1 hs in
+      let forth = one_forth gone o typings x colour depth y paired code plan stack locals had width h found.0 found.1 hs in
+      let later = all_forth hs first.more (then_areas h locals y) first.paired (λ k among. there k (Contains-later h hs k among)) (then_locals h locals)
+      (nulled h locals width) first.held in
+      record {
+        stays = λ k birth within loops has. ⊎_elim
+            (λ (here : HolderHas (then_areas h locals y).store code plan (then_locals h locals) k birth). later.stays k birth within loops here)
+            (λ (none : (cell : ℕ) → HasOther (then_areas h locals y).store birth cell). inr (later.absent birth none))
+            (forth.stays k birth within loops has);
+        others = λ other second inserted values apart are k birth within has.
+            later.others other second inserted values apart (first.others other second inserted values apart are) k birth within
+            (forth.others other second inserted values apart are k birth within has);
+        absent = λ birth none. later.absent birth (forth.absent birth none);
+      }
+
   none_lost : (hs : List ℕ) (gone : Gone) (y : Areas) → AreasPaired gone o x.areas y → AreThere plan hs → (locals : List Value) → Wide locals
       → AreHeld typings x colour depth y.store code plan locals
       → (before : List Todo) (todo : Todo) (behind : List Todo) → frees_of plan hs ≡ before ++ todo ∷ behind
@@ -138,6 +166,10 @@ module _ (o : Outline) (typings : Typings) (x : State) (colour : Colour) (depth 
 pub frees_keep_held : FreesKeepHeld
 frees_keep_held gone o typings x colour depth y paired code plan g hs there width had =
     all_freed o typings x colour depth code plan g.stack hs gone y paired there g.locals width had
+
+pub frees_empty_chains : FreesEmptyChains
+frees_empty_chains gone o typings x colour depth y paired code plan g hs there width had =
+    all_forth o typings x colour depth code plan g.stack hs gone y paired there g.locals width had
 
 pub nothing_is_lost : NothingIsLost
 nothing_is_lost gone o typings x colour depth y paired code plan g hs there width had l =

@@ -17,7 +17,7 @@ use Rattle.fm_law_chained.specs.Chain.{IsChain, IsLink}
 use Rattle.fm_law_held_objects.proofs.ContentsKept.{chain_same, own_has}
 use Rattle.fm_law_held_objects.specs.Contents.{Has, Holds}
 use Rattle.fm_law_held_objects.specs.Held.{AreHeld, HolderHas}
-use Rattle.fm_law_holders.specs.Holding.{holder_value, Holding, HoldsFixed, HoldsFreeable, HoldsNull, HoldsOwn}
+use Rattle.fm_law_holders.specs.Holding.{HasOther, holder_value, Holding, HoldsFixed, HoldsFreeable, HoldsNull, HoldsOwn}
 use Rattle.fm_law_sound.specs.Sound.{Typings}
 use Rattle.fm_place.specs.Insertions.{Holder, Insertions}
 use Rattle.fm_same.specs.Colours.{Colour}
@@ -109,6 +109,29 @@ module _ (births : List ℕ) (store later : Store) (s : StaysBut births store la
         has.among;
   }
 
+  -- and what it had it has
+  pub has_still : (looped : Bool) (v : Value) (birth : ℕ) → ((b : ℕ) → Contains births b → Has looped store v b → ⊥) → Has looped store v birth
+      → Has looped later v birth
+  has_still false v birth none has = record {
+    object = has.object;
+    held = s.stays (cell_of v) has.object has.held
+        (λ among.
+        none has.object.birth among (record { object = has.object; held = has.held; not_fixed = has.not_fixed; birth_is = refl }));
+    not_fixed = has.not_fixed;
+    birth_is = has.birth_is;
+  }
+  has_still true v birth none has = record {
+    births = has.births;
+    chain = chain_but (cell_of v) has.births
+        (λ b changed among. none b changed (record { births = has.births; chain = has.chain; among = among })) has.chain;
+    among = has.among;
+  }
+
+  -- what wasn't held isn't held
+  pub absent_still : (birth : ℕ) → ((cell : ℕ) → HasOther store birth cell) → (cell : ℕ) → HasOther later birth cell
+  absent_still birth none cell object held same =
+      let was = s.was cell object held in none cell was.old was.held (was.born ∙ same)
+
   -- ---- all holders of a frame
 
   module _ (typings : Typings) (x : State) (colour : Colour) (depth : ℕ) (code : Code) (plan : Insertions) (locals : List Value)
@@ -145,6 +168,10 @@ module _ (births : List ℕ) (store later : Store) (s : StaysBut births store la
 
     pub others_had_but : (h birth : ℕ) → h < length plan.holders → HolderHas later code plan values h birth → HolderHas store code plan values h birth
     others_had_but h birth within has = had_but typings x colour other code plan values others_none had h birth within has
+
+    pub others_still : (h birth : ℕ) → h < length plan.holders → HolderHas store code plan values h birth → HolderHas later code plan values h birth
+    others_still h birth within has =
+        has_still (looped_at plan h) (holder_value code values h) birth (λ b among theirs. others_none h b within among theirs) has
 
     pub others_held_but : AreHeld typings x colour other later code plan values
     others_held_but = held_but typings x colour other code plan values others_none had

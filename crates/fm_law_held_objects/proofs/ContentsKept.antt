@@ -148,6 +148,14 @@ module _ (store later : Store) (later_orderly : IsOrderly later) (keeps : KeepsO
         (chain_same later (cell_of v) has.births holds.births later_orderly has.chain (chain_later (cell_of v) holds.births holds.chain)) has.among;
   }
 
+  -- and what it had it has
+  pub has_later : (looped : Bool) (v : Value) (birth : ℕ) → Has looped store v birth → Has looped later v birth
+  has_later false v birth has =
+      let now = keeps (cell_of v) has.object has.held in
+      record { object = now.0; held = now.1; not_fixed = now.3 ∙ has.not_fixed; birth_is = now.2 ∙ has.birth_is }
+  has_later true v birth has =
+      record { births = has.births; chain = chain_later (cell_of v) has.births has.chain; among = has.among }
+
   plain_later : (colour other : Colour) (depth class : ℕ) (v : Value)
       → ((birth : ℕ) → HoldsFreeable store v birth → colour birth ≡ Own depth class → other birth ≡ colour birth)
       → Holding store colour depth class v → Holding later other depth class v

@@ -37,6 +37,16 @@ module _ (store : Store) (code : Code) (plan : Insertions) (locals : List Value)
   pub has_there : (h birth : ℕ) → h ≢ kept → HolderHas store code plan (slice_set locals (local_of code kept) w) h birth → HolderHas store code plan locals h birth
   has_there h birth away has = subst (λ v. Has (looped_at plan h) store v birth) (value_there h away) has
 
+  -- so it has what the value leads to, and any other one has what it had
+  pub gets_here : (h birth : ℕ) → h ≡ kept → Has (looped_at plan kept) store w birth → HolderHas store code plan (slice_set locals (local_of code kept) w) h birth
+  gets_here h birth same has =
+      subst (λ v. Has (looped_at plan h) store v birth) (sym (value_here h same))
+      (subst (λ looped. Has looped store w birth) (ap (looped_at plan) (sym same)) has)
+
+  pub gets_there : (h birth : ℕ) → h ≢ kept → HolderHas store code plan locals h birth
+      → HolderHas store code plan (slice_set locals (local_of code kept) w) h birth
+  gets_there h birth away has = subst (λ v. Has (looped_at plan h) store v birth) (sym (value_there h away)) has
+
   module _ (typings : Typings) (x : State) (colour : Colour) (depth : ℕ) (have : AreHeld typings x colour depth store code plan locals)
       (holds : (holder : Holder) → slice_get plan.holders kept ≡ Some holder → Holds (looped_at plan kept) store colour depth holder.class w)
       (fresh : (birth : ℕ) → Has (looped_at plan kept) store w birth → IsInitialised typings x birth)

@@ -2,27 +2,28 @@
 use Rattle.std.proofs.Common.{◌≡◌, ◌≢◌, ◌⊎◌, ◌+◌, ◌<◌, inl, inr, ℕ, zero, suc, not, Bool, true, false, List, [], ◌∷◌, length, Option, Some, None, Contains, refl, sym, ◌∙◌, ap, subst, get_or, slice_get, slice_set, ⊎_elim}
 use Rattle.std.specs.List.{AllByRecursion, AllZip}
 use Rattle.std.proofs.lemmas.Bool.{cases_eq, false≢true}
-use Rattle.std.proofs.lemmas.Option.{same_Some, slice_get-get_or, slice_get_within}
+use Rattle.std.proofs.lemmas.Option.{none-some, same_Some, slice_get-get_or, slice_get_within}
 use Rattle.fm_base.proofs.ContainsFacts.{Contains-cons_cases, Contains-none}
 use Rattle.fm_cells.specs.Changes.{chained_by, with_chain}
 use Rattle.fm_cells.specs.Objects.{Object}
 use Rattle.fm_cells.specs.Soundness.{IsOrderly}
 use Rattle.fm_cells.specs.Stores.{object_at, Store}
 use Rattle.fm_chain.specs.Chained.{looped_at}
-use Rattle.fm_code.proofs.EdgesLemmas.{Contains-first}
+use Rattle.fm_code.proofs.EdgesLemmas.{Contains-first, Contains-later}
 use Rattle.fm_code.specs.declared.code_array.Code.{Code}
 use Rattle.fm_conn.specs.Facts.{Facts}
 use Rattle.fm_frames.specs.Acts.{cell_of}
 use Rattle.fm_frames.specs.States.{Areas, Frame, ref, State, word_at}
 use Rattle.fm_frames.specs.declared.values.Value.{Value}
 use Rattle.fm_law_chained.proofs.ChainedAreas.{chaining_keeps_paired}
-use Rattle.fm_law_chained.proofs.Links.{linked_here, linked_there}
+use Rattle.fm_law_chained.proofs.Links.{chains_are_linked, linked_here, linked_there}
 use Rattle.fm_law_chained.specs.Laws.{StaysPaired}
-use Rattle.fm_law_held_objects.proofs.ContentsBut.{had_but, held_but, others_had_but, others_held_but, StaysBut, WasThere}
-use Rattle.fm_law_held_objects.proofs.ContentsKept.{has_at, has_before, has_joined, holds_joined, own_has}
+use Rattle.fm_law_held_objects.proofs.ContentsBut.{absent_still, had_but, has_still, held_but, others_had_but, others_held_but, others_still, StaysBut, WasThere}
+use Rattle.fm_law_held_objects.proofs.ContentsKept.{chain_same, has_at, has_before, has_joined, holds_joined, own_has}
 use Rattle.fm_law_held_objects.proofs.Holdings.{own_of}
-use Rattle.fm_law_held_objects.proofs.HolderSet.{has_here, has_there, set_held}
-use Rattle.fm_law_held_objects.specs.Contents.{Has, Holds, HoldsAll}
+use Rattle.fm_law_held_objects.proofs.HolderSet.{gets_here, gets_there, has_here, has_there, set_held}
+use Rattle.fm_law_held_objects.specs.Contents.{Has, HasInChain, Holds, HoldsAll}
+use Rattle.fm_law_held_objects.specs.Forth.{KeepingLinksChains, ChainsAreKept}
 use Rattle.fm_law_held_objects.specs.Held.{AreHeld, HolderHas}
 use Rattle.fm_law_held_objects.specs.Initialised.{AreNotFor, FrameIsNotFor, IsInitialised, IsNotFor}
 use Rattle.fm_law_held_objects.specs.Keeping.{AreKept}
@@ -91,6 +92,11 @@ joins_object store (suc cell) is = by_object (object_at store (suc cell)) refl i
   by_object : (found : Option Object) → object_at store (suc cell) ≡ found → may_join found ≡ true → Joins store (suc cell)
   by_object None none joins = absurd (false≢true joins)
   by_object (Some object) held joins = by_fixed object held object.fixed refl joins
+
+loose_joins : (store : Store) → IsOrderly store → (cell : ℕ) (object : Object) → object_at store cell ≡ Some object → object.fixed ≡ false
+    → joins_in store cell ≡ true
+loose_joins store orderly zero object held loose = absurd (none-some object (sym orderly.null_not_held ∙ held))
+loose_joins store orderly (suc cell) object held loose = ap may_join held ∙ ap not loose
 
 -- a link changes the object alone, and not its birth
 module _ (store : Store) (orderly : IsOrderly store) (cell to : ℕ) (object : Object) (held : object_at store cell ≡ Some object) (loose : object.fixed ≡ false)
@@ -180,6 +186,9 @@ module _ (unheld : NewResultsAreUnheld) (p : Program) (facts : Facts) (x next : 
   abbrev Kept : Areas → List Value → Type 0
   Kept later values = AreKept o facts.typing next other (length callers) code plan (kept ∷ []) (word_at stack 0) gone y later locals values
 
+  abbrev Forth : Areas → List Value → Type 0
+  Forth later values = ChainsAreKept facts.typing next other (length callers) code plan (kept ∷ []) (word_at stack 0) y later locals values
+
   -- ---- in place of what it had
 
   plain_kept : looped_at plan kept ≡ false → Kept y (slice_set locals (local_of code kept) (word_at stack 0))
@@ -222,6 +231,40 @@ module _ (unheld : NewResultsAreUnheld) (p : Program) (facts : Facts) (x next : 
         (λ (away : h ≢ kept). has_there y.store code plan locals width kept inside own_value h birth away has)
         (cases_eq h kept));
     others_had = λ other_depth second inserted values apart there h birth within has. has;
+  }
+
+  -- ---- what becomes of what chains had
+
+  only_kept : (h : ℕ) → Contains (kept ∷ []) h → h ≡ kept
+  only_kept h among = ⊎_elim (λ (same : h ≡ kept). same) (λ (later : Contains [] h). absurd (Contains-none h later)) (Contains-cons_cases kept [] h among)
+
+  plain_forth : looped_at plan kept ≡ false → Forth y (slice_set locals (local_of code kept) (word_at stack 0))
+  plain_forth is = record {
+    stays = λ h birth within loops has.
+        gets_there y.store code plan locals width kept inside w h birth (λ same. unlike h same loops) has;
+    gets = λ h birth among loops may. absurd (unlike h (only_kept h among) loops);
+    others = λ other_depth second inserted values apart there h birth within has. has;
+    absent = λ birth none_of cell_at. none_of cell_at;
+  } where
+    unlike : (h : ℕ) → h ≡ kept → looped_at plan h ≡ true → ⊥
+    unlike h same loops = false≢true (sym is ∙ ap (looped_at plan) (sym same) ∙ loops)
+
+  -- what may be freed joins a chain
+  may_joins : (birth : ℕ) → HoldsFreeable y.store (word_at stack 0) birth → joins_in y.store (cell_of (word_at stack 0)) ≡ true
+  may_joins birth may = loose_joins y.store later_orderly (cell_of w) may.object may.held may.not_fixed
+
+  same_forth : joins_in y.store (cell_of (word_at stack 0)) ≡ false
+      → Forth y (slice_set locals (local_of code kept) (holder_value code locals kept))
+  same_forth is = record {
+    stays = λ h birth within loops has. ⊎_elim
+        (λ (same : h ≡ kept).
+        gets_here y.store code plan locals width kept inside own_value h birth same
+        (subst (λ n. HolderHas y.store code plan locals n birth) same has))
+        (λ (away : h ≢ kept). gets_there y.store code plan locals width kept inside own_value h birth away has)
+        (cases_eq h kept);
+    gets = λ h birth among loops may. absurd (false≢true (sym is ∙ may_joins birth may));
+    others = λ other_depth second inserted values apart there h birth within has. has;
+    absent = λ birth none_of cell_at. none_of cell_at;
   }
 
   -- ---- before its chain
@@ -328,6 +371,46 @@ module _ (unheld : NewResultsAreUnheld) (p : Program) (facts : Facts) (x next : 
           others_had_but one y.store following but facts.typing next other depth region other_depth second inserted values apart there h birth within has;
     }
 
+    -- ---- and what becomes of what chains had
+
+    in_chain : (birth : ℕ) → (birth ≡ j.object.birth) ⊎ Contains all_had.births birth → Has (looped_at plan kept) following (word_at stack 0) birth
+    in_chain birth either =
+        subst (λ looped. Has looped following w birth) (sym is)
+        (record {
+          births = j.object.birth ∷ all_had.births;
+          chain = chains_are_linked y.store cell to j.object all_had.births j.held j.loose away all_had.chain;
+          among = ⊎_elim (λ (same : birth ≡ j.object.birth). Contains-first j.object.birth all_had.births birth same)
+              (λ (later : Contains all_had.births birth). Contains-later j.object.birth all_had.births birth later) either;
+        })
+
+    among_had : (birth : ℕ) → HasInChain y.store (holder_value code locals kept) birth → Contains all_had.births birth
+    among_had birth has =
+        subst (λ births. Contains births birth) (chain_same y.store to has.births all_had.births later_orderly has.chain all_had.chain) has.among
+
+    own_still : (birth : ℕ) → HolderHas y.store code plan locals kept birth → Has (looped_at plan kept) following (word_at stack 0) birth
+    own_still birth has = in_chain birth (inr (among_had birth (subst (λ looped. Has looped y.store own_value birth) is has)))
+
+    given_is : (birth : ℕ) → HoldsFreeable y.store (word_at stack 0) birth → birth ≡ j.object.birth
+    given_is birth may = sym may.birth_is ∙ ap (λ (a : Object). a.birth) (same_Some may.object j.object (sym may.held ∙ j.held))
+
+    joined_forth : Forth (record y { store = chained_by y.store (cell_of (word_at stack 0)) (cell_of (holder_value code locals kept)) })
+        (slice_set locals (local_of code kept) (word_at stack 0))
+    joined_forth = record {
+      stays = λ h birth within loops has. ⊎_elim
+          (λ (same : h ≡ kept).
+          gets_here following code plan locals width kept inside w h birth same
+          (own_still birth (subst (λ n. HolderHas y.store code plan locals n birth) same has)))
+          (λ (apart : h ≢ kept).
+          gets_there following code plan locals width kept inside w h birth apart
+          (has_still one y.store following but (looped_at plan h) (holder_value code locals h) birth (λ b among theirs. none h b within among theirs) has))
+          (cases_eq h kept);
+      gets = λ h birth among loops may.
+          gets_here following code plan locals width kept inside w h birth (only_kept h among) (in_chain birth (inl (given_is birth may)));
+      others = λ other_depth second inserted values apart there h birth within has.
+          others_still one y.store following but facts.typing next other depth region other_depth second inserted values apart there h birth within has;
+      absent = λ birth none_of cell_at. absent_still one y.store following but birth none_of cell_at;
+    }
+
   -- ---- however it is kept
 
   kept_by : (looped joins : Bool) → looped_at plan kept ≡ looped → joins_in y.store (cell_of (word_at stack 0)) ≡ joins
@@ -340,7 +423,22 @@ module _ (unheld : NewResultsAreUnheld) (p : Program) (facts : Facts) (x next : 
       (locals_after code stack (to_keep (looped_at plan kept) (joins_in y.store (cell_of (word_at stack 0))) kept) locals)
   keeps = kept_by (looped_at plan kept) (joins_in y.store (cell_of w)) refl refl
 
+  forth_by : (looped joins : Bool) → looped_at plan kept ≡ looped → joins_in y.store (cell_of (word_at stack 0)) ≡ joins
+      → Forth (areas_after code stack locals (to_keep looped joins kept) y) (locals_after code stack (to_keep looped joins kept) locals)
+  forth_by false joins is joins_is = plain_forth is
+  forth_by true false is joins_is = same_forth joins_is
+  forth_by true true is joins_is = joined_forth is (joins_object y.store (cell_of w) joins_is)
+
+  pub links : Forth (areas_after code stack locals (to_keep (looped_at plan kept) (joins_in y.store (cell_of (word_at stack 0))) kept) y)
+      (locals_after code stack (to_keep (looped_at plan kept) (joins_in y.store (cell_of (word_at stack 0))) kept) locals)
+  links = forth_by (looped_at plan kept) (joins_in y.store (cell_of w)) refl refl
+
 pub keeping_keeps_held : NewResultsAreUnheld → KeepingKeepsHeld
 keeping_keeps_held unheld p facts x next colour other made known f callers goes known_is r orderly are gone o before y before_orderly paired births stays code plan locals had have width kept holder at stack holding leads fresh =
     keeps unheld p facts x next colour other made known f callers goes known_is r orderly are gone o before y before_orderly paired births stays code plan
+    locals had have width kept holder at stack holding leads fresh
+
+pub keeping_links_chains : NewResultsAreUnheld → KeepingLinksChains
+keeping_links_chains unheld p facts x next colour other made known f callers goes known_is r orderly are gone o before y before_orderly paired births stays code plan locals had have width kept holder at stack holding leads fresh =
+    links unheld p facts x next colour other made known f callers goes known_is r orderly are gone o before y before_orderly paired births stays code plan
     locals had have width kept holder at stack holding leads fresh

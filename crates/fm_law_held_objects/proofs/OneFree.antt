@@ -2,7 +2,7 @@
 use Rattle.std.proofs.Common.{◌≡◌, ◌≢◌, ◌⊎◌, ◌<◌, ◌+◌, ℕ, zero, suc, Bool, true, false, cond, List, [], ◌∷◌, length, Some, None, Contains, refl, sym, ◌∙◌, ap, subst, inl, inr, arith, slice_get, slice_set, ⊎_elim}
 use Rattle.std.specs.Prelude.{nat_eq}
 use Rattle.std.specs.List.{AllZip, IsDistinct}
-use Rattle.std.proofs.lemmas.Bool.{cases_eq}
+use Rattle.std.proofs.lemmas.Bool.{cases_eq, false≢true}
 use Rattle.std.proofs.lemmas.Option.{none-some, slice_get_within}
 use Rattle.fm_base.proofs.ContainsFacts.{Contains-cons_cases, Contains-none}
 use Rattle.fm_cells.specs.Changes.{freed_by}
@@ -20,13 +20,14 @@ use Rattle.fm_law_chained.proofs.Links.{links_stay}
 use Rattle.fm_law_chained.proofs.Walked.{chains_are_walked}
 use Rattle.fm_law_chained.specs.Chain.{IsLink}
 use Rattle.fm_law_chained.specs.Laws.{AreLinksFreed}
-use Rattle.fm_law_held_objects.proofs.ContentsBut.{held_but, linked_at, others_held_but, StaysBut}
-use Rattle.fm_law_held_objects.proofs.ContentsKept.{nothing_has, null_holds, own_has}
-use Rattle.fm_law_held_objects.proofs.HolderSet.{has_here, has_there, set_held}
+use Rattle.fm_law_held_objects.proofs.ContentsBut.{absent_still, has_still, held_but, linked_at, others_held_but, others_still, StaysBut}
+use Rattle.fm_law_held_objects.proofs.ContentsKept.{chain_same, nothing_has, null_holds, own_has}
+use Rattle.fm_law_held_objects.proofs.HolderSet.{gets_there, has_here, has_there, set_held}
 use Rattle.fm_law_held_objects.specs.Contents.{Has, Holds, HoldsAll}
+use Rattle.fm_law_held_objects.specs.Forth.{ChainsAreFreed}
 use Rattle.fm_law_held_objects.specs.Freeing.{AreFreed, IsHadBy, IsOfHolder}
 use Rattle.fm_law_held_objects.specs.Held.{AreHeld, HolderHas}
-use Rattle.fm_law_holders.specs.Holding.{holder_value, Holding, HoldsFixed, HoldsNull, HoldsOwn}
+use Rattle.fm_law_holders.specs.Holding.{HasOther, holder_value, Holding, HoldsFixed, HoldsNull, HoldsOwn}
 use Rattle.fm_law_sound.specs.Sound.{Typings}
 use Rattle.fm_law_two_memories.specs.Pairing.{AreasPaired, Gone}
 use Rattle.fm_law_unwoven.proofs.TodoLocals.{freed_one}
@@ -45,6 +46,7 @@ record IsFound (code : Code) (stack locals : List Value) (y : Areas) (h : ℕ) (
   links : AllZip (IsLink y.store) cells births
   once : IsDistinct nat_eq births
   mine : (birth : ℕ) → Contains births birth → Has looped y.store v birth
+  all : looped ≡ true → (birth : ℕ) → Has looped y.store v birth → Contains births birth
   areas : areas_after code stack locals (to_free looped h) y ≡ all_freed y cells
 
 module _ (gone : Gone) (o : Outline) (typings : Typings) (x : State) (colour : Colour) (depth : ℕ) (y : Areas) (paired : AreasPaired gone o x.areas y) (code : Code) (plan : Insertions) (stack locals : List Value) (had : AreHeld typings x colour depth y.store code plan locals) (width : length locals ≡ code.max_locals + length plan.holders) (h : ℕ) (holder : Holder) (at : slice_get plan.holders h ≡ Some holder) (rest : List ℕ) where
@@ -57,6 +59,9 @@ module _ (gone : Gone) (o : Outline) (typings : Typings) (x : State) (colour : C
   -- what the areas lead to, where the holder is null then
   abbrev Leads : Areas → List Value → Type 0
   Leads later values = AreFreed o typings x colour depth code plan (h ∷ rest) gone y later locals values
+
+  abbrev Forth : Areas → List Value → Type 0
+  Forth later values = ChainsAreFreed typings x colour depth code plan y later locals values
 
   inside : h < length plan.holders
   inside = slice_get_within plan.holders h holder at
@@ -133,6 +138,29 @@ module _ (gone : Gone) (o : Outline) (typings : Typings) (x : State) (colour : C
       back = had_back;
     }
 
+    -- ---- and what becomes of what chains had
+
+    lacks : (birth : ℕ) → Contains births birth → (cell : ℕ) → HasOther (all_freed y cells).store birth cell
+    lacks birth among cell object held same =
+        false≢true (sym (freed_are.areas.store.absent cell object held) ∙ ap freed_are.more.births same ∙ freed_are.gone_now birth among)
+
+    forth : (looped_at plan h ≡ true → (birth : ℕ) → HolderHas y.store code plan locals h birth → Contains births birth)
+        → Forth (all_freed y cells) (slice_set locals (local_of code h) null)
+    forth all = record {
+      stays = λ k birth within loops has. ⊎_elim
+          (λ (same : k ≡ h).
+          inr (lacks birth
+          (all (ap (looped_at plan) (sym same) ∙ loops) birth (subst (λ n. HolderHas y.store code plan locals n birth) same has))))
+          (λ (away : k ≢ h).
+          inl (has_still births y.store (all_freed y cells).store but (looped_at plan k)
+          (holder_value code (slice_set locals (local_of code h) null) k) birth (λ b among theirs. none k b within among theirs)
+          (gets_there y.store code plan locals width h inside null k birth away has)))
+          (cases_eq k h);
+      others = λ other second inserted values apart are k birth within has.
+          others_still births y.store (all_freed y cells).store but typings x colour depth own other second inserted values apart are k birth within has;
+      absent = λ birth none_of cell. absent_still births y.store (all_freed y cells).store but birth none_of cell;
+    }
+
   -- ---- whatever the holder has
 
   from_is : (c : ℕ) (object : Object) → object_at y.store c ≡ Some object → freed_from y c ≡ freed y c
@@ -147,6 +175,7 @@ module _ (gone : Gone) (o : Outline) (typings : Typings) (x : State) (colour : C
     links = tt;
     once = tt;
     mine = λ birth among. absurd (Contains-none birth among);
+    all = λ is. absurd (false≢true is);
     areas = ap (λ w. freed_from y (cell_of w)) null_is;
   }
   plain_found class (HoldsFixed object held fixed) = record {
@@ -155,6 +184,7 @@ module _ (gone : Gone) (o : Outline) (typings : Typings) (x : State) (colour : C
     links = tt;
     once = tt;
     mine = λ birth among. absurd (Contains-none birth among);
+    all = λ is. absurd (false≢true is);
     areas = from_is (cell_of v) object held ∙ ap (freed_object y (cell_of v)) held
         ∙ ap (λ b. cond b y (record y { store = freed_by y.store (cell_of v); frees = y.frees + 1; freed_words = y.freed_words + object_words object })) fixed;
   }
@@ -167,6 +197,7 @@ module _ (gone : Gone) (o : Outline) (typings : Typings) (x : State) (colour : C
         (λ (same : birth ≡ object.birth). record { object = object; held = held; not_fixed = loose; birth_is = sym same })
         (λ (later : Contains [] birth). absurd (Contains-none birth later))
         (Contains-cons_cases object.birth [] birth among);
+    all = λ is. absurd (false≢true is);
     areas = from_is (cell_of v) object held;
   }
 
@@ -179,6 +210,8 @@ module _ (gone : Gone) (o : Outline) (typings : Typings) (x : State) (colour : C
         links = walked.links;
         once = holds.once;
         mine = λ birth among. record { births = holds.births; chain = holds.chain; among = among };
+        all = λ is birth has.
+            subst (λ births. Contains births birth) (chain_same y.store (cell_of v) has.births holds.births orderly has.chain holds.chain) has.among;
         areas = ap (freed_along y) walked.found;
       }
 
@@ -191,6 +224,12 @@ module _ (gone : Gone) (o : Outline) (typings : Typings) (x : State) (colour : C
       let f = found_by (looped_at plan h) (had.holds h holder at) in
       subst (Leads (areas_after code stack locals (to_free (looped_at plan h) h) y)) (sym (freed_one code stack (looped_at plan h) h locals))
       (subst (λ later. Leads later (slice_set locals (local_of code h) null)) (sym f.areas) (leads f.cells f.births f.links f.once f.mine))
+
+  pub one_forth : Forth (areas_after code stack locals (to_free (looped_at plan h) h) y) (locals_after code stack (to_free (looped_at plan h) h) locals)
+  one_forth =
+      let f = found_by (looped_at plan h) (had.holds h holder at) in
+      subst (Forth (areas_after code stack locals (to_free (looped_at plan h) h) y)) (sym (freed_one code stack (looped_at plan h) h locals))
+      (subst (λ later. Forth later (slice_set locals (local_of code h) null)) (sym f.areas) (forth f.cells f.births f.links f.once f.mine f.all))
 
   -- ---- nothing is lost
 

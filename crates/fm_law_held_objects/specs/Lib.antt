@@ -6,3 +6,4 @@ pub mod Keeping
 pub mod Clean
 pub mod Above
 pub mod Laws
+pub mod Forth

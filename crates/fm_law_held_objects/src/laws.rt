@@ -2,6 +2,7 @@
 
 ghost use Rattle.fm_law_held_objects.specs.Above as above;
 ghost use Rattle.fm_law_held_objects.specs.Clean.{ColoursAreCleaned};
+ghost use Rattle.fm_law_held_objects.specs.Forth.{FreesEmptyChains, KeepingLinksChains};
 ghost use Rattle.fm_law_held_objects.specs.Initialised.{StepsKeepInitialised};
 ghost use Rattle.fm_law_held_objects.specs.Laws as law;
 
@@ -37,6 +38,19 @@ pub fn law_held_steps()
 /// is initialised: no other holder has it.
 pub fn law_keeping()
     ensures { law.KeepingKeepsHeld }
+{
+    // By this law.
+    law_new_results();
+}
+
+/// Where a frame frees some of its holders, what a holder of a chain had it has then, or that isn't held any longer.
+pub fn law_chains_emptied()
+    ensures { FreesEmptyChains }
+{}
+
+/// A holder of a chain that gets a new result has it in its chain, and each chain has what it had.
+pub fn law_chains_linked()
+    ensures { KeepingLinksChains }
 {
     // By this law.
     law_new_results();

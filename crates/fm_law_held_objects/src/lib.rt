@@ -4,5 +4,6 @@
 mod laws;
 
 pub use laws::{
-    law_clean, law_frees, law_held_steps, law_initialised, law_keeping, law_new_initialised,
+    law_chains_emptied, law_chains_linked, law_clean, law_frees, law_held_steps, law_initialised,
+    law_keeping, law_new_initialised,
 };
