@@ -10,9 +10,9 @@ use Rattle.fm_law_same_runs.specs.Beside.{Marks}
 use Rattle.fm_code.specs.Spells.{HasSpelling}
 use Rattle.fm_code.specs.declared.class_file.ClassDef.{ClassDef}
 use Rattle.fm_code.specs.declared.code_array.Code.{Code}
-use Rattle.fm_place.proofs.FullLemmas.{method-safe}
-use Rattle.fm_place.specs.Safe.{full_plans, FullOf, IsProgramOf, SafeOf}
+use Rattle.fm_place.specs.Safe.{IsProgramOf}
 use Rattle.fm_law_retyped.specs.Retyped.{ChainedClassesAreTyped, SafeClassesAreTyped}
+use Rattle.fm_law_unwoven.proofs.ClearedPrograms.{safe_of}
 use Rattle.fm_rewrite.specs.declared.rewriting.Rewritten.{Rewritten}
 use Rattle.fm_types.specs.Typed.{Typed}
 use Rattle.fm_world.specs.Linking.{refusals}
@@ -27,17 +27,6 @@ typed_if_coded p method with_code some = by (code_at p method) refl some where
   by None is none = absurd (false≢true none)
   by (Some code) is some = with_code code is
 
--- what is inserted by the facts by which the classes are rewritten is safe
-abbrev own_safe : (p : Program) (given written : List ClassDef) (marks : Marks) → FullOf p given written marks → SafeOf p given written marks
-own_safe p given written marks full = record {
-  facts = full.facts;
-  exact = full.exact;
-  plans = full_plans p full.facts;
-  methods = method-safe p full.facts;
-  written_is = full.written_is;
-  marks_are = full.marks_are;
-}
-
 -- that classes are taken again, with chains and without
 pub record AgainLaws : Type 0 where
   pub link : SafeClassesLink
@@ -50,9 +39,10 @@ pub record AgainLaws : Type 0 where
 pub again_taken : (chains : Bool) (given : List ClassDef) (main : List ℕ) (p : Program) → IsProgramOf given main p → (made : Rewritten) → AllByRecursion HasSpelling given
     → refusals given main ≡ [] → AgainLaws → (marks : Marks) (full : IsFullBy chains p given made.classes.items marks)
     → AreTakenAgain p main made (facts_by chains p given made.classes.items marks full)
+unfolding safe_of
 again_taken false given main p is made spelled linked laws marks full =
     let written = made.classes.items in
-    let safe = own_safe p given written marks full in
+    let safe = safe_of p given written marks full in
     record {
       links = (laws.link given main p written marks spelled linked safe).links;
       typed = λ ready method. typed_if_coded (program_of written main) method (laws.typed given main p is written marks spelled linked safe ready method);
