@@ -4,44 +4,44 @@ use Rattle.fm_law_chains.proofs.laws.law_chains.Goals as goal
 
 pub returns-clause-same : goal.returns-clause-same
 returns-clause-same c = chained_do_the_same (record {
-    woven = c.law_chained_woven.ensures;
-    links = c.law_links.ensures.chains;
-    resolved = c.law_resolved.ensures;
-    cells = c.law_cells.ensures;
-    without = c.law_without_frees.ensures;
-    steps_resolved = c.law_sound_steps.ensures;
-    makes = c.law_makeable.ensures;
-    main = c.law_main.ensures;
-    can_run = c.law_can_run.ensures;
-    runs = c.law_runs.ensures;
-    opens = c.law_opens.ensures;
-    steps = c.law_lockstep.ensures;
-    costs = c.law_costs.ensures;
-    renamed = c.law_renamed.ensures;
-    matched = c.law_retired.ensures;
-    most_held = c.law_most_held.ensures;
-    ends = c.law_two_programs.ensures.same;
-  })
+  woven = c.law_chained_woven.ensures;
+  links = c.law_links.ensures.chains;
+  resolved = c.law_resolved.ensures;
+  cells = c.law_cells.ensures;
+  without = c.law_without_frees.ensures;
+  steps_resolved = c.law_sound_steps.ensures;
+  makes = c.law_makeable.ensures;
+  main = c.law_main.ensures;
+  can_run = c.law_can_run.ensures;
+  runs = c.law_runs.ensures;
+  opens = c.law_opens.ensures;
+  steps = c.law_lockstep.ensures;
+  costs = c.law_costs.ensures;
+  renamed = c.law_renamed.ensures;
+  matched = c.law_retired.ensures;
+  most_held = c.law_most_held.ensures;
+  ends = c.law_two_programs.ensures.same;
+})
 
 pub returns-clause-all : goal.returns-clause-all
 returns-clause-all c =
     chained_free_all (record {
-    woven = c.law_chained_woven.ensures;
-    links = c.law_links.ensures.chains;
-    resolved = c.law_resolved.ensures;
-    cells = c.law_cells.ensures;
-    without = c.law_without_frees.ensures;
-    steps_resolved = c.law_sound_steps.ensures;
-    makes = c.law_makeable.ensures;
-    main = c.law_main.ensures;
-    can_run = c.law_can_run.ensures;
-    runs = c.law_runs.ensures;
-    opens = c.law_opens.ensures;
-    steps = c.law_lockstep.ensures;
-    costs = c.law_costs.ensures;
-    renamed = c.law_renamed.ensures;
-    matched = c.law_retired.ensures;
-    most_held = c.law_most_held.ensures;
-    ends = c.law_two_programs.ensures.same;
-  })
+      woven = c.law_chained_woven.ensures;
+      links = c.law_links.ensures.chains;
+      resolved = c.law_resolved.ensures;
+      cells = c.law_cells.ensures;
+      without = c.law_without_frees.ensures;
+      steps_resolved = c.law_sound_steps.ensures;
+      makes = c.law_makeable.ensures;
+      main = c.law_main.ensures;
+      can_run = c.law_can_run.ensures;
+      runs = c.law_runs.ensures;
+      opens = c.law_opens.ensures;
+      steps = c.law_lockstep.ensures;
+      costs = c.law_costs.ensures;
+      renamed = c.law_renamed.ensures;
+      matched = c.law_retired.ensures;
+      most_held = c.law_most_held.ensures;
+      ends = c.law_two_programs.ensures.same;
+    })
     programs_collect
