@@ -401,7 +401,7 @@ def other_numbers(file, old, new, found):
 
 
 def other_tables(file, old, new, found):
-    """A row of a table begins one item later."""
+    """A row of a table begins one item later, or earlier where it begins at the last item."""
     for row in range(len(new.handlers)):
         yield lambda code, row=row: shift(code, code.handlers[row]), LAYOUT
     for number, (_, text, own) in enumerate(new.attributes):
@@ -460,7 +460,8 @@ def retarget(code, place, at, to):
 
 
 def shift(code, row):
-    row[0] = code.items[code.items.index(row[0]) + 1]
+    place = code.items.index(row[0])
+    row[0] = code.items[place + 1 if place + 1 < len(code.items) else place - 1]
 
 
 # ---- one change in a class
