@@ -1,6 +1,7 @@
 -- How many abstract methods are still to be implemented: the counts of one method more, and of all methods of a signature.
-use Rattle.std.proofs.Common.{◌≡◌, refl, sym, ◌∙◌, ap, subst, ℕ, zero, suc, ◌+◌, ◌-◌, ◌<◌, ◌≤◌, ◌&&◌, ◌||◌, not, Bool, true, false, cond, List, length, get_or, set, nat_lt, arith, ◌⊎◌, inl, inr, get_or-set_same, get_or-set_other, length-set}
+use Rattle.std.proofs.Common.{◌≡◌, refl, sym, ◌∙◌, ap, subst, ℕ, zero, suc, ◌+◌, ◌-◌, ◌<◌, ◌≤◌, ◌&&◌, ◌||◌, not, Bool, true, false, cond, List, length, get_or, replicate, set, nat_lt, arith, ◌⊎◌, inl, inr, get_or-set_same, get_or-set_other, length-set}
 use Rattle.std.proofs.lemmas.Bool.{cases_eq, cases_lt, false≢true, le-ltb, lt-ltb}
+use Rattle.fm_base.proofs.RowsLemmas.{get_or-zeros}
 use Rattle.fm_base.proofs.TestFacts.{and_false}
 use Rattle.fm_link_members.specs.declared.lookups.Methods.{Methods}
 use Rattle.fm_link_members.specs.inner.MemberRows.{no_row, section_of, AreSections}
@@ -89,7 +90,7 @@ pub counts_same : (classes : List DeclaredClass) (m : Methods) (p q : ℕ → Bo
 counts_same classes m p q row are same counts long class below =
     let rising = are.rising class below in
     let inside = are.within class below in
-    subst (λ n. n ≤ get_or row class 0)
+    subst (λ n. n ≡ get_or row class 0)
     (counted-same p q (end_of m class - start_of m class) (start_of m class) (λ k from high. same k (omega (arith, high, rising, inside))))
     (counts long class below)
 
@@ -99,7 +100,7 @@ pub counts_changed : (classes : List DeclaredClass) (m : Methods) (p q : ℕ →
     → p method ≡ not adds → q method ≡ adds → new ≡ set row (class_of m method) (changed adds (get_or row (class_of m method) 0))
     → HasCounts m (length classes) p row → HasCounts m (length classes) q new
 counts_changed classes m p q row new method adds are within same before after is counts long class below =
-    subst (λ xs. counted_of m q class ≤ get_or xs class 0) (sym is) (by_class (cases_eq class mine)) where
+    subst (λ xs. counted_of m q class ≡ get_or xs class 0) (sym is) (by_class (cases_eq class mine)) where
       mine : ℕ
       mine = class_of m method
 
@@ -115,7 +116,7 @@ counts_changed classes m p q row new method adds are within same before after is
           same k (λ e. other (sym (are.inside class k below from (omega (arith, high, rising))) ∙ ap (class_of m) e))
 
       by_adds : (b : Bool) → p method ≡ not b → q method ≡ b → (mine < length classes) × (start_of m mine ≤ method) × (method < end_of m mine)
-          → counted_of m q mine ≤ changed b (get_or row mine 0)
+          → counted_of m q mine ≡ changed b (get_or row mine 0)
       by_adds true h g here =
           let old = counts as_long mine here.0 in
           let low = here.1 in
@@ -130,18 +131,18 @@ counts_changed classes m p q row new method adds are within same before after is
           (omega (arith, low, high)) in
           omega (arith, e, old)
 
-      by_class : (class ≡ mine) ⊎ (class ≡ mine → ⊥) → counted_of m q class ≤ get_or (set row mine value) class 0
+      by_class : (class ≡ mine) ⊎ (class ≡ mine → ⊥) → counted_of m q class ≡ get_or (set row mine value) class 0
       by_class (inl e) =
           let here = are.outside mine method within refl in
           let first = here.0 in
-          subst (λ c. counted_of m q c ≤ get_or (set row mine value) c 0) (sym e)
-          (subst (λ n. counted_of m q mine ≤ n) (sym (get_or-set_same row mine value 0 (omega (arith, first, as_long))))
+          subst (λ c. counted_of m q c ≡ get_or (set row mine value) c 0) (sym e)
+          (subst (λ n. counted_of m q mine ≡ n) (sym (get_or-set_same row mine value 0 (omega (arith, first, as_long))))
           (by_adds adds before after here))
       by_class (inr other) =
           let old = counts as_long class below in
           let e = counted-same p q (end_of m class - start_of m class) (start_of m class) (others other) in
           let f = get_or-set_other row mine class value 0 other in
-          subst (λ n. counted_of m q class ≤ n) (sym f) (subst (λ n. n ≤ get_or row class 0) e old)
+          subst (λ n. counted_of m q class ≡ n) (sym f) (subst (λ n. n ≡ get_or row class 0) e old)
 
 -- a row that is too short says nothing
 pub counts_short : (m : Methods) (count : ℕ) (q : ℕ → Bool) (row : List ℕ) → length row ≡ 0 → HasCounts m count q row
@@ -157,13 +158,13 @@ counted-zero (suc count) start = counted-zero count (suc start)
 abbrev pub abstract_below : List DeclaredClass → ℕ → ℕ → Bool
 abstract_below classes end k = nat_lt k end && is_abstract_method classes k
 
-pub abstract-none : (classes : List DeclaredClass) (m : Methods) (row : List ℕ) → HasCounts m (length classes) (abstract_below classes 0) row
-abstract-none classes m row long class below =
+pub abstract-none : (classes : List DeclaredClass) (m : Methods) (row : List ℕ) (count : ℕ) → row ≡ replicate count 0
+    → HasCounts m (length classes) (abstract_below classes 0) row
+abstract-none classes m row count zeros long class below =
     let e = counted-same (abstract_below classes 0) (λ k. false) (end_of m class - start_of m class) (start_of m class)
     (λ k from high. ap (λ b. b && is_abstract_method classes k) (le-ltb k 0 (omega arith))) in
     let z = counted-zero (end_of m class - start_of m class) (start_of m class) in
-    let none : counted_of m (abstract_below classes 0) class ≡ 0 = e ∙ z in
-    omega (arith, none)
+    e ∙ z ∙ sym (ap (λ xs. get_or xs class 0) zeros ∙ get_or-zeros count class)
 
 pub abstract-more : (classes : List DeclaredClass) (m : Methods) (row new : List ℕ) (method : ℕ) (test : Bool) → AreSections classes m.members
     → method < length m.members.rows.items → test ≡ is_abstract_method classes method

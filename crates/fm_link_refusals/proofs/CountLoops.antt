@@ -1,18 +1,25 @@
 -- The loops over counts of abstract methods: those of one class, and the table of all classes.
-use Rattle.std.proofs.Common.{◌≡◌, Result, refl, sym, ◌∙◌, ap, subst, ℕ, ◌+◌, ◌-◌, ◌<◌, ◌≤◌, ◌||◌, not, Bool, true, false, cond, List, [], ◌∷◌, ◌++◌, length, take, get_or, replicate, set, nat_eq, Option, Some, arith, ◌⊎◌, inl, inr, get_or-set_same, get_or-set_other, length-set}
+use Rattle.std.proofs.Common.{◌≡◌, Result, refl, sym, ◌∙◌, ap, subst, suc, slice_get, ℕ, ◌+◌, ◌-◌, ◌<◌, ◌≤◌, ◌||◌, not, Bool, true, false, cond, List, [], ◌∷◌, ◌++◌, length, take, get_or, replicate, set, nat_eq, Option, Some, arith, ◌⊎◌, inl, inr, get_or-set_same, get_or-set_other, length-set}
 use Rattle.std.proofs.lemmas.Bool.{cases_eq, cases_lt, eqb-true, false≢true}
 use Rattle.std.proofs.lemmas.List.{get_or-replicate, get_or_past, length-replicate, take_more}
 use Rattle.std.proofs.lemmas.List.FromFn.{length-map-range_with_len}
-use Rattle.std.proofs.lemmas.Option.{slice_get_past}
+use Rattle.std.proofs.lemmas.Option.{same_Some, slice_get-get_or, slice_get_past}
 use Rattle.fm_link_members.specs.declared.lookups.Methods.{Methods}
 use Rattle.fm_link_members.specs.inner.MemberRows.{AreSections}
 use Rattle.fm_link_members.specs.inner.MemberTables.{AreMethods}
-use Rattle.fm_world.specs.Chains.{is_among}
+use Rattle.fm_code.specs.AccessFlags.{is_interface}
+use Rattle.fm_link_supers.proofs.Distinct.{among_distinct}
+use Rattle.fm_link_supers.proofs.Downwards.{walk_within}
+use Rattle.fm_world.specs.Chains.{chain_of, interfaces_of, is_among, superinterfaces_of}
+use Rattle.fm_world.specs.Declarations.{no_class}
+use Rattle.fm_world.specs.Lookups.{is_interface_at}
+use Rattle.fm_world.specs.inner.Tables.{AreInterfaces}
+use Rattle.std.specs.List.{flat_map}
 use Rattle.fm_world.specs.Members.{first_method}
 use Rattle.fm_world.specs.declared.declarations.DeclaredClass.{DeclaredClass}
 use Rattle.fm_link_refusals.proofs.Sections.{section_none}
 use Rattle.fm_link_names.specs.inner.Numbering.{texts_in}
-use Rattle.fm_link_refusals.proofs.Among.{among_either}
+use Rattle.fm_link_refusals.proofs.Among.{among_either, among_flat}
 use Rattle.std.specs.Prelude.{Ok, Err, IfOk}
 use Rattle.fm_link_refusals.specs.declared.left_over.Counting.{Counting}
 use Rattle.fm_link_refusals.specs.inner.LeftOver.{counted, counted_of, is_open, is_owed, is_part_owed, selected_at, with_signature, HasCounts, IsCounting}
@@ -105,6 +112,36 @@ rows_short classes m count table is k below =
 pub none_counted : (classes : List DeclaredClass) (m : Methods) (q : ℕ → Bool) (row : List ℕ) (class : ℕ) → length row ≡ length classes
     → class < length classes → HasCounts m (length classes) q row → get_or row class 0 ≡ 0 → counted_of m q class ≡ 0
 none_counted classes m q row class long below counts zeros = let h = counts long class below in omega (arith, h, zeros)
+
+-- where none of its methods pass its count is 0
+pub zero_counted : (classes : List DeclaredClass) (m : Methods) (q : ℕ → Bool) (row : List ℕ) (class : ℕ) → length row ≡ length classes
+    → class < length classes → HasCounts m (length classes) q row → counted_of m q class ≡ 0 → slice_get row class ≡ Some 0
+zero_counted classes m q row class long below counts none =
+    slice_get-get_or row class 0 (omega (arith, long, below)) ∙ ap Some (sym (counts long class below) ∙ none)
+
+-- each class of a chain is there
+pub chain_inside : (classes : List DeclaredClass) (class : ℕ) → class < length classes → (x : ℕ) → is_among x (chain_of classes class) ≡ true
+    → x < length classes
+unfolding chain_of
+chain_inside classes class within =
+    walk_within classes (suc (length classes)) (Some class) (λ k same. subst (λ n. n < length classes) (same_Some class k same) within)
+
+-- an interface is there
+interface_inside : (classes : List DeclaredClass) (x : ℕ) → is_interface_at classes x ≡ true → x < length classes
+interface_inside classes x is = by_range (cases_lt x (length classes)) where
+  by_range : (x < length classes) ⊎ (length classes ≤ x) → x < length classes
+  by_range (inl inside) = inside
+  by_range (inr past) =
+      absurd (false≢true (sym (ap (λ (c : DeclaredClass). is_interface c.flags) (get_or_past classes x no_class past)) ∙ is))
+
+-- each superinterface is there
+pub interfaces_inside : (classes : List DeclaredClass) → ((k : ℕ) → AreInterfaces classes (superinterfaces_of classes k)) → (class x : ℕ)
+    → is_among x (interfaces_of classes class) ≡ true → x < length classes
+unfolding interfaces_of
+interfaces_inside classes only class x among =
+    let one = among_flat (superinterfaces_of classes) (chain_of classes class) x
+    (sym (among_distinct x (flat_map (superinterfaces_of classes) (chain_of classes class))) ∙ among) in
+    interface_inside classes x (only one.0 x one.2)
 
 -- a number past all classes has no methods
 none_past : (texts : List (List ℕ)) (classes : List DeclaredClass) (m : Methods) (q : ℕ → Bool) (class : ℕ) → AreMethods texts classes m

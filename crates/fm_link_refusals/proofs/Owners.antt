@@ -247,7 +247,7 @@ changed-counts classes m signature adds q old row owners are inside before count
           let inner = and_parts (nat_eq (get_or m.signatures.of_members.items k 0) signature) (can_be_met classes m k) outer.0 in
           told k inner.1 (eqb-true (get_or m.signatures.of_members.items k 0) signature inner.0)
 
-      of_class : counted q count start ≤ get_or old class 0
+      of_class : counted q count start ≡ get_or old class 0
       of_class = counts as_long class below
 
       owned : count_by (nat_eq class) (list_in owners signature) ≡ counted one count start
@@ -256,7 +256,7 @@ changed-counts classes m signature adds q old row owners are inside before count
       by_adds : (b : Bool) → ((k : ℕ) → can_be_met classes m k ≡ true → get_or m.signatures.of_members.items k 0 ≡ signature → q k ≡ not b)
           → get_or row class 0 ≡ cond b (get_or old class 0 + count_by (nat_eq class) (list_in owners signature))
           (get_or old class 0 - count_by (nat_eq class) (list_in owners signature))
-          → counted (with_signature classes m signature b (length m.members.rows.items) q) count start ≤ get_or row class 0
+          → counted (with_signature classes m signature b (length m.members.rows.items) q) count start ≡ get_or row class 0
       by_adds true told e =
           let sum : counted (with_signature classes m signature true (length m.members.rows.items) q) count start
           ≡ counted q count start + counted one count start

@@ -11,7 +11,7 @@ ghost use Rattle.std.specs.List.{slice_index_or};
 ghost use Rattle.fm_link_members.specs.inner.MemberRows.{no_row};
 ghost use Rattle.fm_link_supers.specs.inner.ListTables.{lists};
 ghost use Rattle.fm_link_members.specs.inner.Owners.{pushed};
-ghost use Rattle.fm_link_refusals.specs.inner.LeftOver.{can_be_met, changed, is_limited, is_open, is_part_owed, is_owed, is_taken, selected_at, with_signature, AreOwners, HasCounts, IsCounting, IsLeftOver, NoneLeft};
+ghost use Rattle.fm_link_refusals.specs.inner.LeftOver.{can_be_met, changed, is_limited, is_open, is_part_owed, is_owed, is_taken, selected_at, with_signature, AreOwners, HasCounts, HasRow, IsCounting, IsLeftOver, NoneLeft};
 ghost use Rattle.fm_link_refusals.specs.inner.Linking.{IsLinking};
 ghost use Rattle.fm_world.specs.Chains.{is_among};
 ghost use Rattle.fm_world.specs.declared.declarations.DeclaredClass.{DeclaredClass};
@@ -58,11 +58,12 @@ impl LeftOver {
         Ok(found)
     }
 
-    /// Whether nothing is left over in a class.
+    /// Whether a class has counts, and nothing is left over in it.
     pub fn is_clear(&self, linking: Linking, class: u32) -> bool
         ensures { (classes : List DeclaredClass) → IsLinking classes linking.entry
             → class < length classes → IsLeftOver classes linking.entry.methods.now self.now
-            → result ≡ true → NoneLeft classes linking.entry.methods.now class }
+            → (IsTrue result ↔ (HasRow classes self.now class
+            × NoneLeft classes linking.entry.methods.now class)) }
     {
         let row = list_at(self.rows.as_slice(), class);
         if row.len() != linking.hierarchy.classes.len() {

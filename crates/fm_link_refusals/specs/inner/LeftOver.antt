@@ -87,9 +87,9 @@ abbrev pub counted_of : Methods → (ℕ → Bool) → ℕ → ℕ
 counted_of m q class =
     counted q ((section_of m.members.first.items class).1 - (section_of m.members.first.items class).0) (section_of m.members.first.items class).0
 
--- a row for all classes has at each of them no less than pass of its methods
+-- a row for all classes has at each of them how many of its methods pass
 abbrev pub HasCounts : Methods → ℕ → (ℕ → Bool) → List ℕ → Type 0
-HasCounts m count q row = length row ≡ count → (class : ℕ) → class < count → counted_of m q class ≤ slice_index row class
+HasCounts m count q row = length row ≡ count → (class : ℕ) → class < count → counted_of m q class ≡ slice_index row class
 
 -- the rows of all classes have what is left over in them
 abbrev pub IsLeftOver : List DeclaredClass → Methods → LeftOver → Type 0
@@ -97,6 +97,10 @@ IsLeftOver classes m found =
     (class : ℕ) → class < length classes
     → HasCounts m (length classes) (is_owed classes m (λ signature. is_open classes (selected_at m (Some class) signature)))
     (list_in found.rows.items class)
+
+-- the class has a row, with a count for each class
+abbrev pub HasRow : List DeclaredClass → LeftOver → ℕ → Type 0
+HasRow classes found class = length (list_in found.rows.items class) ≡ length classes
 
 -- ---- by what methods are counted
 

@@ -6,7 +6,8 @@ use Rattle.fm_link_refusals.specs.inner.LeftOver.{changed}
 use Rattle.fm_link_refusals.proofs.left_over.all_abstract.Goals as goal
 
 pub loop-method-init : goal.loop-method-init
-loop-method-init c = λ classes linked. abstract-none classes c.args.linking.methods.now _
+loop-method-init c = λ classes linked.
+    abstract-none classes c.args.linking.methods.now _ _ (c.in_ok-row.ensures.items_if_clones_equal (λ y e. e))
 
 pub loop-method-preserved : goal.loop-method-preserved
 loop-method-preserved c = λ classes linked.

@@ -18,7 +18,7 @@ pub returns-then-is_clear : goal.returns-then-is_clear
 returns-then-is_clear c = λ classes linked within are.
     nothing_left (texts_in c.args.linking.texts.now) classes c.args.linking.methods.now (class_in c.args.file.now) c.args.class linked.methods within
     (sym c.has_flag.ensures ∙ c.if-has_flag.false) (sym c.has_flag-2.ensures ∙ c.if-has_flag-2.false)
-    (c.is_clear.ensures classes linked within are c.if-is_clear.true)
+    ((c.is_clear.ensures classes linked within are).0 c.if-is_clear.true).1
 
 pub returns : goal.returns
 returns c = λ classes linked within are.
