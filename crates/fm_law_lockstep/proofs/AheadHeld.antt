@@ -17,6 +17,7 @@ use Rattle.fm_frames.specs.Steps.{step}
 use Rattle.fm_frames.specs.declared.values.Value.{Value}
 use Rattle.fm_law_held_objects.proofs.ContentsKept.{held_by, own_has}
 use Rattle.fm_law_held_objects.specs.Above.{NewResultsAreInitialised}
+use Rattle.fm_law_held_objects.specs.Forth.{ChainsAreKept, KeepingLinksChains}
 use Rattle.fm_law_held_objects.specs.Held.{AreHeld, FrameIsHeld, FramesAreHeld}
 use Rattle.fm_law_held_objects.specs.Keeping.{AreKept}
 use Rattle.fm_law_held_objects.specs.Laws.{KeepingKeepsHeld, StepsKeepHeld}
@@ -24,7 +25,7 @@ use Rattle.fm_law_holders.specs.Holding.{holder_value}
 use Rattle.fm_law_holders.specs.Laws.{KeptResultsAreOwn, SitesGiveNew}
 use Rattle.fm_law_holders.specs.Uninitialised.{made_after}
 use Rattle.fm_law_lockstep.proofs.Ahead.{first_ahead, freed_ahead, given_ahead}
-use Rattle.fm_law_lockstep.proofs.BehindHeld.{keeps_held, nothing_kept}
+use Rattle.fm_law_lockstep.proofs.BehindHeld.{keeps_held, keeps_linked, nothing_kept}
 use Rattle.fm_law_lockstep.proofs.FoundTodos.{FindsAll, starts_areas, starts_find, todos_keep_limits}
 use Rattle.fm_law_lockstep.proofs.FramesHeld.{frames_go, held_alike, held_below, holders_same, news_held, null_has, nulls_held, waits_held}
 use Rattle.fm_law_lockstep.proofs.FreedTogether.{BeforeFrees, FreeLaws}
@@ -43,7 +44,7 @@ use Rattle.fm_law_unwoven.proofs.HoldersGo.{started_null}
 use Rattle.fm_law_unwoven.proofs.KeptSites.{safe_at}
 use Rattle.fm_law_unwoven.proofs.TodoLocals.{length_after}
 use Rattle.fm_law_unwoven.specs.Doing.{all_areas_after, all_locals_after, joins_in}
-use Rattle.fm_law_unwoven.specs.Kept.{Begins, BeginsOn, FrameGoes, FramesGo, GoesBefore, GoesBehind, GoesByJump, HasWaited, InMethod, IsNew, KeptStepsAreSteps, old_frame, Resumes, WasAt}
+use Rattle.fm_law_unwoven.specs.Kept.{Begins, BeginsOn, FrameGoes, FramesGo, GoesBefore, GoesBehind, GoesByJump, GoesPast, HasWaited, InMethod, IsNew, KeptStepsAreSteps, old_frame, Resumes, WasAt}
 use Rattle.fm_law_unwoven.specs.Laid.{keeps_at, starts_of, Todo}
 use Rattle.fm_law_unwoven.specs.Reached.{FramesReachKept}
 use Rattle.fm_law_unwoven.specs.WovenFrom.{inserted_by, IsWovenFrom}
@@ -67,6 +68,13 @@ pub record CatchLaws : Type 0 where
   pub keeping : KeepingKeepsHeld
   pub fresh : NewResultsAreInitialised
   pub frees : FreeLaws
+
+-- the states after a step of both
+abbrev pub next_of : Both → Choose → State → State
+next_of b first x = (step b.one (lawful first) x).state
+
+abbrev pub following_of : Both → Choose → State → State
+following_of b second y = (step b.other (lawful second) y).state
 
 -- What is done before anything is freed leaves what all holders hold, and finds what it needs; what is freed then is there, and its class isn't busy.
 pub record IsReady (b : Both) (next following : State) (colour : Colour) (gone : Gone) (f g : Frame) (below : List Frame) (code : Code) (first : List Todo) (given hs : List ℕ) : Type 0 where
@@ -261,6 +269,20 @@ module _ (laws : CatchLaws) (b : Both) (from : IsWovenFrom b.one b.other b.facts
           ready_with code [] [] [] (as_it_was code (cleaned_one (length below) code plan g.locals (omega arith)
           ((there_held above g before next on.over.other store frames_held).0 f.item code is code_is))) tt
           ((there_held above g before next on.over.other store frames_held).1) (λ number among. absurd (Contains-none number among))
+
+      -- behind a site chains have what they had, and those of its holders what it gave
+      pub linked_behind : KeepingLinksChains → (j : ℕ) (was : WasAt b.one b.marks y.frames g below j) → GoesPast b.one b.marks y was.above (inserted_by (b.plans g.method)) j
+          → ChainsAreKept b.facts.typing (step b.one (lawful first) x).state on.fewer (length below) code (inserted_by (b.plans g.method))
+          (after_at (inserted_by (b.plans g.method)) j) (word_at g.stack 0) (step b.other (lawful second) y).state.areas
+          (all_areas_after code g.stack
+          (keeps_at (inserted_by (b.plans g.method)) (joins_in (step b.other (lawful second) y).state.areas.store (cell_of (word_at g.stack 0))) j) g.locals
+          (step b.other (lawful second) y).state.areas) g.locals
+          (all_locals_after code g.stack
+          (keeps_at (inserted_by (b.plans g.method)) (joins_in (step b.other (lawful second) y).state.areas.store (cell_of (word_at g.stack 0))) j) g.locals)
+      linked_behind links j was past =
+          keeps_linked b from linked first second x y t on going other_going within laws.new laws.own laws.keeping laws.fresh stand covers next_stand
+          still.keeps f g callers below paired go.stack code code_is width (was_held j was code code_is x t.colour y.areas.store t.held)
+          (was_cleaned j was code code_is) j links was past
 
       -- ---- the state then
 

@@ -3,6 +3,7 @@ use Rattle.std.proofs.Common.{◌≡◌, ◌+◌, ◌⊎◌, inl, inr, ℕ, true
 use Rattle.std.specs.List.{AllByRecursion, AllZip}
 use Rattle.std.proofs.lemmas.List.Elements.{length_all_zip}
 use Rattle.std.proofs.lemmas.List.{length-map}
+use Rattle.fm_base.proofs.ContainsFacts.{Contains-none}
 use Rattle.fm_cells.specs.Choices.{lawful}
 use Rattle.fm_chain.specs.Chained.{looped_at}
 use Rattle.fm_code.proofs.EdgesLemmas.{Contains-first}
@@ -14,13 +15,14 @@ use Rattle.fm_frames.specs.States.{Areas, Frame, State, word_at}
 use Rattle.fm_frames.specs.Steps.{is_start, next_effect, step}
 use Rattle.fm_frames.specs.declared.values.Value.{Value}
 use Rattle.fm_law_held_objects.specs.Above.{NewResultsAreInitialised}
+use Rattle.fm_law_held_objects.specs.Forth.{ChainsAreKept, KeepingLinksChains}
 use Rattle.fm_law_held_objects.specs.Held.{AreHeld}
 use Rattle.fm_law_held_objects.specs.Keeping.{AreKept}
 use Rattle.fm_law_held_objects.specs.Laws.{KeepingKeepsHeld}
 use Rattle.fm_law_holders.specs.Laws.{KeptResultsAreOwn, SitesGiveNew}
 use Rattle.fm_law_holders.specs.NewResults.{GoesOnBehind, HasNewResult, IsDone, IsReturnedTo, KeepsObjects}
 use Rattle.fm_law_lockstep.proofs.FoundTodos.{FindsAll}
-use Rattle.fm_law_lockstep.proofs.KeptHeld.{known_at, result, result_found, result_kept}
+use Rattle.fm_law_lockstep.proofs.KeptHeld.{known_at, result, result_found, result_kept, result_linked}
 use Rattle.fm_law_unwoven.proofs.OneKept.{one_kept, safe_holders}
 use Rattle.fm_law_lockstep.proofs.Seen.{retired_is_unseen}
 use Rattle.fm_law_lockstep.proofs.StepHeld.{still_retired}
@@ -61,6 +63,16 @@ nothing_kept o typings x colour depth code plan hs given gone y locals paired he
   others = λ other second inserted values apart are. are;
   had = λ h birth within has. inl has;
   others_had = λ other second inserted values apart are h birth within has. has;
+}
+
+-- and chains have what they had
+pub nothing_linked : (typings : Typings) (x : State) (colour : Colour) (depth : ℕ) (code : Code) (plan : Insertions) (given : Value) (y : Areas) (locals : List Value)
+    → ChainsAreKept typings x colour depth code plan [] given y y locals locals
+nothing_linked typings x colour depth code plan given y locals = record {
+  stays = λ h birth within looped has. has;
+  gets = λ h birth among. absurd (Contains-none h among);
+  others = λ other second inserted values apart are h birth within has. has;
+  absent = λ birth none. none;
 }
 
 module _ (b : Both) (from : IsWovenFrom b.one b.other b.facts b.plans b.marks) (linked : IsLinked b.one b.facts) (first second : Choose) (x y : State) (t : GoTogetherAt b x y)
@@ -159,6 +171,12 @@ module _ (b : Both) (from : IsWovenFrom b.one b.other b.facts b.plans b.marks) (
         (all_areas_after code g.stack (keeps_of hs) g.locals following.areas) g.locals (all_locals_after code g.stack (keeps_of hs) g.locals)
         × FindsAll code g.stack (keeps_of hs) g.locals following.areas
 
+    -- what chains have then
+    abbrev pub LinkedThen : List ℕ → Type 0
+    LinkedThen hs =
+        ChainsAreKept b.facts.typing next on.fewer (length below) code (inserted_by (b.plans g.method)) hs (word_at g.stack 0) following.areas
+        (all_areas_after code g.stack (keeps_of hs) g.locals following.areas) g.locals (all_locals_after code g.stack (keeps_of hs) g.locals)
+
     none_kept : KeptThen []
     none_kept = (nothing_kept b.one.outline b.facts.typing next on.fewer (length below) code plan [] (word_at g.stack 0) t.gone following.areas g.locals paired.areas have, tt)
 
@@ -188,6 +206,15 @@ module _ (b : Both) (from : IsWovenFrom b.one b.other b.facts b.plans b.marks) (
           (subst (AllZip (SameValue t.gone next.areas.store following.areas.store) (given.result ∷ given.below)) (sym stack)
           (subst (λ fs. AllZip (FramesPaired t.gone next.areas.store following.areas.store) fs (f ∷ callers)) given.frames_are paired.frames).0.stack)
 
+      retired : (birth : ℕ) → t.gone.births birth ≡ true → on.fewer birth ≡ Retired
+      retired = still_retired b from linked first second x y t on going other_going within
+
+      had_there : AreHeld b.facts.typing x t.colour (length there.callers) y.areas.store code (inserted_by (b.plans g.method)) g.locals
+      had_there = subst (λ n. AreHeld b.facts.typing x t.colour n y.areas.store code plan g.locals) (sym there.count) had
+
+      have_there : AreHeld b.facts.typing next on.fewer (length there.callers) following.areas.store code (inserted_by (b.plans g.method)) g.locals
+      have_there = subst (λ n. AreHeld b.facts.typing next on.fewer n following.areas.store code plan g.locals) (sym there.count) have
+
       keeps_one : KeptThen (only ∷ [])
       keeps_one = (
         subst (λ n.
@@ -205,15 +232,18 @@ module _ (b : Both) (from : IsWovenFrom b.one b.other b.facts b.plans b.marks) (
               (looped_at plan only) (joins_in following.areas.store (cell_of (word_at g.stack 0))) misses),
           tt,
         ),
-      ) where
-        retired : (birth : ℕ) → t.gone.births birth ≡ true → on.fewer birth ≡ Retired
-        retired = still_retired b from linked first second x y t on going other_going within
+      )
 
-        had_there : AreHeld b.facts.typing x t.colour (length there.callers) y.areas.store code (inserted_by (b.plans g.method)) g.locals
-        had_there = subst (λ n. AreHeld b.facts.typing x t.colour n y.areas.store code plan g.locals) (sym there.count) had
-
-        have_there : AreHeld b.facts.typing next on.fewer (length there.callers) following.areas.store code (inserted_by (b.plans g.method)) g.locals
-        have_there = subst (λ n. AreHeld b.facts.typing next on.fewer n following.areas.store code plan g.locals) (sym there.count) have
+      -- its chain has that, if it has one
+      links_one : KeepingLinksChains → LinkedThen (only ∷ [])
+      links_one links =
+          subst (λ n.
+          ChainsAreKept b.facts.typing next on.fewer n code plan (only ∷ []) (word_at g.stack 0) following.areas
+          (all_areas_after code g.stack (keeps_of (only ∷ [])) g.locals following.areas) g.locals
+          (all_locals_after code g.stack (keeps_of (only ∷ [])) g.locals)) there.count
+          (result_linked new own b.one b.facts linked first x t.colour t.made t.known on t.goes_on going stand covers next_stand there.f there.callers
+          there.behind code code_there plan safe_there only among keeping fresh t.gone retired y.areas.store following.areas
+          t.paired.areas.store.other_orderly t.paired.areas.store.births stays paired.areas g.locals had_there have_there width g.stack top_same links)
 
     -- so it is of all holders of the item
     pub keeps_held : (was : WasAt b.one b.marks y.frames g below j) → GoesPast b.one b.marks y was.above (inserted_by (b.plans g.method)) j
@@ -225,3 +255,17 @@ module _ (b : Both) (from : IsWovenFrom b.one b.other b.facts b.plans b.marks) (
       by_past (inl none) some = subst KeptThen (sym none) none_kept
       by_past (inr there) (inl none) = subst KeptThen (sym none) none_kept
       by_past (inr there) (inr one) = subst KeptThen (sym one.1) (keeps_one there one.0 one.1)
+
+    -- so it is of the chains of all holders of the item
+    pub keeps_linked : KeepingLinksChains → (was : WasAt b.one b.marks y.frames g below j) → GoesPast b.one b.marks y was.above (inserted_by (b.plans g.method)) j
+        → LinkedThen (after_at (inserted_by (b.plans g.method)) j)
+    keeps_linked links was past = by_past (goes_past g below j was past) (one_kept b.one b.other b.facts b.plans b.marks from g.method code code_is j) where
+      none_linked : LinkedThen []
+      none_linked = nothing_linked b.facts.typing next on.fewer (length below) code plan (word_at g.stack 0) following.areas g.locals
+
+      by_past : (after_at (inserted_by (b.plans g.method)) j ≡ []) ⊎ GoesThere g below j
+          → (after_at (inserted_by (b.plans g.method)) j ≡ []) ⊎ ((only : ℕ) × (after_at (inserted_by (b.plans g.method)) j ≡ only ∷ []))
+          → LinkedThen (after_at (inserted_by (b.plans g.method)) j)
+      by_past (inl none) some = subst LinkedThen (sym none) none_linked
+      by_past (inr there) (inl none) = subst LinkedThen (sym none) none_linked
+      by_past (inr there) (inr one) = subst LinkedThen (sym one.1) (links_one there one.0 one.1 links)

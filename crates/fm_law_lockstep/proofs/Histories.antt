@@ -1,9 +1,9 @@
 -- Along two runs that go together: what the second one lacks was retired before in the first one.
-use Rattle.std.proofs.Common.{◌≡◌, ◌⊎◌, inl, inr, ℕ, suc, ◌+◌, ◌-◌, ◌<◌, ◌≤◌, true, false, List, [], ◌∷◌, ◌++◌, Some, None, refl, sym, ap, subst, ◌∙◌, arith, ⊎_elim}
+use Rattle.std.proofs.Common.{◌≡◌, ◌⊎◌, ℕ, suc, ◌+◌, ◌-◌, ◌<◌, ◌≤◌, true, false, List, [], ◌∷◌, Some, None, refl, sym, ap, subst, ◌∙◌, arith, ⊎_elim}
 use Rattle.std.specs.List.{AllByRecursion, AllZip}
-use Rattle.std.proofs.lemmas.Bool.{cases_lt, false≢true}
-use Rattle.std.proofs.lemmas.Option.{none-some, slice_get_within}
-use Rattle.fm_base.specs.declared.limits.TheConstants.{MAX_LIVE_WORDS, MAX_MADE_WORDS}
+use Rattle.std.proofs.lemmas.Bool.{cases_lt}
+use Rattle.std.proofs.lemmas.Option.{slice_get_within}
+use Rattle.fm_base.specs.declared.limits.TheConstants.{MAX_MADE_WORDS}
 use Rattle.fm_cells.specs.Choices.{lawful, never_choice}
 use Rattle.fm_cells.specs.Soundness.{IsOrderly}
 use Rattle.fm_cells.specs.Stores.{opened, Store}
@@ -17,36 +17,24 @@ use Rattle.fm_frames.specs.States.{Frame, Moved, State}
 use Rattle.fm_frames.specs.Steps.{step}
 use Rattle.fm_frames.specs.declared.ends.Ended.TheVariants as end
 use Rattle.fm_frames.specs.declared.values.Value.{Value}
-use Rattle.fm_law_chained.specs.Called.{with_frame}
 use Rattle.fm_law_held_objects.proofs.ContentsKept.{nothing_has}
 use Rattle.fm_law_held_objects.specs.Contents.{Has}
-use Rattle.fm_law_held_objects.specs.Laws.{frees_of}
-use Rattle.fm_law_lockstep.proofs.Ahead.{ahead_is, first_ahead, freed_ahead, given_ahead}
-use Rattle.fm_law_lockstep.proofs.AheadHeld.{before_frees, before_gone, CatchLaws, IsReady, ready}
+use Rattle.fm_law_lockstep.proofs.AheadHeld.{next_of}
+use Rattle.fm_law_lockstep.proofs.NextKept.{at_next_kept, before_there, GoesToKept, GoingLaws, gone_there, ready_there, state_at_kept}
 use Rattle.fm_law_lockstep.proofs.NothingFreed.{FreesNothing, nothing_freed}
-use Rattle.fm_law_lockstep.proofs.Paced.{at_kept, first_goes, first_printed, goes_along, inserted, is_kept, keeps_pace, reached, second_goes, second_goes_on, second_printed, want}
+use Rattle.fm_law_lockstep.proofs.Paced.{first_goes, first_printed, goes_along, inserted, keeps_pace, reached, second_printed, want}
 use Rattle.fm_law_lockstep.proofs.Since.{FramesSince}
 use Rattle.fm_law_lockstep.proofs.StepHeld.{frees_nothing}
-use Rattle.fm_law_lockstep.proofs.StepsTogether.{goes, known}
 use Rattle.fm_law_lockstep.proofs.SinceStep.{MissingIs, TellsOn, told_on}
 use Rattle.fm_law_lockstep.specs.Both.{Both}
-use Rattle.fm_law_lockstep.specs.Composing.{BothCatchUp}
-use Rattle.fm_law_lockstep.specs.Known.{IsKnownOn, IsLinked, StepsStayKnown}
-use Rattle.fm_law_lockstep.specs.Limits.{ShallowStepsCost}
-use Rattle.fm_law_lockstep.specs.Stepping.{AreWithin, BothEnd, BothGo, KeptStepGoes, KeptStepsGoTogether, SecondIsFull, SecondLacks}
+use Rattle.fm_law_lockstep.specs.Known.{IsLinked}
 use Rattle.fm_law_lockstep.specs.Together.{CatchesUpAt, CostsAreSame, GoTogetherAt, GoTogetherIn, HoldsNothing, OpenAtEnd, OpeningsGoTogether, OpensTogether, OpenTogether, OpenWanting, StepsGoTogether}
-use Rattle.fm_law_same_runs.specs.Beside.{Beside, HasWords, is_at_kept, runs_of}
+use Rattle.fm_law_same_runs.specs.Beside.{Beside, HasWords, runs_of}
 use Rattle.fm_law_same_runs.specs.Paces.{CatchesUp, EndsAlike, EndsInWant, GoesAlong, KeepPaces, Opens, OpensAtEnd, OpensInPace, OpensInWant, StaysInPace}
 use Rattle.fm_law_same_runs.specs.Renaming.{WasRetired}
-use Rattle.fm_law_sound.proofs.Budgets.{step_budget}
 use Rattle.fm_law_sound.specs.Making.{ArgumentsFit}
-use Rattle.fm_law_sound.specs.Sound.{IsSoundBy}
-use Rattle.fm_law_two_memories.specs.Pairing.{FramesPaired, StatesPaired}
+use Rattle.fm_law_two_memories.specs.Pairing.{FramesPaired}
 use Rattle.fm_law_two_memories.specs.Runs.{LacksWords}
-use Rattle.fm_law_unwoven.specs.Doing.{all_steps_to, IsPassed}
-use Rattle.fm_law_unwoven.specs.Kept.{StatesGo}
-use Rattle.fm_law_unwoven.specs.Laid.{Todo}
-use Rattle.fm_law_unwoven.specs.Reached.{AllReached, IsReached, jumps_ahead, OneMissed, Reached, state_reached}
 use Rattle.fm_law_unwoven.specs.WovenFrom.{inserted_by, IsWovenFrom}
 use Rattle.fm_place.specs.Sites.{is_captured}
 use Rattle.fm_same.specs.Laws.{SitesMakeBusy}
@@ -136,11 +124,7 @@ module _ (facts : Facts) (r : Beside) (k : ℕ) where
 
 -- what a step of both rests on
 pub record HistoryLaws (b : Both) : Type 0 where
-  pub kept_go : KeptStepsGoTogether
-  pub known_on : StepsStayKnown
-  pub costs : ShallowStepsCost
-  pub catch_up : BothCatchUp b
-  pub ahead : CatchLaws
+  pub going : GoingLaws b
   pub busy : SitesMakeBusy
 
 module _ (b : Both) (from : IsWovenFrom b.one b.other b.facts b.plans b.marks) (linked : IsLinked b.one b.facts) (laws : HistoryLaws b) (steps : ℕ) (job : Job) (choose : Choose)
@@ -184,173 +168,38 @@ module _ (b : Both) (from : IsWovenFrom b.one b.other b.facts b.plans b.marks) (
     abbrev following : State
     following = (step b.other (lawful choose) y).state
 
-    abbrev z : State
-    z = (ys (suc l + c.count)).state
-
     abbrev t : GoTogetherAt b x y
     t = pace.0
-
-    next_is : (xs (suc k)).state ≡ next
-    next_is = first_goes b steps job choose free k
-
-    following_is : (ys (suc l)).state ≡ following
-    following_is = second_goes b steps job choose free l
-
-    together : GoTogetherAt b next z
-    together = subst (λ s. GoTogetherAt b s z) next_is c.pace.0
-
-    -- up to there the second run goes on
-    goes_on : (m : ℕ) → m ≤ c.count → (ys (suc l + m)).state.ended ≡ None
-    goes_on m few =
-        ⊎_elim (λ (less : m < c.count). (c.inserted m less).goes_on)
-        (λ (more : c.count ≤ m).
-        let same : c.count ≡ m = omega (arith, few, more) in
-        subst (λ n. (ys (suc l + n)).state.ended ≡ None) same (second_goes_on b next z together))
-        (cases_lt m c.count)
-
-    kept_there : is_at_kept b.marks z ≡ true
-    kept_there = is_kept b next z together
-
-    first_going : next.ended ≡ None
-    first_going = together.goes_on
-
-    other_going : following.ended ≡ None
-    other_going =
-        let same : suc l + 0 ≡ suc l = omega arith in
-        ap (λ (s : State). s.ended) (sym following_is) ∙ ap (λ n. (ys n).state.ended) (sym same) ∙ goes_on 0 (omega arith)
-
-    module _ (f g : Frame) (below : List Frame) (news : following.frames ≡ g ∷ below) (todos : List Todo) (jumps : ℕ)
-        (r : Reached b.one b.other b.facts b.plans b.marks (lawful choose) following f g below todos jumps) where
-      abbrev there : State
-      there = state_reached r.code following g below todos jumps r.number
-
-      start_is : with_frame following g below ≡ (ys (suc l)).state
-      start_is = (λ i. record following { frames = sym news i; ended = sym other_going i }) ∙ sym following_is
-
-      by_done : IsReached b.one b.other b.facts b.plans b.marks (lawful choose) r.code following g below todos jumps r.number → there ≡ z
-      by_done (AllReached passed kept) = by_order (cases_lt n c.count) (cases_lt c.count n) where
-        n : ℕ
-        n = jumps + all_steps_to todos
-
-        gone_on : IsPassed b.other b.marks (lawful choose) n (ys (suc l)).state there
-        gone_on = subst (λ s. IsPassed b.other b.marks (lawful choose) n s there) start_is passed
-
-        state_is : (ys (suc l + n)).state ≡ there
-        state_is = (reached b steps job choose free n (suc l) there gone_on).0
-
-        is_there_kept : is_at_kept b.marks there ≡ true
-        is_there_kept = at_kept b x y t there.frames kept.frames (kept.sound.running refl)
-
-        by_order : (n < c.count) ⊎ (c.count ≤ n) → (c.count < n) ⊎ (n ≤ c.count) → there ≡ z
-        by_order (inl less) either =
-            absurd (false≢true (sym (c.inserted n less).inserted ∙ ap (is_at_kept b.marks) state_is ∙ is_there_kept))
-        by_order (inr more) (inl less) =
-            absurd (false≢true (sym (inserted b steps job choose free n (suc l) there gone_on c.count less).inserted ∙ kept_there))
-        by_order (inr more) (inr few) =
-            let same : n ≡ c.count = omega (arith, more, few) in sym state_is ∙ ap (λ m. (ys (suc l + m)).state) same
-      by_done (OneMissed lost m last e fewer passed at printed ended) = by_order (cases_lt m c.count) (cases_lt c.count m) where
-        gone_on : IsPassed b.other b.marks (lawful choose) m (ys (suc l)).state last
-        gone_on = subst (λ s. IsPassed b.other b.marks (lawful choose) m s last) start_is passed
-
-        state_is : (ys (suc l + m)).state ≡ last
-        state_is = (reached b steps job choose free m (suc l) last gone_on).0
-
-        by_order : (m < c.count) ⊎ (c.count ≤ m) → (c.count < m) ⊎ (m ≤ c.count) → there ≡ z
-        by_order (inl less) either =
-            let later : suc l + suc m ≡ suc (suc l + m) = omega arith in
-            absurd (none-some e (sym (goes_on (suc m) (omega (arith, less))) ∙ ap (λ i. (ys i).state.ended) later
-            ∙ ap (λ (s : State). s.ended) (second_goes b steps job choose free (suc l + m))
-            ∙ ap (λ (s : State). (step b.other (lawful choose) s).state.ended) state_is ∙ ended))
-        by_order (inr more) (inl less) =
-            absurd (false≢true (sym (inserted b steps job choose free m (suc l) last gone_on c.count less).inserted ∙ kept_there))
-        by_order (inr more) (inr few) =
-            let same : m ≡ c.count = omega (arith, more, few) in
-            absurd (false≢true (sym at.inserted ∙ ap (is_at_kept b.marks) (sym state_is ∙ ap (λ i. (ys (suc l + i)).state) same) ∙ kept_there))
-
-      there_is : there ≡ z
-      there_is = by_done r.done
-
-    -- ---- the step of both
 
     abbrev Then : State → State → Type 0
     Then s w =
         FramesSince b.one b.facts b.plans b.marks (HeldSince b.facts runs (suc k)) w.areas.store w.frames
         × MissingIs (WasRetired b.facts runs (suc k)) s.areas.store w.areas.store
 
-    by_frames : (frames : List Frame) → AreWithin b.one x y next following
-        → StatesPaired t.gone b.one.outline next (record following { frames = frames; steps = next.steps })
-        → IsSoundBy b.one b.facts.typing (record following { frames = frames; steps = next.steps })
-        → (gs : List Frame) → following.frames ≡ gs → StatesGo b.one b.other b.facts b.plans b.marks y frames gs → Then next z
-    by_frames [] within paired sound gs news go = absurd go
-    by_frames (f ∷ callers) within paired sound [] news go = absurd go
-    by_frames (f ∷ callers) within paired sound (g ∷ below) news go = by_next next.frames refl paired.frames where
-      on : IsKnownOn b.one b.facts x next t.colour t.made
-      on =
-          (known b from linked laws.kept_go laws.known_on laws.costs laws.catch_up never_choice choose x y t words within.not_over).1 t.goes_on first_going
-
+    -- where the topmost frame reaches its next kept item
+    module _ (s : GoesToKept b choose (xs k).state (ys l).state pace.0) where
       still : FreesNothing y.areas following.areas
-      still = frees_nothing b from linked never_choice choose x y t on first_going other_going within laws.ahead.alike laws.ahead.kept
+      still = frees_nothing b from linked never_choice choose x y t s.on s.going s.other_going s.within laws.going.ahead.alike laws.going.ahead.kept
 
       x_still : FreesNothing x.areas next.areas
-      x_still = nothing_freed laws.ahead.alike b.one b.facts.typing linked.without never_choice x t.goes_on t.known.whole.sound first_going
+      x_still = nothing_freed laws.going.ahead.alike b.one b.facts.typing linked.without never_choice x t.goes_on t.known.whole.sound s.going
 
-      r : Reached b.one b.other b.facts b.plans b.marks (lawful choose) following f g below
-          (first_ahead b.one b.other b.facts b.plans b.marks y following.areas.store f g below go.top
-          ++ frees_of (inserted_by (b.plans g.method)) (freed_ahead b.one b.other b.facts b.plans b.marks y following.areas.store f g below go.top))
-          (jumps_ahead b.one b.other b.facts b.plans b.marks y f g below go.top)
-      r =
-          subst (λ all. Reached b.one b.other b.facts b.plans b.marks (lawful choose) following f g below all
-          (jumps_ahead b.one b.other b.facts b.plans b.marks y f g below go.top))
-          (ahead_is b.one b.other b.facts b.plans b.marks y following.areas.store f g below go.top)
-          (laws.ahead.reach b.one b.other b.facts b.plans b.marks from linked.without.steps choose y following f g callers below go
-          (record { typed = sound.typed; areas = sound.areas; frames = sound.frames; running = λ goes. omega arith; within = sound.within })
-          (subst (λ n. n ≤ MAX_LIVE_WORDS) (sym (step_budget b.other (lawful choose) y)) t.kept.words))
-
-      same : state_reached r.code following g below
-          (first_ahead b.one b.other b.facts b.plans b.marks y following.areas.store f g below go.top
-          ++ frees_of (inserted_by (b.plans g.method)) (freed_ahead b.one b.other b.facts b.plans b.marks y following.areas.store f g below go.top))
-          (jumps_ahead b.one b.other b.facts b.plans b.marks y f g below go.top) r.number ≡ z
-      same = there_is f g below news
-          (first_ahead b.one b.other b.facts b.plans b.marks y following.areas.store f g below go.top ++ frees_of (inserted_by (b.plans g.method)) (freed_ahead b.one b.other b.facts b.plans b.marks y following.areas.store f g below go.top))
-          (jumps_ahead b.one b.other b.facts b.plans b.marks y f g below go.top) r
-
-      ready_then : IsReady b next following on.fewer t.gone f g below r.code
-          (first_ahead b.one b.other b.facts b.plans b.marks y following.areas.store f g below go.top)
-          (given_ahead b.one b.other b.facts b.plans b.marks y following.areas.store f g below go.top)
-          (freed_ahead b.one b.other b.facts b.plans b.marks y following.areas.store f g below go.top)
-      ready_then =
-          ready laws.ahead b from linked never_choice choose x y t on first_going other_going within f g callers below paired go r.code r.code_is r.number r.number_is
-          r.width go.top
-
-      by_next : (fs : List Frame) → next.frames ≡ fs → AllZip (FramesPaired t.gone next.areas.store following.areas.store) fs (f ∷ callers) → Then next z
+      by_next : (fs : List Frame) → next.frames ≡ fs → AllZip (FramesPaired t.gone next.areas.store following.areas.store) fs (s.f ∷ s.callers)
+          → Then next (state_at_kept b choose x y t s)
       by_next [] are pairs = absurd pairs
       by_next (fx ∷ cx) are pairs =
-          subst (Then next) same
-          (told_on b from linked laws.busy laws.ahead.frees x y next following t x_still still on.fewer f g callers below paired go (HeldSince b.facts runs k)
-          (HeldSince b.facts runs (suc k)) (WasRetired b.facts runs k) (WasRetired b.facts runs (suc k))
-          (subst (λ s. TellsOn b s (HeldSince b.facts runs k) (HeldSince b.facts runs (suc k)) (WasRetired b.facts runs k) (WasRetired b.facts runs (suc k))) next_is (tells k))
-          history.0 history.1 (lawful choose) fx cx are go.top r ready_then
-          (before_frees laws.ahead b from linked never_choice choose x y t on first_going other_going within f g callers below paired go r.code r.code_is r.number
-          r.number_is r.width (first_ahead b.one b.other b.facts b.plans b.marks y following.areas.store f g below go.top)
-          (given_ahead b.one b.other b.facts b.plans b.marks y following.areas.store f g below go.top)
-          (freed_ahead b.one b.other b.facts b.plans b.marks y following.areas.store f g below go.top) ready_then)
-          (before_gone laws.ahead b from linked never_choice choose x y t on first_going other_going within f g callers below paired go r.code r.code_is r.number
-          r.number_is r.width (first_ahead b.one b.other b.facts b.plans b.marks y following.areas.store f g below go.top)
-          (given_ahead b.one b.other b.facts b.plans b.marks y following.areas.store f g below go.top)
-          (freed_ahead b.one b.other b.facts b.plans b.marks y following.areas.store f g below go.top) ready_then))
+          told_on b from linked laws.busy laws.going.ahead.frees x y next following t x_still still s.on.fewer s.f s.g s.callers s.below s.paired s.go
+          (HeldSince b.facts runs k) (HeldSince b.facts runs (suc k)) (WasRetired b.facts runs k) (WasRetired b.facts runs (suc k))
+          (subst (λ s. TellsOn b s (HeldSince b.facts runs k) (HeldSince b.facts runs (suc k)) (WasRetired b.facts runs k) (WasRetired b.facts runs (suc k)))
+          (first_goes b steps job choose free k) (tells k))
+          history.0 history.1 (lawful choose) fx cx are s.go.top s.reached (ready_there b choose x y t s laws.going.ahead from linked)
+          (before_there b choose x y t s laws.going.ahead from linked) (gone_there b choose x y t s laws.going.ahead from linked)
 
-    by_goes : KeptStepGoes b.one b.other b.facts b.plans b.marks t.gone x y (step b.one (lawful never_choice) x) (step b.other (lawful choose) y) → Then next z
-    by_goes (BothGo frames going other printed rise within paired sound go) = by_frames frames within paired sound following.frames refl go
-    by_goes (BothEnd e is other_is printed none rise) = absurd (none-some e (sym first_going ∙ is))
-    by_goes (SecondLacks live needed is shallow less) = absurd (none-some (end.Exhausted live needed) (sym other_going ∙ is))
-    by_goes (SecondIsFull made needed is shallow small) = absurd (none-some (end.StoreFull made needed) (sym other_going ∙ is))
+      told_there : Then (next_of b never_choice (xs k).state) (state_at_kept b choose (xs k).state (ys l).state pace.0 s)
+      told_there = by_next next.frames refl s.paired.frames
 
     pub history_on : HistoryAt (suc k) (suc l + c.count)
-    history_on =
-        subst (λ (s : State).
-        FramesSince b.one b.facts b.plans b.marks (HeldSince b.facts runs (suc k)) z.areas.store z.frames
-        × MissingIs (WasRetired b.facts runs (suc k)) s.areas.store z.areas.store) (sym next_is)
-        (by_goes (goes b from linked laws.kept_go laws.known_on laws.costs laws.catch_up never_choice choose x y t words))
+    history_on = at_next_kept b from linked laws.going steps job choose free k l pace words c Then told_there
 
   -- ---- the opening
 

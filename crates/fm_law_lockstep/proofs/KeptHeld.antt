@@ -18,6 +18,7 @@ use Rattle.fm_frames.specs.States.{Areas, Frame, State, word_at}
 use Rattle.fm_frames.specs.Steps.{is_start, step}
 use Rattle.fm_frames.specs.declared.values.Value.{Value}
 use Rattle.fm_law_held_objects.specs.Above.{NewResultsAreInitialised}
+use Rattle.fm_law_held_objects.specs.Forth.{ChainsAreKept, KeepingLinksChains}
 use Rattle.fm_law_held_objects.specs.Held.{AreHeld}
 use Rattle.fm_law_held_objects.specs.Initialised.{IsInitialised}
 use Rattle.fm_law_held_objects.specs.Keeping.{AreKept}
@@ -142,6 +143,18 @@ module _ (new : SitesGiveNew) (own : KeptResultsAreOwn) (p : Program) (facts : F
             (locals_after code stack (to_keep (looped_at plan only) (joins_in y.store (cell_of (word_at stack 0))) only) locals)
         result_kept =
             keeping p facts x next colour on.fewer made known_at.0 f callers behind known_at.1 result paired.store.orderly made_in gone p.outline store y
+            orderly paired births stays code plan locals had have width only listed.holder holder_at stack holding
+            (twin_may gone p.outline next.areas.store y.store paired.store on.fewer retired (length callers) listed.holder.class result.result
+            (word_at stack 0) same result_holds)
+            (initialised fresh)
+
+        -- its chain, if it has one, has that then and what it had, and other chains have what they had
+        pub result_linked : KeepingLinksChains
+            → ChainsAreKept facts.typing next on.fewer (length callers) code plan (only ∷ []) (word_at stack 0) y
+            (areas_after code stack locals (to_keep (looped_at plan only) (joins_in y.store (cell_of (word_at stack 0))) only) y) locals
+            (locals_after code stack (to_keep (looped_at plan only) (joins_in y.store (cell_of (word_at stack 0))) only) locals)
+        result_linked links =
+            links p facts x next colour on.fewer made known_at.0 f callers behind known_at.1 result paired.store.orderly made_in gone p.outline store y
             orderly paired births stays code plan locals had have width only listed.holder holder_at stack holding
             (twin_may gone p.outline next.areas.store y.store paired.store on.fewer retired (length callers) listed.holder.class result.result
             (word_at stack 0) same result_holds)

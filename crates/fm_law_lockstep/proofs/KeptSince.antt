@@ -61,7 +61,7 @@ module _ (p : Program) (facts : Facts) (linked : IsLinked p facts) (busy : Sites
   is_safe : IsSafeHolder facts (typed_method p facts.typing method code) holder
   is_safe = AllByRecursion-at (IsSafeHolder facts x) plan.holders only holder safe is
 
-  kind : is_some (site_kind facts (typed_method p facts.typing method code) j) ≡ true
+  pub kind : is_some (site_kind facts (typed_method p facts.typing method code) j) ≡ true
   kind =
       (and_parts (is_some (site_kind facts x j)) (is_captured facts x (site_class facts x j))
       (subst (λ n. is_captured_site facts x n ≡ true) site is_safe.captured)).0

@@ -28,5 +28,6 @@ pub mod WhatIsFreed
 pub mod Since
 pub mod KeptSince
 pub mod SinceStep
+pub mod NextKept
 pub mod Histories
 pub mod MatchedRenamed

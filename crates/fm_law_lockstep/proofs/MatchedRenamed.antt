@@ -32,11 +32,13 @@ pub record RetiringLaws : Type 0 where
 
 history_laws : RetiringLaws → (b : Both) → IsWovenFrom b.one b.other b.facts b.plans b.marks → IsLinked b.one b.facts → HistoryLaws b
 history_laws laws b from linked = record {
-  kept_go = laws.kept_go;
-  known_on = laws.known_on;
-  costs = laws.step_costs;
-  catch_up = programs_catch_up laws.ahead b from linked;
-  ahead = laws.ahead;
+  going = record {
+    kept_go = laws.kept_go;
+    known_on = laws.known_on;
+    costs = laws.step_costs;
+    catch_up = programs_catch_up laws.ahead b from linked;
+    ahead = laws.ahead;
+  };
   busy = laws.busy;
 }
 
