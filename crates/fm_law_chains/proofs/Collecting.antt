@@ -21,7 +21,7 @@ use Rattle.fm_law_held_objects.specs.Contents.{HasInChain}
 use Rattle.fm_law_lockstep.proofs.Paced.{balanced, goes_along, keeps_pace, opens}
 use Rattle.fm_law_lockstep.specs.Both.{Both}
 use Rattle.fm_law_lockstep.specs.Together.{CostsAreSame, GoTogetherIn, OpeningsGoTogether, StepsGoTogether}
-use Rattle.fm_law_same_runs.specs.Beside.{Beside, FewAreInserted, HasWords, is_at_kept, runs_of}
+use Rattle.fm_law_same_runs.specs.Beside.{Beside, FewAreInserted, HasWords, is_at_kept, kept_item, runs_of}
 use Rattle.fm_law_same_runs.specs.Paces.{CatchesUp, EndsAlike, EndsInWant, GoesAlong, KeepPaces, Opens, OpensAtEnd, OpensInPace, OpensInWant, StaysInPace}
 use Rattle.fm_law_sound.specs.Making.{ArgumentsFit}
 use Rattle.fm_law_two_memories.specs.Runs.{LacksWords}
@@ -35,10 +35,12 @@ use Rattle.fm_world.specs.Programs.{code_at}
 
 -- ---- where the object is
 
--- a holder of the frame, for this class, has it in its chain
+-- the frame is at an item of the old code, and a holder of it, for this class, has it in its chain
 pub record IsInChainOf (b : Both) (store : Store) (class birth : ℕ) (g : Frame) : Type 0 where
   pub code : Code
   pub code_is : code_at b.one g.method ≡ Some code
+  pub item : ℕ
+  pub kept : kept_item b.marks g.method g.item ≡ Some item
   pub h : ℕ
   pub holder : Holder
   pub holder_is : slice_get (inserted_by (b.plans g.method)).holders h ≡ Some holder
