@@ -11,7 +11,6 @@ use Rattle.fm_code.specs.AccessFlags.{is_static}
 use Rattle.fm_code.specs.declared.class_file.ClassDef.{ClassDef}
 use Rattle.fm_link_names.specs.declared.given.GivenFile.{GivenFile}
 use Rattle.fm_link_names.specs.inner.Numbering.{texts_in}
-use Rattle.fm_link_supers.proofs.Downwards.{walk_within}
 use Rattle.fm_link_members.proofs.FirstOnes.{first_from-is, first_is_one, position-is}
 use Rattle.fm_link_members.proofs.NearestLemmas.{first_found-cons, widened}
 use Rattle.fm_link_supers.proofs.NamedParentLemmas.{is_given, number_given}
@@ -23,6 +22,7 @@ use Rattle.fm_link_members.specs.declared.members.Members.{Members}
 use Rattle.fm_link_members.specs.inner.MemberRows.{method_alike, no_row, row_alike, section_of, AreMethodRows, AreSections, Owned}
 use Rattle.fm_link_members.specs.inner.MemberTables.{first_from}
 use Rattle.fm_link_members.specs.inner.NearestSteps.{or_else}
+use Rattle.fm_link_refusals.proofs.CountLoops.{chain_inside}
 use Rattle.fm_link_refusals.specs.declared.linking.Linking.{Linking}
 use Rattle.fm_link_refusals.specs.inner.GivenClasses.{given_in}
 use Rattle.fm_link_refusals.specs.inner.Linking.{IsLinking}
@@ -133,18 +133,12 @@ found_agree f g (x ∷ xs) same =
     ∙ ap (or_else (g x)) (found_agree f g xs (λ y among. same y (or_right (nat_eq y x) (is_among y xs) among)))
     ∙ sym (first_found-cons g x xs)
 
-chain_within : (classes : List DeclaredClass) (class : ℕ) → class < length classes → (x : ℕ) → is_among x (chain_of classes class) ≡ true
-    → x < length classes
-unfolding chain_of
-chain_within classes class within x among =
-    walk_within classes (suc (length classes)) (Some class) (λ k e. subst (λ n. n < length classes) (same_Some class k e) within) x among
-
 pub main_method_is : (classes : List DeclaredClass) (l : Linking) → IsLinking classes l → (class : ℕ) → class < length classes
     → main_method_in l class ≡ main_of classes class
 main_method_is classes l is class within =
     ap (first_found (own_main_in l)) (row_within (chain_of classes) (length classes) [] _ is.hierarchy.chains class within)
     ∙ found_agree (own_main_in l) (own_method classes is_static main_name main_descriptor) (chain_of classes class)
-    (λ x among. own_main_is classes l is x (chain_within classes class within x among))
+    (λ x among. own_main_is classes l is x (chain_inside classes class within x among))
 
 -- ---- the main class
 

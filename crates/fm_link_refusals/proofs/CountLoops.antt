@@ -12,14 +12,13 @@ use Rattle.fm_link_supers.proofs.Distinct.{among_distinct}
 use Rattle.fm_link_supers.proofs.Downwards.{walk_within}
 use Rattle.fm_world.specs.Chains.{chain_of, interfaces_of, is_among, superinterfaces_of}
 use Rattle.fm_world.specs.Declarations.{no_class}
-use Rattle.fm_world.specs.Lookups.{is_interface_at}
 use Rattle.fm_world.specs.inner.Tables.{AreInterfaces}
 use Rattle.std.specs.List.{flat_map}
 use Rattle.fm_world.specs.Members.{first_method}
 use Rattle.fm_world.specs.declared.declarations.DeclaredClass.{DeclaredClass}
 use Rattle.fm_link_refusals.proofs.Sections.{section_none}
 use Rattle.fm_link_names.specs.inner.Numbering.{texts_in}
-use Rattle.fm_link_refusals.proofs.Among.{among_either, among_flat}
+use Rattle.fm_link_refusals.proofs.Among.{among_either, among_flat, IsInOne}
 use Rattle.std.specs.Prelude.{Ok, Err, IfOk}
 use Rattle.fm_link_refusals.specs.declared.left_over.Counting.{Counting}
 use Rattle.fm_link_refusals.specs.inner.LeftOver.{counted, counted_of, is_open, is_owed, is_part_owed, selected_at, with_signature, HasCounts, IsCounting}
@@ -126,22 +125,20 @@ unfolding chain_of
 chain_inside classes class within =
     walk_within classes (suc (length classes)) (Some class) (λ k same. subst (λ n. n < length classes) (same_Some class k same) within)
 
--- an interface is there
-interface_inside : (classes : List DeclaredClass) (x : ℕ) → is_interface_at classes x ≡ true → x < length classes
-interface_inside classes x is = by_range (cases_lt x (length classes)) where
-  by_range : (x < length classes) ⊎ (length classes ≤ x) → x < length classes
-  by_range (inl inside) = inside
-  by_range (inr past) =
-      absurd (false≢true (sym (ap (λ (c : DeclaredClass). is_interface c.flags) (get_or_past classes x no_class past)) ∙ is))
-
 -- each superinterface is there
 pub interfaces_inside : (classes : List DeclaredClass) → ((k : ℕ) → AreInterfaces classes (superinterfaces_of classes k)) → (class x : ℕ)
     → is_among x (interfaces_of classes class) ≡ true → x < length classes
 unfolding interfaces_of
-interfaces_inside classes only class x among =
-    let one = among_flat (superinterfaces_of classes) (chain_of classes class) x
-    (sym (among_distinct x (flat_map (superinterfaces_of classes) (chain_of classes class))) ∙ among) in
-    interface_inside classes x (only one.0 x one.2)
+interfaces_inside classes only class x among = by_range (cases_lt x (length classes)) where
+  one : IsInOne (superinterfaces_of classes) (chain_of classes class) x
+  one =
+      among_flat (superinterfaces_of classes) (chain_of classes class) x
+      (sym (among_distinct x (flat_map (superinterfaces_of classes) (chain_of classes class))) ∙ among)
+
+  by_range : (x < length classes) ⊎ (length classes ≤ x) → x < length classes
+  by_range (inl inside) = inside
+  by_range (inr past) =
+      absurd (false≢true (sym (ap (λ (c : DeclaredClass). is_interface c.flags) (get_or_past classes x no_class past)) ∙ only one.0 x one.2))
 
 -- a number past all classes has no methods
 none_past : (texts : List (List ℕ)) (classes : List DeclaredClass) (m : Methods) (q : ℕ → Bool) (class : ℕ) → AreMethods texts classes m
