@@ -348,6 +348,45 @@ const LONG: [Row; 8] = [
     ),
 ];
 
+// What freeme writes with `--rapid`, and with `--chains`.
+const FLAGGED: [Row; 5] = [
+    (
+        VIRTUAL_ESCAPE_RAPID,
+        &[],
+        b"",
+        (0, RETURNED, [16, 5, 0, 0, 10, 10, 5]),
+        Some((0, RETURNED, [32, 5, 2, 4, 6, 10, 5])),
+    ),
+    (
+        VIRTUAL_SECOND,
+        &[],
+        b"",
+        (0, RETURNED, [26, 6, 0, 0, 12, 12, 6]),
+        Some((0, RETURNED, [42, 6, 2, 4, 8, 10, 5])),
+    ),
+    (
+        CHAINS_CHAINED,
+        &[],
+        b"",
+        (0, RETURNED, [17_008, 1_003, 0, 0, 4_006, 4_006, 1_003]),
+        Some((0, RETURNED, [21_014, 1_003, 1_000, 4_000, 6, 4_006, 1_003])),
+    ),
+    (
+        POINTS_IN_LOOP_CHAINED,
+        &[],
+        b"",
+        (0, RETURNED, [23_006, 1_003, 0, 0, 4_006, 4_006, 1_003]),
+        Some((0, RETURNED, [31_008, 1_003, 1_000, 4_000, 6, 10, 4])),
+    ),
+    (
+        JUMP_TO_START_CHAINED,
+        &[],
+        b"",
+        (0, RETURNED, [20, 5, 0, 0, 12, 12, 5]),
+        Some((0, RETURNED, [38, 5, 2, 6, 6, 9, 4])),
+    ),
+];
+
 // The words of a call with these options for these class files.
 fn words_for(
     alloc: Global,
@@ -439,5 +478,11 @@ fn runs_end_alike_after(rt: HostRuntime) -> Result<(), Fail> {
 #[test]
 fn long_programs_do_the_same_after(rt: HostRuntime) -> Result<(), Fail> {
     assert_eq!(rt; first_other(rt.alloc(), &LONG)?, None);
+    Ok(())
+}
+
+#[test]
+fn what_is_written_with_flags_does_the_same(rt: HostRuntime) -> Result<(), Fail> {
+    assert_eq!(rt; first_other(rt.alloc(), &FLAGGED)?, None);
     Ok(())
 }
