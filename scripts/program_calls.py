@@ -10,6 +10,7 @@ import re
 import resource
 import signal
 import subprocess
+import sys
 import tempfile
 from contextlib import suppress
 from pathlib import Path
@@ -113,12 +114,27 @@ def status_of(text):
     return int(text.split()[1])
 
 
+def written_run(programs, folder, flags):
+    """Has freeme write the program of a folder with these flags: its lines, and how a run of the files written ends, what it prints, and its report line."""
+    due = sections((folder / "expect.txt").read_text())
+    main = due["main class"][0]
+    words = words_of(folder, due["words of fmrun before CLASS FILE..."][0])
+    files = files_of(classes_of(folder))
+    if "class library" in due:
+        files += needed(files)
+    with tempfile.TemporaryDirectory() as written:
+        status, lines = programs.free(written, main, files, *flags)
+        if status != 0:
+            sys.exit(f"{folder}: freeme returned {status}: {lines[0]}")
+        return lines, *programs.run(words, main, files_of(Path(written)))
+
+
 def differences(programs, folder, kind="classes", flags=()):
     """What differs of one program, a text for each thing, and its two report lines.
 
     It is run as it was read, then freed, with these flags, then run as it was written. It agrees where all that expect.txt gives is so, but
-    for numbers that a flag may change, where an audit finds the files written safe, unless they have chains, of which it knows nothing, and
-    where they print the same and end alike, with no more words at their peak."""
+    for numbers that a flag may change, where an audit finds the files written safe, if there is no flag, and where they print the same and end
+    alike, with no more words at their peak."""
     due = sections((folder / "expect.txt").read_text())
     main = due["main class"][0]
     words = words_of(folder, due["words of fmrun before CLASS FILE..."][0])

@@ -7,9 +7,9 @@ public final class FreeMe {
     public static void free(Object object) {
     }
 
-    /** Answers the object that was to be put before the others of its chain. */
-    public static Object link(Object next, Object object) {
-        return object;
+    /** Answers the chain as it is: nothing is put before it, so that it keeps nothing. */
+    public static Object link(Object object, Object chain) {
+        return chain;
     }
 
     /** Does nothing, as {@link #free} does. */
