@@ -240,6 +240,9 @@ fn classes_that_are_not_made_are_no_targets(rt: HostRuntime) -> Result<(), Fail>
 #[test]
 fn objects_of_loops_are_chained(rt: HostRuntime) -> Result<(), Fail> {
     assert_eq!(rt; first_other(rt.alloc(), &CHAINED, " --chains")?, None);
-    assert_eq!(rt; first_other(rt.alloc(), &CHAINED_RAPID, " --rapid --chains")?, None);
+    assert_eq!(rt;
+        first_other(rt.alloc(), &CHAINED_RAPID, " --rapid --chains")?,
+        None
+    );
     Ok(())
 }
