@@ -102,7 +102,7 @@ both_read audit classes names old between new same first second =
 
 -- the job that would write its classes
 abbrev job_for : AuditJob → FreemeJob
-job_for audit = record { folder = audit.folder; main = audit.main; files = audit.files; made = None; rapid = false }
+job_for audit = record { folder = audit.folder; main = audit.main; files = audit.files; made = None; rapid = false; chains = false }
 
 -- what became of its files by their names and their classes as slices
 pub record ReadsAudit (request : AuditRequest) (classes : List ClassDef) (old between : Disk) : Type 0 where

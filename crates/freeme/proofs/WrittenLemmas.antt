@@ -311,28 +311,28 @@ accepted_from plans first (c ∷ classes) spelled profiles can =
 -- ---- all classes
 
 module _ {chains : Bool} (given : List ClassDef) (p : Program) (made : Rewritten) (judged : AreJudged given p) (are : AreRewrittenBy chains p given made) where
-  abbrev plans : Plans
-  plans = plans_for chains p (own_facts are)
+  abbrev made_plans : Plans
+  made_plans = plans_for chains p (own_facts are)
 
-  all_can : CanChangeAll plans first_given given
+  all_can : CanChangeAll made_plans first_given given
   all_can =
       let none = sym (cause_is chains p (own_facts are) given) ∙ are.no_cause in
-      let parts = or_first (option_map pool_full (full_from plans (length built_in) first_given given)) (option_map method_too_long (long_from plans first_given given)) none in
+      let parts = or_first (option_map pool_full (full_from made_plans (length built_in) first_given given)) (option_map method_too_long (long_from made_plans first_given given)) none in
       classes_can chains p (own_facts are) (judged_analysable given p judged) (judged_old given p judged) (length built_in) first_given given (judged_spelled given p judged)
-      (λ i inside. code_given given judged.main p judged.program_is i) (map_none pool_full (full_from plans (length built_in) first_given given) parts.0)
-      (map_none method_too_long (long_from plans first_given given) parts.1)
+      (λ i inside. code_given given judged.main p judged.program_is i) (map_none pool_full (full_from made_plans (length built_in) first_given given) parts.0)
+      (map_none method_too_long (long_from made_plans first_given given) parts.1)
 
   -- they have spellings, as those that were read are no longer than a file may be
   pub written_spelled : AllByRecursion IsShort given → AllByRecursion HasSpelling made.classes.items
   written_spelled small =
       subst (AllByRecursion HasSpelling) (sym (full_written chains p given made.classes.items are.marks are.full))
-      (spelled_from plans first_given given (judged_spelled given p judged) small all_can)
+      (spelled_from made_plans first_given given (judged_spelled given p judged) small all_can)
 
   -- and they are accepted again
   pub written_accepted : AllByRecursion Profile given → AllByRecursion Profile made.classes.items
   written_accepted profiles =
       subst (AllByRecursion Profile) (sym (full_written chains p given made.classes.items are.marks are.full))
-      (accepted_from plans first_given given (judged_spelled given p judged) profiles all_can)
+      (accepted_from made_plans first_given given (judged_spelled given p judged) profiles all_can)
 
 -- ---- names
 
