@@ -21,7 +21,7 @@ use fm_base::{MethodId, NoMemory, Seq};
 use fm_check_rows::{is_constructor, this_class};
 use fm_check_walk::{CheckedMethod, Walk, is_within, parameter_slots};
 use fm_code::{ACC_STATIC, Code, has_flag};
-use fm_types::{KnownState, Slot, Stack, State, Typing};
+use fm_types::{KnownState, SharedSlots, Slot, Stack, State, Typing};
 use fm_world::{Body, Program, type_of_class};
 use std::alloc::Global;
 
@@ -103,10 +103,8 @@ fn typing_of(alloc: Global, method: &CheckedMethod<'_>) -> Result<Option<Typing>
         return Ok(None);
     }
     let mut walk = Walk::new(alloc, method.code.items.len())?;
-    walk.begin(
-        0,
-        KnownState::like(alloc, &first, &KnownState::empty(alloc))?,
-    )?;
+    let known = KnownState::of(&first)?;
+    walk.begin(0, known)?;
     if !run(alloc, &mut walk, method)? {
         return Ok(None);
     }
@@ -174,11 +172,12 @@ fn entry_state(alloc: Global, method: &CheckedMethod<'_>) -> Result<State, NoMem
         ≡ entry_state (task method.now).program.outline (task method.now).number
         (task method.now).code) }
 {
-    let mut locals = entry_slots(alloc, method.program, method.number)?;
-    fill(&mut locals, usize::from(method.code.max_locals))?;
+    let mut slots = entry_slots(alloc, method.program, method.number)?;
+    fill(&mut slots, usize::from(method.code.max_locals))?;
+    let locals = SharedSlots::of(alloc, slots.as_slice())?;
     Ok(State {
         locals,
-        stack: Stack::new(Vec::new(alloc)),
+        stack: Stack::new(SharedSlots::empty(alloc)),
         built: !is_constructor(method.program, method.number),
     })
 }

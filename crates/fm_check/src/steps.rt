@@ -39,12 +39,11 @@ pub fn next_items(alloc: Global, insn: &Insn, item: u32) -> Result<Vec<u32>, NoM
     Ok(items)
 }
 
-// Brings a state from an item to each one of the list; false where no typing has room for it.
+// Brings a state to each item of the list; false where no typing has room for it.
 fn bring_to_all(
     alloc: Global,
     walk: &mut Walk,
     method: &CheckedMethod<'_>,
-    from: u32,
     items: &[u32],
     brought: &State,
 ) -> Result<bool, NoMemory>
@@ -58,7 +57,7 @@ fn bring_to_all(
         (Untypable (task method.now))) }
 {
     for item in items {
-        if !walk.bring(alloc, method, from, *item, brought)? {
+        if !walk.bring(alloc, method, *item, brought)? {
             return Ok(false);
         }
     }
@@ -89,7 +88,7 @@ fn bring_on(
         return Ok(false);
     }
     let items = next_items(alloc, insn, item)?;
-    bring_to_all(alloc, walk, method, item, items.as_slice(), after)
+    bring_to_all(alloc, walk, method, items.as_slice(), after)
 }
 
 // Goes over one item that waited, by its whole state; false where no typing has room for what it
@@ -113,7 +112,7 @@ fn go_over_whole(
     let Some(own) = state_of(walk.states.as_slice(), item) else {
         return Ok(true);
     };
-    let mut state = own.to_state(alloc)?;
+    let mut state = own.to_state()?;
     if !bring_to_runs(alloc, walk, method, levels, item, &state)? {
         return Ok(false);
     }

@@ -16,9 +16,9 @@ ghost use Rattle.fm_world.specs.Members.{methods_of};
 use crate::runs::{Level, Run};
 use fm_base::{NoMemory, TypeRef};
 use fm_check_rows::{built_in_type, type_of_use, use_in};
-use fm_check_walk::{CheckedMethod, Rise, Walk, local_rises, rises_of, state_of};
+use fm_check_walk::{CheckedMethod, Rise, Walk, local_rises, rises_of};
 use fm_code::Handler;
-use fm_types::{KnownState, Slot, SlotPlace, Stack, State, fits, fits_type, join};
+use fm_types::{KnownState, SharedSlots, Slot, SlotPlace, Stack, State, fits, fits_type, join};
 use std::alloc::Global;
 
 /// What an item gives to the handlers of the entries whose ranges hold it.
@@ -55,10 +55,10 @@ fn handler_state(alloc: Global, state: &State, caught: TypeRef) -> Result<State,
     ensures { IfOk result (λ brought. type_state brought
         ≡ handler_state caught (type_state state.now)) }
 {
-    let mut stack = Stack::new(Vec::new(alloc));
+    let mut stack = Stack::new(SharedSlots::empty(alloc));
     stack.push(Slot::Ref(caught))?;
     Ok(State {
-        locals: Vec::from_slice(alloc, state.locals.as_slice())?,
+        locals: state.locals.copy()?,
         stack,
         built: state.built,
     })
@@ -66,7 +66,6 @@ fn handler_state(alloc: Global, state: &State, caught: TypeRef) -> Result<State,
 
 // Raises a state to where it has room for a slot, and notes the place where it didn't.
 fn raise_one(
-    alloc: Global,
     method: &CheckedMethod<'_>,
     given: &mut KnownState,
     rise: Rise,
@@ -81,7 +80,7 @@ fn raise_one(
     if fits(method.program, rise.slot, own) {
         return Ok(());
     }
-    given.set(alloc, rise.place, join(method.program, own, rise.slot))?;
+    given.set(rise.place, join(method.program, own, rise.slot))?;
     places.push(rise.place)?;
     Ok(())
 }
@@ -100,7 +99,7 @@ fn raise(
 {
     let mut places = Vec::new(alloc);
     for rise in rises {
-        raise_one(alloc, method, given, *rise, &mut places)?;
+        raise_one(method, given, *rise, &mut places)?;
     }
     Ok(places)
 }
@@ -158,7 +157,7 @@ fn bring_caught(
         return Ok(false);
     };
     let brought = handler_state(alloc, state, caught)?;
-    walk.bring(alloc, method, item, handler.handler, &brought)
+    walk.bring(alloc, method, handler.handler, &brought)
 }
 
 // The same for all entries of the list.
@@ -270,7 +269,7 @@ fn bring_to_run(
     if !bring_to_handlers(alloc, walk, method, item, run.entries.as_slice(), state)? {
         return Ok(false);
     }
-    run.keep(alloc, state, state_of(walk.states.as_slice(), item))?;
+    run.keep(alloc, state)?;
     Ok(true)
 }
 

@@ -20,20 +20,12 @@ pub struct Run {
 }
 
 impl Run {
-    /// Notes a state that was brought to the handlers, but for the words of its stack. Takes memory for
-    /// the pieces in which it differs from the other one, if there is one.
-    pub fn keep(
-        &mut self,
-        alloc: Global,
-        state: &State,
-        other: Option<&KnownState>,
-    ) -> Result<(), NoMemory>
+    /// Notes a state that was brought to the handlers, but for the words of its stack. Takes memory for a
+    /// word for each piece of its locals.
+    pub fn keep(&mut self, alloc: Global, state: &State) -> Result<(), NoMemory>
         ensures { OnOk result (Keeps (type_state state.now) self.old self.new) }
     {
-        let given = match other {
-            Some(other) => KnownState::without_words(alloc, state, other)?,
-            None => KnownState::without_words(alloc, state, &KnownState::empty(alloc))?,
-        };
+        let given = KnownState::without_words(alloc, state)?;
         self.given = Some(given);
         Ok(())
     }

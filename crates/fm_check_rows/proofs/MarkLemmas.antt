@@ -1,12 +1,10 @@
--- Marked slots of a stack from a depth on, and those that another one takes the place of.
-use Rattle.std.proofs.Common.{◌≡◌, refl, ◌∙◌, ap, ℕ, zero, suc, ◌+◌, ◌<◌, ◌||◌, Bool, List, [], ◌∷◌, length, drop, map, reverse, Option, if◌then◌else◌, arith}
+-- Marked slots of a stack from a depth on, and those in whose place another one is put.
+use Rattle.std.proofs.Common.{◌≡◌, refl, ◌∙◌, ap, ℕ, zero, suc, ◌+◌, ◌<◌, ◌≤◌, ◌||◌, Bool, List, [], ◌∷◌, length, drop, set, Option, arith}
 use Rattle.std.specs.List.{list_any, slice_get}
-use Rattle.std.proofs.lemmas.List.{reverse-reverse}
-use Rattle.fm_base.specs.declared.kinds.TypeRef.{TypeRef}
-use Rattle.fm_check_rows.proofs.WordLemmas.{reverse-map}
+use Rattle.std.proofs.lemmas.Option.{slice_get-get_or}
 use Rattle.fm_check_rows.specs.Outcomes.{is_some_marked, marks}
-use Rattle.fm_types.specs.CallRows.{initialised}
-use Rattle.fm_types.specs.States.{replaced, TypeState}
+use Rattle.fm_check_rows.specs.inner.Replaced.{replaced_to, replacement}
+use Rattle.fm_types.specs.States.{local_at, replaced}
 use Rattle.fm_types.specs.declared.slots.Slot.{Slot}
 use Rattle.fm_types.specs.declared.slots.Slot.TheVariants as slot
 
@@ -19,15 +17,36 @@ any_from mark (s ∷ stack) (suc depth) h =
     any_from mark stack depth (omega (arith, h))
     ∙ ap (λ n. is_some_marked mark (slice_get stack depth) || list_any (marks mark) (drop n (s ∷ stack))) more
 
-abbrev made : List Slot → List Slot → Bool → TypeState
-made locals stack built = record { locals = locals; stack = stack; built = built }
+-- a slot that is there passes the test that its option passes
+pub marked-at : (mark : Option ℕ) (stack : List Slot) (depth : ℕ) → depth < length stack
+    → is_some_marked mark (slice_get stack depth) ≡ marks mark (local_at stack depth)
+marked-at mark stack depth inside = ap (is_some_marked mark) (slice_get-get_or stack depth slot.Top inside)
 
--- a state whose locals, and the stack from its bottom on, have another slot in the place of each marked one
-pub initialised_is : (test : Slot → Bool) (t : TypeRef) (s : TypeState) (locals words : List Slot)
-    → locals ≡ replaced test (slot.Ref t) s.locals → words ≡ replaced test (slot.Ref t) (reverse s.stack)
-    → made locals (reverse words) s.built ≡ initialised test t s
-initialised_is test t s locals words of_locals of_stack =
-    let instead : Slot → Slot = λ x. if test x then slot.Ref t else x in
-    ap (λ l. made l (reverse words) s.built) of_locals
-    ∙ ap (λ stack. made (replaced test (slot.Ref t) s.locals) stack s.built)
-    (ap reverse of_stack ∙ reverse-map instead (reverse s.stack) ∙ ap (map instead) (reverse-reverse s.stack))
+-- ---- slots in whose place another one is put
+
+module _ (test : Slot → Bool) (other : Slot) where
+  pub length-replaced_to : (n : ℕ) (slots : List Slot) → length (replaced_to test other n slots) ≡ length slots
+  length-replaced_to zero slots = refl
+  length-replaced_to (suc n) [] = refl
+  length-replaced_to (suc n) (s ∷ slots) = ap suc (length-replaced_to n slots)
+
+  next_replaced : (n : ℕ) (slots : List Slot) → n < length slots
+      → set (replaced_to test other n slots) n (replacement test other (local_at (replaced_to test other n slots) n)) ≡ replaced_to test other (suc n) slots
+  next_replaced n [] inside = absurd (omega (arith, inside))
+  next_replaced zero (s ∷ slots) inside = refl
+  next_replaced (suc n) (s ∷ slots) inside = ap (λ (rest : List Slot). replacement test other s ∷ rest) (next_replaced n slots (omega (arith, inside)))
+
+  -- one place more
+  pub replaced-more : (n : ℕ) (slots before after : List Slot) → n < length slots → before ≡ replaced_to test other n slots
+      → after ≡ set before n (replacement test other (local_at before n)) → after ≡ replaced_to test other (n + 1) slots
+  replaced-more n slots before after inside was is =
+      let more : suc n ≡ n + 1 = omega arith in
+      is ∙ ap (λ (xs : List Slot). set xs n (replacement test other (local_at xs n))) was ∙ next_replaced n slots inside
+      ∙ ap (λ (k : ℕ). replaced_to test other k slots) more
+
+  -- all places
+  pub replaced-all : (n : ℕ) (slots : List Slot) → length slots ≤ n → replaced_to test other n slots ≡ replaced test other slots
+  replaced-all zero [] past = refl
+  replaced-all zero (s ∷ slots) past = absurd (omega (arith, past))
+  replaced-all (suc n) [] past = refl
+  replaced-all (suc n) (s ∷ slots) past = ap (λ (rest : List Slot). replacement test other s ∷ rest) (replaced-all n slots (omega (arith, past)))

@@ -1,11 +1,11 @@
 // The rows of constants, locals and numbers (JVMS 6.5).
 
-ghost use Rattle.std.specs.Prelude.{◌≡◌, ◌<◌, [], ◌∷◌, if◌then◌else◌, IfOk, None, Some, vec_len};
+ghost use Rattle.std.specs.Prelude.{◌≡◌, ◌<◌, [], ◌∷◌, if◌then◌else◌, IfOk, None, OnOk, Some, length};
 ghost use Rattle.fm_code.specs.declared.operations.Reg.TheVariants as reg;
 ghost use Rattle.fm_check_rows.specs.Outcomes.{outcome};
 ghost use Rattle.fm_types.specs.Named.{built_in_type};
 ghost use Rattle.fm_types.specs.NumberRows.{constant_row, convert_row, increment_row, load_row, loaded, store_row, suits};
-ghost use Rattle.fm_types.specs.States.{cut_before, int_word, is_reference, long_words, pushed, stored};
+ghost use Rattle.fm_types.specs.States.{cut_before, int_word, is_long, is_reference, long_words, pushed, stored};
 ghost use Rattle.fm_types.specs.Typings.{type_state};
 ghost use Rattle.fm_types.specs.declared.slots.Slot.TheVariants as slot;
 
@@ -13,7 +13,7 @@ use crate::method::built_in_type;
 use crate::words::work;
 use fm_base::NoMemory;
 use fm_code::{Conv, Reg};
-use fm_types::{Slot, State};
+use fm_types::{SharedSlots, Slot, State};
 use fm_world::{Program, Use};
 
 /// Puts an int on the stack.
@@ -88,99 +88,114 @@ pub fn load_row(kind: Reg, local: u16, state: &mut State) -> Result<bool, NoMemo
     let Some(slot) = state.locals.get(usize::from(local)) else {
         return Ok(false);
     };
-    let slot = *slot;
     if !suits(kind, slot) {
         return Ok(false);
     }
     push_loaded(kind, slot, state)
 }
 
+// The first half of a long.
+fn is_long(slot: Slot) -> bool
+    ensures { result ≡ is_long slot }
+{
+    matches!(slot, Slot::Long)
+}
+
 // Makes the local before this one `Top`, where it is the first half of a long.
-fn cut_before(locals: &mut Vec<Slot>, local: usize)
-    ensures value { locals.new.items ≡ cut_before local locals.old.items }
-    ensures size { vec_len locals.new ≡ vec_len locals.old }
+fn cut_before(locals: &mut SharedSlots, local: usize) -> Result<(), NoMemory>
+    ensures value { OnOk result (locals.new ≡ cut_before local locals.old) }
+    ensures size { OnOk result (length locals.new ≡ length locals.old) }
 {
     if local == 0 {
-        return;
+        return Ok(());
     }
     let before = local - 1;
     if before >= locals.len() {
-        return;
+        return Ok(());
     }
-    if let Slot::Long = locals[before] {
-        locals[before] = Slot::Top;
+    if !is_long(locals.slot(before)) {
+        return Ok(());
     }
+    locals.set(before, Slot::Top)?;
+    Ok(())
 }
 
 // Writes one slot from the local on, and returns whether there is that local.
-fn store_one(locals: &mut Vec<Slot>, local: usize, slot: Slot) -> bool
-    ensures { (if result then Some locals.new.items else None)
-        ≡ stored local (slot ∷ []) locals.old.items }
+fn store_one(locals: &mut SharedSlots, local: usize, slot: Slot) -> Result<bool, NoMemory>
+    ensures { IfOk result (λ met. (if met then Some locals.new else None)
+        ≡ stored local (slot ∷ []) locals.old) }
 {
     if local >= locals.len() {
-        return false;
+        return Ok(false);
     }
-    cut_before(locals, local);
-    locals[local] = slot;
-    true
+    cut_before(locals, local)?;
+    locals.set(local, slot)?;
+    Ok(true)
 }
 
 // Writes a long, and returns whether there are two such locals.
-fn store_long(locals: &mut Vec<Slot>, local: usize) -> bool
-    ensures { (if result then Some locals.new.items else None)
-        ≡ stored local (slot.Long ∷ slot.Top ∷ []) locals.old.items }
+fn store_long(locals: &mut SharedSlots, local: usize) -> Result<bool, NoMemory>
+    ensures { IfOk result (λ met. (if met then Some locals.new else None)
+        ≡ stored local (slot.Long ∷ slot.Top ∷ []) locals.old) }
 {
     let size = locals.len();
     if size < 2 {
-        return false;
+        return Ok(false);
     }
     if local > size - 2 {
-        return false;
+        return Ok(false);
     }
-    cut_before(locals, local);
-    locals[local] = Slot::Long;
-    locals[local + 1] = Slot::Top;
-    true
+    cut_before(locals, local)?;
+    locals.set(local, Slot::Long)?;
+    locals.set(local + 1, Slot::Top)?;
+    Ok(true)
 }
 
 // Takes an int or a reference from the stack and writes it to a local.
 #[tactic(auto, unfolding(fm_types::specs::NumberRows::store_row))]
-fn store_word(program: &Program, kind: Reg, local: u16, state: &mut State) -> bool
+fn store_word(program: &Program, kind: Reg, local: u16, state: &mut State) -> Result<bool, NoMemory>
     requires { ¬ (kind ≡ reg.Long) }
-    ensures { outcome result state.new
-        ≡ store_row program.now.outline kind local (type_state state.old) }
+    ensures { IfOk result (λ met. outcome met state.new
+        ≡ store_row program.now.outline kind local (type_state state.old)) }
 {
     let Some(top) = state.stack.pop() else {
-        return false;
+        return Ok(false);
     };
     if !suits(kind, top) {
-        return false;
+        return Ok(false);
     }
-    store_one(&mut state.locals, usize::from(local), top)
+    let met = store_one(&mut state.locals, usize::from(local), top)?;
+    Ok(met)
 }
 
 // Takes a long from the stack and writes it to a local and the next one.
 #[tactic(auto, unfolding(fm_types::specs::NumberRows::store_row))]
-fn store_two_words(program: &Program, local: u16, state: &mut State) -> bool
-    ensures { outcome result state.new
-        ≡ store_row program.now.outline reg.Long local (type_state state.old) }
+fn store_two_words(program: &Program, local: u16, state: &mut State) -> Result<bool, NoMemory>
+    ensures { IfOk result (λ met. outcome met state.new
+        ≡ store_row program.now.outline reg.Long local (type_state state.old)) }
 {
     if let None = state.stack.pop() {
-        return false;
+        return Ok(false);
     }
     let Some(slot) = state.stack.pop() else {
-        return false;
+        return Ok(false);
     };
     if !suits(Reg::Long, slot) {
-        return false;
+        return Ok(false);
     }
-    store_long(&mut state.locals, usize::from(local))
+    let met = store_long(&mut state.locals, usize::from(local))?;
+    Ok(met)
 }
 
 /// Takes a value from the stack and writes it to a local.
-pub fn store_row(program: &Program, kind: Reg, local: u16, state: &mut State) -> bool
-    ensures { outcome result state.new
-        ≡ store_row program.now.outline kind local (type_state state.old) }
+pub fn store_row(
+    program: &Program,
+    kind: Reg,
+    local: u16,
+    state: &mut State,
+) -> Result<bool, NoMemory>
+    ensures { IfOk result (λ met. outcome met state.new
+        ≡ store_row program.now.outline kind local (type_state state.old)) }
 {
     match kind {
         Reg::Long => store_two_words(program, local, state),
@@ -194,10 +209,7 @@ pub fn store_row(program: &Program, kind: Reg, local: u16, state: &mut State) ->
 pub fn increment_row(local: u16, state: &mut State) -> bool
     ensures { outcome result state.new ≡ increment_row local (type_state state.old) }
 {
-    match state.locals.get(usize::from(local)) {
-        Some(slot) => suits(Reg::Int, *slot),
-        None => false,
-    }
+    suits(Reg::Int, state.locals.slot(usize::from(local)))
 }
 
 /// Conversions of numbers.

@@ -1,12 +1,13 @@
 // The rows of objects that aren't initialised, and of fields that are put to (JVMS 6.5.new,
 // 6.5.putfield, 4.10.1.9).
 
-ghost use Rattle.std.specs.Prelude.{◌≡◌, ◌<◌, IfOk, None, Some, [], if◌then◌else◌, length, slice_get};
+ghost use Rattle.std.specs.Prelude.{◌≡◌, ◌<◌, IfOk, None, OnOk, Some, [], if◌then◌else◌, length, slice_get, slice_set};
 ghost use Rattle.std.specs.List.{list_any};
 ghost use Rattle.fm_check_rows.specs.Members.{NamesMember};
 ghost use Rattle.fm_check_rows.specs.Outcomes.{is_some_marked, marks, outcome};
+ghost use Rattle.fm_check_rows.specs.inner.Replaced.{replacement};
 ghost use Rattle.fm_types.specs.ObjectRows.{has_objects, new_row, put_field_row, takes_field};
-ghost use Rattle.fm_types.specs.States.{replaced};
+ghost use Rattle.fm_types.specs.States.{local_at, replaced};
 ghost use Rattle.fm_types.specs.Typings.{type_state};
 ghost use Rattle.fm_world.specs.Members.{fields_of, methods_of};
 
@@ -16,7 +17,7 @@ use crate::named::type_at;
 use crate::words::take;
 use fm_base::{Base, FieldId, MethodId, NoMemory, TypeRef};
 use fm_code::{ACC_ABSTRACT, ACC_INTERFACE, has_flag};
-use fm_types::{Slot, Stack, State, fits, fits_type};
+use fm_types::{SharedSlots, Slot, Stack, State, fits, fits_type};
 use fm_world::{Program, Use, type_of_class};
 use std::alloc::Global;
 
@@ -32,27 +33,60 @@ fn is_marked(mark: Option<u32>, slot: Slot) -> bool
     }
 }
 
-/// The slots with another one in the place of each that is marked.
-pub fn replaced(
-    alloc: Global,
-    slots: &[Slot],
-    mark: Option<u32>,
-    other: Slot,
-) -> Result<Vec<Slot>, NoMemory>
-    ensures { IfOk result (λ words. words.items ≡ replaced (marks mark) other slots.now) }
+/// Puts another slot in the place of each that is marked.
+pub fn replace(slots: &mut SharedSlots, mark: Option<u32>, other: Slot) -> Result<(), NoMemory>
+    ensures { OnOk result (slots.new ≡ replaced (marks mark) other slots.old) }
 {
-    let mut words = Vec::new(alloc);
-    for slot in slots {
-        words.push(replacement(*slot, mark, other))?;
+    for number in 0..slots.len() {
+        replace_slot(slots, number, mark, other)?;
     }
-    Ok(words)
+    Ok(())
 }
 
-// What replaces a slot.
-fn replacement(slot: Slot, mark: Option<u32>, other: Slot) -> Slot
-    ensures { result ≡ (if marks mark slot then other else slot) }
+// The same at one place.
+fn replace_slot(
+    slots: &mut SharedSlots,
+    number: usize,
+    mark: Option<u32>,
+    other: Slot,
+) -> Result<(), NoMemory>
+    requires { number < length slots.old }
+    ensures { OnOk result (slots.new ≡ slice_set slots.old number
+        (replacement (marks mark) other (local_at slots.old number))) }
 {
-    if is_marked(mark, slot) { other } else { slot }
+    if !is_marked(mark, slots.slot(number)) {
+        return Ok(());
+    }
+    slots.set(number, other)?;
+    Ok(())
+}
+
+/// Puts another slot in the place of each of a stack that is marked.
+pub fn replace_words(stack: &mut Stack, mark: Option<u32>, other: Slot) -> Result<(), NoMemory>
+    ensures { OnOk result (stack.new ≡ replaced (marks mark) other stack.old) }
+{
+    for depth in 0..stack.len() {
+        replace_word(stack, depth, mark, other)?;
+    }
+    Ok(())
+}
+
+// The same at one depth.
+fn replace_word(
+    stack: &mut Stack,
+    depth: usize,
+    mark: Option<u32>,
+    other: Slot,
+) -> Result<(), NoMemory>
+    requires { depth < length stack.old }
+    ensures { OnOk result (stack.new ≡ slice_set stack.old depth
+        (replacement (marks mark) other (local_at stack.old depth))) }
+{
+    if !is_marked_at(stack, depth, mark) {
+        return Ok(());
+    }
+    stack.set(depth, other)?;
+    Ok(())
 }
 
 /// Whether a slot of the stack is marked.
@@ -99,7 +133,6 @@ fn has_objects(program: &Program, b: Base) -> bool
 /// and copies of it in locals are lost.
 #[tactic(auto, unfolding(fm_types::specs::ObjectRows::new_row))]
 pub fn new_row(
-    alloc: Global,
     program: &Program,
     item: u32,
     resolved: Use,
@@ -123,7 +156,7 @@ pub fn new_row(
     if holds(&state.stack, Some(item)) {
         return Ok(false);
     }
-    state.locals = replaced(alloc, state.locals.as_slice(), Some(item), Slot::Top)?;
+    replace(&mut state.locals, Some(item), Slot::Top)?;
     state.stack.push(Slot::Uninit(item))?;
     Ok(true)
 }

@@ -72,7 +72,7 @@ fn row(
         (use_by program.now method.0 insn.now) insn.now (type_state state.old)) }
 {
     match insn {
-        Insn::New(index) => new_row(alloc, program, item, use_in(program, method, *index), state),
+        Insn::New(index) => new_row(program, item, use_in(program, method, *index), state),
         Insn::Special(index) => {
             let resolved = use_in(program, method, *index);
             special_call_row(alloc, program, method, code, resolved, state)
@@ -117,7 +117,7 @@ fn local_rows(
         Insn::LongConst(_) => push_long(state),
         Insn::LoadPool(index) => constant_row(program, use_in(program, method, *index), state),
         Insn::Load(kind, local) => load_row(*kind, *local, state),
-        Insn::Store(kind, local) => Ok(store_row(program, *kind, *local, state)),
+        Insn::Store(kind, local) => store_row(program, *kind, *local, state),
         Insn::Inc(local, _) => Ok(increment_row(*local, state)),
         _ => number_rows(alloc, program, insn, state),
     }

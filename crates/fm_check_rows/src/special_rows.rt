@@ -17,11 +17,11 @@ use crate::call_rows::{
 };
 use crate::method::{class_of_method, made_at, this_class};
 use crate::named::type_at;
-use crate::object_rows::replaced;
+use crate::object_rows::{replace, replace_words};
 use crate::words::{take, work};
 use fm_base::{ClassId, MethodId, NoMemory, TypeRef};
 use fm_code::Code;
-use fm_types::{Slot, Stack, State, is_in_chain};
+use fm_types::{Slot, State, is_in_chain};
 use fm_world::{Program, Use, class_of_type, type_of_class};
 use std::alloc::Global;
 
@@ -74,26 +74,19 @@ fn is_made(program: &Program, method: MethodId, code: &Code, item: u32, named: T
 }
 
 // Each copy of an object becomes one of the type.
-fn initialise(
-    alloc: Global,
-    state: &mut State,
-    mark: Option<u32>,
-    t: TypeRef,
-) -> Result<(), NoMemory>
+fn initialise(state: &mut State, mark: Option<u32>, t: TypeRef) -> Result<(), NoMemory>
     ensures { OnOk result
         (type_state state.new ≡ initialised (marks mark) t (type_state state.old)) }
 {
     let object = Slot::Ref(t);
-    let words = replaced(alloc, state.stack.as_slice(), mark, object)?;
-    state.locals = replaced(alloc, state.locals.as_slice(), mark, object)?;
-    state.stack = Stack::new(words);
+    replace_words(&mut state.stack, mark, object)?;
+    replace(&mut state.locals, mark, object)?;
     Ok(())
 }
 
 // The receiver is the object of a `new` of exactly the class that is named, or a constructor's own
 // object, with its class or the superclass named.
 fn construct(
-    alloc: Global,
     program: &Program,
     method: MethodId,
     code: &Code,
@@ -111,17 +104,16 @@ fn construct(
             if !is_made(program, method, code, item, named) {
                 return Ok(false);
             }
-            initialise(alloc, state, Some(item), named)?;
+            initialise(state, Some(item), named)?;
             Ok(true)
         }
-        Slot::UninitThis => construct_this(alloc, program, method, named, state),
+        Slot::UninitThis => construct_this(program, method, named, state),
         _ => Ok(false),
     }
 }
 
 // The same where the receiver is the constructor's own object.
 fn construct_this(
-    alloc: Global,
     program: &Program,
     method: MethodId,
     named: TypeRef,
@@ -136,12 +128,7 @@ fn construct_this(
     if !names_own_or_parent(program, own, named) {
         return Ok(false);
     }
-    initialise(
-        alloc,
-        state,
-        None,
-        type_of_class(this_class(program, method)),
-    )?;
+    initialise(state, None, type_of_class(this_class(program, method)))?;
     state.built = true;
     Ok(true)
 }
@@ -169,7 +156,7 @@ fn constructor_called(
     let Some(receiver) = state.stack.pop() else {
         return Ok(false);
     };
-    construct(alloc, program, method, code, named, receiver, state)
+    construct(program, method, code, named, receiver, state)
 }
 
 /// invokespecial.

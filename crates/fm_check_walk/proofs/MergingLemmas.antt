@@ -1,8 +1,8 @@
 -- Fits and joins of lists of slots, from either end; and the join of two states is the least that both fit.
-use Rattle.std.proofs.Common.{◌≡◌, refl, sym, ◌∙◌, ap, ℕ, ◌+◌, ◌<◌, ◌==◌, ◌&&◌, ◌||◌, not, Bool, true, false, List, [], ◌∷◌, ◌++◌, length, take, get_or, reverse, Some, None, cond, subst, arith}
+use Rattle.std.proofs.Common.{◌≡◌, refl, sym, ◌∙◌, ap, ℕ, zero, suc, ◌+◌, ◌<◌, ◌≤◌, ◌==◌, ◌&&◌, ◌||◌, not, Bool, true, false, List, [], ◌∷◌, ◌++◌, length, reverse, set, Some, None, cond, subst, arith}
 use Rattle.std.proofs.Math.Bool.{and_comm}
 use Rattle.std.proofs.lemmas.Bool.{and_from, and_parts, eqb-true, eq-eqb, false≢true}
-use Rattle.std.proofs.lemmas.List.{length-reverse, length-take, reverse-append, take_more}
+use Rattle.std.proofs.lemmas.List.{length-reverse, reverse-append}
 use Rattle.std.proofs.lemmas.List.Elements.{length_all_zip}
 use Rattle.std.specs.List.{AllZip}
 use Rattle.fm_base.proofs.TestFacts.{and_true}
@@ -13,7 +13,7 @@ use Rattle.fm_types.proofs.StateOrder.{all_fit-from, all_fit-parts, Fitting, IsS
 use Rattle.fm_types.proofs.Zips.{zip-refl}
 use Rattle.fm_types.specs.Fits.{AreTree, fits}
 use Rattle.fm_types.specs.Joins.{join}
-use Rattle.fm_types.specs.States.{all_fit, is_whole, state_fits, TypeState}
+use Rattle.fm_types.specs.States.{all_fit, is_whole, local_at, state_fits, TypeState}
 use Rattle.fm_types.specs.declared.slots.Slot.{Slot}
 use Rattle.fm_types.specs.declared.slots.Slot.TheVariants as slot
 use Rattle.fm_world.specs.Programs.{Outline}
@@ -73,14 +73,46 @@ join_slots-reverse o (x ∷ xs) (y ∷ ys) same =
     ∙ reverse-append (join_slots o (reverse xs) (reverse ys)) (join o x y ∷ [])
     ∙ ap (λ zs. join o x y ∷ zs) (join_slots-reverse o xs ys rest)
 
--- one more of each
-pub join_slots-more : (o : Outline) (xs ys : List Slot) (i : ℕ) (d e : Slot) → i < length xs → i < length ys
-    → join_slots o (take (i + 1) xs) (take (i + 1) ys) ≡ join_slots o (take i xs) (take i ys) ++ join o (get_or xs i d) (get_or ys i e) ∷ []
-join_slots-more o xs ys i d e first second =
-    let same : length (take i xs) ≡ length (take i ys) = omega (arith, length-take i xs, length-take i ys) in
-    ap (λ zs. join_slots o zs (take (i + 1) ys)) (take_more xs i d first)
-    ∙ ap (λ zs. join_slots o (take i xs ++ get_or xs i d ∷ []) zs) (take_more ys i e second)
-    ∙ join_slots-append o (take i xs) (get_or xs i d ∷ []) (take i ys) (get_or ys i e ∷ []) same
+module _ (o : Outline) where
+  -- the joins at the first places, this number of them
+  abbrev pub joined_to : ℕ → List Slot → List Slot → List Slot
+  joined_to zero slots others = slots
+  joined_to (suc n) [] others = []
+  joined_to (suc n) (a ∷ slots) [] = a ∷ slots
+  joined_to (suc n) (a ∷ slots) (b ∷ others) = join o a b ∷ joined_to n slots others
+
+  pub length-joined_to : (n : ℕ) (slots others : List Slot) → length (joined_to n slots others) ≡ length slots
+  length-joined_to zero slots others = refl
+  length-joined_to (suc n) [] others = refl
+  length-joined_to (suc n) (a ∷ slots) [] = refl
+  length-joined_to (suc n) (a ∷ slots) (b ∷ others) = ap suc (length-joined_to n slots others)
+
+  next_joined : (n : ℕ) (slots others : List Slot) → n < length slots → length slots ≡ length others
+      → set (joined_to n slots others) n (join o (local_at (joined_to n slots others) n) (local_at others n)) ≡ joined_to (suc n) slots others
+  next_joined n [] others inside level = absurd (omega (arith, inside))
+  next_joined n (a ∷ slots) [] inside level = absurd (omega (arith, level))
+  next_joined zero (a ∷ slots) (b ∷ others) inside level = refl
+  next_joined (suc n) (a ∷ slots) (b ∷ others) inside level =
+      ap (λ (rest : List Slot). join o a b ∷ rest) (next_joined n slots others (omega (arith, inside)) (omega (arith, level)))
+
+  -- one place more
+  pub joined-more : (n : ℕ) (slots others before after : List Slot) (other : Slot) → n < length slots → length slots ≡ length others
+      → before ≡ joined_to n slots others → other ≡ local_at others n → after ≡ set before n (join o (local_at before n) other)
+      → after ≡ joined_to (n + 1) slots others
+  joined-more n slots others before after other inside level was same is =
+      let more : suc n ≡ n + 1 = omega arith in
+      is ∙ ap (λ (x : Slot). set before n (join o (local_at before n) x)) same
+      ∙ ap (λ (xs : List Slot). set xs n (join o (local_at xs n) (local_at others n))) was ∙ next_joined n slots others inside level
+      ∙ ap (λ (k : ℕ). joined_to k slots others) more
+
+  -- all places
+  pub joined-all : (n : ℕ) (slots others : List Slot) → length slots ≤ n → length slots ≡ length others → joined_to n slots others ≡ join_slots o slots others
+  joined-all zero [] others past level = refl
+  joined-all zero (a ∷ slots) others past level = absurd (omega (arith, past))
+  joined-all (suc n) [] others past level = refl
+  joined-all (suc n) (a ∷ slots) [] past level = absurd (omega (arith, level))
+  joined-all (suc n) (a ∷ slots) (b ∷ others) past level =
+      ap (λ (rest : List Slot). join o a b ∷ rest) (joined-all n slots others (omega (arith, past)) (omega (arith, level)))
 
 -- ---- what fits, part by part
 

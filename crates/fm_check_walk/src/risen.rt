@@ -6,7 +6,7 @@ ghost use Rattle.fm_types.specs.declared.known_state.SlotPlace.TheVariants as pl
 ghost use Rattle.fm_types.specs.Typings.{known_state, type_state};
 
 use fm_base::{NoMemory, Seq};
-use fm_types::{KnownState, Slot, SlotPlace, State, slot_in};
+use fm_types::{KnownState, SharedSlots, Slot, SlotPlace, State};
 use std::alloc::Global;
 
 /// A place at which something rose, and what is there now.
@@ -45,7 +45,7 @@ pub fn local_rises(alloc: Global, state: &State, count: u16) -> Result<Vec<Rise>
     for local in 0..count {
         rises.push(Rise {
             place: SlotPlace::Local(local),
-            slot: slot_in(state.locals.as_slice(), usize::from(local)),
+            slot: state.locals.slot(usize::from(local)),
         })?;
     }
     Ok(rises)
@@ -93,14 +93,23 @@ fn push_if_other(places: &mut Vec<u16>, place: u16, slot: Slot, other: Slot) -> 
 }
 
 // The places at which lists of one length differ.
-fn differing_places(alloc: Global, slots: &[Slot], others: &[Slot]) -> Result<Vec<u16>, NoMemory>
+fn differing_places(
+    alloc: Global,
+    slots: &SharedSlots,
+    others: &SharedSlots,
+) -> Result<Vec<u16>, NoMemory>
     requires level { length slots.now ≡ length others.now }
     requires few { length slots.now ≤ 65535 }
     ensures { IfOk result (λ places. DifferIn places.items slots.now others.now) }
 {
     let mut places = Vec::new(alloc);
     for index in 0..slots.len() {
-        push_if_other(&mut places, index as u16, slots[index], others[index])?;
+        push_if_other(
+            &mut places,
+            index as u16,
+            slots.slot(index),
+            others.slot(index),
+        )?;
     }
     Ok(places)
 }
@@ -134,17 +143,17 @@ pub fn risen_places(
     before: &State,
     after: &State,
 ) -> Result<Option<Seq<SlotPlace>>, NoMemory>
-    requires locals { length after.now.locals.items ≡ length before.now.locals.items }
+    requires locals { length after.now.locals ≡ length before.now.locals }
     requires stack { length after.now.stack ≡ length before.now.stack }
-    requires few_locals { length after.now.locals.items ≤ 65535 }
+    requires few_locals { length after.now.locals ≤ 65535 }
     requires few_words { length after.now.stack ≤ 65535 }
     ensures { IfOk result (λ rose. IsRisenIn rose (type_state after.now) (type_state before.now)) }
 {
     if before.built != after.built {
         return Ok(None);
     }
-    let words = differing_places(alloc, after.stack.as_slice(), before.stack.as_slice())?;
-    let locals = differing_places(alloc, after.locals.as_slice(), before.locals.as_slice())?;
+    let words = differing_places(alloc, after.stack.slots(), before.stack.slots())?;
+    let locals = differing_places(alloc, &after.locals, &before.locals)?;
     let mut places = local_places(alloc, locals.as_slice())?;
     let others = word_places(alloc, words.as_slice())?;
     places.extend_from_slice(others.as_slice())?;

@@ -76,7 +76,6 @@ fn nothing_noted(alloc: Global, items: usize) -> Result<Vec<Option<Seq<SlotPlace
 
 // Puts a slot at a place of an item's state, where it has one.
 fn put_slot(
-    alloc: Global,
     states: &mut Vec<Option<KnownState>>,
     item: u32,
     place: SlotPlace,
@@ -90,7 +89,7 @@ fn put_slot(
         (option_map (with_slot place slot) (state_at (states_seen states.old.items) item))) }
 {
     if let Some(known) = &mut states[item as usize] {
-        known.set(alloc, place, slot)?;
+        known.set(place, slot)?;
     }
     Ok(())
 }
@@ -199,7 +198,7 @@ impl Walk {
     {
         let mut rose = Seq::empty(alloc);
         rose.push(place)?;
-        put_slot(alloc, &mut self.states, item, place, slot)?;
+        put_slot(&mut self.states, item, place, slot)?;
         self.note(item, Some(rose), most)?;
         self.wait(item)
     }
@@ -222,23 +221,12 @@ impl Walk {
         mem::replace(&mut self.risen[item as usize], Some(Seq::empty(alloc)))
     }
 
-    // What the state holds, in pieces that it has in common with what is known at an item.
-    fn known_like(&self, alloc: Global, state: &State, item: u32) -> Result<KnownState, NoMemory>
-        ensures { IfOk result (λ known. known_state known ≡ type_state state.now) }
-    {
-        match state_of(self.states.as_slice(), item) {
-            Some(other) => KnownState::like(alloc, state, other),
-            None => KnownState::like(alloc, state, &KnownState::empty(alloc)),
-        }
-    }
-
-    /// Brings a state from one item to another one; false where no typing has room for it. Takes memory
-    /// for the pieces in which it differs from the state of the item that it is brought from.
+    /// Brings a state to an item; false where no typing has room for it. Takes memory for a word for
+    /// each piece of its lists, and for the pieces in which the item's own state is raised.
     pub fn bring(
         &mut self,
         alloc: Global,
         method: &CheckedMethod<'_>,
-        from: u32,
         item: u32,
         brought: &State,
     ) -> Result<bool, NoMemory>
@@ -254,7 +242,7 @@ impl Walk {
             return Ok(false);
         }
         let Some(known) = state_of(self.states.as_slice(), item) else {
-            let first = self.known_like(alloc, brought, from)?;
+            let first = KnownState::of(brought)?;
             self.begin(item, first)?;
             return Ok(true);
         };
@@ -264,16 +252,16 @@ impl Walk {
         if item == 0 {
             return Ok(false);
         }
-        let state = known.to_state(alloc)?;
+        let state = known.to_state()?;
         // For their clauses: the numbers of the state and of the counts are within their bytes.
         law_bounded_state(&state);
         law_few(method.code.max_locals);
         law_few(method.code.max_stack);
-        let Some(joined) = join_state(alloc, method.program, &state, brought)? else {
+        let Some(joined) = join_state(method.program, &state, brought)? else {
             return Ok(false);
         };
         let rose = risen_places(alloc, &state, &joined)?;
-        let raised = KnownState::like(alloc, &joined, known)?;
+        let raised = KnownState::of(&joined)?;
         self.raise_state(item, raised, rose, most_noted(method.code))?;
         Ok(true)
     }

@@ -1,7 +1,8 @@
 -- What is read of a list in pieces, and put into it.
-use Rattle.std.proofs.Common.{◌≡◌, refl, sym, ◌∙◌, ap, ℕ, zero, suc, ◌+◌, ◌-◌, ◌*◌, ◌<◌, ◌≤◌, List, [], ◌∷◌, ◌++◌, length, get_or, set, arith}
+use Rattle.std.proofs.Common.{◌≡◌, refl, sym, ◌∙◌, ap, ℕ, zero, suc, ◌+◌, ◌-◌, ◌*◌, ◌<◌, ◌≤◌, List, [], ◌∷◌, ◌++◌, length, get_or, set, take, arith}
 use Rattle.std.specs.List.{All}
-use Rattle.std.proofs.lemmas.List.{append-nil, append_assoc, get_or_append_left, get_or-append_right, get_or_past, length-append, length-set, set-append_left, set-append_right}
+use Rattle.std.proofs.Math.Seq.{take-append-add, take-length}
+use Rattle.std.proofs.lemmas.List.{append-nil, append_assoc, get_or_append_left, get_or-append_right, get_or_past, length-append, length-set, length-take-le, set-append_left, set-append_right, take-append-le}
 use Rattle.fm_types.specs.declared.slots.Slot.{Slot}
 use Rattle.fm_types.specs.inner.Pieces.{AreEven, in_one}
 
@@ -97,3 +98,89 @@ pub in_one-push : (pieces : List (List Slot)) (piece : List Slot) → in_one (pi
 in_one-push [] piece = append-nil piece
 in_one-push (first ∷ pieces) piece =
     ap (λ (xs : List Slot). first ++ xs) (in_one-push pieces piece) ∙ sym (append_assoc first (in_one pieces) piece)
+
+-- ---- a slot that is put after the first ones
+
+-- where they end in a piece, it has the last of them
+pub room_there : (pieces : List (List Slot)) (q r n : ℕ) → AreEven pieces → r < 32 → n ≡ 32 * q + r → n ≤ length (in_one pieces) → q < length pieces
+    → r ≤ length (get_or pieces q [])
+room_there [] q r n even small is within there = absurd (omega (arith, there))
+room_there (piece ∷ []) zero r n even small is within there =
+    let size = ap length (append-nil piece) in
+    omega (arith, size, is, within)
+room_there (piece ∷ []) (suc q) r n even small is within there = absurd (omega (arith, there))
+room_there (piece ∷ next ∷ pieces) zero r n even small is within there =
+    let size : length piece ≡ 32 = even.1 (omega arith) in
+    omega (arith, size, small)
+room_there (piece ∷ next ∷ pieces) (suc q) r n even small is within there =
+    let size : length piece ≡ 32 = even.1 (omega arith) in
+    let whole = length-append piece (in_one (next ∷ pieces)) in
+    room_there (next ∷ pieces) q r (n - 32) even.2 small (omega (arith, is)) (omega (arith, is, whole, size, within)) (omega (arith, there))
+
+-- the pieces up to that one make the first slots and the one after them
+pub end_there : (pieces : List (List Slot)) (q r n : ℕ) (s : Slot) → AreEven pieces → q < length pieces → r ≤ length (get_or pieces q []) → n ≡ 32 * q + r
+    → in_one (take (suc q) (set pieces q (take r (get_or pieces q []) ++ s ∷ []))) ≡ take n (in_one pieces) ++ s ∷ []
+end_there [] q r n s even there within is = absurd (omega (arith, there))
+end_there (piece ∷ pieces) zero r n s even there within is =
+    let same : r ≡ n = omega (arith, is) in
+    append-nil (take r piece ++ s ∷ [])
+    ∙ ap (λ (xs : List Slot). xs ++ s ∷ []) (sym (take-append-le r piece (in_one pieces) within) ∙ ap (λ (k : ℕ). take k (piece ++ in_one pieces)) same)
+end_there (piece ∷ []) (suc q) r n s even there within is = absurd (omega (arith, there))
+end_there (piece ∷ next ∷ pieces) (suc q) r n s even there within is =
+    let size : length piece ≡ 32 = even.1 (omega arith) in
+    let rest = in_one (next ∷ pieces) in
+    let whole : length piece + (n - 32) ≡ n = omega (arith, is, size) in
+    ap (λ (xs : List Slot). piece ++ xs) (end_there (next ∷ pieces) q r (n - 32) s even.2 (omega (arith, there)) within (omega (arith, is)))
+    ∙ sym (append_assoc piece (take (n - 32) rest) (s ∷ []))
+    ∙ ap (λ (xs : List Slot). xs ++ s ∷ []) (sym (take-append-add piece rest (n - 32)) ∙ ap (λ (k : ℕ). take k (piece ++ rest)) whole)
+
+-- the pieces up to one that becomes the last one are even
+pub AreEven-end : (pieces : List (List Slot)) (q : ℕ) (piece : List Slot) → AreEven pieces → length piece ≤ 32 → q < length pieces
+    → AreEven (take (suc q) (set pieces q piece))
+AreEven-end [] q piece even short there = absurd (omega (arith, there))
+AreEven-end (first ∷ pieces) zero piece even short there = (short, λ some. absurd (omega (arith, some)), tt)
+AreEven-end (first ∷ []) (suc q) piece even short there = absurd (omega (arith, there))
+AreEven-end (first ∷ next ∷ pieces) (suc q) piece even short there =
+    (even.0, λ some. even.1 (omega arith), AreEven-end (next ∷ pieces) q piece even.2 short (omega (arith, there)))
+
+-- no more slots than the pieces may have
+pub most_slots : (pieces : List (List Slot)) → AreEven pieces → length (in_one pieces) ≤ 32 * length pieces
+most_slots [] even = omega arith
+most_slots (piece ∷ pieces) even =
+    let short : length piece ≤ 32 = even.0 in
+    let size = length-append piece (in_one pieces) in
+    let rest = most_slots pieces even.2 in
+    omega (arith, short, size, rest)
+
+-- where the pieces have all the slots that they may have, one more may follow them
+pub AreEven-full : (pieces : List (List Slot)) (piece : List Slot) → AreEven pieces → 32 * length pieces ≤ length (in_one pieces) → length piece ≤ 32
+    → AreEven (pieces ++ piece ∷ [])
+AreEven-full [] piece even full short = (short, λ some. absurd (omega (arith, some)), tt)
+AreEven-full (first ∷ pieces) piece even full short =
+    let low : length first ≤ 32 = even.0 in
+    let size = length-append first (in_one pieces) in
+    let rest = most_slots pieces even.2 in
+    let whole : length first ≡ 32 = omega (arith, full, low, size, rest) in
+    (even.0, λ some. whole, AreEven-full pieces piece even.2 (omega (arith, full, low, size)) short)
+
+-- ---- the first slots of a list
+
+-- one more than some of them
+pub pushed_size : (xs new : List Slot) (n : ℕ) (s : Slot) → n ≤ length xs → new ≡ take n xs ++ s ∷ [] → length new ≡ n + 1
+pushed_size xs new n s within is =
+    let size = ap length is ∙ length-append (take n xs) (s ∷ []) in
+    let first = length-take-le n xs within in
+    omega (arith, size, first)
+
+pub pushed_all : (xs new view : List Slot) (n more : ℕ) (s : Slot) → n ≤ length xs → more ≡ n + 1 → new ≡ take n xs ++ s ∷ [] → take n xs ≡ view
+    → take more new ≡ view ++ s ∷ []
+pushed_all xs new view n more s within count is same =
+    let size = pushed_size xs new n s within is in
+    ap (λ (k : ℕ). take k new) (count ∙ sym size) ∙ take-length new ∙ is ∙ ap (λ (ys : List Slot). ys ++ s ∷ []) same
+
+-- fewer of them
+pub take_twice : (i n : ℕ) (xs : List Slot) → i ≤ n → take i (take n xs) ≡ take i xs
+take_twice zero n xs fewer = refl
+take_twice (suc i) zero xs fewer = absurd (omega (arith, fewer))
+take_twice (suc i) (suc n) [] fewer = refl
+take_twice (suc i) (suc n) (x ∷ xs) fewer = ap (λ (ys : List Slot). x ∷ ys) (take_twice i n xs (omega (arith, fewer)))

@@ -8,7 +8,7 @@ use Rattle.fm_types.specs.declared.states.Typing.{Typing}
 
 -- a state
 abbrev pub type_state : State → TypeState
-type_state s = record { locals = s.locals.items; stack = s.stack; built = s.built }
+type_state s = record { locals = s.locals; stack = s.stack; built = s.built }
 
 -- what is kept of an item, as a state: its words come with the top last
 abbrev pub known_state : KnownState → TypeState

@@ -34,49 +34,36 @@ pub struct KnownState {
 }
 
 impl KnownState {
-    /// That no local and no word is known. Takes no memory.
-    pub fn empty(alloc: Global) -> KnownState {
-        KnownState {
-            locals: SharedSlots::empty(alloc),
-            words: SharedSlots::empty(alloc),
-            built: true,
-        }
-    }
-
-    /// What the state holds. Takes memory for the pieces in which it differs from the other one.
-    pub fn like(alloc: Global, state: &State, other: &KnownState) -> Result<KnownState, NoMemory>
+    /// What the state holds. Takes memory for a word for each piece of its lists.
+    pub fn of(state: &State) -> Result<KnownState, NoMemory>
         ensures { IfOk result (λ known. known_state known ≡ type_state state.now) }
     {
         Ok(KnownState {
-            locals: SharedSlots::like(alloc, state.locals.as_slice(), &other.locals)?,
-            words: SharedSlots::like(alloc, state.stack.as_slice(), &other.words)?,
+            locals: state.locals.copy()?,
+            words: state.stack.slots().copy()?,
             built: state.built,
         })
     }
 
-    /// What the state holds, but for the words of its stack. Takes memory for the pieces in which its
-    /// locals differ from those of the other one.
-    pub fn without_words(
-        alloc: Global,
-        state: &State,
-        other: &KnownState,
-    ) -> Result<KnownState, NoMemory>
+    /// What the state holds, but for the words of its stack. Takes memory for a word for each piece of
+    /// its locals.
+    pub fn without_words(alloc: Global, state: &State) -> Result<KnownState, NoMemory>
         ensures { IfOk result (λ known. known_state known ≡ without_words (type_state state.now)) }
     {
         Ok(KnownState {
-            locals: SharedSlots::like(alloc, state.locals.as_slice(), &other.locals)?,
+            locals: state.locals.copy()?,
             words: SharedSlots::empty(alloc),
             built: state.built,
         })
     }
 
-    /// A state that holds the same.
-    pub fn to_state(&self, alloc: Global) -> Result<State, NoMemory>
+    /// A state that holds the same. Takes memory for a word for each piece of its lists.
+    pub fn to_state(&self) -> Result<State, NoMemory>
         ensures { IfOk result (λ state. type_state state ≡ known_state self.now) }
     {
         Ok(State {
-            locals: self.locals.to_vec(alloc)?,
-            stack: Stack::new(self.words.to_vec(alloc)?),
+            locals: self.locals.copy()?,
+            stack: Stack::new(self.words.copy()?),
             built: self.built,
         })
     }
@@ -106,14 +93,14 @@ impl KnownState {
     }
 
     /// Puts a slot at a place. After `NoMemory` the state is as before.
-    pub fn set(&mut self, alloc: Global, place: SlotPlace, slot: Slot) -> Result<(), NoMemory>
+    pub fn set(&mut self, place: SlotPlace, slot: Slot) -> Result<(), NoMemory>
         requires { HasPlace (known_state self.old) place }
         ensures { OnOk result
             (known_state self.new ≡ with_slot place slot (known_state self.old)) }
     {
         match place {
-            SlotPlace::Local(local) => self.locals.set(alloc, usize::from(local), slot),
-            SlotPlace::Word(word) => self.words.set(alloc, usize::from(word), slot),
+            SlotPlace::Local(local) => self.locals.set(usize::from(local), slot),
+            SlotPlace::Word(word) => self.words.set(usize::from(word), slot),
         }
     }
 }

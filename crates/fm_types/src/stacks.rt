@@ -1,16 +1,16 @@
 // An operand stack of slots (JVMS 2.6.2).
 
-ghost use Rattle.std.specs.Prelude.{◌≡◌, ◌∷◌, ◌++◌, ◌≤◌, ◌^◌, ◌<◌, [], drop, length, map, reverse, IfOk, IfSome, IsNone, OnOk, slice_get};
+ghost use Rattle.std.specs.Prelude.{◌≡◌, ◌∷◌, ◌++◌, ◌≤◌, ◌<◌, [], drop, length, reverse, IfOk, IfSome, IsNone, OnOk, slice_get, slice_set};
 
+use crate::shared_slots::SharedSlots;
 use crate::slots::Slot;
 use fm_base::NoMemory;
-use std::alloc::Global;
 use std::marker::Model;
 
 /// What is known of an operand stack. Contracts see the list of its slots, the top first.
 #[derive(Debug, Drop)]
 pub struct Stack {
-    items: Vec<Slot>,
+    items: SharedSlots,
 }
 
 impl Model for Stack {
@@ -19,30 +19,30 @@ impl Model for Stack {
 
     ghost Value = { List SlotSpec };
 
-    ghost view = { λ s. reverse s.items.items };
+    ghost view = { λ s. reverse s.items };
 }
 
 impl Stack {
     /// The stack of these slots, of which the last one is the top. Takes no memory.
-    pub fn new(items: Vec<Slot>) -> Stack
-        ensures { result ≡ reverse items.items }
+    pub fn new(items: SharedSlots) -> Stack
+        ensures { result ≡ reverse items }
     {
         Stack { items }
     }
 
-    /// An equal stack.
-    pub fn copy(&self, alloc: Global) -> Result<Stack, NoMemory>
+    /// An equal stack. Takes memory for a word for each piece.
+    pub fn copy(&self) -> Result<Stack, NoMemory>
         ensures { IfOk result (λ copy. copy ≡ self.now) }
     {
-        let items = Vec::from_slice(alloc, self.items.as_slice())?;
+        let items = self.items.copy()?;
         Ok(Stack { items })
     }
 
     /// The slots, of which the last one is the top. Takes no memory.
-    pub fn as_slice(&self) -> &[Slot]
+    pub fn slots(&self) -> &SharedSlots
         ensures { result.now ≡ reverse self.now }
     {
-        self.items.as_slice()
+        &self.items
     }
 
     /// The number of slots.
@@ -56,26 +56,35 @@ impl Stack {
     pub fn get(&self, depth: usize) -> Option<Slot>
         ensures { result ≡ slice_get self.now depth }
     {
-        if depth >= self.items.len() {
+        let size = self.items.len();
+        if depth >= size {
             return None;
         }
-        Some(self.items[self.items.len() - 1 - depth])
+        Some(self.items.slot(size - 1 - depth))
+    }
+
+    /// Puts a slot at this depth. After `NoMemory` the stack is as before.
+    pub fn set(&mut self, depth: usize, slot: Slot) -> Result<(), NoMemory>
+        requires { depth < length self.old }
+        ensures { OnOk result (self.new ≡ slice_set self.old depth slot) }
+    {
+        let size = self.items.len();
+        self.items.set(size - 1 - depth, slot)?;
+        Ok(())
     }
 
     /// Puts the slot on top. After `NoMemory` the stack is as before.
     pub fn push(&mut self, slot: Slot) -> Result<(), NoMemory>
         ensures { OnOk result (self.new ≡ slot ∷ self.old) }
     {
-        self.items.push(slot)?;
-        Ok(())
+        self.items.push(slot)
     }
 
     /// Puts the slots on top, the last one uppermost.
     pub fn push_all(&mut self, slots: &[Slot]) -> Result<(), NoMemory>
         ensures { OnOk result (self.new ≡ reverse slots.now ++ self.old) }
     {
-        self.items.extend_from_slice(slots)?;
-        Ok(())
+        push_each(&mut self.items, slots)
     }
 
     /// Takes the top slot, if there is one.
@@ -91,7 +100,17 @@ impl Stack {
         requires { count ≤ length self.old }
         ensures { self.new ≡ drop count self.old }
     {
-        let left = self.items.len() - count;
-        self.items.truncate(left);
+        let size = self.items.len();
+        self.items.truncate(size - count);
     }
+}
+
+// Puts slots after the last one of a list.
+fn push_each(list: &mut SharedSlots, slots: &[Slot]) -> Result<(), NoMemory>
+    ensures { OnOk result (list.new ≡ list.old ++ slots.now) }
+{
+    for slot in slots {
+        list.push(*slot)?;
+    }
+    Ok(())
 }

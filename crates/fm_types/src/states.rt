@@ -4,10 +4,9 @@ ghost use Rattle.std.specs.Prelude.{◌≡◌, IfOk};
 ghost use Rattle.fm_types.specs.Typings.{type_state};
 
 use crate::known_state::KnownState;
-use crate::slots::Slot;
+use crate::shared_slots::SharedSlots;
 use crate::stacks::Stack;
 use fm_base::{NoMemory, Seq};
-use std::alloc::Global;
 
 /// What is known at an item. A long is `Long` and then `Top` among the locals, and on the stack its
 /// `Top` lies above its `Long`. In a constructor `built` says that a constructor that it calls on the
@@ -15,7 +14,7 @@ use std::alloc::Global;
 #[derive(Debug, Drop)]
 pub struct State {
     /// As many as the method has; the parameters come first.
-    pub locals: Vec<Slot>,
+    pub locals: SharedSlots,
     /// The words of the operand stack.
     pub stack: Stack,
     /// Whether the object of a constructor is built; true in other methods.
@@ -23,13 +22,13 @@ pub struct State {
 }
 
 impl State {
-    /// An equal state.
-    pub fn copy(&self, alloc: Global) -> Result<State, NoMemory>
+    /// An equal state. Takes memory for a word for each piece of its lists.
+    pub fn copy(&self) -> Result<State, NoMemory>
         ensures { IfOk result (λ copy. type_state copy ≡ type_state self.now) }
     {
         Ok(State {
-            locals: Vec::from_slice(alloc, self.locals.as_slice())?,
-            stack: self.stack.copy(alloc)?,
+            locals: self.locals.copy()?,
+            stack: self.stack.copy()?,
             built: self.built,
         })
     }

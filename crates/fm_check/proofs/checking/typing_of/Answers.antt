@@ -22,7 +22,7 @@ pub run-requires-clause-walking : goal.run-requires-clause-walking
 run-requires-clause-walking c =
     let t = task c.args.method.now in
     let s = type_state c.in_ok-first.first in
-    let is = c.in_ok-begin.ensures ∙ ap (λ (x : TypeState). with_state 0 None x (walked c.in_ok-walk.walk)) c.in_ok-like.ensures
+    let is = c.in_ok-begin.ensures ∙ ap (λ (x : TypeState). with_state 0 None x (walked c.in_ok-walk.walk)) c.in_ok-known.ensures
     ∙ ap (λ (w : Walked). with_state 0 None s w) (c.in_ok-walk.ensures ∙ ap not_begun c.len.ensures) in
     let Of : Walked → Type 0 = λ w. Walking t w in
     subst Of (sym is) (Walking-first t s c.requires c.in_ok-first.ensures (sym c.is_within.ensures ∙ c.if-not-is_within.false))

@@ -17,8 +17,8 @@ returns-then-not-is_whole c =
     let a = type_state c.args.a.now in
     let b = type_state c.args.b.now in
     let sizes = sym c.have_same_sizes.ensures ∙ c.if-not-have_same_sizes.false in
-    let stack = stack-joined o a b c.new-stack.result c.in_ok-slots.slots.items c.as_slice-3.result.now c.as_slice-4.result.now sizes
-    c.new-stack.ensures c.in_ok-slots.ensures c.as_slice-3.ensures c.as_slice-4.ensures in
+    let stack = stack-joined o a b c.new-stack.result c.in_ok-words.words c.slots.result.now c.slots-2.result.now sizes
+    c.new-stack.ensures c.in_ok-words.ensures c.slots.ensures c.slots-2.ensures in
     join_state-split o a b (ap is_whole (sym stack) ∙ sym c.is_whole.ensures ∙ c.if-not-is_whole.true)
 
 pub returns : goal.returns
@@ -27,10 +27,9 @@ returns c =
     let a = type_state c.args.a.now in
     let b = type_state c.args.b.now in
     let sizes = sym c.have_same_sizes.ensures ∙ c.if-not-have_same_sizes.false in
-    let stack = stack-joined o a b c.new-stack.result c.in_ok-slots.slots.items c.as_slice-3.result.now c.as_slice-4.result.now sizes
-    c.new-stack.ensures c.in_ok-slots.ensures c.as_slice-3.ensures c.as_slice-4.ensures in
-    let locals : c.in_ok-locals.locals.items ≡ join_slots o a.locals b.locals =
-    cc (c.in_ok-locals.ensures, c.as_slice.ensures.value, c.as_slice-2.ensures.value) in
+    let stack = stack-joined o a b c.new-stack.result c.in_ok-words.words c.slots.result.now c.slots-2.result.now sizes
+    c.new-stack.ensures c.in_ok-words.ensures c.slots.ensures c.slots-2.ensures in
+    let locals : c.in_ok-locals.locals ≡ join_slots o a.locals b.locals = c.in_ok-locals.ensures in
     let built : c.if-a.result ≡ (a.built && b.built) =
     elim c.if-a.branch [
       | then-a w ↦ w.result-is ∙ ap (λ t. t && b.built) (sym w.if-a.true)

@@ -9,7 +9,7 @@ pub returns : goal.returns
 returns c =
     let Bounded : List Slot → Type 0 = λ slots. All IsBounded slots in
     record {
-      locals = subst Bounded c.as_slice.ensures.value c.law_all_bounded.ensures;
-      stack = subst Bounded (ap reverse c.as_slice-2.ensures ∙ reverse-reverse c.args.state.now.stack)
-          (All-reverse IsBounded c.as_slice-2.result.now c.law_all_bounded-2.ensures);
+      locals = c.law_all_bounded.ensures;
+      stack = subst Bounded (ap reverse c.slots.ensures ∙ reverse-reverse c.args.state.now.stack)
+          (All-reverse IsBounded c.slots.result.now c.law_all_bounded-2.ensures);
     }

@@ -26,9 +26,9 @@ returns-then-all_fit c =
       | else-known-via-else-known w ↦ built-by_second a.built b.built w.if-known.false
     ] in
     let level = level-parts a b (sym c.have_known_sizes.ensures ∙ c.if-not-have_known_sizes.false) in
-    let locals : all_fit o a.locals b.locals ≡ true = cc (c.as_slice.ensures.value, c.all_fit.ensures, c.if-all_fit.true) in
+    let locals : all_fit o a.locals b.locals ≡ true = sym c.all_fit.ensures ∙ c.if-all_fit.true in
     c.all_fit-then-all_fit.ensures
-    ∙ ap (λ xs. all_fit o xs c.args.known.now.words) c.as_slice-then-all_fit.ensures
+    ∙ ap (λ xs. all_fit o xs c.args.known.now.words) c.slots.ensures
     ∙ ap (λ ys. all_fit o (reverse a.stack) ys) (sym (reverse-reverse c.args.known.now.words))
     ∙ all_fit-reverse o a.stack b.stack level.stack
     ∙ stack-decides o a b built locals
@@ -38,6 +38,5 @@ returns-else-all_fit c =
     let o = c.args.program.now.outline in
     let a = type_state c.args.a.now in
     let b = known_state c.args.known.now in
-    let locals : all_fit o a.locals b.locals ≡ false =
-    cc (c.as_slice.ensures.value, c.all_fit.ensures, c.if-all_fit.false) in
+    let locals : all_fit o a.locals b.locals ≡ false = sym c.all_fit.ensures ∙ c.if-all_fit.false in
     c.if-all_fit.false ∙ locals-unfit o a b locals

@@ -13,11 +13,9 @@ loop-local-preserved c =
     let local = c.loop-local.local in
     let s = type_state c.args.state.now in
     let rise : Slot → Rise = λ x. record { place = place.Local local; slot = x } in
-    let slot : c.slot_in.result ≡ local_at s.locals local =
-    c.slot_in.ensures ∙ ap (λ (k : ℕ). local_at c.as_slice.result.now k) c.from-in-loop-local.ensures
-    ∙ ap (λ (xs : List Slot). local_at xs local) c.as_slice.ensures.value in
+    let slot : c.slot.result ≡ local_at s.locals local = c.slot.ensures ∙ ap (λ (k : ℕ). local_at s.locals k) c.from-in-loop-local.ensures in
     let plain : 0 + local ≡ local = omega arith in
     c.in_ok-push.ensures.items
-    ∙ ap (λ (xs : List Rise). xs ++ rise c.slot_in.result ∷ []) c.loop-local.invariant
+    ∙ ap (λ (xs : List Rise). xs ++ rise c.slot.result ∷ []) c.loop-local.invariant
     ∙ ap (λ (x : Slot). local_rises local s ++ rise x ∷ []) slot
     ∙ sym (map-range_with_len_more (λ k. rise_of s (place.Local k)) 0 local local plain)

@@ -1,4 +1,4 @@
-use Rattle.std.proofs.Common.{rules, ◌≡◌, ◌∙◌, sym, subst, List, ◌++◌, map}
+use Rattle.std.proofs.Common.{rules, ◌≡◌, ◌∙◌, refl, sym, subst, List, ◌++◌, map}
 use Rattle.fm_check_walk.proofs.RisenLemmas.{alike-from_places}
 use Rattle.fm_types.specs.declared.known_state.SlotPlace.{SlotPlace}
 use Rattle.fm_types.specs.declared.known_state.SlotPlace.TheVariants as place
@@ -16,6 +16,5 @@ returns c = λ found e.
     let is : c.extend_from_slice.new.self.items ≡ map (λ k. place.Local k) locals ++ map (λ h. place.Word h) words = search rules in
     let same : c.extend_from_slice.new.self.items ≡ found = sym c.new.ensures ∙ (let one : c.new.result ≡ found = cc in one) in
     subst (λ (places : List SlotPlace). IsAlikeBut places after before) same
-    (alike-from_places locals words c.extend_from_slice.new.self.items c.as_slice-3.result.now c.as_slice-4.result.now c.as_slice.result.now
-    c.as_slice-2.result.now after before is c.in_ok-locals.ensures c.as_slice-3.ensures.value c.as_slice-4.ensures.value c.in_ok-words.ensures
-    c.as_slice.ensures c.as_slice-2.ensures c.requires.locals c.requires.stack built)
+    (alike-from_places locals words c.extend_from_slice.new.self.items after.locals before.locals c.slots.result.now c.slots-2.result.now after before is
+    c.in_ok-locals.ensures refl refl c.in_ok-words.ensures c.slots.ensures c.slots-2.ensures c.requires.locals c.requires.stack built)

@@ -15,10 +15,14 @@ front-turned xs k n total =
     sym (ap (drop n) joined ∙ ap (λ m. drop m (reverse (drop k xs) ++ reverse (take k xs))) (sym size)
     ∙ drop-append_seam (reverse (drop k xs)) (reverse (take k xs)))
 
+pub truncate-requires : goal.truncate-requires
+truncate-requires c = omega (arith, c.len-size.ensures)
+
 pub returns : goal.returns
 returns c =
-    let turned : length (reverse c.self.inside.items.items) ≡ length c.self.inside.items.items = length-reverse c.self.inside.items.items in
-    let deep : c.args.count ≤ length (reverse c.self.inside.items.items) = rw c.self.view_is c.requires in
-    ap reverse c.truncate.ensures.items
-    ∙ front-turned c.self.inside.items.items (c.len.result - c.args.count) c.args.count (omega (arith, turned, deep, c.len.ensures))
+    let xs = c.self.inside.items in
+    let turned : length (reverse xs) ≡ length xs = length-reverse xs in
+    let deep : c.args.count ≤ length (reverse xs) = rw c.self.view_is c.requires in
+    ap reverse c.truncate.ensures
+    ∙ front-turned xs (c.len-size.result - c.args.count) c.args.count (omega (arith, turned, deep, c.len-size.ensures))
     ∙ ap (drop c.args.count) c.self.view_is

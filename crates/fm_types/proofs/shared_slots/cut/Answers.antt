@@ -5,8 +5,8 @@ use Rattle.std.proofs.lemmas.List.Elements.{All-append, All-cons}
 use Rattle.fm_types.proofs.PieceLemmas.{AreEven-made, in_one-push}
 use Rattle.fm_types.specs.declared.slots.Slot.{Slot}
 use Rattle.fm_types.specs.inner.Pieces.{AreEven, in_one}
-use Rattle.fm_types.proofs.shared_slots.SharedSlots.like.Invariants.{IsCut}
-use Rattle.fm_types.proofs.shared_slots.SharedSlots.like.Goals as goal
+use Rattle.fm_types.proofs.shared_slots.cut.Invariants.{IsCut}
+use Rattle.fm_types.proofs.shared_slots.cut.Goals as goal
 
 -- one piece more is cut off
 more : (slots piece others rest : List Slot) (pieces : List (List Slot)) → IsCut slots pieces rest → 32 < length rest → piece ≡ take 32 rest → others ≡ drop 32 rest
@@ -34,19 +34,18 @@ loop-rest-preserved c =
     (more c.args.slots.now c.in_ok-piece_of.field-0 c.split_at.result.1.now c.loop-rest.rest.now c.loop-rest.pieces.items c.loop-rest.invariant
     c.loop-rest-test.true (c.in_ok-piece_of.ensures ∙ c.split_at.ensures.front) c.split_at.ensures.back)
 
-pub invariant_of-result : goal.invariant_of-result
-invariant_of-result c =
+pub returns-clause-even : goal.returns-clause-even
+returns-clause-even c =
     let pieces = c.loop-rest.pieces.items in
     let last = c.in_ok-piece_of-2.field-0 in
     let is : last ≡ c.loop-rest.rest.now = c.in_ok-piece_of-2.ensures in
     let size = ap length is in
     let all = c.loop-rest-test.false in
-    let same = in_one-push pieces last ∙ ap (λ (xs : List Slot). in_one pieces ++ xs) is ∙ c.loop-rest.invariant.same in
-    subst (λ (ps : List (List Slot)). AreEven ps × (length c.args.slots.now ≡ length (in_one ps))) (sym c.in_ok-push-2.ensures.items)
-    (AreEven-made pieces last c.loop-rest.invariant.whole (omega (arith, size, all)), sym (ap length same))
+    subst (λ (ps : List (List Slot)). AreEven ps) (sym c.in_ok-push-2.ensures.items)
+    (AreEven-made pieces last c.loop-rest.invariant.whole (omega (arith, size, all)))
 
-pub returns : goal.returns
-returns c =
+pub returns-clause-slots : goal.returns-clause-slots
+returns-clause-slots c =
     let pieces = c.loop-rest.pieces.items in
     let last = c.in_ok-piece_of-2.field-0 in
     ap in_one c.in_ok-push-2.ensures.items ∙ in_one-push pieces last ∙ ap (λ (xs : List Slot). in_one pieces ++ xs) c.in_ok-piece_of-2.ensures

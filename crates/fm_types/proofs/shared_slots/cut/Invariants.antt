@@ -2,7 +2,7 @@ use Rattle.std.proofs.Common.{◌≡◌, ◌++◌, List, length}
 use Rattle.std.specs.List.{All}
 use Rattle.fm_types.specs.declared.slots.Slot.{Slot}
 use Rattle.fm_types.specs.inner.Pieces.{in_one}
-use Rattle.fm_types.proofs.shared_slots.SharedSlots.like.Given as goal
+use Rattle.fm_types.proofs.shared_slots.cut.Given as goal
 
 -- the pieces so far are whole, and with the rest they are the slots
 pub record IsCut (slots : List Slot) (pieces : List (List Slot)) (rest : List Slot) : Type 0 where
