@@ -15,7 +15,7 @@ use Rattle.fm_flow.proofs.ReachLemmas.{edge_from_item, edge_inside, IsFlowPath-m
 use Rattle.fm_flow.proofs.RowFacts.{has-replicate, has_inside}
 use Rattle.fm_flow.specs.Flow.{IsMarkedBy}
 use Rattle.fm_flow.specs.declared.flow.Flow.{Flow}
-use Rattle.fm_flow.specs.inner.Walks.{Marks}
+use Rattle.fm_flow.specs.Marking.{Marks}
 
 -- ---- the test and paths
 

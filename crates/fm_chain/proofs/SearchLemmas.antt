@@ -11,7 +11,7 @@ use Rattle.fm_base.proofs.ContainsFacts.{any-found}
 use Rattle.fm_base.specs.Rows.{has}
 use Rattle.fm_chain.specs.Loops.{leads_within}
 use Rattle.fm_flow.proofs.RowFacts.{has-replicate, has_inside, unset-cons, unset-le, unset-lt}
-use Rattle.fm_flow.specs.inner.Walks.{unset}
+use Rattle.fm_flow.specs.Marking.{unset}
 
 -- ---- rows
 

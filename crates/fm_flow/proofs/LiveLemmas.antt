@@ -21,7 +21,7 @@ use Rattle.fm_flow.proofs.RowFacts.{has-replicate, has-set_same, has-set_kept, h
 use Rattle.fm_flow.proofs.UsesLemmas.{loaded_fits}
 use Rattle.fm_flow.specs.LiveRows.{AreLiveOf}
 use Rattle.fm_flow.specs.inner.LiveWalks.{IsLiveRow, row_of, StoresOver, Tracing}
-use Rattle.fm_flow.specs.inner.Walks.{Marks}
+use Rattle.fm_flow.specs.Marking.{Marks}
 
 -- ---- what is live at an item
 

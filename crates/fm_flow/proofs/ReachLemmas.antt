@@ -13,7 +13,8 @@ use Rattle.fm_code.specs.declared.instructions.Insn.{Insn}
 use Rattle.fm_flow.proofs.RisingLemmas.{Contains-take_more}
 use Rattle.fm_flow.proofs.RowFacts.{has_inside, has-set_same, has-set_kept, has-set_only, unset-set}
 use Rattle.fm_flow.specs.Tables.{AreReachableOf}
-use Rattle.fm_flow.specs.inner.Walks.{Covers, Marks, Reaching}
+use Rattle.fm_flow.specs.inner.Walks.{Reaching}
+use Rattle.fm_flow.specs.Marking.{Covers, Marks}
 
 -- ---- a list of items is marked
 

@@ -4,7 +4,7 @@ use Rattle.std.proofs.lemmas.Bool.{cases_eq, cases_lt, false≢true}
 use Rattle.std.proofs.lemmas.List.{get_or-set_same, get_or-set_other, get_or_past, get_or-replicate, length-replicate}
 use Rattle.std.proofs.lemmas.List.Sums.{sum_by-cons, sum_by-set}
 use Rattle.fm_base.specs.Rows.{has}
-use Rattle.fm_flow.specs.inner.Walks.{unset}
+use Rattle.fm_flow.specs.Marking.{unset}
 
 -- a bit that is set lies in the row
 pub has_inside : (row : List Bool) (k : ℕ) → has row k ≡ true → k < length row

@@ -14,7 +14,8 @@ use Rattle.fm_flow.proofs.RunLemmas.{Covers-more}
 use Rattle.fm_flow.specs.declared.sources.Sources.{Sources}
 use Rattle.fm_flow.specs.inner.LiveWalks.{list_of, Tracing}
 use Rattle.fm_flow.specs.inner.Sources.{AreRunsOf, AreSourcesOf, BeginsRun, came_from, HasHandler, HasRuns, IsOpened, items_of, MarksRuns, Running, with_last}
-use Rattle.fm_flow.specs.inner.Walks.{Covers, IsMarked, Marks, MarksRun}
+use Rattle.fm_flow.specs.inner.Walks.{IsMarked, MarksRun}
+use Rattle.fm_flow.specs.Marking.{Covers, Marks}
 
 -- ---- lists
 

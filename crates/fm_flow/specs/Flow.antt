@@ -5,7 +5,7 @@ use Rattle.fm_code.specs.Edges.{MeetsCodeRules}
 use Rattle.fm_code.specs.declared.code_array.Code.{Code}
 use Rattle.fm_flow.specs.Tables.{AreEdgesOf, AreReachableOf, AreWithin, ends_of}
 use Rattle.fm_flow.specs.declared.flow.Flow.{Flow}
-use Rattle.fm_flow.specs.inner.Walks.{Covers}
+use Rattle.fm_flow.specs.Marking.{Covers}
 
 -- the number of items of a flow
 abbrev pub item_count : Flow → ℕ

@@ -1,4 +1,5 @@
 pub mod Tables
+pub mod Marking
 pub mod Flow
 pub mod LiveRows
 pub mod inner

@@ -5,7 +5,8 @@ ghost use Rattle.fm_base.specs.Rows.{has};
 ghost use Rattle.fm_code.specs.Edges.{MeetsCodeRules};
 ghost use Rattle.fm_flow.specs.Tables.{AreEdgesOf, AreWithin, ends_of};
 ghost use Rattle.fm_flow.specs.inner.Runs.{HasHandlers, OpensRun};
-ghost use Rattle.fm_flow.specs.inner.Walks.{AreMarked, Covers, Marks};
+ghost use Rattle.fm_flow.specs.inner.Walks.{AreMarked};
+ghost use Rattle.fm_flow.specs.Marking.{Covers, Marks};
 
 use crate::edge_lists::EdgeLists;
 use crate::item_edges::{begins_run, handlers_at, item_count, normal_at, range_ends};

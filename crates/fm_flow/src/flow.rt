@@ -22,7 +22,7 @@ pub struct Flow {
 impl Flow {
     ghost use Rattle.std.specs.Prelude.{Bool, List};
     ghost use Rattle.fm_flow.specs.Flow.{AreEndsWithin, IsFlowOf, IsMarkedBy, edges_at, is_reachable, item_count};
-    ghost use Rattle.fm_flow.specs.inner.Walks.{Marks};
+    ghost use Rattle.fm_flow.specs.Marking.{Marks};
 
     /// The flow of a code that is in a class file and has no instruction that is left out.
     /// `FallsOff` comes exactly where the last item is reachable and control can go on past it.

@@ -4,7 +4,7 @@ ghost use Rattle.std.specs.Prelude.{◌≡◌, ◌<◌, ◌^◌, ℕ, Contains, 
 ghost use Rattle.fm_code.specs.Edges.{MeetsCodeRules};
 ghost use Rattle.fm_flow.specs.inner.LiveWalks.{AreUsesOf, IsLiveRow, list_of};
 ghost use Rattle.fm_flow.specs.inner.Sources.{AreSourcesOf, MarksRuns};
-ghost use Rattle.fm_flow.specs.inner.Walks.{Covers};
+ghost use Rattle.fm_flow.specs.Marking.{Covers};
 
 use crate::item_edges::item_count;
 use crate::marking::{mark, mark_run};

@@ -2,7 +2,8 @@
 
 ghost use Rattle.std.specs.Prelude.{◌≡◌, ℕ, ◌<◌, true, Contains, OnOk, length};
 ghost use Rattle.fm_base.specs.Rows.{has};
-ghost use Rattle.fm_flow.specs.inner.Walks.{Marks, MarksRun};
+ghost use Rattle.fm_flow.specs.inner.Walks.{MarksRun};
+ghost use Rattle.fm_flow.specs.Marking.{Marks};
 
 use fm_base::{NoMemory, Row};
 

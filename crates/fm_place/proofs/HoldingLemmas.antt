@@ -14,7 +14,7 @@ use Rattle.fm_flow.proofs.ReachLemmas.{edge_from_item}
 use Rattle.fm_flow.proofs.RowFacts.{has-replicate, has_inside, has-set_kept, has-set_same}
 use Rattle.fm_flow.specs.Flow.{IsMarkedBy}
 use Rattle.fm_flow.specs.inner.LiveWalks.{row_of}
-use Rattle.fm_flow.specs.inner.Walks.{Marks}
+use Rattle.fm_flow.specs.Marking.{Marks}
 use Rattle.fm_place.proofs.PathLemmas.{may_hold-from, may_hold-tells}
 use Rattle.fm_place.specs.Places.{is_busy, IsBusyPath, MayHold}
 use Rattle.fm_place.specs.declared.busy_rows.Seen.{Seen}

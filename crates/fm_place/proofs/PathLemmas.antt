@@ -15,7 +15,7 @@ use Rattle.fm_conn.specs.Facts.{Facts}
 use Rattle.fm_conn.specs.Nodes.{TypedMethod}
 use Rattle.fm_flow.proofs.ReachLemmas.{edge_from_item, edge_inside}
 use Rattle.fm_flow.proofs.RowFacts.{has-replicate, has_inside, unset-cons, unset-lt}
-use Rattle.fm_flow.specs.inner.Walks.{unset}
+use Rattle.fm_flow.specs.Marking.{unset}
 use Rattle.fm_place.proofs.PlaceLemmas.{any-from}
 use Rattle.fm_place.specs.Laws.{PlacesAreByPaths}
 use Rattle.fm_place.specs.Places.{is_busy, is_place, IsBusyPath, leads_busily, may_hold, MayHold}

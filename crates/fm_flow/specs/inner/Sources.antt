@@ -6,7 +6,8 @@ use Rattle.fm_code.specs.Edges.{Catches, IsNormalEdge}
 use Rattle.fm_code.specs.declared.code_array.Code.{Code}
 use Rattle.fm_flow.specs.declared.sources.Sources.{Sources}
 use Rattle.fm_flow.specs.inner.LiveWalks.{AddsToEach, AreListsBy, list_of}
-use Rattle.fm_flow.specs.inner.Walks.{AreHandlersAt, Covers, Marks}
+use Rattle.fm_flow.specs.inner.Walks.{AreHandlersAt}
+use Rattle.fm_flow.specs.Marking.{Covers, Marks}
 
 -- item j has the handler
 abbrev pub HasHandler : Code → ℕ → ℕ → Type 0

@@ -1,11 +1,12 @@
 -- The states of the walks over items.
-use Rattle.std.specs.Prelude.{◌≡◌, ℕ, ◌+◌, ◌≤◌, ◌⊎◌, ◌↔◌, Bool, true, false, not, List, [], length, Contains, count_by}
-use Rattle.std.specs.List.{AllByRecursion, Any, slice_index_or}
+use Rattle.std.specs.Prelude.{◌≡◌, ℕ, ◌+◌, ◌≤◌, ◌⊎◌, ◌↔◌, Bool, true, List, length, Contains, slice_set}
+use Rattle.std.specs.List.{AllByRecursion, Any}
 use Rattle.std.specs.List.Sorted.{IsStrictlyIncreasing}
 use Rattle.fm_base.specs.Rows.{has}
 use Rattle.fm_code.specs.Edges.{Catches, IsEdge, IsReachable}
 use Rattle.fm_code.specs.declared.code_array.Code.{Code}
 use Rattle.fm_code.specs.declared.code_array.Handler.{Handler}
+use Rattle.fm_flow.specs.Marking.{Marks}
 
 -- ---- lists of numbers
 
@@ -37,30 +38,10 @@ pub record AreMarked (count : ℕ) (handlers : List Handler) (ends : List Bool) 
 
 -- ---- marks
 
--- how many bits aren't set
-abbrev pub unset : List Bool → ℕ
-unset row = count_by not row
-
--- the items of a list are marked, and those that weren't marked before wait
-pub record Marks (list : List ℕ) (old new : List Bool) (old_waiting waiting : List ℕ) : Type 0 where
-  pub same_length : length new ≡ length old
-  pub kept : (j : ℕ) → has old j ≡ true → has new j ≡ true
-  pub listed : (j : ℕ) → Contains list j → has new j ≡ true
-  pub only_listed : (j : ℕ) → has new j ≡ true → (has old j ≡ true) ⊎ (Contains list j × Contains waiting j)
-  pub still_waiting : (j : ℕ) → Contains old_waiting j → Contains waiting j
-  pub waiting_listed : (j : ℕ) → Contains waiting j → Contains old_waiting j ⊎ (Contains list j × (has old j ≡ false))
-  pub work : unset new + length waiting ≡ unset old + length old_waiting
-
--- what each run that is done has is marked
-pub record Covers (items : List (List ℕ)) (done row : List Bool) : Type 0 where
-  pub one_each : length done ≡ length items
-  pub each : (run x : ℕ) → has done run ≡ true → Contains (slice_index_or items run []) x → has row x ≡ true
-
--- the items of a run are marked, and it is done
+-- the items of a run are marked, and it is done, beside the runs that were done before
 pub record MarksRun (list : List ℕ) (run : ℕ) (old new : List Bool) (old_waiting waiting : List ℕ) (old_done done : List Bool) : Type 0 where
   pub marks : Marks list old new old_waiting waiting
-  pub same_length : length done ≡ length old_done
-  pub only : (r : ℕ) → has done r ≡ true → (r ≡ run) ⊎ (has old_done r ≡ true)
+  pub done_more : done ≡ slice_set old_done run true
 
 -- ---- reachable items
 

@@ -9,7 +9,7 @@ use Rattle.fm_conn.specs.Nodes.{TypedMethod}
 use Rattle.fm_conn.specs.Pairs.{call_of, use_at}
 use Rattle.fm_conn.specs.Shapes.{method_with}
 use Rattle.fm_flow.specs.inner.LiveWalks.{list_of}
-use Rattle.fm_flow.specs.inner.Walks.{unset}
+use Rattle.fm_flow.specs.Marking.{unset}
 use Rattle.fm_base.specs.declared.kinds.TypeRef.{TypeRef}
 use Rattle.fm_rapid.specs.Reach.{AreIn, IsClosed, IsFollowed, IsWithin, made_by, narrowed, started_by, starts_of}
 use Rattle.fm_rapid.specs.declared.walk.Walk.{Walk}

@@ -4,7 +4,7 @@ use Rattle.fm_chain.proofs.LoopLemmas.{looping_all, looping_first, looping_insid
 use Rattle.fm_chain.specs.inner.LoopWalks.{Looping}
 use Rattle.fm_flow.proofs.CodeFacts.{items_counted}
 use Rattle.fm_flow.specs.Flow.{edges_at}
-use Rattle.fm_flow.specs.inner.Walks.{Marks}
+use Rattle.fm_flow.specs.Marking.{Marks}
 use Rattle.fm_chain.proofs.loops.looped.Goals as goal
 
 pub item_count-requires : goal.item_count-requires

@@ -1,6 +1,6 @@
 use Rattle.std.proofs.Common.{◌+◌, length}
 use Rattle.fm_chain.proofs.LoopLemmas.{LoopingOnce}
-use Rattle.fm_flow.specs.inner.Walks.{unset}
+use Rattle.fm_flow.specs.Marking.{unset}
 use Rattle.fm_chain.proofs.loops.looped.Given as goal
 
 abbrev pub invariant-loop-j : goal.invariant-loop-j

@@ -11,7 +11,7 @@ use Rattle.fm_flow.proofs.RunLemmas.{Covers-kept, Covers-none}
 use Rattle.fm_flow.proofs.SourcesLemmas.{came_from-is}
 use Rattle.fm_flow.specs.inner.LiveWalks.{list_of, Tracing}
 use Rattle.fm_flow.specs.inner.Sources.{came_from, items_of}
-use Rattle.fm_flow.specs.inner.Walks.{Marks, unset}
+use Rattle.fm_flow.specs.Marking.{Marks, unset}
 use Rattle.fm_flow.proofs.live_walk.live_row.Goals as goal
 
 pub mark-requires : goal.mark-requires

@@ -2,7 +2,7 @@ use Rattle.std.proofs.Common.{◌∙◌, List, get_or, sym, subst, arith, ℕ}
 use Rattle.std.proofs.lemmas.List.{take_all}
 use Rattle.std.proofs.lemmas.List.Elements.{Contains-get_or}
 use Rattle.fm_flow.proofs.ReachLemmas.{Marks-none, Marks-new, Marks-known}
-use Rattle.fm_flow.specs.inner.Walks.{Marks}
+use Rattle.fm_flow.specs.Marking.{Marks}
 use Rattle.fm_flow.proofs.marking.mark.Goals.{then-not-get+in_ok-push, else-not-get}
 use Rattle.fm_flow.proofs.marking.mark.Goals as goal
 

@@ -1,5 +1,5 @@
 use Rattle.std.proofs.Common.{take}
-use Rattle.fm_flow.specs.inner.Walks.{Marks}
+use Rattle.fm_flow.specs.Marking.{Marks}
 use Rattle.fm_flow.proofs.marking.mark.Given as goal
 
 abbrev pub invariant-loop-j : goal.invariant-loop-j

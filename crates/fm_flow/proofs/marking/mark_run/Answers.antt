@@ -4,7 +4,8 @@ use Rattle.fm_flow.proofs.marking.mark_run.Goals as goal
 
 pub returns-then-get : goal.returns-then-get
 returns-then-get c =
-    MarksRun-done c.args.items.now c.args.run c.args.seen.now c.args.waiting.now.items c.args.done.now (c.requires.marked (sym c.get.ensures ∙ c.if-get.true))
+    let is = sym c.get.ensures ∙ c.if-get.true in
+    MarksRun-done c.args.items.now c.args.run c.args.seen.now c.args.waiting.now.items c.args.done.now is (c.requires.marked is)
 
 pub returns : goal.returns
 returns c =

@@ -3,7 +3,8 @@ use Rattle.std.proofs.lemmas.List.{nil_from_length, length_push}
 use Rattle.fm_flow.proofs.ReachLemmas.{Reaching-first, Reaching-more, AreReachableOf-all, waiting_inside}
 use Rattle.fm_flow.proofs.RunLemmas.{Covers-none}
 use Rattle.fm_flow.specs.Tables.{ends_of}
-use Rattle.fm_flow.specs.inner.Walks.{Reaching, unset}
+use Rattle.fm_flow.specs.inner.Walks.{Reaching}
+use Rattle.fm_flow.specs.Marking.{unset}
 use Rattle.fm_flow.proofs.reach.reached_items.Goals as goal
 
 pub run_count-requires : goal.run_count-requires

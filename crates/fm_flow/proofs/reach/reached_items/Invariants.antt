@@ -1,6 +1,6 @@
 use Rattle.std.proofs.Common.{◌+◌, length}
 use Rattle.fm_flow.proofs.ReachLemmas.{ReachingOnce}
-use Rattle.fm_flow.specs.inner.Walks.{unset}
+use Rattle.fm_flow.specs.Marking.{unset}
 use Rattle.fm_flow.proofs.reach.reached_items.Given as goal
 
 abbrev pub invariant-loop-j : goal.invariant-loop-j

@@ -3,7 +3,8 @@ use Rattle.std.proofs.lemmas.List.{get_or_read}
 use Rattle.std.proofs.lemmas.List.Elements.{Contains-append_left, Contains-append_right}
 use Rattle.fm_flow.proofs.ReachLemmas.{Marks-append}
 use Rattle.fm_flow.proofs.RunLemmas.{Covers-kept, Covers-more}
-use Rattle.fm_flow.specs.inner.Walks.{Marks, MarksRun}
+use Rattle.fm_flow.specs.inner.Walks.{MarksRun}
+use Rattle.fm_flow.specs.Marking.{Marks}
 use Rattle.fm_flow.proofs.edge_tables.EdgeTables.mark_from.Goals as goal
 
 pub mark-requires : goal.mark-requires

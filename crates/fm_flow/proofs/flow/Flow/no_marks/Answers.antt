@@ -2,7 +2,7 @@ use Rattle.std.proofs.Common.{◌≡◌, Bool, List, false, replicate, sym, subs
 use Rattle.std.proofs.lemmas.Result.{IfOk-weaker}
 use Rattle.fm_flow.proofs.RunLemmas.{Covers-none}
 use Rattle.fm_flow.specs.Flow.{IsMarkedBy}
-use Rattle.fm_flow.specs.inner.Walks.{Covers}
+use Rattle.fm_flow.specs.Marking.{Covers}
 use Rattle.fm_flow.proofs.flow.Flow.no_marks.Goals as goal
 
 pub run_count-requires : goal.run_count-requires

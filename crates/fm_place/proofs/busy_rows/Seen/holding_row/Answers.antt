@@ -1,7 +1,7 @@
 use Rattle.std.proofs.Common.{◌≡◌, ◌∙◌, ℕ, Bool, true, false, List, [], Contains, replicate, length, ap, sym, subst, arith}
 use Rattle.std.proofs.lemmas.List.{length-replicate, nil_from_length}
 use Rattle.fm_flow.specs.Flow.{edges_at}
-use Rattle.fm_flow.specs.inner.Walks.{Marks}
+use Rattle.fm_flow.specs.Marking.{Marks}
 use Rattle.fm_place.proofs.HoldingLemmas.{following_first, following_inside, following_off, following_on, follows_all}
 use Rattle.fm_place.specs.inner.PlanRows.{count_of, Following, IsAfter}
 use Rattle.fm_place.proofs.busy_rows.Seen.holding_row.Goals as goal

@@ -1,5 +1,5 @@
 use Rattle.std.proofs.Common.{◌+◌, length}
-use Rattle.fm_flow.specs.inner.Walks.{unset}
+use Rattle.fm_flow.specs.Marking.{unset}
 use Rattle.fm_place.proofs.HoldingLemmas.{FollowingOnce}
 use Rattle.fm_place.proofs.busy_rows.Seen.holding_row.Given as goal
 

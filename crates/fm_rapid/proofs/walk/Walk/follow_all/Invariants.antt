@@ -1,5 +1,5 @@
 use Rattle.std.proofs.Common.{◌+◌, length}
-use Rattle.fm_flow.specs.inner.Walks.{unset}
+use Rattle.fm_flow.specs.Marking.{unset}
 use Rattle.fm_rapid.specs.inner.Walks.{sets_of, IsUnderWay}
 use Rattle.fm_rapid.proofs.walk.Walk.follow_all.Given as goal
 
