@@ -99,9 +99,9 @@ Running-none code ends = record {
 }
 
 -- a run begins
-pub Running-begin : (code : Code) (ends : List Bool) (old_caught old_items caught items : List (List ℕ)) (j : ℕ) → Running code ends old_caught old_items j →
-    BeginsRun code j old_caught old_items caught items → IsOpened code caught items j
-Running-begin code ends old_caught old_items caught items j so_far begins =
+pub Running-begin : (code : Code) (ends : List Bool) (old_by_handler old_items by_handler items : List (List ℕ)) (j : ℕ) → Running code ends old_by_handler old_items j →
+    BeginsRun code j old_by_handler old_items by_handler items → IsOpened code by_handler items j
+Running-begin code ends old_by_handler old_items by_handler items j so_far begins =
     let was = so_far.runs in
     let few = so_far.few in
     let n = length old_items in
@@ -132,18 +132,18 @@ Running-begin code ends old_caught old_items caught items j so_far begins =
         some = omega arith;
         few = omega arith;
         each = λ h. (
-          λ handles. subst (λ (r : ℕ). Contains (list_of caught h) r) (sym last) ((begins.adds.members h n).1 (inr ((begins.are.members h).1 handles, refl))),
+          λ handles. subst (λ (r : ℕ). Contains (list_of by_handler h) r) (sym last) ((begins.adds.members h n).1 (inr ((begins.are.members h).1 handles, refl))),
           λ found.
               ⊎_elim (λ before. absurd (let low = was.within h n before in omega arith)) (λ now. (begins.are.members h).0 now.0)
-              ((begins.adds.members h n).0 (subst (λ (r : ℕ). Contains (list_of caught h) r) last found)),
+              ((begins.adds.members h n).0 (subst (λ (r : ℕ). Contains (list_of by_handler h) r) last found)),
         );
       };
     }
 
 -- item j is put into the last run
-pub Running-next : (code : Code) (ends : List Bool) (caught items after : List (List ℕ)) (j : ℕ) → AllByRecursion (IsMarked ends) code.handlers →
-    IsOpened code caught items j → after ≡ with_last items j → Running code ends caught after (j + 1)
-Running-next code ends caught items after j marked opened is =
+pub Running-next : (code : Code) (ends : List Bool) (by_handler items after : List (List ℕ)) (j : ℕ) → AllByRecursion (IsMarked ends) code.handlers →
+    IsOpened code by_handler items j → after ≡ with_last items j → Running code ends by_handler after (j + 1)
+Running-next code ends by_handler items after j marked opened is =
     let was = opened.runs in
     let ready = opened.ready in
     let some = ready.some in
@@ -160,7 +160,7 @@ Running-next code ends caught items after j marked opened is =
             ⊎_elim (λ before. let low = was.below r x before in omega arith) (λ now. let same = now.1 in omega arith) (has_item r x found);
         sound = λ h r x found there.
             ⊎_elim (λ before. was.sound h r x found before)
-            (λ now. subst (λ (y : ℕ). HasHandler code y h) (sym now.1) ((ready.each h).1 (subst (λ (k : ℕ). Contains (list_of caught h) k) now.0 found)))
+            (λ now. subst (λ (y : ℕ). HasHandler code y h) (sym now.1) ((ready.each h).1 (subst (λ (k : ℕ). Contains (list_of by_handler h) k) now.0 found)))
             (has_item r x there);
         complete = λ h x below handles.
             ⊎_elim
@@ -182,16 +182,16 @@ Running-next code ends caught items after j marked opened is =
         few = omega arith;
         each = λ h.
             let next = caught_next ends code.handlers j h marked unmarked in (
-              λ handles. subst (λ (r : ℕ). Contains (list_of caught h) r) (sym last) ((ready.each h).0 (next.1 handles)),
-              λ found. next.0 ((ready.each h).1 (subst (λ (r : ℕ). Contains (list_of caught h) r) last found)),
+              λ handles. subst (λ (r : ℕ). Contains (list_of by_handler h) r) (sym last) ((ready.each h).0 (next.1 handles)),
+              λ found. next.0 ((ready.each h).1 (subst (λ (r : ℕ). Contains (list_of by_handler h) r) last found)),
             );
       };
     }
 
-pub AreRunsOf-all : (code : Code) (ends : List Bool) (caught items : List (List ℕ)) (j : ℕ) → j ≡ length code.items → Running code ends caught items j →
-    AreRunsOf code caught items
-AreRunsOf-all code ends caught items j all running = record {
-  runs = subst (HasRuns code caught items) all running.runs;
+pub AreRunsOf-all : (code : Code) (ends : List Bool) (by_handler items : List (List ℕ)) (j : ℕ) → j ≡ length code.items → Running code ends by_handler items j →
+    AreRunsOf code by_handler items
+AreRunsOf-all code ends by_handler items j all running = record {
+  runs = subst (HasRuns code by_handler items) all running.runs;
   few = let few = running.few in omega arith;
 }
 
@@ -201,7 +201,7 @@ pub came_from-is : (code : Code) (s : Sources) (j : ℕ) → AreSourcesOf code s
 came_from-is code s j are inside x =
     let own = list_of s.own.items j in
     let items = s.runs.items.items in
-    let runs = list_of s.runs.caught.items j in (
+    let runs = list_of s.runs.by_handler.items j in (
       λ found.
           ⊎_elim (λ one. inl ((are.own.each j inside x).0 one))
           (λ other.

@@ -55,16 +55,16 @@ fn mark_runs(
     waiting: &mut Vec<u32>,
     done: &mut Row,
 ) -> Result<(), NoMemory>
-    requires inside { j < length runs.now.caught.items }
-    requires within { (r : ℕ) → Contains (list_of runs.now.caught.items j) r
+    requires inside { j < length runs.now.by_handler.items }
+    requires within { (r : ℕ) → Contains (list_of runs.now.by_handler.items j) r
         → r < length runs.now.items.items }
     requires below { (r x : ℕ) → Contains (list_of runs.now.items.items r) x
         → x < length seen.old }
     requires covers { Covers runs.now.items.items done.old seen.old }
-    ensures { OnOk result (MarksRuns runs.now.items.items (list_of runs.now.caught.items j)
+    ensures { OnOk result (MarksRuns runs.now.items.items (list_of runs.now.by_handler.items j)
         seen.old seen.new waiting.old.items waiting.new.items done.new) }
 {
-    let list = runs.caught[j as usize].as_slice();
+    let list = runs.by_handler[j as usize].as_slice();
     for run in list {
         let items = runs.items[*run as usize].as_slice();
         mark_run(items, *run, seen, waiting, done)?;

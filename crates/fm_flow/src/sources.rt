@@ -26,7 +26,7 @@ pub struct Sources {
 #[derive(Drop)]
 pub struct Runs {
     /// For each item the runs of which it is a handler.
-    pub caught: Vec<Seq<u32>>,
+    pub by_handler: Vec<Seq<u32>>,
     /// For each run its items.
     pub items: Vec<Seq<u32>>,
 }
@@ -60,7 +60,7 @@ fn own_sources(alloc: Global, code: &Code) -> Result<Vec<Seq<u32>>, NoMemory>
 // The runs of a code.
 fn runs_of(alloc: Global, code: &Code) -> Result<Runs, NoMemory>
     requires { MeetsCodeRules code.now }
-    ensures { IfOk result (λ runs. AreRunsOf code.now runs.caught.items runs.items.items) }
+    ensures { IfOk result (λ runs. AreRunsOf code.now runs.by_handler.items runs.items.items) }
 {
     let ends = range_ends(alloc, code.handlers.as_slice(), item_count(code))?;
     runs_between(alloc, code, &ends)
@@ -71,16 +71,16 @@ fn runs_of(alloc: Global, code: &Code) -> Result<Runs, NoMemory>
 fn runs_between(alloc: Global, code: &Code, ends: &Row) -> Result<Runs, NoMemory>
     requires spelled { MeetsCodeRules code.now }
     requires marked { AreMarked (length code.now.items) code.now.handlers ends.now }
-    ensures { IfOk result (λ runs. AreRunsOf code.now runs.caught.items runs.items.items) }
+    ensures { IfOk result (λ runs. AreRunsOf code.now runs.by_handler.items runs.items.items) }
 {
     let count = item_count(code);
-    let mut caught = empty_lists(alloc, count)?;
+    let mut by_handler = empty_lists(alloc, count)?;
     let mut items = Vec::new(alloc);
     for j in 0..count {
-        open_run(alloc, code, ends, j, &mut caught, &mut items)?;
+        open_run(alloc, code, ends, j, &mut by_handler, &mut items)?;
         push_to_last(&mut items, j)?;
     }
-    Ok(Runs { caught, items })
+    Ok(Runs { by_handler, items })
 }
 
 // Begins a run at item j, if one begins there, so that the last run has the handlers of the item.
@@ -89,17 +89,17 @@ fn open_run(
     code: &Code,
     ends: &Row,
     j: u32,
-    caught: &mut Vec<Seq<u32>>,
+    by_handler: &mut Vec<Seq<u32>>,
     items: &mut Vec<Seq<u32>>,
 ) -> Result<(), NoMemory>
     requires spelled { MeetsCodeRules code.now }
     requires inside { j < length code.now.items }
     requires bits { length ends.now ≡ length code.now.items + 1 }
-    requires running { Running code.now ends.now caught.old.items items.old.items j }
-    ensures { OnOk result (IsOpened code.now caught.new.items items.new.items j) }
+    requires running { Running code.now ends.now by_handler.old.items items.old.items j }
+    ensures { OnOk result (IsOpened code.now by_handler.new.items items.new.items j) }
 {
     if begins_run(ends, j) {
-        begin_run(alloc, code, j, caught, items)?;
+        begin_run(alloc, code, j, by_handler, items)?;
     }
     Ok(())
 }
@@ -109,17 +109,17 @@ fn begin_run(
     alloc: Global,
     code: &Code,
     j: u32,
-    caught: &mut Vec<Seq<u32>>,
+    by_handler: &mut Vec<Seq<u32>>,
     items: &mut Vec<Seq<u32>>,
 ) -> Result<(), NoMemory>
     requires spelled { MeetsCodeRules code.now }
-    requires one_each { length caught.old.items ≡ length code.now.items }
+    requires one_each { length by_handler.old.items ≡ length code.now.items }
     requires few { length items.old.items < 2 ^ 32 }
-    ensures { OnOk result (BeginsRun code.now j caught.old.items items.old.items
-        caught.new.items items.new.items) }
+    ensures { OnOk result (BeginsRun code.now j by_handler.old.items items.old.items
+        by_handler.new.items items.new.items) }
 {
     let handlers = handlers_at(alloc, code.handlers.as_slice(), j)?;
-    add_to_each(handlers.as_slice(), items.len() as u32, caught)?;
+    add_to_each(handlers.as_slice(), items.len() as u32, by_handler)?;
     items.push(Seq::empty(alloc))?;
     Ok(())
 }

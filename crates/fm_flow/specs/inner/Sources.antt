@@ -20,41 +20,41 @@ with_last lists j = slice_set lists (length lists - 1) (list_of lists (length li
 -- ---- runs
 
 -- a run more: it has no items so far, and is among those of each handler of item j
-pub record BeginsRun (code : Code) (j : ℕ) (old_caught old_items caught items : List (List ℕ)) : Type 0 where
+pub record BeginsRun (code : Code) (j : ℕ) (old_by_handler old_items by_handler items : List (List ℕ)) : Type 0 where
   pub handlers : List ℕ
   pub are : AreHandlersAt code j handlers
-  pub adds : AddsToEach handlers (length old_items) old_caught caught
+  pub adds : AddsToEach handlers (length old_items) old_by_handler by_handler
   pub pushed : items ≡ old_items ++ [] ∷ []
 
 -- the runs of the items below j: an item below j has the handlers whose run it is in, and no others
-pub record HasRuns (code : Code) (caught items : List (List ℕ)) (j : ℕ) : Type 0 where
-  pub one_each : length caught ≡ length code.items
-  pub within : (handler run : ℕ) → Contains (list_of caught handler) run → run < length items
+pub record HasRuns (code : Code) (by_handler items : List (List ℕ)) (j : ℕ) : Type 0 where
+  pub one_each : length by_handler ≡ length code.items
+  pub within : (handler run : ℕ) → Contains (list_of by_handler handler) run → run < length items
   pub below : (run x : ℕ) → Contains (list_of items run) x → x < j
-  pub sound : (handler run x : ℕ) → Contains (list_of caught handler) run → Contains (list_of items run) x → HasHandler code x handler
+  pub sound : (handler run x : ℕ) → Contains (list_of by_handler handler) run → Contains (list_of items run) x → HasHandler code x handler
   pub complete : (handler x : ℕ) → x < j → HasHandler code x handler →
-      (run : ℕ) × Contains (list_of caught handler) run × Contains (list_of items run) x
+      (run : ℕ) × Contains (list_of by_handler handler) run × Contains (list_of items run) x
 
 -- the last run has the handlers of item j
-pub record IsOpen (code : Code) (caught items : List (List ℕ)) (j : ℕ) : Type 0 where
+pub record IsOpen (code : Code) (by_handler items : List (List ℕ)) (j : ℕ) : Type 0 where
   pub some : 0 < length items
   pub few : length items ≤ j + 1
-  pub each : (handler : ℕ) → HasHandler code j handler ↔ Contains (list_of caught handler) (length items - 1)
+  pub each : (handler : ℕ) → HasHandler code j handler ↔ Contains (list_of by_handler handler) (length items - 1)
 
 -- item j may be put into the last run
-pub record IsOpened (code : Code) (caught items : List (List ℕ)) (j : ℕ) : Type 0 where
-  pub runs : HasRuns code caught items j
-  pub ready : IsOpen code caught items j
+pub record IsOpened (code : Code) (by_handler items : List (List ℕ)) (j : ℕ) : Type 0 where
+  pub runs : HasRuns code by_handler items j
+  pub ready : IsOpen code by_handler items j
 
 -- the runs so far, and whether item j may be put into the last one
-pub record Running (code : Code) (ends : List Bool) (caught items : List (List ℕ)) (j : ℕ) : Type 0 where
-  pub runs : HasRuns code caught items j
+pub record Running (code : Code) (ends : List Bool) (by_handler items : List (List ℕ)) (j : ℕ) : Type 0 where
+  pub runs : HasRuns code by_handler items j
   pub few : length items ≤ j
-  pub ready : 0 < j → has ends j ≡ false → IsOpen code caught items j
+  pub ready : 0 < j → has ends j ≡ false → IsOpen code by_handler items j
 
 -- the runs of all items
-pub record AreRunsOf (code : Code) (caught items : List (List ℕ)) : Type 0 where
-  pub runs : HasRuns code caught items (length code.items)
+pub record AreRunsOf (code : Code) (by_handler items : List (List ℕ)) : Type 0 where
+  pub runs : HasRuns code by_handler items (length code.items)
   pub few : length items ≤ length code.items
 
 -- ---- sources
@@ -62,7 +62,7 @@ pub record AreRunsOf (code : Code) (caught items : List (List ℕ)) : Type 0 whe
 -- the sources of all edges
 pub record AreSourcesOf (code : Code) (s : Sources) : Type 0 where
   pub own : AreListsBy (length code.items) (λ next j. IsNormalEdge code j next) s.own.items
-  pub runs : AreRunsOf code s.runs.caught.items s.runs.items.items
+  pub runs : AreRunsOf code s.runs.by_handler.items s.runs.items.items
 
 -- the items of these runs
 abbrev pub items_of : List (List ℕ) → List ℕ → List ℕ
@@ -70,7 +70,7 @@ items_of items runs = flat_map (list_of items) runs
 
 -- the items from which an edge leads to item j
 abbrev pub came_from : Sources → ℕ → List ℕ
-came_from s j = list_of s.own.items j ++ items_of s.runs.items.items (list_of s.runs.caught.items j)
+came_from s j = list_of s.own.items j ++ items_of s.runs.items.items (list_of s.runs.by_handler.items j)
 
 -- ---- the walk
 

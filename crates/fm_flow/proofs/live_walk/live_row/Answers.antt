@@ -134,7 +134,7 @@ loop-j-preserved c =
     let list : c.as_slice.result.now ≡ list_of own j = c.as_slice.ensures ∙ get_or_read own j c.index-in-Some.result.now (omega arith) c.index-in-Some.ensures [] in
     let first = subst (λ (xs : List ℕ). Marks xs c.loop-j.seen c.mark-in-Some.new.reached rest c.mark-in-Some.new.waiting.items) list c.in_ok-mark-3.ensures in
     let second = c.in_ok-mark_runs.ensures.marks in
-    let marks = Marks-append (list_of own j) (items_of s.runs.items.items (list_of s.runs.caught.items j)) c.loop-j.seen c.mark-in-Some.new.reached
+    let marks = Marks-append (list_of own j) (items_of s.runs.items.items (list_of s.runs.by_handler.items j)) c.loop-j.seen c.mark-in-Some.new.reached
     c.mark_runs.new.seen rest c.mark-in-Some.new.waiting.items c.mark_runs.new.waiting.items first second in
     record {
       tracing = rw c.set.ensures

@@ -13,8 +13,8 @@ index-requires-in-loop-run c =
     let i = c.loop-run.run-index in
     let list = c.as_slice-list.result.now in
     let run = get_or list i 0 in
-    let are : list ≡ list_of runs.caught.items c.args.j =
-    c.as_slice-list.ensures ∙ get_or_read runs.caught.items c.args.j c.index.result.now c.requires.inside c.index.ensures [] in
+    let are : list ≡ list_of runs.by_handler.items c.args.j =
+    c.as_slice-list.ensures ∙ get_or_read runs.by_handler.items c.args.j c.index.result.now c.requires.inside c.index.ensures [] in
     let within = c.requires.within run (subst (λ (xs : List ℕ). Contains xs run) are (Contains-get_or list i 0 c.loop-run-test.true)) in
     let ok = runs.items.ok.0 in omega (arith, within, ok)
 
@@ -24,8 +24,8 @@ mark_run-requires c =
     let i = c.loop-run.run-index in
     let list = c.as_slice-list.result.now in
     let run = get_or list i 0 in
-    let are : list ≡ list_of runs.caught.items c.args.j =
-    c.as_slice-list.ensures ∙ get_or_read runs.caught.items c.args.j c.index.result.now c.requires.inside c.index.ensures [] in
+    let are : list ≡ list_of runs.by_handler.items c.args.j =
+    c.as_slice-list.ensures ∙ get_or_read runs.by_handler.items c.args.j c.index.result.now c.requires.inside c.index.ensures [] in
     let there = subst (λ (xs : List ℕ). Contains xs run) are (Contains-get_or list i 0 c.loop-run-test.true) in
     let within = c.requires.within run there in
     let items : c.as_slice-items.result.now ≡ list_of runs.items.items run =
@@ -48,8 +48,8 @@ loop-run-preserved c =
     let i = c.loop-run.run-index in
     let list = c.as_slice-list.result.now in
     let run = get_or list i 0 in
-    let are : list ≡ list_of runs.caught.items c.args.j =
-    c.as_slice-list.ensures ∙ get_or_read runs.caught.items c.args.j c.index.result.now c.requires.inside c.index.ensures [] in
+    let are : list ≡ list_of runs.by_handler.items c.args.j =
+    c.as_slice-list.ensures ∙ get_or_read runs.by_handler.items c.args.j c.index.result.now c.requires.inside c.index.ensures [] in
     let there = subst (λ (xs : List ℕ). Contains xs run) are (Contains-get_or list i 0 c.loop-run-test.true) in
     let within = c.requires.within run there in
     let items : c.as_slice-items.result.now ≡ list_of runs.items.items run =
@@ -63,7 +63,7 @@ pub returns : goal.returns
 returns c =
     let runs = c.args.runs.now in
     let list = c.as_slice-list.result.now in
-    let are : list ≡ list_of runs.caught.items c.args.j =
-    c.as_slice-list.ensures ∙ get_or_read runs.caught.items c.args.j c.index.result.now c.requires.inside c.index.ensures [] in
+    let are : list ≡ list_of runs.by_handler.items c.args.j =
+    c.as_slice-list.ensures ∙ get_or_read runs.by_handler.items c.args.j c.index.result.now c.requires.inside c.index.ensures [] in
     let All : List ℕ → Type 0 = λ xs. MarksRuns runs.items.items xs c.args.seen.now c.loop-run.seen c.args.waiting.now.items c.loop-run.waiting.items c.loop-run.done in
     subst All are (subst All (take_all c.loop-run.run-index list c.loop-run-test.false) c.loop-run.invariant)

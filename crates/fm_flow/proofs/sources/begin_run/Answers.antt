@@ -19,9 +19,9 @@ returns c =
     let Handlers : List Handler → Type 0 = λ hs. IsRisingListOf (λ y. Any (Catches c.args.j y) hs) c.in_ok-handlers.handlers.items in
     let ok = c.args.items.now.ok.0 in
     let count : c.len.result ≡ length c.args.items.now.items = omega (arith, c.len.ensures, ok) in
-    let list : AddsToEach c.in_ok-handlers.handlers.items c.len.result c.args.caught.now.items c.add_to_each.new.lists.items =
-    subst (λ (xs : List ℕ). AddsToEach xs c.len.result c.args.caught.now.items c.add_to_each.new.lists.items) c.as_slice-2.ensures.value c.in_ok-add_to_each.ensures in
-    let adds = subst (λ (n : ℕ). AddsToEach c.in_ok-handlers.handlers.items n c.args.caught.now.items c.add_to_each.new.lists.items) count list in
+    let list : AddsToEach c.in_ok-handlers.handlers.items c.len.result c.args.by_handler.now.items c.add_to_each.new.lists.items =
+    subst (λ (xs : List ℕ). AddsToEach xs c.len.result c.args.by_handler.now.items c.add_to_each.new.lists.items) c.as_slice-2.ensures.value c.in_ok-add_to_each.ensures in
+    let adds = subst (λ (n : ℕ). AddsToEach c.in_ok-handlers.handlers.items n c.args.by_handler.now.items c.add_to_each.new.lists.items) count list in
     record {
       handlers = c.in_ok-handlers.handlers.items;
       are = subst Handlers c.as_slice.ensures c.in_ok-handlers.ensures;

@@ -12,7 +12,7 @@ begin_run-requires c = record {
 
 pub returns-in_ok-begin_run : goal.returns-in_ok-begin_run
 returns-in_ok-begin_run c =
-    Running-begin c.args.code.now c.args.ends.now c.args.caught.now.items c.args.items.now.items c.begin_run.new.caught.items c.begin_run.new.items.items c.args.j
+    Running-begin c.args.code.now c.args.ends.now c.args.by_handler.now.items c.args.items.now.items c.begin_run.new.by_handler.items c.begin_run.new.items.items c.args.j
     c.requires.running c.in_ok-begin_run.ensures
 
 pub returns-else-begins_run : goal.returns-else-begins_run

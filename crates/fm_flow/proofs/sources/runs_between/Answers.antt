@@ -3,7 +3,7 @@ use Rattle.fm_flow.proofs.SourcesLemmas.{AreRunsOf-all, Running-next, Running-no
 use Rattle.fm_flow.proofs.sources.runs_between.Goals as goal
 
 pub loop-j-init : goal.loop-j-init
-loop-j-init c = rw (c.in_ok-caught.ensures, c.item_count-count.ensures.count, c.new-items.ensures.items) (Running-none c.args.code.now c.args.ends.now)
+loop-j-init c = rw (c.in_ok-by_handler.ensures, c.item_count-count.ensures.count, c.new-items.ensures.items) (Running-none c.args.code.now c.args.ends.now)
 
 pub open_run-requires : goal.open_run-requires
 open_run-requires c = record {
@@ -18,10 +18,10 @@ push_to_last-requires c = c.in_ok-open_run.ensures.ready.some
 
 pub loop-j-preserved : goal.loop-j-preserved
 loop-j-preserved c =
-    Running-next c.args.code.now c.args.ends.now c.open_run.new.caught.items c.open_run.new.items.items c.push_to_last.new.lists.items c.loop-j.j
+    Running-next c.args.code.now c.args.ends.now c.open_run.new.by_handler.items c.open_run.new.items.items c.push_to_last.new.lists.items c.loop-j.j
     c.requires.marked.each c.in_ok-open_run.ensures c.in_ok-push_to_last.ensures
 
 pub returns : goal.returns
 returns c =
     let all : c.loop-j.j ≡ c.item_count-count.result = omega arith in
-    AreRunsOf-all c.args.code.now c.args.ends.now c.loop-j.caught.items c.loop-j.items.items c.loop-j.j (all ∙ c.item_count-count.ensures.count) c.loop-j.invariant
+    AreRunsOf-all c.args.code.now c.args.ends.now c.loop-j.by_handler.items c.loop-j.items.items c.loop-j.j (all ∙ c.item_count-count.ensures.count) c.loop-j.invariant
