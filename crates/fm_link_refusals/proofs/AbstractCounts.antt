@@ -1,6 +1,7 @@
 -- How many abstract methods are still to be implemented: the counts of one method more, and of all methods of a signature.
 use Rattle.std.proofs.Common.{◌≡◌, refl, sym, ◌∙◌, ap, subst, ℕ, zero, suc, ◌+◌, ◌-◌, ◌<◌, ◌≤◌, ◌&&◌, ◌||◌, not, Bool, true, false, cond, List, length, get_or, replicate, set, nat_lt, arith, ◌⊎◌, inl, inr, get_or-set_same, get_or-set_other, length-set}
 use Rattle.std.proofs.lemmas.Bool.{cases_eq, cases_lt, false≢true, le-ltb, lt-ltb}
+use Rattle.std.proofs.lemmas.List.{length-replicate}
 use Rattle.fm_base.proofs.RowsLemmas.{get_or-zeros}
 use Rattle.fm_base.proofs.TestFacts.{and_false}
 use Rattle.fm_link_members.specs.declared.lookups.Methods.{Methods}
@@ -147,6 +148,15 @@ counts_changed classes m p q row new method adds are within same before after is
 -- a row that is too short says nothing
 pub counts_short : (m : Methods) (count : ℕ) (q : ℕ → Bool) (row : List ℕ) → length row ≡ 0 → HasCounts m count q row
 counts_short m count q row short long class below = absurd (omega (arith, short, long, below))
+
+-- ---- how long rows are
+
+pub length_zeros : (row : List ℕ) (count : ℕ) → row ≡ replicate count zero → length row ≡ count
+length_zeros row count zeros = ap length zeros ∙ length-replicate count zero
+
+pub length_changed : (test : Bool) (row : List ℕ) (place value : ℕ) → length (cond test (set row place value) row) ≡ length row
+length_changed true row place value = length-set row place value
+length_changed false row place value = refl
 
 -- ---- all abstract methods
 

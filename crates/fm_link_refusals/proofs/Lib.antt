@@ -12,4 +12,5 @@ pub mod Among
 pub mod AbstractCounts
 pub mod LeftOverCounts
 pub mod CountLoops
+pub mod Asked
 pub mod Owners

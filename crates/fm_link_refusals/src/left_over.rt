@@ -6,12 +6,13 @@
 // one above it, its methods are asked for one by one.
 // Only classes with objects, or with such classes below, have counts: no others are asked for theirs.
 
-ghost use Rattle.std.specs.Prelude.{◌≡◌, ◌↔◌, ◌<◌, ◌≤◌, ◌+◌, ℕ, Bool, IfOk, IsTrue, List, OnOk, Some, length, not, slice_get, slice_index, slice_set, true, if◌then◌else◌};
+ghost use Rattle.std.specs.Prelude.{◌≡◌, ◌↔◌, ◌<◌, ◌≤◌, ◌+◌, ℕ, Bool, IfOk, IsTrue, List, None, OnOk, Some, length, not, slice_get, slice_index, slice_set, true, if◌then◌else◌};
 ghost use Rattle.std.specs.List.{slice_index_or};
+ghost use Rattle.fm_base.specs.Rows.{has};
 ghost use Rattle.fm_link_members.specs.inner.MemberRows.{no_row};
 ghost use Rattle.fm_link_supers.specs.inner.ListTables.{lists};
 ghost use Rattle.fm_link_members.specs.inner.Owners.{pushed};
-ghost use Rattle.fm_link_refusals.specs.inner.LeftOver.{can_be_met, changed, is_limited, is_open, is_part_owed, is_owed, is_taken, selected_at, with_signature, AreOwners, HasCounts, HasRow, IsCounting, IsLeftOver, NoneLeft};
+ghost use Rattle.fm_link_refusals.specs.inner.LeftOver.{can_be_met, changed, has_objects, is_limited, is_open, is_part_owed, is_owed, is_taken, length_above, marked_up, selected_at, with_signature, AreAskedOf, AreOwners, HasCounts, HasRow, HaveRows, IsCounting, IsLeftOver, NoneLeft};
 ghost use Rattle.fm_link_refusals.specs.inner.Linking.{IsLinking};
 ghost use Rattle.fm_world.specs.Chains.{is_among};
 ghost use Rattle.fm_world.specs.declared.declarations.DeclaredClass.{DeclaredClass};
@@ -23,6 +24,7 @@ use fm_code::{ACC_ABSTRACT, ACC_PRIVATE, has_flag, is_package_private};
 use fm_link_members::{push_at, row_at};
 use fm_link_names::{at, number_of};
 use fm_link_supers::{empty_lists, list_at, put_list};
+use fm_world::DeclaredClass;
 use std::alloc::Global;
 
 /// For each class how many abstract methods of each class are left over in it.
@@ -43,9 +45,11 @@ struct Counting<'w, 't, 'c> {
 impl LeftOver {
     /// The counts of all classes.
     pub fn of(alloc: Global, linking: Linking) -> Result<LeftOver, NoMemory>
-        ensures { IfOk result (λ found. (classes : List DeclaredClass)
+        ensures counts { IfOk result (λ found. (classes : List DeclaredClass)
             → IsLinking classes linking.entry
             → IsLeftOver classes linking.entry.methods.now found) }
+        ensures rows { IfOk result (λ found. (classes : List DeclaredClass)
+            → IsLinking classes linking.entry → HaveRows classes found) }
     {
         let owners = owners_of(alloc, linking)?;
         let asked = asked_of(alloc, linking)?;
@@ -82,13 +86,15 @@ impl LeftOver {
         linking: Linking,
         parent: Option<u32>,
     ) -> Result<Vec<u32>, NoMemory>
-        ensures { IfOk result (λ row. (classes : List DeclaredClass)
+        ensures counts { IfOk result (λ row. (classes : List DeclaredClass)
             → IsLinking classes linking.entry
             → ((p : ℕ) → parent ≡ Some p → p < length classes)
             → IsLeftOver classes linking.entry.methods.now self.now
             → HasCounts linking.entry.methods.now (length classes)
             (is_owed classes linking.entry.methods.now (λ signature. is_open classes
             (selected_at linking.entry.methods.now parent signature))) row.items) }
+        ensures long { IfOk result (λ row. length row.items ≡ length_above self.now.rows.items
+            (length linking.entry.hierarchy.now.classes.now) parent) }
     {
         match parent {
             Some(parent) => Ok(Vec::from_slice(alloc, list_at(self.rows.as_slice(), parent))?),
@@ -103,13 +109,17 @@ impl LeftOver {
         counting: Counting,
         class: u32,
     ) -> Result<Vec<u32>, NoMemory>
-        ensures { IfOk result (λ row. (classes : List DeclaredClass)
+        ensures counts { IfOk result (λ row. (classes : List DeclaredClass)
             → IsCounting classes counting.entry
             → class < length classes
             → IsLeftOver classes counting.entry.linking.methods.now self.now
             → HasCounts counting.entry.linking.methods.now (length classes)
             (is_owed classes counting.entry.linking.methods.now (λ signature. is_open classes
             (selected_at counting.entry.linking.methods.now (Some class) signature))) row.items) }
+        ensures long { IfOk result (λ row. has counting.entry.asked.now class ≡ true
+            → length row.items ≡ length_above self.now.rows.items
+            (length counting.entry.linking.hierarchy.now.classes.now)
+            (slice_index_or counting.entry.linking.hierarchy.now.parents.items class None)) }
     {
         if !is_marked(counting.asked, class as usize) {
             return Ok(Vec::new(alloc));
@@ -119,13 +129,16 @@ impl LeftOver {
 
     // The counts of a class, by those of its superclass.
     fn row_of(&self, alloc: Global, counting: Counting, class: u32) -> Result<Vec<u32>, NoMemory>
-        ensures { IfOk result (λ row. (classes : List DeclaredClass)
+        ensures counts { IfOk result (λ row. (classes : List DeclaredClass)
             → IsCounting classes counting.entry
             → class < length classes
             → IsLeftOver classes counting.entry.linking.methods.now self.now
             → HasCounts counting.entry.linking.methods.now (length classes)
             (is_owed classes counting.entry.linking.methods.now (λ signature. is_open classes
             (selected_at counting.entry.linking.methods.now (Some class) signature))) row.items) }
+        ensures long { IfOk result (λ row. length row.items ≡ length_above self.now.rows.items
+            (length counting.entry.linking.hierarchy.now.classes.now)
+            (slice_index_or counting.entry.linking.hierarchy.now.parents.items class None)) }
     {
         let parent = at(&counting.linking.hierarchy.parents, class);
         let mut row = self.row_above(alloc, counting.linking, parent)?;
@@ -139,9 +152,11 @@ impl LeftOver {
 
 // The counts of all classes, each after its superclass.
 fn counted(alloc: Global, counting: Counting) -> Result<LeftOver, NoMemory>
-    ensures { IfOk result (λ found. (classes : List DeclaredClass)
+    ensures counts { IfOk result (λ found. (classes : List DeclaredClass)
         → IsCounting classes counting.entry
         → IsLeftOver classes counting.entry.linking.methods.now found) }
+    ensures rows { IfOk result (λ found. (classes : List DeclaredClass)
+        → IsCounting classes counting.entry → HaveRows classes found) }
 {
     let hierarchy = counting.linking.hierarchy;
     let mut found = LeftOver {
@@ -155,21 +170,44 @@ fn counted(alloc: Global, counting: Counting) -> Result<LeftOver, NoMemory>
 }
 
 // For each class whether it, or a class below it, has objects: isn't abstract, as interfaces are.
-fn asked_of(alloc: Global, linking: Linking) -> Result<Vec<bool>, NoMemory> {
+fn asked_of(alloc: Global, linking: Linking) -> Result<Vec<bool>, NoMemory>
+    ensures { IfOk result (λ asked. (classes : List DeclaredClass)
+        → IsLinking classes linking.entry
+        → AreAskedOf classes linking.entry.hierarchy.now.order.items asked.items) }
+{
     let hierarchy = linking.hierarchy;
     let mut asked = vec![in alloc; false; hierarchy.classes.len()]?;
     for class in hierarchy.order.as_slice() {
-        if let Some(declared) = hierarchy.classes.get(*class as usize) {
-            if !has_flag(declared.flags, ACC_ABSTRACT) {
-                mark_chain(&mut asked, hierarchy.chain(*class));
-            }
-        }
+        let has_own = has_objects(hierarchy.classes, *class);
+        mark_if(has_own, &mut asked, hierarchy.chain(*class));
     }
     Ok(asked)
 }
 
+// Whether the class of that number has objects: isn't abstract, as interfaces are.
+fn has_objects(classes: &[DeclaredClass], class: u32) -> bool
+    ensures { result ≡ has_objects classes.now class }
+{
+    match classes.get(class as usize) {
+        Some(class) => !has_flag(class.flags, ACC_ABSTRACT),
+        None => true,
+    }
+}
+
+// Marks a class and its superclasses, where the test holds.
+fn mark_if(test: bool, marks: &mut Vec<bool>, chain: &[u32])
+    ensures { marks.new.items
+        ≡ (if test then marked_up marks.old.items chain.now else marks.old.items) }
+{
+    if test {
+        mark_chain(marks, chain);
+    }
+}
+
 // Marks a class and its superclasses, up to one that has a mark: those above it have theirs.
-fn mark_chain(marks: &mut Vec<bool>, chain: &[u32]) {
+fn mark_chain(marks: &mut Vec<bool>, chain: &[u32])
+    ensures { marks.new.items ≡ marked_up marks.old.items chain.now }
+{
     for class in chain {
         if is_marked(marks.as_slice(), *class as usize) {
             return;
@@ -224,10 +262,12 @@ fn is_limited(flags: u16) -> bool
 
 // How many abstract methods each class has.
 fn all_abstract(alloc: Global, linking: Linking) -> Result<Vec<u32>, NoMemory>
-    ensures { IfOk result (λ row. (classes : List DeclaredClass)
+    ensures counts { IfOk result (λ row. (classes : List DeclaredClass)
         → IsLinking classes linking.entry
         → HasCounts linking.entry.methods.now (length classes)
         (is_owed classes linking.entry.methods.now (λ signature. true)) row.items) }
+    ensures long { IfOk result (λ row. length row.items
+        ≡ length linking.entry.hierarchy.now.classes.now) }
 {
     let mut row = vec![in alloc; 0; linking.hierarchy.classes.len()]?;
     for method in 0..linking.methods.signatures.count {
@@ -253,7 +293,7 @@ fn take_in(
     class: u32,
     method: u32,
 ) -> Result<(), NoMemory>
-    ensures { OnOk result ((classes : List DeclaredClass) (start : ℕ)
+    ensures counts { OnOk result ((classes : List DeclaredClass) (start : ℕ)
         → IsCounting classes counting.entry
         → class < length classes → start ≤ method
         → method < length counting.entry.linking.methods.now.members.rows.items
@@ -263,6 +303,7 @@ fn take_in(
         → HasCounts counting.entry.linking.methods.now (length classes)
         (is_part_owed classes counting.entry.linking.methods.now parent class start (method + 1))
         row.new.items) }
+    ensures long { OnOk result (length row.new.items ≡ length row.old.items) }
 {
     let linking = counting.linking;
     let signature = linking.methods.signatures.of_member(method);
@@ -320,7 +361,7 @@ fn change_all(
     signature: u32,
     adds: bool,
 ) -> Result<(), NoMemory>
-    ensures { OnOk result ((classes : List DeclaredClass) (q : ℕ → Bool)
+    ensures counts { OnOk result ((classes : List DeclaredClass) (q : ℕ → Bool)
         → IsCounting classes counting.entry
         → signature < length counting.entry.linking.methods.now.members.rows.items
         → ((k : ℕ) → can_be_met classes counting.entry.linking.methods.now k ≡ true
@@ -330,6 +371,7 @@ fn change_all(
         → HasCounts counting.entry.linking.methods.now (length classes)
         (with_signature classes counting.entry.linking.methods.now signature adds
         (length counting.entry.linking.methods.now.members.rows.items) q) row.new.items) }
+    ensures long { OnOk result (length row.new.items ≡ length row.old.items) }
 {
     let owners = list_at(counting.owners, signature);
     for class in owners {

@@ -1,13 +1,14 @@
 -- How many abstract methods are left over in a class, by the class that declares them.
-use Rattle.std.specs.Prelude.{◌≡◌, ℕ, zero, suc, ◌+◌, ◌-◌, ◌<◌, ◌≤◌, ◌&&◌, ◌||◌, not, Bool, true, false, List, ◌++◌, length, nat_eq, nat_lt, Option, Some, None, slice_index, if◌then◌else◌}
+use Rattle.std.specs.Prelude.{◌≡◌, ℕ, zero, suc, ◌+◌, ◌-◌, ◌<◌, ◌&&◌, ◌||◌, not, Bool, true, false, List, [], ◌∷◌, ◌++◌, length, nat_eq, nat_lt, Option, Some, None, slice_index, slice_set, if◌then◌else◌}
 use Rattle.std.specs.Global.{Vec}
 use Rattle.std.specs.List.{count_by}
-use Rattle.fm_code.specs.AccessFlags.{is_package_private, is_private}
+use Rattle.fm_base.specs.Rows.{has}
+use Rattle.fm_code.specs.AccessFlags.{is_abstract, is_package_private, is_private}
 use Rattle.fm_link_members.specs.declared.lookups.Methods.{Methods}
 use Rattle.fm_link_supers.specs.inner.ListTables.{list_in}
 use Rattle.fm_link_members.specs.inner.MemberRows.{section_of}
 use Rattle.fm_link_members.specs.inner.MemberTables.{flags_of, nearest_in}
-use Rattle.fm_world.specs.Chains.{chain_of, interfaces_of, is_among}
+use Rattle.fm_world.specs.Chains.{chain_of, class_at, interfaces_of, is_among, parent_of}
 use Rattle.fm_world.specs.Lookups.{is_abstract_method}
 use Rattle.fm_world.specs.declared.declarations.DeclaredClass.{DeclaredClass}
 use Rattle.fm_link_refusals.specs.declared.left_over.Counting.{Counting}
@@ -102,6 +103,32 @@ IsLeftOver classes m found =
 abbrev pub HasRow : List DeclaredClass → LeftOver → ℕ → Type 0
 HasRow classes found class = length (list_in found.rows.items class) ≡ length classes
 
+-- ---- which classes have rows
+
+-- the class has objects: it isn't abstract, as interfaces are
+abbrev pub has_objects : List DeclaredClass → ℕ → Bool
+has_objects classes class = not (is_abstract (class_at classes class).flags)
+
+-- each class that has objects has a row
+abbrev pub HaveRows : List DeclaredClass → LeftOver → Type 0
+HaveRows classes found = (class : ℕ) → class < length classes → has_objects classes class ≡ true → HasRow classes found class
+
+-- the first numbers are marked, up to one that is marked already
+abbrev pub marked_up : List Bool → List ℕ → List Bool
+marked_up marks [] = marks
+marked_up marks (k ∷ numbers) = if has marks k then marks else marked_up (slice_set marks k true) numbers
+
+-- the marks have each of these classes that has objects, and with a class its superclass
+pub record AreAskedOf (classes : List DeclaredClass) (among : List ℕ) (asked : List Bool) : Type 0 where
+  pub one_each : length asked ≡ length classes
+  pub each : (class : ℕ) → is_among class among ≡ true → has_objects classes class ≡ true → has asked class ≡ true
+  pub above : (class parent : ℕ) → has asked class ≡ true → parent_of classes class ≡ Some parent → has asked parent ≡ true
+
+-- how long the row of a superclass is, and without one how many classes there are
+abbrev pub length_above : List (Vec ℕ) → (count : ℕ) → Option ℕ → ℕ
+length_above rows count None = count
+length_above rows count (Some parent) = length (list_in rows parent)
+
 -- ---- by what methods are counted
 
 -- the list of each signature has each class as often as the class has abstract methods of it below a number
@@ -110,10 +137,11 @@ AreOwners classes m end owners =
     (signature class : ℕ) → signature < length m.members.rows.items → class < length classes
     → count_by (nat_eq class) (list_in owners signature) ≡ counted_of m (is_one classes m signature end) class
 
--- the lists are those of all methods
+-- the lists are those of all methods, and the classes that are asked for are marked
 pub record IsCounting (classes : List DeclaredClass) (c : Counting) : Type 0 where
   pub linking : IsLinking classes c.linking
   pub owners : AreOwners classes c.linking.methods.now (length c.linking.methods.now.members.rows.items) c.owners.now
+  pub asked : AreAskedOf classes c.linking.hierarchy.now.order.items c.asked.now
 
 -- no method of a class, of its superclasses and of their superinterfaces is left over in it
 abbrev pub NoneLeft : List DeclaredClass → Methods → ℕ → Type 0

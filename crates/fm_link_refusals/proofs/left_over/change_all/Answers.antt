@@ -12,8 +12,11 @@ loop-class-preserved c =
     c.loop-class-test.true c.in_ok-change_if.ensures c.loop-class.invariant
 
 pub returns : goal.returns
-returns c = λ classes q counting below before counts.
-    changed-counts classes c.args.counting.linking.methods.now c.args.signature c.args.adds q c.args.row.now.items c.loop-class.row.items
-    c.args.counting.owners.now counting.owners below before counts
-    (subst (λ xs. AreChanged c.args.adds c.args.row.now.items xs c.loop-class.row.items)
-    (take_all c.loop-class.class-index c.list_at-owners.result.now c.loop-class-test.false ∙ c.list_at-owners.ensures) c.loop-class.invariant)
+returns c = record {
+  counts = λ classes q counting below before counts.
+      changed-counts classes c.args.counting.linking.methods.now c.args.signature c.args.adds q c.args.row.now.items c.loop-class.row.items
+      c.args.counting.owners.now counting.owners below before counts
+      (subst (λ xs. AreChanged c.args.adds c.args.row.now.items xs c.loop-class.row.items)
+      (take_all c.loop-class.class-index c.list_at-owners.result.now c.loop-class-test.false ∙ c.list_at-owners.ensures) c.loop-class.invariant);
+  long = c.loop-class.invariant.0;
+}

@@ -41,7 +41,7 @@ returns-in_err-refuse_in_class c = λ linked.
     (refused_not_implemented given) first
     c.loop-file-test.true c.file-item.is
     (subst (λ n. IsFirst (not_implemented classes (class_in c.file-item.result) n) first) number
-    (c.in_err-refuse_in_class.ensures classes linked within (self_within given c.in_ok-class.class within) (c.in_ok-found.ensures classes linked)))
+    (c.in_err-refuse_in_class.ensures classes linked within (self_within given c.in_ok-class.class within) (c.in_ok-found.ensures.counts classes linked)))
     (c.loop-file.invariant.left linked))
 
 pub loop-file-preserved : goal.loop-file-preserved
@@ -59,7 +59,7 @@ loop-file-preserved c =
           (refused_not_implemented given) c.loop-file-test.true
           c.file-item.is
           (subst (λ n. not_implemented classes (class_in c.file-item.result) n ≡ []) number
-          (c.in_ok-refuse_in_class.ensures classes linked within (self_within given c.in_ok-class.class within) (c.in_ok-found.ensures classes linked)))
+          (c.in_ok-refuse_in_class.ensures classes linked within (self_within given c.in_ok-class.class within) (c.in_ok-found.ensures.counts classes linked)))
           (c.loop-file.invariant.left linked);
     }
 
