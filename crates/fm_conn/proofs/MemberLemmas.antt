@@ -5,7 +5,7 @@ use Rattle.fm_base.proofs.OptionFacts.{option_map-some}
 use Rattle.fm_base.specs.declared.kinds.TypeRef.{TypeRef}
 use Rattle.fm_code.specs.declared.instructions.Insn.{Insn}
 use Rattle.fm_code.specs.declared.instructions.Insn.TheVariants as insn
-use Rattle.fm_types.specs.Named.{class_of_method}
+use Rattle.fm_types.specs.Named.{NamesMember, class_of_method}
 use Rattle.fm_world.proofs.OwnedMethods.{owner_within}
 use Rattle.fm_world.specs.Members.{methods_of}
 use Rattle.fm_world.specs.Programs.{class_id}
@@ -16,12 +16,12 @@ use Rattle.fm_world.specs.declared.uses.Use.{Use}
 use Rattle.fm_world.specs.declared.uses.Use.TheVariants as resolved
 use Rattle.fm_conn.specs.Nodes.{TypedMethod}
 use Rattle.fm_conn.specs.Pairs.{call_of, call_with, use_at}
-use Rattle.fm_conn.specs.Shapes.{HasUsesIn, IsUseIn}
+use Rattle.fm_conn.specs.Shapes.{HasUsesIn}
 use Rattle.fm_conn.specs.inner.PairLists.{IsCallIn}
 
 -- ---- uses
 
-pub use_there : (x : TypedMethod) (i : Insn) → HasUsesIn x.program → IsUseIn x.program.outline (use_at x i)
+pub use_there : (x : TypedMethod) (i : Insn) → HasUsesIn x.program → NamesMember x.program.outline (use_at x i)
 use_there x (insn.LoadPool index) uses = uses.members (class_of_method x.program.outline x.number) index
 use_there x (insn.GetStatic index) uses = uses.members (class_of_method x.program.outline x.number) index
 use_there x (insn.PutStatic index) uses = uses.members (class_of_method x.program.outline x.number) index
@@ -41,7 +41,7 @@ use_there x i uses = tt
 -- ---- calls
 
 call_with_in : (x : TypedMethod) (k : CallKind) (u : Use) (called : Call) → HasUsesIn x.program → x.number < length (methods_of x.program.outline.classes) →
-    IsUseIn x.program.outline u → call_with x k u ≡ Some called → IsCallIn x.program.outline called
+    NamesMember x.program.outline u → call_with x k u ≡ Some called → IsCallIn x.program.outline called
 call_with_in x k (resolved.OfMethod m t) called uses number there some =
     let make : TypeRef → Call = λ named. record { kind = k; named = named; method = m; caller = class_id (class_of_method x.program.outline x.number) } in
     let found = option_map-some make (slice_get x.program.outline.types t.0) called some in

@@ -1,8 +1,8 @@
 -- Which ends of a method are linked by what it does, and by what the methods that it calls do: in
 -- rounds, the first of which has only built-in methods.
-use Rattle.std.specs.Prelude.{◌≡◌, ℕ, zero, suc, ◌<◌, ◌⊎◌, List, [], ◌∷◌, ◌++◌, length, map, codes, Option, option_to_list, IsSomeAnd, Contains}
+use Rattle.std.specs.Prelude.{◌≡◌, ℕ, zero, suc, ◌<◌, ◌⊎◌, List, [], ◌∷◌, ◌++◌, length, map, codes, option_to_list, IsSomeAnd, Contains}
 use Rattle.fm_code.specs.declared.code_array.Code.{Code}
-use Rattle.fm_types.specs.States.{TypeState}
+pub use Rattle.fm_types.specs.States.{Typings}
 use Rattle.fm_world.specs.Members.{method_at, methods_of}
 use Rattle.fm_world.specs.Programs.{code_at, Program}
 use Rattle.fm_world.specs.Rows.{row_of}
@@ -52,10 +52,6 @@ abbrev pub node_of : End2 → Node
 node_of (end.Parameter k) = Local k
 node_of end.Return = Return
 node_of end.Global = Global
-
--- the states of all methods, by number
-abbrev pub Typings : Type 0
-Typings = ℕ → List (Option TypeState)
 
 -- a method by its number and its code, with its states
 abbrev pub typed_method : Program → Typings → ℕ → Code → TypedMethod

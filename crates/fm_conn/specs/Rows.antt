@@ -11,18 +11,15 @@ use Rattle.fm_code.specs.declared.operations.Elem.TheVariants as elem
 use Rattle.fm_code.specs.declared.operations.Reg.{Reg}
 use Rattle.fm_code.specs.declared.operations.Reg.TheVariants as reg
 use Rattle.fm_types.specs.Moves.{Moves, moves_of}
+use Rattle.fm_types.specs.Named.{kind_of_field}
 use Rattle.fm_base.specs.Kinds.{kind_words}
 use Rattle.fm_world.specs.Descriptors.{argument_word_count}
-use Rattle.fm_world.specs.Members.{field_at, field_kind, method_at}
+use Rattle.fm_world.specs.Members.{method_at}
 use Rattle.fm_world.specs.Programs.{Outline}
 use Rattle.fm_world.specs.declared.uses.Use.{Use}
 use Rattle.fm_world.specs.declared.uses.Use.TheVariants as resolved
 
 -- ---- fields and methods that an instruction names
-
--- the kind of a field by its number
-abbrev pub kind_of_field : Outline → ℕ → Kind
-kind_of_field o field = field_kind o.classes (field_at o.classes field).field
 
 -- values of the kind are references
 abbrev pub is_reference_kind : Kind → Bool

@@ -1,5 +1,5 @@
 -- The shape of a method: the classes that its own instructions make, at its ends and at its calls.
-use Rattle.std.specs.Prelude.{◌≡◌, ◌<◌, ◌↔◌, ℕ, List, Option, Some, IsSomeAnd, Contains, length, slice_get}
+use Rattle.std.specs.Prelude.{◌≡◌, ◌↔◌, ℕ, List, Option, Some, IsSomeAnd, Contains, slice_get}
 use Rattle.fm_base.specs.declared.kinds.TypeRef.{TypeRef}
 use Rattle.fm_code.specs.Edges.{insn_of}
 use Rattle.fm_code.specs.declared.code_array.Code.{Code}
@@ -7,13 +7,11 @@ use Rattle.fm_code.specs.declared.instructions.Insn.{Insn}
 use Rattle.fm_flow.specs.Flow.{IsFlowOf}
 use Rattle.fm_flow.specs.declared.flow.Flow.{Flow}
 use Rattle.fm_types.specs.States.{TypeState}
-use Rattle.fm_world.specs.Members.{fields_of, methods_of}
-use Rattle.fm_world.specs.Programs.{code_at, IsTypeIn, Outline, Program, use_of}
+use Rattle.fm_types.specs.Named.{NamesMember}
+use Rattle.fm_world.specs.Programs.{code_at, IsTypeIn, Program, use_of}
 use Rattle.fm_world.specs.declared.calls.Call.{Call}
 use Rattle.fm_world.specs.declared.records.Body.{Body}
 use Rattle.fm_world.specs.declared.records.Body.TheVariants as body
-use Rattle.fm_world.specs.declared.uses.Use.{Use}
-use Rattle.fm_world.specs.declared.uses.Use.TheVariants as resolved
 use Rattle.fm_conn.specs.Links.{node_of}
 use Rattle.fm_conn.specs.Nodes.{IsNode, Node, TypedMethod}
 use Rattle.fm_conn.specs.Pairs.{call_of, IsEnd, Joined, Linking, StandsFor}
@@ -36,15 +34,9 @@ abbrev pub IsCoded : Body → Type 0
 IsCoded (body.Coded code) = Unit {0}
 IsCoded b = ⊥
 
--- what a use names is there
-abbrev pub IsUseIn : Outline → Use → Type 0
-IsUseIn o (resolved.OfField field t) = field.0 < length (fields_of o.classes)
-IsUseIn o (resolved.OfMethod method t) = method.0 < length (methods_of o.classes)
-IsUseIn o u = Unit {0}
-
 -- linking makes sure that uses name members that are there, and types whose classes are there
 pub record HasUsesIn (p : Program) : Type 0 where
-  pub members : (class index : ℕ) → IsUseIn p.outline (use_of p class index)
+  pub members : (class index : ℕ) → NamesMember p.outline (use_of p class index)
   pub types : (number : ℕ) (t : TypeRef) → slice_get p.outline.types number ≡ Some t → IsTypeIn p.outline.classes t
 
 -- ---- shapes

@@ -5,7 +5,7 @@ ghost use Rattle.std.specs.List.{flat_map};
 ghost use Rattle.fm_code.specs.Edges.{falls_through};
 ghost use Rattle.fm_code.specs.SpellsCode.{targets_of};
 ghost use Rattle.fm_conn.specs.Rows.{is_reference_field, joined_by, moved_words, Given, Taken};
-ghost use Rattle.fm_conn.specs.Shapes.{IsUseIn};
+ghost use Rattle.fm_types.specs.Named.{NamesMember};
 ghost use Rattle.fm_conn.specs.inner.PairLists.{following, joined_pairs, number_pair, place_number, place_of, stay_pairs, staying_pairs};
 
 use crate::nodes::Nodes;
@@ -144,7 +144,7 @@ impl ItemNodes<'_> {
         pairs: &mut Vec<(u32, u32)>,
         program: &Program,
     ) -> Result<(), NoMemory>
-        requires { IsUseIn program.now.outline self.now.resolved }
+        requires { NamesMember program.now.outline self.now.resolved }
         ensures { OnOk result (pairs.new.items ≡ pairs.old.items
             ++ joined_pairs self.now.nodes.now (place_of self.now)
             (joined_by program.now.outline self.now.resolved self.now.insn.now)) }
@@ -192,7 +192,7 @@ fn push_field(
     a: Option<u32>,
     b: Option<u32>,
 ) -> Result<(), NoMemory>
-    requires { IsUseIn program.now.outline resolved }
+    requires { NamesMember program.now.outline resolved }
     ensures { OnOk result (pairs.new.items ≡ pairs.old.items
         ++ (if is_reference_field program.now.outline resolved then number_pair a b else [])) }
 {

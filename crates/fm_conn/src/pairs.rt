@@ -7,7 +7,7 @@ ghost use Rattle.fm_base.specs.Rows.{has};
 ghost use Rattle.fm_flow.specs.Flow.{item_count, IsFlowOf};
 ghost use Rattle.fm_types.specs.Typed.{state_at};
 ghost use Rattle.fm_types.specs.Typings.{states_of};
-ghost use Rattle.fm_conn.specs.Shapes.{IsUseIn};
+ghost use Rattle.fm_types.specs.Named.{NamesMember};
 ghost use Rattle.fm_conn.specs.inner.NodeTables.{table_of, words_at};
 ghost use Rattle.fm_conn.specs.inner.PairLists.{caught_pairs, item_pairs, item_pairs_at, located, method_in, own_pairs, place_of, place_with, IsAsked};
 
@@ -33,7 +33,7 @@ pub fn item_at<'a>(
     ensures nodes { IfSome result (λ at. at.nodes.now ≡ nodes.now) }
     ensures item { IfSome result (λ at. at.item ≡ item) }
     ensures within { IfSome result (λ at. at.below ≤ at.depth) }
-    ensures uses { IfSome result (λ at. IsUseIn method.now.program.now.outline at.resolved) }
+    ensures uses { IfSome result (λ at. NamesMember method.now.program.now.outline at.resolved) }
 {
     if !is_reached(method, item) {
         return None;
@@ -67,7 +67,7 @@ fn reached_item<'a>(
     ensures nodes { result.nodes.now ≡ nodes.now }
     ensures item { result.item ≡ item }
     ensures within { result.below ≤ result.depth }
-    ensures uses { IsUseIn method.now.program.now.outline result.resolved }
+    ensures uses { NamesMember method.now.program.now.outline result.resolved }
 {
     let depth = nodes.depth(item as usize);
     let resolved = method.use_at(insn);
@@ -109,7 +109,7 @@ fn push_pairs_at(
     method: &AnalysedMethod<'_>,
     at: &ItemNodes<'_>,
 ) -> Result<(), NoMemory>
-    requires uses { IsUseIn method.now.program.now.outline at.now.resolved }
+    requires uses { NamesMember method.now.program.now.outline at.now.resolved }
     requires few { at.now.item < 65536 }
     ensures { OnOk result (pairs.new.items ≡ pairs.old.items
         ++ item_pairs at.now.nodes.now method.now.program.now.outline (place_of at.now)) }

@@ -1,8 +1,8 @@
 // How many words an instruction takes off the stack.
 
 ghost use Rattle.std.specs.Prelude.{◌≡◌, ◌<◌, ◌≤◌, length};
-ghost use Rattle.fm_conn.specs.Rows.{call_words, field_word_count, is_reference_field, is_reference_kind, kind_of_field, words_of_call, words_taken};
-ghost use Rattle.fm_conn.specs.Shapes.{IsUseIn};
+ghost use Rattle.fm_conn.specs.Rows.{call_words, field_word_count, is_reference_field, is_reference_kind, words_of_call, words_taken};
+ghost use Rattle.fm_types.specs.Named.{NamesMember, kind_of_field};
 ghost use Rattle.fm_world.specs.Members.{fields_of, methods_of};
 
 use fm_base::{FieldId, Kind, MethodId};
@@ -12,7 +12,7 @@ use fm_world::{Program, Use};
 /// How many words the instruction takes: those below them stay.
 #[tactic(auto, unfolding(crate::specs::Rows::words_taken))]
 pub fn words_taken(program: &Program, resolved: Use, insn: &Insn) -> usize
-    requires { IsUseIn program.now.outline resolved }
+    requires { NamesMember program.now.outline resolved }
     ensures { result ≡ words_taken program.now.outline resolved insn.now }
 {
     insn.words_taken(
@@ -32,7 +32,7 @@ fn kind_of_field(program: &Program, f: FieldId) -> Kind
 
 // The words of a field's value.
 fn field_word_count(program: &Program, resolved: Use) -> usize
-    requires { IsUseIn program.now.outline resolved }
+    requires { NamesMember program.now.outline resolved }
     ensures value { result ≡ field_word_count program.now.outline resolved }
     ensures few { result ≤ 2 }
 {
@@ -44,7 +44,7 @@ fn field_word_count(program: &Program, resolved: Use) -> usize
 
 /// Whether a field that holds references is named.
 pub fn is_reference_field(program: &Program, resolved: Use) -> bool
-    requires { IsUseIn program.now.outline resolved }
+    requires { NamesMember program.now.outline resolved }
     ensures { result ≡ is_reference_field program.now.outline resolved }
 {
     match resolved {
@@ -65,7 +65,7 @@ pub fn is_reference_kind(kind: Kind) -> bool
 
 // The words of the arguments of the method that is named, with its receiver.
 fn call_words(program: &Program, resolved: Use) -> usize
-    requires { IsUseIn program.now.outline resolved }
+    requires { NamesMember program.now.outline resolved }
     ensures { result ≡ call_words program.now.outline resolved }
 {
     match resolved {

@@ -1,12 +1,12 @@
 -- The rows of objects, fields and casts (JVMS 6.5).
 use Rattle.std.specs.Prelude.{ℕ, ◌+◌, ◌-◌, pos, List, [], ◌∷◌, codes, Option, Some, None, if◌then◌else◌}
-use Rattle.fm_base.specs.declared.kinds.Kind.{Kind}
 use Rattle.fm_base.specs.declared.kinds.TypeRef.{TypeRef}
 use Rattle.fm_world.specs.Chains.{is_sub}
 use Rattle.fm_base.specs.Kinds.{kind_words}
-use Rattle.fm_world.specs.Members.{field_at, field_kind, slot_of}
+use Rattle.fm_world.specs.Members.{field_at, slot_of}
 use Rattle.fm_world.specs.Programs.{class_of_type, Outline}
 use Rattle.fm_world.specs.declared.uses.Use.{Use}
+pub use Rattle.fm_types.specs.Named.{kind_of_field}
 use Rattle.fm_frames.specs.Effects.{Effect, OfOperand, OfPlace, OfStatic, Make, Put, SetStatic, words, acting, making, int_word, loaded, stuck}
 use Rattle.fm_frames.specs.Operands.{on_held, on_object, size_of_type, thrown}
 use Rattle.fm_frames.specs.Sights.{Sight}
@@ -28,10 +28,6 @@ unfoldable pub new_effect : Outline → Use → Effect
 new_effect o u = on_type o u (λ t. made_of o t (class_of_type t))
 
 -- ---- fields
-
--- the kind of a field's values
-abbrev pub kind_of_field : Outline → ℕ → Kind
-kind_of_field o field = field_kind o.classes (field_at o.classes field).field
 
 -- the class that declares a field
 abbrev pub class_of_field : Outline → ℕ → ℕ

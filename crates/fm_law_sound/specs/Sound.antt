@@ -15,6 +15,7 @@ use Rattle.fm_code.specs.declared.code_array.Code.{Code}
 use Rattle.fm_code.specs.declared.instructions.Insn.{Insn}
 use Rattle.fm_code.specs.declared.instructions.Insn.TheVariants as insn
 use Rattle.fm_types.specs.States.{TypeState}
+pub use Rattle.fm_types.specs.States.{Typings}
 use Rattle.fm_types.specs.Typed.{IsTyping, state_at, use_by}
 use Rattle.fm_types.specs.declared.slots.Slot.{Slot}
 use Rattle.fm_types.specs.declared.slots.Slot.TheVariants as slot
@@ -135,10 +136,6 @@ pub record IsObjectIn (o : Outline) (object : Object) : Type 0 where
   pub of_type : IsObjectOf o object (type_numbered o object.class)
 
 -- ---- frames
-
--- the states of a method's items, for each method by its number
-abbrev pub Typings : Type 0
-Typings = ℕ → List (Option TypeState)
 
 -- A frame is at an item that can be reached of a method that has code, and its locals and its stack
 -- have what the method's state before that item says; but for `words` words on top, which were

@@ -10,7 +10,8 @@ ghost use Rattle.fm_code.specs.Edges.{insn_of};
 ghost use Rattle.fm_code.specs.declared.code_array.Code.{Code};
 ghost use Rattle.fm_conn.specs.Classes.{AreClassesOf};
 ghost use Rattle.fm_conn.specs.Nodes.{depth_at};
-ghost use Rattle.fm_conn.specs.Shapes.{method_with, HasUsesIn, IsCoded, IsUseIn};
+ghost use Rattle.fm_conn.specs.Shapes.{method_with, HasUsesIn, IsCoded};
+ghost use Rattle.fm_types.specs.Named.{NamesMember};
 ghost use Rattle.fm_conn.specs.Summaries.{linked_by, AreSummariesOf};
 ghost use Rattle.fm_conn.specs.inner.PairLists.{IsCallIn};
 ghost use Rattle.fm_types.specs.Typed.{state_at, IsTyping};
@@ -388,7 +389,7 @@ fn makes_array(insn: &Insn) -> bool
 
 // Whether what is named is a constructor.
 fn names_constructor(program: &Program, resolved: Use) -> bool
-    requires { IsUseIn program.now.outline resolved }
+    requires { NamesMember program.now.outline resolved }
     ensures { result ≡ names_constructor program.now.outline resolved }
 {
     match resolved {

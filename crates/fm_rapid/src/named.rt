@@ -4,7 +4,8 @@
 ghost use Rattle.std.specs.Prelude.{◌≡◌, ◌<◌, IfSome, length, option_and_then, option_to_list};
 ghost use Rattle.std.specs.Option.{option_map};
 ghost use Rattle.fm_base.specs.declared.ids.ClassId.{ClassId};
-ghost use Rattle.fm_conn.specs.Shapes.{HasUsesIn, IsUseIn};
+ghost use Rattle.fm_conn.specs.Shapes.{HasUsesIn};
+ghost use Rattle.fm_types.specs.Named.{NamesMember};
 ghost use Rattle.fm_rapid.specs.Reach.{made_by, owner_of, started_by};
 ghost use Rattle.fm_types.specs.Typed.{type_of_use};
 ghost use Rattle.fm_base.specs.declared.ids.MethodId.{MethodId};
@@ -33,7 +34,7 @@ pub fn made_by(program: &Program, insn: &Insn, resolved: Use) -> Option<ClassId>
 /// The class that has to be started before an instruction is done. Takes no memory.
 pub fn started_by(program: &Program, insn: &Insn, resolved: Use) -> Option<ClassId>
     requires uses { HasUsesIn program.now }
-    requires resolved { IsUseIn program.now.outline resolved }
+    requires resolved { NamesMember program.now.outline resolved }
     ensures value { option_map (λ (c : ClassId). c.0) result
         ≡ started_by program.now.outline insn.now resolved }
     ensures within { IfSome result (λ class. class.0 < length program.now.outline.classes) }
@@ -58,7 +59,7 @@ fn class_of_use(program: &Program, resolved: Use) -> Option<ClassId>
 // The class that declares the member that is named.
 #[tactic(auto, unfolding(fm_world::specs::Programs::field_info))]
 fn owner_of(program: &Program, resolved: Use) -> Option<ClassId>
-    requires { IsUseIn program.now.outline resolved }
+    requires { NamesMember program.now.outline resolved }
     ensures value { option_map (λ (c : ClassId). c.0) result
         ≡ owner_of program.now.outline resolved }
     ensures within { IfSome result (λ class. class.0 < length program.now.outline.classes) }

@@ -4,7 +4,8 @@ ghost use Rattle.std.specs.Prelude.{◌≡◌, ◌<◌, length};
 ghost use Rattle.std.specs.Option.{option_map};
 ghost use Rattle.std.specs.Str.{bytes_eq};
 ghost use Rattle.fm_base.specs.declared.ids.MethodId.{MethodId};
-ghost use Rattle.fm_conn.specs.Shapes.{HasUsesIn, IsUseIn};
+ghost use Rattle.fm_conn.specs.Shapes.{HasUsesIn};
+ghost use Rattle.fm_types.specs.Named.{NamesMember};
 ghost use Rattle.fm_rewrite.specs.FreeCalls.{call_in_items, call_in_method, calls_free, first_call, names_free};
 ghost use Rattle.fm_world.specs.Members.{methods_of};
 
@@ -73,7 +74,7 @@ fn calls_free(program: &Program, method: MethodId, insn: &Insn) -> bool
 
 /// Whether what is named is a method of FreeMe.
 fn names_free(program: &Program, resolved: Use) -> bool
-    requires { IsUseIn program.now.outline resolved }
+    requires { NamesMember program.now.outline resolved }
     ensures { result ≡ names_free program.now.outline resolved }
 {
     match resolved {

@@ -20,7 +20,7 @@ use Rattle.fm_frames.specs.Steps as steps
 use Rattle.fm_frames.specs.declared.values.Value.{Value}
 use Rattle.fm_same.specs.Advances.{point_of}
 use Rattle.fm_same.specs.Colours.{AreAreasColoured, AreFramesColoured, Colour, HasColour, IsFrameColoured}
-use Rattle.fm_same.specs.Evenness.{ComesFrom, EndsEvenly, GoesOn, IsGoing, IsObjectSource, LeadsRight, Point}
+use Rattle.fm_same.specs.Evenness.{ComesFrom, EndsEvenly, GoesOn, IsObjectSource, LeadsRight, Point}
 use Rattle.fm_same.specs.Regions.{Everywhere, region}
 use Rattle.fm_same.specs.Standing.{Called, Goes, method_of, Stand, StandBelow, StandsAt, Waits}
 use Rattle.fm_same.proofs.ActsKeep.{Went}
@@ -32,6 +32,7 @@ use Rattle.fm_same.proofs.ReturnsKeep.{ReturnIsColoured, return_kept}
 use Rattle.fm_same.proofs.SourcesKeep.{source_gives}
 use Rattle.fm_same.proofs.ThrowsKeep.{thrown_coloured}
 use Rattle.fm_law_sound.specs.Placing.{ReadAgrees}
+use Rattle.fm_law_sound.specs.Going.{IsGoingOn}
 use Rattle.fm_law_sound.proofs.Following.{followed}
 use Rattle.fm_law_sound.proofs.FramesStand.{target_is}
 
@@ -183,7 +184,7 @@ module _ (p : Program) (facts : Facts) (exact : AreFacts p facts) (f : Frame) (c
   follow nx = followed p (from p facts exact f callers at below store colour coloured home x frames_are made gone e reads) e f callers x nx
 
   pub next_kept : length f.stack ≡ depth_at (method_of p facts f at.code) f.item → (nx : Next) → LeadsRight at.insn nx
-      → ((next : ℕ) → IsGoing nx → IsNormalEdge at.code f.item next → GoesOn (point_of p facts f at.code) home e next)
+      → ((next : ℕ) → IsGoingOn nx → IsNormalEdge at.code f.item next → GoesOn (point_of p facts f at.code) home e next)
       → EndsEvenly p.outline (point_of p facts f at.code) home at.insn nx → Stand p facts (follow nx).frames
       → ReturnIsColoured p facts (f ∷ callers) colour x.areas.store.births (follow nx).frames (follow nx).areas
   next_kept depth Falls leads goes ends stands =

@@ -28,6 +28,7 @@ use Rattle.fm_frames.specs.Sights.{type_numbered}
 use Rattle.fm_frames.specs.Steps.{is_start}
 use Rattle.fm_frames.specs.declared.values.Value.TheVariants as value
 use Rattle.fm_law_sound.specs.Placing.{IsPlain, kind_in}
+use Rattle.fm_law_sound.specs.Going.{IsGoingOn}
 
 -- ---- where values come from
 
@@ -142,13 +143,6 @@ pub record GoesOn (x : Point) (home : ℕ) (e : Effect) (next : ℕ) : Type 0 wh
   pub writes : AllByRecursion (λ (w : ℕ × Source). WritesFrom x (x.class (Local w.0)) w.1) e.writes
   pub lives : (k : ℕ) → x.live k next ≡ true → is_written k e.writes ≡ false → x.live k x.item ≡ true
 
--- whether it goes on in the frame
-abbrev pub IsGoing : Next → Type 0
-IsGoing Falls = Unit {0}
-IsGoing (Jumps n) = Unit {0}
-IsGoing (JumpsIfSame same) = Unit {0}
-IsGoing other = ⊥
-
 -- to the item after it, or to a target that the instruction has
 abbrev pub LeadsRight : Insn → Next → Type 0
 LeadsRight i Falls = falls_through i ≡ true
@@ -176,7 +170,7 @@ pub record Obeys (o : Outline) (x : Point) (i : Insn) (e : Effect) : Type 0 wher
   pub home : ℕ
   pub acts : AllByRecursion (ActsEvenly o x home) e.actions
   pub leads : LeadsRight i e.next
-  pub goes : (next : ℕ) → IsGoing e.next → IsNormalEdge x.method.code x.item next → GoesOn x home e next
+  pub goes : (next : ℕ) → IsGoingOn e.next → IsNormalEdge x.method.code x.item next → GoesOn x home e next
   pub ends : EndsEvenly o x home i e.next
 
 -- ---- what linking makes sure of

@@ -21,12 +21,12 @@ use Rattle.fm_world.specs.Programs.{classes_of, codes_of, outline_of, program_of
 use Rattle.fm_world.specs.declared.uses.Use.{Use}
 use Rattle.fm_world.specs.declared.uses.Use.TheVariants as resolved
 use Rattle.fm_conn.proofs.TypeLemmas.{types_in}
-use Rattle.fm_conn.specs.Shapes.{IsUseIn}
+use Rattle.fm_types.specs.Named.{NamesMember}
 use Rattle.fm_summ.specs.Programs.{ProgramsHaveBareBuiltIns, ProgramsHaveUsesIn}
 
 -- ---- uses
 
-is_use_in : (o : Outline) (u : Use) → NamesMember o u → IsUseIn o u
+is_use_in : (o : Outline) (u : Use) → NamesMember o u → NamesMember o u
 is_use_in o (resolved.OfField field t) there = there
 is_use_in o (resolved.OfMethod method t) there = there
 is_use_in o u there = tt

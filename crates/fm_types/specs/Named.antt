@@ -1,5 +1,5 @@
 -- What an instruction names, as the linked program resolves it.
-use Rattle.std.specs.Prelude.{ℕ, List, [], ◌∷◌, codes, Option, None, option_and_then, option_to_list, unwrap_or, slice_get}
+use Rattle.std.specs.Prelude.{ℕ, ◌<◌, List, [], ◌∷◌, codes, Option, None, option_and_then, option_to_list, unwrap_or, length, slice_get}
 use Rattle.fm_base.specs.declared.kinds.Kind.{Kind}
 use Rattle.fm_base.specs.declared.kinds.TypeRef.{TypeRef}
 use Rattle.fm_types.specs.Fits.{object_of}
@@ -8,7 +8,7 @@ use Rattle.fm_types.specs.declared.slots.Slot.{Slot}
 use Rattle.fm_types.specs.declared.slots.Slot.TheVariants as slot
 use Rattle.fm_world.specs.Chains.{self_of}
 use Rattle.fm_world.specs.Descriptors.{class_number, parameter_kinds, result_kind}
-use Rattle.fm_world.specs.Members.{field_at, field_kind, method_at}
+use Rattle.fm_world.specs.Members.{field_at, field_kind, fields_of, method_at, methods_of}
 use Rattle.fm_world.specs.Numbers.{type_of_class}
 use Rattle.fm_world.specs.Programs.{Outline}
 use Rattle.fm_world.specs.declared.uses.Use.{Use}
@@ -27,6 +27,14 @@ throwable_type o = built_in_type o (codes "java/lang/Throwable")
 -- what null and each initialised reference fit
 abbrev pub object_slot : Outline → Slot
 object_slot o = slot.Ref (type_of_class (object_of o.classes))
+
+-- ---- members
+
+-- a use that names a field or a method names one that is there
+abbrev pub NamesMember : Outline → Use → Type 0
+NamesMember o (resolved.OfField field t) = field.0 < length (fields_of o.classes)
+NamesMember o (resolved.OfMethod method t) = method.0 < length (methods_of o.classes)
+NamesMember o u = Unit {0}
 
 -- ---- uses: what follows from the type, the field or the method that is named, the two last with the type that the entry names; nothing where
 -- the index is resolved to something else
@@ -71,9 +79,13 @@ class_of_method o method = (method_at o.classes method).class
 abbrev pub this_class : Outline → ℕ → ℕ
 this_class o method = self_of o.classes (class_of_method o method)
 
+-- the kind of a field's values
+abbrev pub kind_of_field : Outline → ℕ → Kind
+kind_of_field o field = field_kind o.classes (field_at o.classes field).field
+
 -- the words of a field's value, of a method's arguments without the receiver, and of its result, as they are on the stack
 abbrev pub field_words : Outline → ℕ → List Slot
-field_words o field = stack_slots (field_kind o.classes (field_at o.classes field).field ∷ [])
+field_words o field = stack_slots (kind_of_field o field ∷ [])
 
 -- the kinds of a method's parameters
 abbrev pub parameters_of : Outline → ℕ → List Kind

@@ -16,6 +16,10 @@ pub record TypeState : Type 0 where
   pub stack : List Slot
   pub built : Bool
 
+-- the states of a method's items, for each method by its number
+abbrev pub Typings : Type 0
+Typings = ℕ → List (Option TypeState)
+
 -- ---- one state fits another one
 
 -- as many slots, each of which fits the one at its place

@@ -1,6 +1,6 @@
 use Rattle.std.proofs.Common.{sym, subst}
 use Rattle.fm_conn.proofs.MemberLemmas.{use_there}
-use Rattle.fm_conn.specs.Shapes.{IsUseIn}
+use Rattle.fm_types.specs.Named.{NamesMember}
 use Rattle.fm_conn.specs.inner.PairLists.{method_in}
 use Rattle.fm_rapid.proofs.ItemLemmas.{all_gone, call_needed, call_there, made_needed, started_needed}
 use Rattle.fm_rapid.proofs.WalkSteps.{Goes-then}
@@ -14,7 +14,7 @@ make_if-requires-clause-needed c =
 
 pub started_by-started-requires-clause-resolved : goal.started_by-started-requires-clause-resolved
 started_by-started-requires-clause-resolved c =
-    subst (IsUseIn c.args.at.now.program.now.outline) (sym c.use_at-resolved.ensures)
+    subst (NamesMember c.args.at.now.program.now.outline) (sym c.use_at-resolved.ensures)
     (use_there (method_in c.args.at.now) c.args.insn.now c.requires.uses)
 
 pub start_if-requires-clause-walk : goal.start_if-requires-clause-walk
