@@ -42,10 +42,10 @@ pub struct Frames {
     values: Vec<Value>,
     /// How many of the values are those of frames.
     used: usize,
-    /// Whether there is a frame. Where there is none, there is room for no value.
-    has_frames: bool,
     topmost: Cursor,
     callers: Vec<Cursor>,
+    /// Whether there is a frame. Where there is none, there is room for no value.
+    has_frames: bool,
 }
 
 impl Model for Frames {
@@ -466,9 +466,7 @@ impl Frames {
         if stack > self.values.len() {
             return false;
         }
-        let Ok(()) = self.callers.push(topmost) else {
-            return false;
-        };
+        self.callers.push_reserved(topmost);
         clear_between(&mut self.values, self.used, stack);
         self.topmost = Cursor {
             method,
