@@ -1,7 +1,7 @@
 -- Classes that start: where their fields begin, whether they have started, and the frames of the methods that start them.
 use Rattle.std.proofs.Common.{◌≡◌, ◌⊎◌, inl, inr, ℕ, zero, suc, ◌+◌, ◌-◌, ◌<◌, ◌≤◌, Bool, true, false, not, cond, List, [], ◌∷◌, ◌++◌, length, length-append, map, filter, take, drop, get_or, option_map, option_to_list, is_none, Option, Some, None, refl, ap, sym, ◌∙◌, arith, add-one, drop-cons, drop_of_length-le, if◌then◌else◌, reverse}
 use Rattle.std.proofs.lemmas.Bool.{cases_lt}
-use Rattle.std.proofs.lemmas.List.{get_or-append-add, get_or-map, get_or_append_left, get_or_default, length-map, map_more}
+use Rattle.std.proofs.lemmas.List.{get_or-append-add, get_or-map, get_or_append_left, get_or_default, get_or_past, length-map, map_more}
 use Rattle.std.proofs.lemmas.List.Elements.{filter_map-append, filter_more}
 use Rattle.std.proofs.lemmas.List.Sums.{sum_by-cons}
 use Rattle.std.specs.List.{cons_option, slice_index_or}
@@ -154,15 +154,36 @@ no_file : (o : Outline) (class : ℕ) (info : ClassInfo) → info ≡ class_info
 unfolding class_info
 no_file o class info is = ap (λ (i : ClassInfo). is_none i.file) is
 
-pub started-built_in : (o : Outline) (started : List Bool) (class : ℕ) (info : ClassInfo) → info ≡ class_info o class → is_none info.file ≡ true
-    → true ≡ is_started o started class
-started-built_in o started class info is none = sym (ap (λ b. started_by b started class) (sym (no_file o class info is) ∙ none))
+-- where it has no bit, or its bit is set, both ways lead to the same
+set-started : (of_file : Bool) (started : List Bool) (class : ℕ) → slice_index_or started class true ≡ true → true ≡ started_by of_file started class
+set-started true started class is = refl
+set-started false started class is = sym is
 
-pub started-marked : (o : Outline) (row started : List Bool) (class : ℕ) (info : ClassInfo) (got : Bool) → info ≡ class_info o class → is_none info.file ≡ false
-    → row ≡ started → class < length row → got ≡ slice_index_or row class false → got ≡ is_started o started class
-started-marked o row started class info got is none same inside told =
-    told ∙ get_or_default row class false true inside ∙ ap (λ r. slice_index_or r class true) same
-    ∙ sym (ap (λ b. started_by b started class) (sym (no_file o class info is) ∙ none))
+clear-started : (of_file : Bool) (started : List Bool) (class : ℕ) → slice_index_or started class true ≡ false → of_file ≡ started_by of_file started class
+clear-started true started class is = refl
+clear-started false started class is = sym is
+
+pub started-past : (o : Outline) (row started : List Bool) (class : ℕ) → row ≡ started → length row ≤ class → true ≡ is_started o started class
+started-past o row started class same past =
+    set-started (is_none (class_at o.classes class).file) started class
+    (ap (λ r. slice_index_or r class true) (sym same) ∙ get_or_past row class true past)
+
+-- its bit, where it has one
+bit-is : (row started : List Bool) (class : ℕ) (got : Bool) → row ≡ started → class < length row → got ≡ slice_index_or row class false
+    → slice_index_or started class true ≡ got
+bit-is row started class got same inside told =
+    ap (λ r. slice_index_or r class true) (sym same) ∙ sym (told ∙ get_or_default row class false true inside)
+
+pub started-set : (o : Outline) (row started : List Bool) (class : ℕ) → row ≡ started → class < length row → true ≡ slice_index_or row class false
+    → true ≡ is_started o started class
+started-set o row started class same inside told =
+    set-started (is_none (class_at o.classes class).file) started class (bit-is row started class true same inside told)
+
+pub started-clear : (o : Outline) (row started : List Bool) (class : ℕ) (info : ClassInfo) → info ≡ class_info o class → row ≡ started → class < length row
+    → false ≡ slice_index_or row class false → is_none info.file ≡ is_started o started class
+started-clear o row started class info is same inside told =
+    no_file o class info is
+    ∙ clear-started (is_none (class_at o.classes class).file) started class (bit-is row started class false same inside told)
 
 -- ---- the classes that a use of one starts
 

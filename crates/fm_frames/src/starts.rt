@@ -102,16 +102,16 @@ impl<M: Memory> Machine<M> {
     pub fn is_started(&self, program: &Program, class: ClassId) -> bool
         ensures { result ≡ is_started program.now.outline self.now.areas.started class.0 }
     {
-        if class.0 >= program.classes() {
-            return true;
-        }
-        if program.class(class).file.is_none() {
-            return true;
-        }
         if class.0 >= self.started.bits() {
             return true;
         }
-        self.started.get(class.0)
+        if self.started.get(class.0) {
+            return true;
+        }
+        if class.0 >= program.classes() {
+            return true;
+        }
+        program.class(class).file.is_none()
     }
 
     /// The class and those of its superclasses that haven't started, the uppermost first.
