@@ -15,7 +15,7 @@ loop-index-preserved c = λ k below without.
     (λ (here : k ≡ index).
     let never : Contains c.push_if_other.new.places.items index → ⊥ = λ found.
     without (subst (λ (n : ℕ). Contains c.push_if_other.new.places.items n) (sym here) found) in
-    ap (λ n. local_at slots n) here ∙ sym c.slot.ensures ∙ placed.placed never ∙ c.slot-2.ensures ∙ ap (λ n. local_at others n) (sym here))
+    ap (λ n. local_at slots n) here ∙ sym c.slot.ensures ∙ placed.placed never ∙ c.slot-in-loop-index.ensures ∙ ap (λ n. local_at others n) (sym here))
     (λ (apart : k ≢ index). c.loop-index.invariant k (omega arith) (λ found. without (placed.still k found)))
     (cases_eq k index)
 
