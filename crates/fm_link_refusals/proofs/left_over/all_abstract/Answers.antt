@@ -8,7 +8,7 @@ use Rattle.fm_link_refusals.proofs.left_over.all_abstract.Goals as goal
 pub loop-method-init : goal.loop-method-init
 loop-method-init c = record {
   counts = λ classes linked. abstract-none classes c.args.linking.methods.now _ _ (c.in_ok-row.ensures.items_if_clones_equal (λ y e. e));
-  long = length_zeros c.in_ok-row.row.items c.len.result (c.in_ok-row.ensures.items_if_clones_equal (λ y e. e)) ∙ c.len.ensures;
+  long = length_zeros c.in_ok-row.row.items (length c.args.linking.hierarchy.now.classes.now) (c.in_ok-row.ensures.items_if_clones_equal (λ y e. e));
 }
 
 pub loop-method-preserved : goal.loop-method-preserved

@@ -10,8 +10,8 @@ use Rattle.fm_link_refusals.proofs.left_over.asked_of.Goals as goal
 
 pub loop-class-init : goal.loop-class-init
 loop-class-init c = λ classes linked.
-    asked-none classes c.as_slice-class-items.result.now c.in_ok-asked.asked.items c.len.result (c.in_ok-asked.ensures.items_if_clones_equal (λ y e. e))
-    (c.len.ensures ∙ ap length linked.hierarchy.classes_are)
+    asked-none classes c.as_slice-class-items.result.now c.in_ok-asked.asked.items (length c.args.linking.hierarchy.now.classes.now)
+    (c.in_ok-asked.ensures.items_if_clones_equal (λ y e. e)) (ap length linked.hierarchy.classes_are)
 
 pub loop-class-preserved : goal.loop-class-preserved
 loop-class-preserved c = λ classes linked.

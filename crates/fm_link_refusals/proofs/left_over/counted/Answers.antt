@@ -16,8 +16,8 @@ loop-class-init c = record {
   counts = λ classes counting.
       rows_short classes c.args.counting.linking.methods.now _ (lists c.in_ok-empty_lists.field-0.items) c.in_ok-empty_lists.ensures;
   rows = λ classes counting.
-      asked_rows-none classes c.args.counting.asked.now c.as_slice-class-items.result.now c.in_ok-empty_lists.field-0.items c.len.result c.in_ok-empty_lists.ensures
-      (c.len.ensures ∙ ap length counting.linking.hierarchy.classes_are);
+      asked_rows-none classes c.args.counting.asked.now c.as_slice-class-items.result.now c.in_ok-empty_lists.field-0.items
+      (length c.args.counting.linking.hierarchy.now.classes.now) c.in_ok-empty_lists.ensures (ap length counting.linking.hierarchy.classes_are);
 }
 
 pub loop-class-preserved : goal.loop-class-preserved
