@@ -6,8 +6,8 @@ use Rattle.fm_conn.specs.Nodes.{TypedMethod}
 use Rattle.fm_place.specs.Places.{is_place}
 use Rattle.fm_place.specs.Sites.{held_sites, site_class}
 
--- A new local that holds the last object of a site, by the item of the site and the class of its object. A looped one holds the site's objects in a
--- chain; what freeme inserts has none.
+-- A new local for the objects of a site, by the item of the site and the class of its objects. It holds the last one, or a chain of them where it is looped;
+-- without chains none is looped.
 pub record Holder : Type 0 where
   pub site : ℕ
   pub class : ℕ

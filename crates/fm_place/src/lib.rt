@@ -20,3 +20,4 @@ pub use laws::{
     law_busy, law_example, law_full, law_holders, law_places, law_plans, law_stack, law_woven,
 };
 pub use plans::{Plan, is_freed, places};
+pub use set_bits::set_if;
