@@ -15,7 +15,7 @@ use Rattle.fm_frames.specs.States.{Areas}
 use Rattle.fm_law_chained.proofs.Links.{held_before, left_there}
 use Rattle.fm_law_chained.proofs.Walked.{chains_are_walked}
 use Rattle.fm_law_chained.specs.Chain.{IsLink}
-use Rattle.fm_law_chained.specs.Laws.{AreLinksFreed, ChainsAreFreed}
+use Rattle.fm_law_chained.specs.Laws.{AreLinksFreed, EachChainIsFreed}
 use Rattle.fm_law_two_memories.proofs.FreesSame.{freed_areas, freed_frames}
 use Rattle.fm_law_two_memories.specs.Pairing.{AreasPaired, Gone, with_gone}
 use Rattle.fm_world.specs.Programs.{Outline}
@@ -115,7 +115,7 @@ module _ (o : Outline) (x : Areas) where
       (links_freed cells births (with_gone gone link.object) (freed y cell) (freed_areas gone o x y paired cell link.object link.held link.loose)
       (later_links cell birth cells births y link links once) (IsDistinct-tail nat_eq birth births once))
 
-pub chains_are_freed : ChainsAreFreed
+pub chains_are_freed : EachChainIsFreed
 chains_are_freed gone o x y paired cell births chain once =
     let walked = chains_are_walked y.store cell births paired.store.other_orderly chain once in
     record { cells = walked.cells; found = walked.found; freed = links_freed o x walked.cells births gone y paired walked.links once }

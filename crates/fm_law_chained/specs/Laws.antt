@@ -84,7 +84,7 @@ pub record IsChainFreed (gone : Gone) (o : Outline) (x y : Areas) (cell : ℕ) (
   pub freed : AreLinksFreed gone o x y cells births
 
 -- each chain without repeats is found, and freed
-abbrev pub ChainsAreFreed : Type 0
-ChainsAreFreed =
+abbrev pub EachChainIsFreed : Type 0
+EachChainIsFreed =
     (gone : Gone) (o : Outline) (x y : Areas) → AreasPaired gone o x y → (cell : ℕ) (births : List ℕ) → IsChain y.store cell births
     → IsDistinct nat_eq births → IsChainFreed gone o x y cell births

@@ -1,7 +1,7 @@
 // Laws of the definitions, each as the contract of a function that does nothing.
 
 ghost use Rattle.fm_law_chained.specs.Called.{ChainsFault, ChainsFree, LinksFault, LinksJoin, LinksPassOver};
-ghost use Rattle.fm_law_chained.specs.Laws.{ChainingKeepsPaired, ChainsAreFreed, ChainsAreLinked, ChainsAreWalked, ChainsStayLinked, LinksStay};
+ghost use Rattle.fm_law_chained.specs.Laws.{ChainingKeepsPaired, EachChainIsFreed, ChainsAreLinked, ChainsAreWalked, ChainsStayLinked, LinksStay};
 
 /// The walk from the first cell of a chain finds the cells of all its objects, each once.
 pub fn law_walked()
@@ -25,7 +25,7 @@ pub fn law_paired()
 /// Where the second of two memories frees a chain, no free meets a cell that isn't held; the memories and all
 /// frames stay paired, just the objects of the chain are gone, and all others stay where they are.
 pub fn law_freed()
-    ensures { ChainsAreFreed }
+    ensures { EachChainIsFreed }
 {}
 
 /// A step that calls FreeMe.link returns the chain where the other operand is null or lives for ever; it puts an

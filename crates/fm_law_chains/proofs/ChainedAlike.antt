@@ -23,7 +23,7 @@ use Rattle.fm_layout.specs.Tables.{moved_tables}
 use Rattle.fm_layout.specs.declared.new_items.NewItem.{NewItem}
 use Rattle.fm_law_beside_freeme.proofs.LeastFacts.{plans_same}
 use Rattle.fm_law_beside_freeme.proofs.PlainPlans.{after_plain, changes_plain, counts_plain, plain, plains, unnumbered}
-use Rattle.fm_law_chains.specs.Exact.{LeastFactsServeChains, ServeAlike}
+use Rattle.fm_law_chains.specs.Exact.{LeastFactsServeChains, ServeChainsAlike}
 use Rattle.fm_place.specs.Insertions.{before_at, Holder, Insertions}
 use Rattle.fm_place.specs.Rewriting.{first_given, Plans, rewritten_major}
 use Rattle.fm_place.specs.Safe.{full_plans}
@@ -222,7 +222,7 @@ module _ (given : List ClassDef) (plans others : Plans) (same : (method : ℕ) �
   all : plains plans ≡ plains others
   all = λ k method. same method k
 
-  pub chained_serve_alike : ServeAlike given plans others
+  pub chained_serve_alike : ServeChainsAlike given plans others
   chained_serve_alike = record {
     written = sym (classes_plain plans first_given given) ∙ ap (λ (p : Plans). chained_classes p given) all ∙ classes_plain others first_given given;
     marks = sym (marks_with_plain plans given) ∙ ap (λ (p : Plans). chained_marks_with p given) all ∙ marks_with_plain others given;

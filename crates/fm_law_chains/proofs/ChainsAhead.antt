@@ -22,7 +22,7 @@ use Rattle.fm_law_chains.specs.FreesAll.{IsAbsent, IsBehind, IsGiven}
 use Rattle.fm_law_held_objects.proofs.ContentsKept.{has_born, has_later}
 use Rattle.fm_law_held_objects.specs.Contents.{Has, HasInChain}
 use Rattle.fm_law_held_objects.specs.Forth.{ChainsAreFreed, ChainsAreKept, FreesEmptyChains, KeepingLinksChains}
-use Rattle.fm_law_held_objects.specs.Freeing.{AreFreed}
+use Rattle.fm_law_held_objects.specs.Freeing.{HoldersAreFreed}
 use Rattle.fm_law_held_objects.specs.Held.{FramesAreHeld, HolderHas}
 use Rattle.fm_law_held_objects.specs.Laws.{AreThere, frees_of}
 use Rattle.fm_law_holders.specs.Holding.{holder_value, HoldsFreeable}
@@ -205,7 +205,7 @@ module _ (laws : ForthLaws) (b : Both) (from : IsWovenFrom b.one b.other b.facts
   -- as many objects were made as in the first program
   births_then : z.areas.store.births ≡ next.areas.store.births
   births_then =
-      let done : AreFreed b.one.outline b.facts.typing next before.colour (length s.below) code plan (freed_of b choose x y t s) before.gone middle later values
+      let done : HoldersAreFreed b.one.outline b.facts.typing next before.colour (length s.below) code plan (freed_of b choose x y t s) before.gone middle later values
       (all_locals_after code s.g.stack frees values) =
       freed laws.ahead.frees b next (record following { areas = middle }) s.f s.g s.callers s.below code values before (freed_of b choose x y t s) known_ready.may in
       ap (λ (a : Areas). a.store.births) areas_are ∙ done.paired.store.births

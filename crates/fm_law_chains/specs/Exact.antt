@@ -11,7 +11,7 @@ use Rattle.fm_rewrite.specs.RewrittenWithChains.{first_cause}
 use Rattle.fm_world.specs.Programs.{Program}
 
 -- by both plans the given classes are written alike, with the same marks and counts, and the first cause against it is the same
-pub record ServeAlike (given : List ClassDef) (plans others : Plans) : Type 0 where
+pub record ServeChainsAlike (given : List ClassDef) (plans others : Plans) : Type 0 where
   pub written : chained_classes plans given ≡ chained_classes others given
   pub marks : chained_marks_with plans given ≡ chained_marks_with others given
   pub counts : counts_of plans given ≡ counts_of others given
@@ -21,4 +21,4 @@ pub record ServeAlike (given : List ClassDef) (plans others : Plans) : Type 0 wh
 abbrev pub LeastFactsServeChains : Type 0
 LeastFactsServeChains =
     (given : List ClassDef) (p : Program) (facts others : Facts) → AreLeastFacts p facts → AreLeastFacts p others
-    → ServeAlike given (full_chains p facts) (full_chains p others)
+    → ServeChainsAlike given (full_chains p facts) (full_chains p others)

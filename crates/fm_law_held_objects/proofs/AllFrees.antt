@@ -12,7 +12,7 @@ use Rattle.fm_law_held_objects.proofs.ContentsKept.{nothing_has}
 use Rattle.fm_law_held_objects.proofs.HolderSet.{has_here, has_there}
 use Rattle.fm_law_held_objects.proofs.OneFree.{not_lost, one_forth, one_free}
 use Rattle.fm_law_held_objects.specs.Forth.{FreesEmptyChains, ChainsAreFreed}
-use Rattle.fm_law_held_objects.specs.Freeing.{AreFreed, IsHadBy, IsOfHolder}
+use Rattle.fm_law_held_objects.specs.Freeing.{HoldersAreFreed, IsHadBy, IsOfHolder}
 use Rattle.fm_law_held_objects.specs.Held.{AreHeld, HolderHas}
 use Rattle.fm_law_held_objects.specs.Laws.{AreThere, frees_of, FreesKeepHeld, NothingIsLost}
 use Rattle.fm_law_holders.specs.Holding.{HasOther, holder_value}
@@ -41,7 +41,7 @@ module _ (o : Outline) (typings : Typings) (x : State) (colour : Colour) (depth 
   Wide locals = length locals ≡ code.max_locals + length plan.holders
 
   abbrev Leads : (hs : List ℕ) → Gone → (y later : Areas) → (locals values : List Value) → Type 0
-  Leads hs gone y later locals values = AreFreed o typings x colour depth code plan hs gone y later locals values
+  Leads hs gone y later locals values = HoldersAreFreed o typings x colour depth code plan hs gone y later locals values
 
   -- what the holder leaves
   abbrev then_locals : ℕ → List Value → List Value

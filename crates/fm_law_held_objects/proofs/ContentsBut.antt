@@ -15,7 +15,7 @@ use Rattle.fm_frames.specs.declared.values.Value.{Value}
 use Rattle.fm_law_chained.proofs.Links.{links_stay}
 use Rattle.fm_law_chained.specs.Chain.{IsChain, IsLink}
 use Rattle.fm_law_held_objects.proofs.ContentsKept.{chain_same, own_has}
-use Rattle.fm_law_held_objects.specs.Contents.{Has, Holds}
+use Rattle.fm_law_held_objects.specs.Contents.{Has, HoldsOneOrAll}
 use Rattle.fm_law_held_objects.specs.Held.{AreHeld, HolderHas}
 use Rattle.fm_law_holders.specs.Holding.{HasOther, holder_value, Holding, HoldsFixed, HoldsFreeable, HoldsNull, HoldsOwn}
 use Rattle.fm_law_sound.specs.Sound.{Typings}
@@ -83,7 +83,7 @@ module _ (births : List ℕ) (store later : Store) (s : StaysBut births store la
       loose own
 
   holds_but : (looped : Bool) (colour : Colour) (depth class : ℕ) (v : Value) → ((birth : ℕ) → Contains births birth → Has looped store v birth → ⊥)
-      → Holds looped store colour depth class v → Holds looped later colour depth class v
+      → HoldsOneOrAll looped store colour depth class v → HoldsOneOrAll looped later colour depth class v
   holds_but false colour depth class v none holds = plain_but colour depth class v none holds
   holds_but true colour depth class v none holds = record {
     births = holds.births;
@@ -95,7 +95,7 @@ module _ (births : List ℕ) (store later : Store) (s : StaysBut births store la
 
   -- what it has then it had before
   has_but : (looped : Bool) (colour : Colour) (depth class : ℕ) (v : Value) (birth : ℕ) → ((b : ℕ) → Contains births b → Has looped store v b → ⊥)
-      → Holds looped store colour depth class v → Has looped later v birth → Has looped store v birth
+      → HoldsOneOrAll looped store colour depth class v → Has looped later v birth → Has looped store v birth
   has_but false colour depth class v birth none holds has =
       let was = s.was (cell_of v) has.object has.held in
       record { object = was.old; held = was.held; not_fixed = was.fixed ∙ has.not_fixed; birth_is = was.born ∙ has.birth_is }

@@ -18,7 +18,7 @@ use Rattle.fm_frames.specs.declared.values.Value.{Value}
 use Rattle.fm_law_chained.proofs.Links.{chains_are_linked, links_stay}
 use Rattle.fm_law_chained.specs.Chain.{IsChain, IsLink}
 use Rattle.fm_law_held_objects.proofs.Holdings.{holding_by, nothing_of_null, own_of}
-use Rattle.fm_law_held_objects.specs.Contents.{Has, HasInChain, Holds, HoldsAll}
+use Rattle.fm_law_held_objects.specs.Contents.{Has, HasInChain, HoldsOneOrAll, HoldsAll}
 use Rattle.fm_law_held_objects.specs.Held.{AreHeld, HolderHas}
 use Rattle.fm_law_holders.specs.Holding.{holder_value, Holding, HoldsFixed, HoldsFreeable, HoldsNull, HoldsOwn}
 use Rattle.fm_law_holders.specs.NewResults.{KeepsObjects}
@@ -66,7 +66,7 @@ has_born looped store v birth orderly has =
 -- ---- by colours
 
 pub own_has : (looped : Bool) (store : Store) (colour : Colour) (depth class : ℕ) (v : Value) (birth : ℕ) → IsOrderly store
-    → Holds looped store colour depth class v → Has looped store v birth → colour birth ≡ Own depth class
+    → HoldsOneOrAll looped store colour depth class v → Has looped store v birth → colour birth ≡ Own depth class
 own_has false store colour depth class v birth orderly holds has = own_of store colour depth class v birth orderly holds has
 own_has true store colour depth class v birth orderly holds has =
     holds.own birth
@@ -81,7 +81,7 @@ nothing_has true store birth orderly has = by_births has.births has.chain has.am
   by_births (first ∷ births) chain among = null_first store 0 first births orderly refl chain
 
 -- and may be in any holder
-pub null_holds : (looped : Bool) (store : Store) (colour : Colour) (depth class : ℕ) (v : Value) → v ≡ null → Holds looped store colour depth class v
+pub null_holds : (looped : Bool) (store : Store) (colour : Colour) (depth class : ℕ) (v : Value) → v ≡ null → HoldsOneOrAll looped store colour depth class v
 unfolding IsDistinct
 null_holds false store colour depth class v none = HoldsNull none
 null_holds true store colour depth class v none =
@@ -89,7 +89,7 @@ null_holds true store colour depth class v none =
 
 -- in other colours
 pub holds_by : (looped : Bool) (store : Store) (colour other : Colour) (depth class : ℕ) (v : Value)
-    → ((birth : ℕ) → Has looped store v birth → other birth ≡ colour birth) → Holds looped store colour depth class v → Holds looped store other depth class v
+    → ((birth : ℕ) → Has looped store v birth → other birth ≡ colour birth) → HoldsOneOrAll looped store colour depth class v → HoldsOneOrAll looped store other depth class v
 holds_by false store colour other depth class v same holds = holding_by store colour other depth class v same holds
 holds_by true store colour other depth class v same holds = record {
   births = holds.births;
@@ -138,7 +138,7 @@ module _ (store later : Store) (later_orderly : IsOrderly later) (keeps : KeepsO
       record { now = now.0; held = now.1; born = now.2; fixed = now.3; chain = now.4 }) chain
 
   -- what it holds it held before
-  pub has_before : (looped : Bool) (colour : Colour) (depth class : ℕ) (v : Value) (birth : ℕ) → Holds looped store colour depth class v
+  pub has_before : (looped : Bool) (colour : Colour) (depth class : ℕ) (v : Value) (birth : ℕ) → HoldsOneOrAll looped store colour depth class v
       → Has looped later v birth → Has looped store v birth
   has_before false colour depth class v birth holds has = may_before colour depth class v birth holds has
   has_before true colour depth class v birth holds has = record {
@@ -170,7 +170,7 @@ module _ (store later : Store) (later_orderly : IsOrderly later) (keeps : KeepsO
   -- and what it may hold it may hold
   pub holds_later : (looped : Bool) (colour other : Colour) (depth class : ℕ) (v : Value)
       → ((birth : ℕ) → Has looped store v birth → colour birth ≡ Own depth class → other birth ≡ colour birth)
-      → Holds looped store colour depth class v → Holds looped later other depth class v
+      → HoldsOneOrAll looped store colour depth class v → HoldsOneOrAll looped later other depth class v
   holds_later false colour other depth class v same holds = plain_later colour other depth class v same holds
   holds_later true colour other depth class v same holds = record {
     births = holds.births;

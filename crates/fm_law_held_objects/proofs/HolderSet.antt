@@ -8,7 +8,7 @@ use Rattle.fm_code.specs.declared.code_array.Code.{Code}
 use Rattle.fm_frames.specs.States.{State}
 use Rattle.fm_frames.specs.declared.values.Value.{Value}
 use Rattle.fm_frames.specs.declared.values.Value.TheVariants as value
-use Rattle.fm_law_held_objects.specs.Contents.{Has, Holds}
+use Rattle.fm_law_held_objects.specs.Contents.{Has, HoldsOneOrAll}
 use Rattle.fm_law_held_objects.specs.Held.{AreHeld, HolderHas}
 use Rattle.fm_law_held_objects.specs.Initialised.{IsInitialised}
 use Rattle.fm_law_holders.specs.Holding.{holder_value}
@@ -48,14 +48,14 @@ module _ (store : Store) (code : Code) (plan : Insertions) (locals : List Value)
   gets_there h birth away has = subst (λ v. Has (looped_at plan h) store v birth) (sym (value_there h away)) has
 
   module _ (typings : Typings) (x : State) (colour : Colour) (depth : ℕ) (have : AreHeld typings x colour depth store code plan locals)
-      (holds : (holder : Holder) → slice_get plan.holders kept ≡ Some holder → Holds (looped_at plan kept) store colour depth holder.class w)
+      (holds : (holder : Holder) → slice_get plan.holders kept ≡ Some holder → HoldsOneOrAll (looped_at plan kept) store colour depth holder.class w)
       (fresh : (birth : ℕ) → Has (looped_at plan kept) store w birth → IsInitialised typings x birth)
       (unheld : (h birth : ℕ) → h < length plan.holders → h ≢ kept → Has (looped_at plan kept) store w birth → HolderHas store code plan locals h birth → ⊥) where
     holds_here : (h : ℕ) (holder : Holder) → slice_get plan.holders h ≡ Some holder → h ≡ kept
-        → Holds (looped_at plan h) store colour depth holder.class (holder_value code (slice_set locals (local_of code kept) w) h)
+        → HoldsOneOrAll (looped_at plan h) store colour depth holder.class (holder_value code (slice_set locals (local_of code kept) w) h)
     holds_here h holder at same =
-        subst (Holds (looped_at plan h) store colour depth holder.class) (sym (value_here h same))
-        (subst (λ looped. Holds looped store colour depth holder.class w) (ap (looped_at plan) (sym same))
+        subst (HoldsOneOrAll (looped_at plan h) store colour depth holder.class) (sym (value_here h same))
+        (subst (λ looped. HoldsOneOrAll looped store colour depth holder.class w) (ap (looped_at plan) (sym same))
         (holds holder (ap (slice_get plan.holders) (sym same) ∙ at)))
 
     -- so all hold what they may, where the value leads to objects that no other holder has, and that are initialised
@@ -64,7 +64,7 @@ module _ (store : Store) (code : Code) (plan : Insertions) (locals : List Value)
       holds = λ h holder at. ⊎_elim
           (λ (same : h ≡ kept). holds_here h holder at same)
           (λ (away : h ≢ kept).
-          subst (Holds (looped_at plan h) store colour depth holder.class) (sym (value_there h away)) (have.holds h holder at))
+          subst (HoldsOneOrAll (looped_at plan h) store colour depth holder.class) (sym (value_there h away)) (have.holds h holder at))
           (cases_eq h kept);
       apart = λ h other birth within inside_too one two. ⊎_elim
           (λ (same : h ≡ kept). ⊎_elim

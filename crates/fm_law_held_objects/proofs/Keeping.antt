@@ -22,11 +22,11 @@ use Rattle.fm_law_held_objects.proofs.ContentsBut.{absent_still, had_but, has_st
 use Rattle.fm_law_held_objects.proofs.ContentsKept.{chain_same, has_at, has_before, has_joined, holds_joined, own_has}
 use Rattle.fm_law_held_objects.proofs.Holdings.{own_of}
 use Rattle.fm_law_held_objects.proofs.HolderSet.{gets_here, gets_there, has_here, has_there, set_held}
-use Rattle.fm_law_held_objects.specs.Contents.{Has, HasInChain, Holds, HoldsAll}
+use Rattle.fm_law_held_objects.specs.Contents.{Has, HasInChain, HoldsOneOrAll, HoldsAll}
 use Rattle.fm_law_held_objects.specs.Forth.{KeepingLinksChains, ChainsAreKept}
 use Rattle.fm_law_held_objects.specs.Held.{AreHeld, HolderHas}
 use Rattle.fm_law_held_objects.specs.Initialised.{AreNotFor, FrameIsNotFor, IsInitialised, IsNotFor}
-use Rattle.fm_law_held_objects.specs.Keeping.{AreKept}
+use Rattle.fm_law_held_objects.specs.Keeping.{HoldersKeep}
 use Rattle.fm_law_held_objects.specs.Laws.{KeepingKeepsHeld}
 use Rattle.fm_law_holders.specs.Holding.{HasOther, holder_value, Holding, IsUnshared, HoldsFreeable, HoldsOwn}
 use Rattle.fm_law_holders.specs.Laws.{NewResultsAreUnheld}
@@ -168,7 +168,7 @@ module _ (unheld : NewResultsAreUnheld) (p : Program) (facts : Facts) (x next : 
   other_has h birth within mine theirs =
       let any : Holder = record { site = 0; class = 0; looped = false } in
       let class : ℕ = (get_or plan.holders h any).class in
-      let holds : Holds (looped_at plan h) before colour depth class (holder_value code locals h) =
+      let holds : HoldsOneOrAll (looped_at plan h) before colour depth class (holder_value code locals h) =
       had.holds h (get_or plan.holders h any) (slice_get-get_or plan.holders h any within) in
       let was : HolderHas before code plan locals h birth =
       has_before before y.store later_orderly stays (looped_at plan h) colour depth class (holder_value code locals h) birth holds theirs in
@@ -184,7 +184,7 @@ module _ (unheld : NewResultsAreUnheld) (p : Program) (facts : Facts) (x next : 
       birth (leads birth mine) (record { object = link.1.object; held = link.1.held; not_fixed = link.1.loose; birth_is = link.1.born })
 
   abbrev Kept : Areas → List Value → Type 0
-  Kept later values = AreKept o facts.typing next other (length callers) code plan (kept ∷ []) (word_at stack 0) gone y later locals values
+  Kept later values = HoldersKeep o facts.typing next other (length callers) code plan (kept ∷ []) (word_at stack 0) gone y later locals values
 
   abbrev Forth : Areas → List Value → Type 0
   Forth later values = ChainsAreKept facts.typing next other (length callers) code plan (kept ∷ []) (word_at stack 0) y later locals values
@@ -197,7 +197,7 @@ module _ (unheld : NewResultsAreUnheld) (p : Program) (facts : Facts) (x next : 
     frames = λ fs gs are. are;
     words = refl;
     held = set_held y.store code plan locals width kept inside w facts.typing next other depth have
-        (λ found there. subst (λ looped. Holds looped y.store other depth found.class w) (sym is)
+        (λ found there. subst (λ looped. HoldsOneOrAll looped y.store other depth found.class w) (sym is)
         (subst (λ (k : Holder). Holding y.store other depth k.class w) (same_Some holder found (sym at ∙ there)) holding))
         (λ birth has. fresh birth (leads birth (as_freeable birth has)))
         (λ h birth within away has theirs. other_has h birth within (as_freeable birth has) theirs);
@@ -313,7 +313,7 @@ module _ (unheld : NewResultsAreUnheld) (p : Program) (facts : Facts) (x next : 
 
     -- its objects are those that it had, and the one that is given
     all_had : HoldsAll y.store other (length callers) holder.class (holder_value code locals kept)
-    all_had = subst (λ looped. Holds looped y.store other depth holder.class own_value) is (have.holds kept holder at)
+    all_had = subst (λ looped. HoldsOneOrAll looped y.store other depth holder.class own_value) is (have.holds kept holder at)
 
     away : Contains all_had.births j.object.birth → ⊥
     away among =
@@ -346,7 +346,7 @@ module _ (unheld : NewResultsAreUnheld) (p : Program) (facts : Facts) (x next : 
       frames = pairs.frames;
       words = refl;
       held = set_held following code plan locals width kept inside w facts.typing next other depth linked
-          (λ found there. subst (λ looped. Holds looped following other depth found.class w) (sym is)
+          (λ found there. subst (λ looped. HoldsOneOrAll looped following other depth found.class w) (sym is)
           (subst (λ (k : Holder). HoldsAll following other depth k.class w) (same_Some holder found (sym at ∙ there)) all_now))
           (λ birth has. ⊎_elim
           (λ (same : birth ≡ j.object.birth). subst (IsInitialised facts.typing next) (sym same) (fresh j.object.birth (leads j.object.birth given)))

@@ -23,9 +23,9 @@ use Rattle.fm_law_chained.specs.Laws.{AreLinksFreed}
 use Rattle.fm_law_held_objects.proofs.ContentsBut.{absent_still, has_still, held_but, linked_at, others_held_but, others_still, StaysBut}
 use Rattle.fm_law_held_objects.proofs.ContentsKept.{chain_same, nothing_has, null_holds, own_has}
 use Rattle.fm_law_held_objects.proofs.HolderSet.{gets_there, has_here, has_there, set_held}
-use Rattle.fm_law_held_objects.specs.Contents.{Has, Holds, HoldsAll}
+use Rattle.fm_law_held_objects.specs.Contents.{Has, HoldsOneOrAll, HoldsAll}
 use Rattle.fm_law_held_objects.specs.Forth.{ChainsAreFreed}
-use Rattle.fm_law_held_objects.specs.Freeing.{AreFreed, IsHadBy, IsOfHolder}
+use Rattle.fm_law_held_objects.specs.Freeing.{HoldersAreFreed, IsHadBy, IsOfHolder}
 use Rattle.fm_law_held_objects.specs.Held.{AreHeld, HolderHas}
 use Rattle.fm_law_holders.specs.Holding.{HasOther, holder_value, Holding, HoldsFixed, HoldsNull, HoldsOwn}
 use Rattle.fm_law_sound.specs.Sound.{Typings}
@@ -58,7 +58,7 @@ module _ (gone : Gone) (o : Outline) (typings : Typings) (x : State) (colour : C
 
   -- what the areas lead to, where the holder is null then
   abbrev Leads : Areas → List Value → Type 0
-  Leads later values = AreFreed o typings x colour depth code plan (h ∷ rest) gone y later locals values
+  Leads later values = HoldersAreFreed o typings x colour depth code plan (h ∷ rest) gone y later locals values
 
   abbrev Forth : Areas → List Value → Type 0
   Forth later values = ChainsAreFreed typings x colour depth code plan y later locals values
@@ -215,7 +215,7 @@ module _ (gone : Gone) (o : Outline) (typings : Typings) (x : State) (colour : C
         areas = ap (freed_along y) walked.found;
       }
 
-  found_by : (looped : Bool) → Holds looped y.store colour depth holder.class v → IsFound code stack locals y h v looped
+  found_by : (looped : Bool) → HoldsOneOrAll looped y.store colour depth holder.class v → IsFound code stack locals y h v looped
   found_by false holds = plain_found holder.class holds
   found_by true holds = chain_found holder.class holds
 
@@ -238,7 +238,7 @@ module _ (gone : Gone) (o : Outline) (typings : Typings) (x : State) (colour : C
   lost_by cell (HoldsFixed object held fixed) is lost = none-some object (sym lost ∙ ap (object_at y.store) (sym is) ∙ held)
   lost_by cell (HoldsOwn object held loose own) is lost = none-some object (sym lost ∙ ap (object_at y.store) (sym is) ∙ held)
 
-  missed_by : (looped : Bool) → Holds looped y.store colour depth holder.class v → Misses code y stack locals (to_free looped h) → ⊥
+  missed_by : (looped : Bool) → HoldsOneOrAll looped y.store colour depth holder.class v → Misses code y stack locals (to_free looped h) → ⊥
   missed_by false holds misses = lost_by misses.0 holds misses.1 misses.2
   missed_by true holds misses =
       let walked = chains_are_walked y.store (cell_of v) holds.births orderly holds.chain holds.once in

@@ -23,9 +23,9 @@ pub record HasInChain (store : Store) (v : Value) (birth : ℕ) : Type 0 where
   pub among : Contains births birth
 
 -- what a holder may hold, with a chain or without
-abbrev pub Holds : (looped : Bool) → Store → Colour → (depth class : ℕ) → Value → Type 0
-Holds true store colour depth class v = HoldsAll store colour depth class v
-Holds false store colour depth class v = Holding store colour depth class v
+abbrev pub HoldsOneOrAll : (looped : Bool) → Store → Colour → (depth class : ℕ) → Value → Type 0
+HoldsOneOrAll true store colour depth class v = HoldsAll store colour depth class v
+HoldsOneOrAll false store colour depth class v = Holding store colour depth class v
 
 -- it holds an object of this birth, which may be freed
 abbrev pub Has : (looped : Bool) → Store → Value → (birth : ℕ) → Type 0

@@ -32,7 +32,7 @@ pub record IsHadBy (store : Store) (code : Code) (plan : Insertions) (locals : L
 -- The second memory's areas lead to later ones, and a frame's locals to others, where it frees these holders: more is gone, which was of the regions of these
 -- holders and was what they had, and its words are what was freed; the memories and all frames stay paired, and holders held, those of this frame and those of
 -- other frames. What a value leads to then it led to before.
-pub record AreFreed (o : Outline) (typings : Typings) (x : State) (colour : Colour) (depth : ℕ) (code : Code) (plan : Insertions) (hs : List ℕ) (gone : Gone) (y later : Areas) (before locals : List Value) : Type 0 where
+pub record HoldersAreFreed (o : Outline) (typings : Typings) (x : State) (colour : Colour) (depth : ℕ) (code : Code) (plan : Insertions) (hs : List ℕ) (gone : Gone) (y later : Areas) (before locals : List Value) : Type 0 where
   pub more : Gone
   pub paired : AreasPaired more o x.areas later
   pub frames : (fs gs : List Frame) → AllZip (FramesPaired gone x.areas.store y.store) fs gs → AllZip (FramesPaired more x.areas.store later.store) fs gs

@@ -6,7 +6,7 @@ use Rattle.fm_code.specs.declared.code_array.Code.{Code}
 use Rattle.fm_conn.specs.Facts.{Facts}
 use Rattle.fm_frames.specs.States.{Frame, State}
 use Rattle.fm_frames.specs.declared.values.Value.{Value}
-use Rattle.fm_law_held_objects.specs.Contents.{Has, Holds}
+use Rattle.fm_law_held_objects.specs.Contents.{Has, HoldsOneOrAll}
 use Rattle.fm_law_held_objects.specs.Initialised.{IsInitialised}
 use Rattle.fm_law_holders.specs.Holding.{holder_value}
 use Rattle.fm_law_same_runs.specs.Beside.{kept_item, Marks}
@@ -25,7 +25,7 @@ HolderHas store code plan locals h birth = Has (looped_at plan h) store (holder_
 -- an object is initialised in the state of the first program.
 pub record AreHeld (typings : Typings) (x : State) (colour : Colour) (depth : ℕ) (store : Store) (code : Code) (plan : Insertions) (locals : List Value) : Type 0 where
   pub holds : (h : ℕ) (holder : Holder) → slice_get plan.holders h ≡ Some holder
-      → Holds (looped_at plan h) store colour depth holder.class (holder_value code locals h)
+      → HoldsOneOrAll (looped_at plan h) store colour depth holder.class (holder_value code locals h)
   pub apart : (h other birth : ℕ) → h < length plan.holders → other < length plan.holders → HolderHas store code plan locals h birth
       → HolderHas store code plan locals other birth → h ≡ other
   pub initialised : (h birth : ℕ) → h < length plan.holders → HolderHas store code plan locals h birth → IsInitialised typings x birth

@@ -15,7 +15,7 @@ use Rattle.fm_world.specs.Programs.{Outline}
 -- The second memory's areas lead to later ones, and a frame's locals to others, where these holders get a value: the memories and all frames stay paired, with
 -- nothing more gone and no words freed, and holders held, those of this frame and those of other frames. What a holder of the frame has then it had before, or
 -- is what that value leads to; what a holder of another frame has then it had before.
-pub record AreKept (o : Outline) (typings : Typings) (x : State) (colour : Colour) (depth : ℕ) (code : Code) (plan : Insertions) (hs : List ℕ) (given : Value) (gone : Gone) (y later : Areas) (before locals : List Value) : Type 0 where
+pub record HoldersKeep (o : Outline) (typings : Typings) (x : State) (colour : Colour) (depth : ℕ) (code : Code) (plan : Insertions) (hs : List ℕ) (given : Value) (gone : Gone) (y later : Areas) (before locals : List Value) : Type 0 where
   pub paired : AreasPaired gone o x.areas later
   pub frames : (fs gs : List Frame) → AllZip (FramesPaired gone x.areas.store y.store) fs gs → AllZip (FramesPaired gone x.areas.store later.store) fs gs
   pub words : later.freed_words ≡ y.freed_words

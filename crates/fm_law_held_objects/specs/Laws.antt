@@ -12,10 +12,10 @@ use Rattle.fm_frames.specs.Acts.{cell_of, Choose}
 use Rattle.fm_frames.specs.States.{Areas, Frame, null, State, word_at}
 use Rattle.fm_frames.specs.Steps.{step}
 use Rattle.fm_frames.specs.declared.values.Value.{Value}
-use Rattle.fm_law_held_objects.specs.Freeing.{AreFreed, AreRetired}
+use Rattle.fm_law_held_objects.specs.Freeing.{HoldersAreFreed, AreRetired}
 use Rattle.fm_law_held_objects.specs.Held.{AreHeld}
 use Rattle.fm_law_held_objects.specs.Initialised.{IsInitialised}
-use Rattle.fm_law_held_objects.specs.Keeping.{AreKept}
+use Rattle.fm_law_held_objects.specs.Keeping.{HoldersKeep}
 use Rattle.fm_law_holders.specs.Holding.{holder_value, Holding, HoldsFreeable}
 use Rattle.fm_law_holders.specs.NewResults.{GoesOnBehind, HasNewResult, KeepsObjects}
 use Rattle.fm_law_holders.specs.Uninitialised.{AreMade, AreMadeIn, Made}
@@ -63,7 +63,7 @@ FreesKeepHeld =
     (gone : Gone) (o : Outline) (typings : Typings) (x : State) (colour : Colour) (depth : ℕ) (y : Areas) → AreasPaired gone o x.areas y
     → (code : Code) (plan : Insertions) (g : Frame) (hs : List ℕ) → AreThere plan hs → length g.locals ≡ code.max_locals + length plan.holders
     → AreHeld typings x colour depth y.store code plan g.locals
-    → AreFreed o typings x colour depth code plan hs gone y (all_areas_after code g.stack (frees_of plan hs) g.locals y) g.locals
+    → HoldersAreFreed o typings x colour depth code plan hs gone y (all_areas_after code g.stack (frees_of plan hs) g.locals y) g.locals
     (all_locals_after code g.stack (frees_of plan hs) g.locals)
 
 -- ---- what was freed is retired
@@ -117,6 +117,6 @@ KeepingKeepsHeld =
     → (stack : List Value) → Holding y.store other (length callers) holder.class (word_at stack 0)
     → ((birth : ℕ) → HoldsFreeable y.store (word_at stack 0) birth → HoldsFreeable next.areas.store r.result birth)
     → ((birth : ℕ) → HoldsFreeable next.areas.store r.result birth → IsInitialised facts.typing next birth)
-    → AreKept o facts.typing next other (length callers) code plan (kept ∷ []) (word_at stack 0) gone y
+    → HoldersKeep o facts.typing next other (length callers) code plan (kept ∷ []) (word_at stack 0) gone y
     (areas_after code stack locals (to_keep (looped_at plan kept) (joins_in y.store (cell_of (word_at stack 0))) kept) y) locals
     (locals_after code stack (to_keep (looped_at plan kept) (joins_in y.store (cell_of (word_at stack 0))) kept) locals)

@@ -19,7 +19,7 @@ use Rattle.fm_law_held_objects.proofs.ContentsKept.{held_by, own_has}
 use Rattle.fm_law_held_objects.specs.Above.{NewResultsAreInitialised}
 use Rattle.fm_law_held_objects.specs.Forth.{ChainsAreKept, KeepingLinksChains}
 use Rattle.fm_law_held_objects.specs.Held.{AreHeld, FrameIsHeld, FramesAreHeld}
-use Rattle.fm_law_held_objects.specs.Keeping.{AreKept}
+use Rattle.fm_law_held_objects.specs.Keeping.{HoldersKeep}
 use Rattle.fm_law_held_objects.specs.Laws.{KeepingKeepsHeld, StepsKeepHeld}
 use Rattle.fm_law_holders.specs.Holding.{holder_value}
 use Rattle.fm_law_holders.specs.Laws.{KeptResultsAreOwn, SitesGiveNew}
@@ -78,7 +78,7 @@ following_of b second y = (step b.other (lawful second) y).state
 
 -- What is done before anything is freed leaves what all holders hold, and finds what it needs; what is freed then is there, and its class isn't busy.
 pub record IsReady (b : Both) (next following : State) (colour : Colour) (gone : Gone) (f g : Frame) (below : List Frame) (code : Code) (first : List Todo) (given hs : List ℕ) : Type 0 where
-  pub kept : AreKept b.one.outline b.facts.typing next colour (length below) code (inserted_by (b.plans g.method)) given (word_at g.stack 0) gone following.areas
+  pub kept : HoldersKeep b.one.outline b.facts.typing next colour (length below) code (inserted_by (b.plans g.method)) given (word_at g.stack 0) gone following.areas
       (all_areas_after code g.stack first g.locals following.areas) g.locals (all_locals_after code g.stack first g.locals)
   pub finds : FindsAll code g.stack first g.locals following.areas
   pub others : FramesAreHeld b.one b.facts b.plans b.marks next colour following.areas.store below
@@ -190,7 +190,7 @@ module _ (laws : CatchLaws) (b : Both) (from : IsWovenFrom b.one b.other b.facts
     -- ---- before anything is freed
 
     ready_with : (code : Code) (todos : List Todo) (given hs : List ℕ)
-        → AreKept b.one.outline b.facts.typing next on.fewer (length below) code (inserted_by (b.plans g.method)) given (word_at g.stack 0) t.gone following.areas
+        → HoldersKeep b.one.outline b.facts.typing next on.fewer (length below) code (inserted_by (b.plans g.method)) given (word_at g.stack 0) t.gone following.areas
         (all_areas_after code g.stack todos g.locals following.areas) g.locals (all_locals_after code g.stack todos g.locals)
         → FindsAll code g.stack todos g.locals following.areas
         → FramesAreHeld b.one b.facts b.plans b.marks next on.over.other following.areas.store below
@@ -201,7 +201,7 @@ module _ (laws : CatchLaws) (b : Both) (from : IsWovenFrom b.one b.other b.facts
 
     -- a frame whose holders hold what they may, for which nothing is done
     as_it_was : (code : Code) → AreHeld b.facts.typing next on.fewer (length below) following.areas.store code (inserted_by (b.plans g.method)) g.locals
-        → AreKept b.one.outline b.facts.typing next on.fewer (length below) code (inserted_by (b.plans g.method)) [] (word_at g.stack 0) t.gone following.areas
+        → HoldersKeep b.one.outline b.facts.typing next on.fewer (length below) code (inserted_by (b.plans g.method)) [] (word_at g.stack 0) t.gone following.areas
         following.areas g.locals g.locals
     as_it_was code held =
         nothing_kept b.one.outline b.facts.typing next on.fewer (length below) code plan [] (word_at g.stack 0) t.gone following.areas g.locals paired.areas held
@@ -214,7 +214,7 @@ module _ (laws : CatchLaws) (b : Both) (from : IsWovenFrom b.one b.other b.facts
       nulls h inside = started_null b.facts (typed_method b.one b.facts.typing g.method code) plan g.stack g.locals width h inside
 
       -- at the start no holder has anything
-      start_kept : AreKept b.one.outline b.facts.typing next on.fewer (length below) code (inserted_by (b.plans g.method)) [] (word_at g.stack 0) t.gone
+      start_kept : HoldersKeep b.one.outline b.facts.typing next on.fewer (length below) code (inserted_by (b.plans g.method)) [] (word_at g.stack 0) t.gone
           following.areas following.areas g.locals (all_locals_after code g.stack (starts_of (inserted_by (b.plans g.method))) g.locals)
       start_kept = record {
         paired = paired.areas;
@@ -230,12 +230,12 @@ module _ (laws : CatchLaws) (b : Both) (from : IsWovenFrom b.one b.other b.facts
       areas_same : following.areas ≡ all_areas_after code g.stack (starts_of (inserted_by (b.plans g.method))) g.locals following.areas
       areas_same = sym (starts_areas code g.stack (range_with_len 0 (length plan.holders)) g.locals following.areas)
 
-      starts_kept : AreKept b.one.outline b.facts.typing next on.fewer (length below) code (inserted_by (b.plans g.method)) [] (word_at g.stack 0) t.gone
+      starts_kept : HoldersKeep b.one.outline b.facts.typing next on.fewer (length below) code (inserted_by (b.plans g.method)) [] (word_at g.stack 0) t.gone
           following.areas (all_areas_after code g.stack (starts_of (inserted_by (b.plans g.method))) g.locals following.areas) g.locals
           (all_locals_after code g.stack (starts_of (inserted_by (b.plans g.method))) g.locals)
       starts_kept =
           subst (λ later.
-          AreKept b.one.outline b.facts.typing next on.fewer (length below) code (inserted_by (b.plans g.method)) [] (word_at g.stack 0) t.gone following.areas later
+          HoldersKeep b.one.outline b.facts.typing next on.fewer (length below) code (inserted_by (b.plans g.method)) [] (word_at g.stack 0) t.gone following.areas later
           g.locals started) areas_same start_kept
 
     -- what lies ahead of the frame, of which this is known

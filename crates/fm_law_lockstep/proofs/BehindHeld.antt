@@ -17,7 +17,7 @@ use Rattle.fm_frames.specs.declared.values.Value.{Value}
 use Rattle.fm_law_held_objects.specs.Above.{NewResultsAreInitialised}
 use Rattle.fm_law_held_objects.specs.Forth.{ChainsAreKept, KeepingLinksChains}
 use Rattle.fm_law_held_objects.specs.Held.{AreHeld}
-use Rattle.fm_law_held_objects.specs.Keeping.{AreKept}
+use Rattle.fm_law_held_objects.specs.Keeping.{HoldersKeep}
 use Rattle.fm_law_held_objects.specs.Laws.{KeepingKeepsHeld}
 use Rattle.fm_law_holders.specs.Laws.{KeptResultsAreOwn, SitesGiveNew}
 use Rattle.fm_law_holders.specs.NewResults.{GoesOnBehind, HasNewResult, IsDone, IsReturnedTo, KeepsObjects}
@@ -54,7 +54,7 @@ first_same R v vs (w ∷ ws) each = each.0
 -- where nothing is done, holders are as they were
 pub nothing_kept : (o : Outline) (typings : Typings) (x : State) (colour : Colour) (depth : ℕ) (code : Code) (plan : Insertions) (hs : List ℕ) (given : Value)
     (gone : Gone) (y : Areas) (locals : List Value) → AreasPaired gone o x.areas y → AreHeld typings x colour depth y.store code plan locals
-    → AreKept o typings x colour depth code plan hs given gone y y locals locals
+    → HoldersKeep o typings x colour depth code plan hs given gone y y locals locals
 nothing_kept o typings x colour depth code plan hs given gone y locals paired held = record {
   paired = paired;
   frames = λ fs gs are. are;
@@ -167,7 +167,7 @@ module _ (b : Both) (from : IsWovenFrom b.one b.other b.facts b.plans b.marks) (
     -- what holders of the frame hold then
     abbrev pub KeptThen : List ℕ → Type 0
     KeptThen hs =
-        AreKept b.one.outline b.facts.typing next on.fewer (length below) code (inserted_by (b.plans g.method)) hs (word_at g.stack 0) t.gone following.areas
+        HoldersKeep b.one.outline b.facts.typing next on.fewer (length below) code (inserted_by (b.plans g.method)) hs (word_at g.stack 0) t.gone following.areas
         (all_areas_after code g.stack (keeps_of hs) g.locals following.areas) g.locals (all_locals_after code g.stack (keeps_of hs) g.locals)
         × FindsAll code g.stack (keeps_of hs) g.locals following.areas
 
@@ -218,7 +218,7 @@ module _ (b : Both) (from : IsWovenFrom b.one b.other b.facts b.plans b.marks) (
       keeps_one : KeptThen (only ∷ [])
       keeps_one = (
         subst (λ n.
-            AreKept b.one.outline b.facts.typing next on.fewer n code plan (only ∷ []) (word_at g.stack 0) t.gone following.areas
+            HoldersKeep b.one.outline b.facts.typing next on.fewer n code plan (only ∷ []) (word_at g.stack 0) t.gone following.areas
             (all_areas_after code g.stack (keeps_of (only ∷ [])) g.locals following.areas) g.locals
             (all_locals_after code g.stack (keeps_of (only ∷ [])) g.locals)) there.count
             (result_kept new own b.one b.facts linked first x t.colour t.made t.known on t.goes_on going stand covers next_stand there.f there.callers

@@ -14,7 +14,7 @@ use Rattle.fm_frames.specs.Steps.{max_locals_of}
 use Rattle.fm_frames.specs.declared.values.Value.{Value}
 use Rattle.fm_frames.specs.declared.values.Value.TheVariants as value
 use Rattle.fm_law_held_objects.proofs.ContentsKept.{nothing_has, null_holds}
-use Rattle.fm_law_held_objects.specs.Contents.{Has, Holds}
+use Rattle.fm_law_held_objects.specs.Contents.{Has, HoldsOneOrAll}
 use Rattle.fm_law_held_objects.specs.Held.{AreHeld, FrameIsHeld, FramesAreHeld, HolderHas}
 use Rattle.fm_law_holders.specs.Holding.{holder_value}
 use Rattle.fm_law_same_runs.specs.Beside.{kept_item, Marks}
@@ -37,7 +37,7 @@ module _ (typings : Typings) (x : State) (colour : Colour) (depth : ℕ) (store 
   pub held_alike : (locals others : List Value) → ((h : ℕ) → holder_value code others h ≡ holder_value code locals h)
       → AreHeld typings x colour depth store code plan locals → AreHeld typings x colour depth store code plan others
   held_alike locals others same had = record {
-    holds = λ h holder at. subst (Holds (looped_at plan h) store colour depth holder.class) (sym (same h)) (had.holds h holder at);
+    holds = λ h holder at. subst (HoldsOneOrAll (looped_at plan h) store colour depth holder.class) (sym (same h)) (had.holds h holder at);
     apart = λ h second birth within inside one two. had.apart h second birth within inside (back h birth one) (back second birth two);
     initialised = λ h birth within has. had.initialised h birth within (back h birth has);
   } where

@@ -9,7 +9,7 @@ use Rattle.fm_conn.specs.Links.{typed_method}
 use Rattle.fm_frames.specs.States.{Areas, Frame, null, State}
 use Rattle.fm_frames.specs.declared.values.Value.{Value}
 use Rattle.fm_law_held_objects.specs.Above.{AreSomeOf, FewerAreForNoneAbove}
-use Rattle.fm_law_held_objects.specs.Freeing.{AreFreed, AreRetired}
+use Rattle.fm_law_held_objects.specs.Freeing.{HoldersAreFreed, AreRetired}
 use Rattle.fm_law_held_objects.specs.Held.{AreHeld, FrameIsHeld, FramesAreHeld}
 use Rattle.fm_law_held_objects.specs.Laws.{AreThere, FreedClassesRetire, frees_of, FreesKeepHeld, NothingIsLost, RetiringKeepsHeld}
 use Rattle.fm_law_holders.specs.Holding.{holder_value}
@@ -81,7 +81,7 @@ module _ (laws : FreeLaws) (b : Both) (x z : State) (f g : Frame) (callers below
   nothing_lost =
       laws.found h.gone b.one.outline b.facts.typing x h.colour (length below) z.areas h.paired.areas code plan (record g { locals = locals }) hs there h.width h.top
 
-  pub freed : AreFreed b.one.outline b.facts.typing x h.colour (length below) code (inserted_by (b.plans g.method)) hs h.gone z.areas
+  pub freed : HoldersAreFreed b.one.outline b.facts.typing x h.colour (length below) code (inserted_by (b.plans g.method)) hs h.gone z.areas
       (all_areas_after code g.stack (frees_of (inserted_by (b.plans g.method)) hs) locals z.areas) locals
       (all_locals_after code g.stack (frees_of (inserted_by (b.plans g.method)) hs) locals)
   freed =

@@ -21,7 +21,7 @@ use Rattle.fm_law_held_objects.specs.Above.{NewResultsAreInitialised}
 use Rattle.fm_law_held_objects.specs.Forth.{ChainsAreKept, KeepingLinksChains}
 use Rattle.fm_law_held_objects.specs.Held.{AreHeld}
 use Rattle.fm_law_held_objects.specs.Initialised.{IsInitialised}
-use Rattle.fm_law_held_objects.specs.Keeping.{AreKept}
+use Rattle.fm_law_held_objects.specs.Keeping.{HoldersKeep}
 use Rattle.fm_law_held_objects.specs.Laws.{KeepingKeepsHeld}
 use Rattle.fm_law_holders.specs.Holding.{Holding, HoldsFixed, HoldsFreeable, HoldsNull, HoldsOwn}
 use Rattle.fm_law_holders.specs.Laws.{KeptResultsAreOwn, SitesGiveNew}
@@ -138,7 +138,7 @@ module _ (new : SitesGiveNew) (own : KeptResultsAreOwn) (p : Program) (facts : F
             (word_at stack 0) same result_holds
 
         -- its holder keeps the twin of that, or that joins its chain
-        pub result_kept : AreKept p.outline facts.typing next on.fewer (length callers) code plan (only ∷ []) (word_at stack 0) gone y
+        pub result_kept : HoldersKeep p.outline facts.typing next on.fewer (length callers) code plan (only ∷ []) (word_at stack 0) gone y
             (areas_after code stack locals (to_keep (looped_at plan only) (joins_in y.store (cell_of (word_at stack 0))) only) y) locals
             (locals_after code stack (to_keep (looped_at plan only) (joins_in y.store (cell_of (word_at stack 0))) only) locals)
         result_kept =

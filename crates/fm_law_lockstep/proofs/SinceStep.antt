@@ -19,7 +19,7 @@ use Rattle.fm_frames.specs.declared.values.Value.{Value}
 use Rattle.fm_law_held_objects.proofs.ContentsKept.{has_before, nothing_has}
 use Rattle.fm_law_held_objects.proofs.Steps.{captured_class}
 use Rattle.fm_law_held_objects.specs.Contents.{Has}
-use Rattle.fm_law_held_objects.specs.Freeing.{AreFreed, IsHadBy}
+use Rattle.fm_law_held_objects.specs.Freeing.{HoldersAreFreed, IsHadBy}
 use Rattle.fm_law_held_objects.specs.Held.{AreHeld, FramesAreHeld, HolderHas}
 use Rattle.fm_law_held_objects.specs.Laws.{frees_of}
 use Rattle.fm_law_holders.specs.Holding.{holder_value, HoldsFreeable}
@@ -186,7 +186,7 @@ module _ (b : Both) (from : IsWovenFrom b.one b.other b.facts b.plans b.marks) (
       abbrev later : Areas
       later = all_areas_after code g.stack (frees_of (inserted_by (b.plans g.method)) hs) values middle.areas
 
-      frees_done : AreFreed b.one.outline b.facts.typing next before.colour (length below) code (inserted_by (b.plans g.method)) hs before.gone middle.areas later values
+      frees_done : HoldersAreFreed b.one.outline b.facts.typing next before.colour (length below) code (inserted_by (b.plans g.method)) hs before.gone middle.areas later values
           (all_locals_after code g.stack (frees_of (inserted_by (b.plans g.method)) hs) values)
       frees_done = freed frees b next middle f g callers below code values before hs ahead.may
 

@@ -24,7 +24,7 @@ use Rattle.fm_code.specs.declared.constant_pool.Entry.{Entry}
 use Rattle.fm_code.specs.declared.instructions.Insn.{Insn}
 use Rattle.fm_code.specs.declared.instructions.Insn.TheVariants as insn
 use Rattle.fm_law_spelled.proofs.Growing.{class_of_called}
-use Rattle.fm_law_spelled.specs.Calling.{Called, entry_of, grown, Grows, IsCall, MayCall, method_of}
+use Rattle.fm_law_spelled.specs.Calling.{FreeMeMethod, entry_of, grown, Grows, IsCall, MayCall, member_name_of}
 use Rattle.fm_place.specs.Insertions.{Insertions}
 use Rattle.fm_place.specs.Rewriting.{Plans}
 use Rattle.fm_link_refusals.proofs.ParentNames.{parents_all, unused}
@@ -130,7 +130,7 @@ module _ (chains : Bool) (more : List Entry) (calls : Calls) (plans : Plans) (fi
         let m = call.0 in
         ap (missing_at classes new) call.2
         ∙ ap (refused_where (λ name. missing classes new (class_type name)))
-        (method_class (c.pool.entries ++ more) (entry_of calls m) (method_of m) (grows.named m call.1))
+        (method_class (c.pool.entries ++ more) (entry_of calls m) (member_name_of m) (grows.named m call.1))
         ∙ ap (λ name. missing classes new (class_type name)) (class_of_called m)
         ∙ ap (λ o. refused_if (is_none o) (refused MissingClass new free_class)) number
 
@@ -240,52 +240,52 @@ module _ (chains : Bool) (more : List Entry) (calls : Calls) (plans : Plans) (fi
         (methods_wanted chains more calls plans first c grows index other ∙ unwanted static_method_wanted c index (unused_past c (bytes, spells) index past))
 
     module _ (knows : KnowsFree classes) where
-      judged : (m : Called) (e : Entry) → names_wrong_sort classes e (method_of m).class ≡ false → (wanted : List Bool)
-          → is_wrong_method classes e (method_of m) wanted ≡ list_any (differs true) wanted
+      judged : (m : FreeMeMethod) (e : Entry) → names_wrong_sort classes e (member_name_of m).class ≡ false → (wanted : List Bool)
+          → is_wrong_method classes e (member_name_of m) wanted ≡ list_any (differs true) wanted
       judged m e sort [] = refl
       judged m e sort (w ∷ ws) =
-          ap (λ b. b || is_not_as_wanted (method_flags classes) (resolved_method classes (method_of m)) (w ∷ ws)) sort
+          ap (λ b. b || is_not_as_wanted (method_flags classes) (resolved_method classes (member_name_of m)) (w ∷ ws)) sort
           ∙ ap (λ o. is_not_as_wanted (method_flags classes) o (w ∷ ws)) (knows.method m) ∙ ap (λ b. list_any (differs b) (w ∷ ws)) (knows.static m)
 
-      module _ (m : Called) (may : MayCall chains m) where
+      module _ (m : FreeMeMethod) (may : MayCall chains m) where
         abbrev call : ℕ
         call = entry_of calls m
 
-        named : method_ref_at (c.pool.entries ++ more) (entry_of calls m) ≡ Some (method_of m)
+        named : method_ref_at (c.pool.entries ++ more) (entry_of calls m) ≡ Some (member_name_of m)
         named = grows.named m may
 
-        right_sort : names_wrong_sort classes (entry_at (c.pool.entries ++ more) call) (method_of m).class ≡ false
+        right_sort : names_wrong_sort classes (entry_at (c.pool.entries ++ more) call) (member_name_of m).class ≡ false
         right_sort =
-            let e = method_entry (c.pool.entries ++ more) call (method_of m) named in
+            let e = method_entry (c.pool.entries ++ more) call (member_name_of m) named in
             ap (names_wrong_sort classes (entry_at (c.pool.entries ++ more) call)) (class_of_called m)
             ∙ ap (λ x. names_wrong_sort classes x free_class) e.2 ∙ ap (is_there_and (is_interface_at classes)) knows.class ∙ knows.no_interface
 
         -- the method is missing where it is called on an object
         call_by : missing_method_at classes new call
-            ≡ refused_if (list_any (differs true) (wanted_at static_method_wanted c call)) (refused MissingMethod c (method_text (method_of m)))
+            ≡ refused_if (list_any (differs true) (wanted_at static_method_wanted c call)) (refused MissingMethod c (method_text (member_name_of m)))
         call_by =
             ap (refused_where (method_refusals classes new call (wanted_at static_method_wanted new call)))
-            (method_named (c.pool.entries ++ more) call (method_of m) named)
+            (method_named (c.pool.entries ++ more) call (member_name_of m) named)
             ∙ (λ k. refused_if (judged m (entry_at (c.pool.entries ++ more) call) right_sort (wanted_at static_method_wanted new call) k)
-            (told MissingMethod (method_text (method_of m)) k))
-            ∙ ap (λ b. refused_if b (refused MissingMethod c (method_text (method_of m)))) (instances_wanted chains more calls plans first c grows call)
+            (told MissingMethod (method_text (member_name_of m)) k))
+            ∙ ap (λ b. refused_if b (refused MissingMethod c (method_text (member_name_of m)))) (instances_wanted chains more calls plans first c grows call)
 
         call_same : call < length c.pool.entries → missing_method_at classes new call ≡ missing_method_at classes c call
         call_same within =
             let e = entry_same c.pool.entries more spells.pool.entries call within in
             let member =
-            sym (member_same c.pool.entries more spells.pool.entries call within) ∙ method_named (c.pool.entries ++ more) call (method_of m) named in
-            let sort : names_wrong_sort classes (entry_at c.pool.entries call) (method_of m).class ≡ false =
-            ap (λ x. names_wrong_sort classes x (method_of m).class) (sym e) ∙ right_sort in
+            sym (member_same c.pool.entries more spells.pool.entries call within) ∙ method_named (c.pool.entries ++ more) call (member_name_of m) named in
+            let sort : names_wrong_sort classes (entry_at c.pool.entries call) (member_name_of m).class ≡ false =
+            ap (λ x. names_wrong_sort classes x (member_name_of m).class) (sym e) ∙ right_sort in
             call_by
-            ∙ sym (ap (λ b. refused_if b (refused MissingMethod c (method_text (method_of m))))
+            ∙ sym (ap (λ b. refused_if b (refused MissingMethod c (method_text (member_name_of m))))
             (judged m (entry_at c.pool.entries call) sort (wanted_at static_method_wanted c call)))
             ∙ sym (ap (refused_where (method_refusals classes c call (wanted_at static_method_wanted c call))) member)
 
         no_call : length c.pool.entries ≤ call → missing_method_at classes new call ≡ []
         no_call past =
             call_by
-            ∙ ap (λ ws. refused_if (list_any (differs true) ws) (refused MissingMethod c (method_text (method_of m))))
+            ∙ ap (λ ws. refused_if (list_any (differs true) ws) (refused MissingMethod c (method_text (member_name_of m))))
             (unwanted static_method_wanted c call (unused_past c (bytes, spells) call past))
 
       each_method : (index : ℕ) → index < length c.pool.entries → missing_method_at classes new index ≡ missing_method_at classes c index

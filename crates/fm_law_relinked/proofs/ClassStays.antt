@@ -12,7 +12,7 @@ use Rattle.fm_law_relinked.proofs.PassedOver.{filter_map-kept, filters_agree, no
 use Rattle.fm_law_relinked.proofs.PoolStays.{class_stays, constant_same, method_class, method_no_units, name_same, text_stays, type_same, units_same}
 use Rattle.fm_law_relinked.proofs.UsedWithin.{all_items_valid, class_below, filter_map-below, such_there, unused_past, uses_below, value_within}
 use Rattle.fm_law_spelled.proofs.Growing.{class_of_called}
-use Rattle.fm_law_spelled.specs.Calling.{Called, CallsChain, CallsFree, CallsLink, entry_of, grown, Grows, IsCall, MayCall, method_of}
+use Rattle.fm_law_spelled.specs.Calling.{FreeMeMethod, CallsChain, CallsFree, CallsLink, entry_of, grown, Grows, IsCall, MayCall, member_name_of}
 use Rattle.fm_base.proofs.OptionFacts.{IsSome-from_some, Some-from_some_and, same_value}
 use Rattle.fm_base.proofs.TestFacts.{same-nat_eq}
 use Rattle.fm_base.specs.declared.kinds.TypeRef.{TypeRef}
@@ -226,7 +226,7 @@ module _ (chains : Bool) (more_entries : List Entry) (calls : Calls) (plans : Pl
       λ k is.
       let found = that_index chains calls k is in
       ap units found.2
-      ∙ method_no_units (entries ++ more_entries) (entry_of calls found.0) (method_of found.0) (grows.named found.0 found.1) in
+      ∙ method_no_units (entries ++ more_entries) (entry_of calls found.0) (member_name_of found.0) (grows.named found.0 found.1) in
       sym (filter_map-kept units other none (uses_in_order (grown more_entries calls plans first c))) ∙ ap (filter_map units) uses_alike
       ∙ filter_map-kept units other none (uses_in_order c)
       ∙ filter_map-below (length entries) units (text_units entries) (λ k within. units_same entries more_entries spells.pool.entries k within) (uses_in_order c)
@@ -236,10 +236,10 @@ module _ (chains : Bool) (more_entries : List Entry) (calls : Calls) (plans : Pl
     abbrev pub unlike_free : TypeRef → Bool
     unlike_free t = not (same_type free_type t)
 
-    type_called : (m : Called) → MayCall chains m → named_type classes (c.pool.entries ++ more_entries) (entry_of calls m) ≡ Some free_type
+    type_called : (m : FreeMeMethod) → MayCall chains m → named_type classes (c.pool.entries ++ more_entries) (entry_of calls m) ≡ Some free_type
     type_called m may =
         ap (option_and_then (λ (name : List ℕ). type_in classes (class_type name)))
-        (method_class (c.pool.entries ++ more_entries) (entry_of calls m) (method_of m) (grows.named m may))
+        (method_class (c.pool.entries ++ more_entries) (entry_of calls m) (member_name_of m) (grows.named m may))
         ∙ ap (λ (name : List ℕ). type_in classes (class_type name)) (class_of_called m) ∙ free_is
 
     -- the types that it names, but for FreeMe

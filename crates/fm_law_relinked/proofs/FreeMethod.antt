@@ -10,7 +10,7 @@ use Rattle.fm_chain.specs.ChainEntries.{chain_name, link_descriptor, link_name}
 use Rattle.fm_code.specs.AccessFlags.{is_static}
 use Rattle.fm_code.specs.FreeEntries.{free_class, free_descriptor, free_name}
 use Rattle.fm_code.specs.declared.class_file.ClassDef.{ClassDef}
-use Rattle.fm_law_spelled.specs.Calling.{Called, CallsChain, CallsFree, CallsLink, method_of}
+use Rattle.fm_law_spelled.specs.Calling.{FreeMeMethod, CallsChain, CallsFree, CallsLink, member_name_of}
 use Rattle.fm_types.proofs.LeastJoins.{same_type-refl}
 use Rattle.fm_world.specs.BuiltIns.{buffer_methods, builder_methods, built_in, input_stream_methods, object_methods, print_stream_methods, string_methods, system_methods, throwable_methods}
 use Rattle.fm_world.specs.Causes.{method_flags}
@@ -49,7 +49,7 @@ unfolding classes_of built_in
 class_is_no_interface given = refl
 
 -- the number of a method
-abbrev pub number_of : Called → ℕ
+abbrev pub number_of : FreeMeMethod → ℕ
 number_of CallsFree = free_method_number
 number_of CallsLink = link_method_number
 number_of CallsChain = chain_method_number
@@ -66,7 +66,7 @@ chain_is_static : (given : List ClassDef) → is_static (method_flags (classes_o
 unfolding classes_of built_in methods_of
 chain_is_static given = refl
 
-pub called_is_static : (given : List ClassDef) (m : Called) → is_static (method_flags (classes_of given) (number_of m)) ≡ true
+pub called_is_static : (given : List ClassDef) (m : FreeMeMethod) → is_static (method_flags (classes_of given) (number_of m)) ≡ true
 called_is_static given CallsFree = free_is_static given
 called_is_static given CallsLink = link_is_static given
 called_is_static given CallsChain = chain_is_static given
@@ -114,7 +114,7 @@ found_by given name descriptor number ordinary own =
     ∙ ap (option_and_then (λ (class : ℕ). method_among classes any_flags name descriptor (method_path classes class))) (class_number_is given)
     ∙ ap (first_found find) (path_is classes (class_is_no_interface given)) ∙ first_here find free_class_number number rest own
 
-pub method_found : (given : List ClassDef) (m : Called) → resolved_method (classes_of given) (method_of m) ≡ Some (number_of m)
+pub method_found : (given : List ClassDef) (m : FreeMeMethod) → resolved_method (classes_of given) (member_name_of m) ≡ Some (number_of m)
 method_found given CallsFree = found_by given free_name free_descriptor free_method_number refl (free_is given)
 method_found given CallsLink = found_by given link_name link_descriptor link_method_number refl (link_is given)
 method_found given CallsChain = found_by given chain_name free_descriptor chain_method_number refl (chain_is given)
@@ -122,8 +122,8 @@ method_found given CallsChain = found_by given chain_name free_descriptor chain_
 -- what is known of FreeMe's methods
 pub record KnowsFree (classes : List DeclaredClass) : Type 0 where
   pub class : class_number classes free_class ≡ Some free_class_number
-  pub method : (m : Called) → resolved_method classes (method_of m) ≡ Some (number_of m)
-  pub static : (m : Called) → is_static (method_flags classes (number_of m)) ≡ true
+  pub method : (m : FreeMeMethod) → resolved_method classes (member_name_of m) ≡ Some (number_of m)
+  pub static : (m : FreeMeMethod) → is_static (method_flags classes (number_of m)) ≡ true
   pub no_interface : is_interface_at classes free_class_number ≡ false
 
 pub knows_free : (given : List ClassDef) → KnowsFree (classes_of given)

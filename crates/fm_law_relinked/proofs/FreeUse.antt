@@ -12,7 +12,7 @@ use Rattle.fm_law_relinked.proofs.Outlines.{outline_same}
 use Rattle.fm_law_relinked.proofs.PoolStays.{entry_same, member_same, method_entry, method_named}
 use Rattle.fm_law_relinked.proofs.Uses.{row_past, row_within, use_at, written_at}
 use Rattle.fm_law_relinked.specs.Again.{CallsStand, first_at, IsUseOf}
-use Rattle.fm_law_spelled.specs.Calling.{Called, entry_of, MayCall, method_of}
+use Rattle.fm_law_spelled.specs.Calling.{FreeMeMethod, entry_of, MayCall, member_name_of}
 use Rattle.fm_base.specs.declared.kinds.TypeRef.{TypeRef}
 use Rattle.fm_chain.specs.Chaining.{chained_class, chained_classes, class_calls, class_has_chain}
 use Rattle.fm_code.specs.ConstantPool.{class_name_at, entry_at, MemberName, method_ref_at}
@@ -49,7 +49,7 @@ pub record HasFree (o : Outline) : Type 0 where
   pub class : class_number o.classes free_class ≡ Some free_class_number
   pub type : type_in o.classes (class_type free_class) ≡ Some free_type
   pub number : type_number o.types free_type ≡ Some free_class_number
-  pub method : (m : Called) → resolved_method o.classes (method_of m) ≡ Some (number_of m)
+  pub method : (m : FreeMeMethod) → resolved_method o.classes (member_name_of m) ≡ Some (number_of m)
 
 few_built_in : (given : List ClassDef) → free_class_number < length (classes_of given)
 unfolding classes_of
@@ -67,11 +67,11 @@ has_free numbered given main = record {
 -- ---- an entry that names a method of FreeMe
 
 -- its use
-abbrev pub called_use : Called → Use
+abbrev pub called_use : FreeMeMethod → Use
 called_use m = method_use free_class_number (number_of m)
 
-module _ (o : Outline) (has : HasFree o) (m : Called) (entries : List Entry) (index class member : ℕ) (is : entry_at entries index ≡ entry.Method class member)
-    (named : named_member entries index ≡ Some (method_of m)) where
+module _ (o : Outline) (has : HasFree o) (m : FreeMeMethod) (entries : List Entry) (index class member : ℕ) (is : entry_at entries index ≡ entry.Method class member)
+    (named : named_member entries index ≡ Some (member_name_of m)) where
   class_named : named_class entries index ≡ Some free_class
   class_named =
       ap (by_class (class_name_at entries index) (option_map (λ (n : MemberName). n.class) (named_member entries index))) is
@@ -91,10 +91,10 @@ module _ (o : Outline) (has : HasFree o) (m : Called) (entries : List Entry) (in
 -- ---- a class
 
 -- a use that is none, or that of the method
-abbrev pub NoneOr : Called → Use → Type 0
+abbrev pub NoneOr : FreeMeMethod → Use → Type 0
 NoneOr m u = (u ≡ resolved.Unused) ⊎ (u ≡ called_use m)
 
-if_used : (m : Called) (b : Bool) (u : Use) → u ≡ called_use m → NoneOr m (cond b u resolved.Unused)
+if_used : (m : FreeMeMethod) (b : Bool) (u : Use) → u ≡ called_use m → NoneOr m (cond b u resolved.Unused)
 if_used m true u is = inr is
 if_used m false u is = inl refl
 
@@ -103,15 +103,15 @@ abbrev pub all_entries : Plans → (first : ℕ) → ClassDef → List Entry
 all_entries plans first c = c.pool.entries ++ more plans first c
 
 -- the entry by which it calls a method
-abbrev pub call_of : Plans → (first : ℕ) → ClassDef → Called → ℕ
+abbrev pub call_of : Plans → (first : ℕ) → ClassDef → FreeMeMethod → ℕ
 call_of plans first c m = entry_of (class_calls plans first c) m
 
 -- names the method
-pub call_named : (plans : Plans) (first : ℕ) (c : ClassDef) (m : Called) → MayCall (class_has_chain plans first c) m
-    → method_ref_at (all_entries plans first c) (call_of plans first c m) ≡ Some (method_of m)
+pub call_named : (plans : Plans) (first : ℕ) (c : ClassDef) (m : FreeMeMethod) → MayCall (class_has_chain plans first c) m
+    → method_ref_at (all_entries plans first c) (call_of plans first c m) ≡ Some (member_name_of m)
 call_named plans first c m may = (grows plans first c).named m may
 
-module _ (o : Outline) (has : HasFree o) (plans : Plans) (first : ℕ) (c : ClassDef) (spelled : HasSpelling c) (m : Called)
+module _ (o : Outline) (has : HasFree o) (plans : Plans) (first : ℕ) (c : ClassDef) (spelled : HasSpelling c) (m : FreeMeMethod)
     (may : MayCall (class_has_chain plans first c) m) where
   abbrev entries : List Entry
   entries = all_entries plans first c
@@ -124,10 +124,10 @@ module _ (o : Outline) (has : HasFree o) (plans : Plans) (first : ℕ) (c : Clas
   grown_row = by_place (cases_lt call (length entries)) where
     by_place : (call < length entries) ⊎ (length entries ≤ call) → NoneOr m (get_or (class_uses o (grown_class plans first c)) call resolved.Unused)
     by_place (inl within) =
-        let e = method_entry entries call (method_of m) (call_named plans first c m may) in
+        let e = method_entry entries call (member_name_of m) (call_named plans first c m may) in
         subst (NoneOr m) (sym (row_within o (grown_class plans first c) call within))
         (if_used m (is_used (grown_class plans first c) call) (resolved_at o entries call)
-        (call_resolved o has m entries call e.0 e.1 e.2 (method_named entries call (method_of m) (call_named plans first c m may))))
+        (call_resolved o has m entries call e.0 e.1 e.2 (method_named entries call (member_name_of m) (call_named plans first c m may))))
     by_place (inr past) = inl (row_past o (grown_class plans first c) call past)
 
   -- of the class itself
@@ -136,9 +136,9 @@ module _ (o : Outline) (has : HasFree o) (plans : Plans) (first : ℕ) (c : Clas
     by_place : (call < length c.pool.entries) ⊎ (length c.pool.entries ≤ call) → NoneOr m (get_or (class_uses o c) call resolved.Unused)
     by_place (inl within) =
         let valid = spelled.1.pool.entries in
-        let e = method_entry entries call (method_of m) (call_named plans first c m may) in
+        let e = method_entry entries call (member_name_of m) (call_named plans first c m may) in
         let is = sym (entry_same c.pool.entries (more plans first c) valid call within) ∙ e.2 in
-        let member = sym (member_same c.pool.entries (more plans first c) valid call within) ∙ method_named entries call (method_of m) (call_named plans first c m may) in
+        let member = sym (member_same c.pool.entries (more plans first c) valid call within) ∙ method_named entries call (member_name_of m) (call_named plans first c m may) in
         subst (NoneOr m) (sym (row_within o c call within))
         (if_used m (is_used c call) (resolved_at o c.pool.entries call) (call_resolved o has m c.pool.entries call e.0 e.1 is member))
     by_place (inr past) = inl (row_past o c call past)
@@ -155,7 +155,7 @@ type_found types number =
     slice_get-get_or types free_class_number free_type found.0
     ∙ ap (λ (t : TypeRef). Some t) (sym (same_type-eq free_type (get_or types free_class_number free_type) found.1))
 
-is_use : (given : List ClassDef) (main : List ℕ) → HasFree (outline_of given main) → (m : Called) (u : Use) → u ≡ called_use m
+is_use : (given : List ClassDef) (main : List ℕ) → HasFree (outline_of given main) → (m : FreeMeMethod) (u : Use) → u ≡ called_use m
     → IsUseOf (outline_of given main) m u
 is_use given main has m u is = record {
   class = free_class_number;

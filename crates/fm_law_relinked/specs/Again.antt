@@ -6,7 +6,7 @@ use Rattle.fm_chain.specs.SafeChains.{SafeChainsOf}
 use Rattle.fm_code.specs.FreeEntries.{free_class}
 use Rattle.fm_code.specs.Spells.{HasSpelling}
 use Rattle.fm_code.specs.declared.class_file.ClassDef.{ClassDef}
-use Rattle.fm_law_spelled.specs.Calling.{Called, entry_of, IsCall, MayCall, method_of}
+use Rattle.fm_law_spelled.specs.Calling.{FreeMeMethod, entry_of, IsCall, MayCall, member_name_of}
 use Rattle.fm_place.specs.Rewriting.{first_given, Plans}
 use Rattle.fm_place.specs.Safe.{SafeOf}
 use Rattle.fm_world.specs.BuiltIns.{built_in}
@@ -39,13 +39,13 @@ UsesStay =
     → use_of (program_of (chained_classes plans given) main) (length built_in + place) index ≡ use_of (program_of given main) (length built_in + place) index
 
 -- a use is that of this method of FreeMe, with the type of its class
-pub record IsUseOf (o : Outline) (m : Called) (u : Use) : Type 0 where
+pub record IsUseOf (o : Outline) (m : FreeMeMethod) (u : Use) : Type 0 where
   pub class : ℕ
   pub type : ℕ
   pub method : ℕ
   pub class_is : class_number o.classes free_class ≡ Some class
   pub type_is : slice_get o.types type ≡ Some (type_of_class class)
-  pub method_is : resolved_method o.classes (method_of m) ≡ Some method
+  pub method_is : resolved_method o.classes (member_name_of m) ≡ Some method
   pub use_is : u ≡ method_use type method
 
 -- and such an index refers to the method that is called, or to nothing where the written class doesn't use it
@@ -53,7 +53,7 @@ abbrev pub CallsStand : Type 0
 CallsStand =
     (given : List ClassDef) (main : List ℕ) (plans : Plans) → AllByRecursion HasSpelling given → (place : ℕ) (c : ClassDef) → slice_get given place ≡ Some c
     → let first = first_at first_given given place in
-    (m : Called) → MayCall (class_has_chain plans first c) m
+    (m : FreeMeMethod) → MayCall (class_has_chain plans first c) m
     → let found = use_of (program_of (chained_classes plans given) main) (length built_in + place) (entry_of (class_calls plans first c) m) in
     (found ≡ resolved.Unused) ⊎ IsUseOf (outline_of given main) m found
 

@@ -10,7 +10,7 @@ use Rattle.fm_law_relinked.proofs.Codes.{codes_chained, no_code}
 use Rattle.fm_law_relinked.proofs.FreeUse.{called_use, ClassTypesAreNumbered, has_free, HasFree}
 use Rattle.fm_law_spelled.proofs.Growing.{chain_in, grows}
 use Rattle.fm_law_relinked.proofs.Links.{written_chained}
-use Rattle.fm_law_spelled.specs.Calling.{Called, CallsChain, CallsFree, CallsLink, entry_of, MayCall}
+use Rattle.fm_law_spelled.specs.Calling.{FreeMeMethod, CallsChain, CallsFree, CallsLink, entry_of, MayCall}
 use Rattle.fm_law_relinked.specs.Codes.{code_with}
 use Rattle.fm_base.proofs.ContainsFacts.{Contains-cons_cases, Contains-none}
 use Rattle.fm_base.proofs.ListFacts.{AllByRecursion-at}
@@ -408,14 +408,14 @@ module _ (numbered : ClassTypesAreNumbered) (stand : CodesStand) (given : List C
     has = has_free numbered given main
 
     -- an inserted call is resolved to its method
-    resolved_call : (n : ℕ) (m : Called) → MayCall (class_has_chain plans x.start x.own) m → insn_of new n ≡ Some (insn.Static (entry_of calls m))
+    resolved_call : (n : ℕ) (m : FreeMeMethod) → MayCall (class_has_chain plans x.start x.own) m → insn_of new n ≡ Some (insn.Static (entry_of calls m))
         → use_in (program_of (chained_classes plans given) main) method (entry_of calls m) ≡ called_use m
     resolved_call n m may there =
         called numbered given main plans spelled method code x m may
         (used_by_item (chained_class plans x.start x.own) new member n (insn.Static (entry_of calls m)) (entry_of calls m) there refl)
 
     -- so its row is that of the method
-    call_row : (n : ℕ) (m : Called) → MayCall (class_has_chain plans x.start x.own) m → insn_of new n ≡ Some (insn.Static (entry_of calls m))
+    call_row : (n : ℕ) (m : FreeMeMethod) → MayCall (class_has_chain plans x.start x.own) m → insn_of new n ≡ Some (insn.Static (entry_of calls m))
         → (item : ℕ) (news : ℕ → Option TypeRef) (s : TypeState)
         → row_after (program_of given main).outline method item news
         (use_by (program_of (chained_classes plans given) main) method (insn.Static (entry_of calls m))) (insn.Static (entry_of calls m)) s

@@ -14,7 +14,7 @@ use Rattle.fm_law_relinked.proofs.Outlines.{outline_same}
 use Rattle.fm_law_relinked.proofs.PoolStays.{entry_same, member_same, method_entry, method_named}
 use Rattle.fm_law_relinked.proofs.UsedWithin.{unused_past}
 use Rattle.fm_law_relinked.proofs.Uses.{row_within, use_at, uses_by}
-use Rattle.fm_law_spelled.specs.Calling.{Called, entry_of, IsCall, MayCall, method_of}
+use Rattle.fm_law_spelled.specs.Calling.{FreeMeMethod, entry_of, IsCall, MayCall, member_name_of}
 use Rattle.fm_code.specs.ConstantPool.{method_ref_at}
 use Rattle.fm_code.specs.Edges.{insn_of}
 use Rattle.fm_code.specs.Members.{code_of}
@@ -108,21 +108,21 @@ second_is_none : (class member : ℕ) → entry.Second ≡ entry.Method class me
 second_is_none class member is = cc
 
 -- an entry that names such a method is there, and is resolved to it
-call_within : (m : Called) (entries : List Entry) (index : ℕ) → method_ref_at entries index ≡ Some (method_of m) → index < length entries
+call_within : (m : FreeMeMethod) (entries : List Entry) (index : ℕ) → method_ref_at entries index ≡ Some (member_name_of m) → index < length entries
 call_within m entries index named = by_place (cases_lt index (length entries)) where
   by_place : (index < length entries) ⊎ (length entries ≤ index) → index < length entries
   by_place (inl within) = within
   by_place (inr past) =
-      let e = method_entry entries index (method_of m) named in
+      let e = method_entry entries index (member_name_of m) named in
       absurd (second_is_none e.0 e.1 (sym (get_or_past entries index entry.Second past) ∙ e.2))
 
-call_at : (o : Outline) → HasFree o → (m : Called) (entries : List Entry) (index : ℕ) → method_ref_at entries index ≡ Some (method_of m)
+call_at : (o : Outline) → HasFree o → (m : FreeMeMethod) (entries : List Entry) (index : ℕ) → method_ref_at entries index ≡ Some (member_name_of m)
     → resolved_at o entries index ≡ called_use m
 call_at o has m entries index named =
-    let e = method_entry entries index (method_of m) named in
-    call_resolved o has m entries index e.0 e.1 e.2 (method_named entries index (method_of m) named)
+    let e = method_entry entries index (member_name_of m) named in
+    call_resolved o has m entries index e.0 e.1 e.2 (method_named entries index (member_name_of m) named)
 
-module _ (o : Outline) (has : HasFree o) (plans : Plans) (first : ℕ) (c : ClassDef) (spelled : HasSpelling c) (m : Called)
+module _ (o : Outline) (has : HasFree o) (plans : Plans) (first : ℕ) (c : ClassDef) (spelled : HasSpelling c) (m : FreeMeMethod)
     (may : MayCall (class_has_chain plans first c) m) where
   row_used : (d : ClassDef) (index : ℕ) → index < length d.pool.entries → is_used d index ≡ true → resolved_at o d.pool.entries index ≡ called_use m
       → get_or (class_uses o d) index resolved.Unused ≡ called_use m
@@ -135,9 +135,9 @@ module _ (o : Outline) (has : HasFree o) (plans : Plans) (first : ℕ) (c : Clas
     by_place : (call_of plans first c m < length c.pool.entries) ⊎ (length c.pool.entries ≤ call_of plans first c m) → get_or (class_uses o c) (call_of plans first c m) resolved.Unused ≡ called_use m
     by_place (inl within) =
         let valid = spelled.1.pool.entries in
-        let e = method_entry (all_entries plans first c) (call_of plans first c m) (method_of m) (call_named plans first c m may) in
+        let e = method_entry (all_entries plans first c) (call_of plans first c m) (member_name_of m) (call_named plans first c m may) in
         let is = sym (entry_same c.pool.entries (more plans first c) valid (call_of plans first c m) within) ∙ e.2 in
-        let member = sym (member_same c.pool.entries (more plans first c) valid (call_of plans first c m) within) ∙ method_named (all_entries plans first c) (call_of plans first c m) (method_of m) (call_named plans first c m may) in
+        let member = sym (member_same c.pool.entries (more plans first c) valid (call_of plans first c m) within) ∙ method_named (all_entries plans first c) (call_of plans first c m) (member_name_of m) (call_named plans first c m may) in
         row_used c (call_of plans first c m) within used (call_resolved o has m c.pool.entries (call_of plans first c m) e.0 e.1 is member)
     by_place (inr past) = absurd (false≢true (sym (unused_past c spelled (call_of plans first c m) past) ∙ used))
 
@@ -177,14 +177,14 @@ module _ (numbered : ClassTypesAreNumbered) (given : List ClassDef) (main : List
       (ap (λ o. class_of_method o method) (outlines_same given main plans spelled ∙ program_outline given main) ∙ x.class_is)
 
   -- which methods it may call
-  abbrev May : Called → Type 0
+  abbrev May : FreeMeMethod → Type 0
   May m = MayCall (class_has_chain plans x.start x.own) m
 
-  abbrev index_of : Called → ℕ
+  abbrev index_of : FreeMeMethod → ℕ
   index_of m = call_of plans x.start x.own m
 
   -- that of such a method, where the written class uses it
-  pub called : (m : Called) → MayCall (class_has_chain plans x.start x.own) m
+  pub called : (m : FreeMeMethod) → MayCall (class_has_chain plans x.start x.own) m
       → is_used (chained_class plans x.start x.own) (entry_of (class_calls plans x.start x.own) m) ≡ true
       → use_in (program_of (chained_classes plans given) main) method (entry_of (class_calls plans x.start x.own) m) ≡ called_use m
   called m may used =
@@ -193,7 +193,7 @@ module _ (numbered : ClassTypesAreNumbered) (given : List ClassDef) (main : List
       ∙ ap (λ o. get_or (class_uses o (chained_class plans x.start x.own)) (index_of m) resolved.Unused) (outline_same plans given main spelled)
       ∙ written_call (outline_of given main) (has_free numbered given main) plans x.start x.own own_spelled m may used
 
-  kept_call : (m : Called) → May m → is_used x.own (index_of m) ≡ true → use_in (program_of given main) method (index_of m) ≡ called_use m
+  kept_call : (m : FreeMeMethod) → May m → is_used x.own (index_of m) ≡ true → use_in (program_of given main) method (index_of m) ≡ called_use m
   kept_call m may used =
       old_use (index_of m) ∙ use_at given main x.place x.own x.at (index_of m)
       ∙ own_call (outline_of given main) (has_free numbered given main) plans x.start x.own own_spelled m may used

@@ -15,7 +15,7 @@ use Rattle.fm_code.specs.declared.class_file.ClassDef.{ClassDef}
 use Rattle.fm_code.specs.declared.class_file.Member.{Member}
 use Rattle.fm_code.specs.declared.constant_pool.Entry.{Entry}
 use Rattle.fm_code.specs.declared.constant_pool.Pool.{Pool}
-use Rattle.fm_law_spelled.specs.Calling.{Called, CallsChain, CallsFree, CallsLink, entry_of, grown, Grows, MayCall, method_of}
+use Rattle.fm_law_spelled.specs.Calling.{FreeMeMethod, CallsChain, CallsFree, CallsLink, entry_of, grown, Grows, MayCall, member_name_of}
 use Rattle.fm_place.specs.Insertions.{Holder}
 use Rattle.fm_place.specs.Rewriting.{changes, Plans, rewritten_major}
 use Rattle.fm_pool.proofs.FreeEntriesAdded.{free_named, free_spelled, free_supported}
@@ -32,7 +32,7 @@ chain_in (g ∷ holders) (suc h) looped = or_right g.looped (list_any (λ (x : H
 -- ---- entries
 
 -- each method that is called is of FreeMe
-pub class_of_called : (m : Called) → (method_of m).class ≡ free_class
+pub class_of_called : (m : FreeMeMethod) → (member_name_of m).class ≡ free_class
 class_of_called CallsFree = refl
 class_of_called CallsLink = refl
 class_of_called CallsChain = refl
@@ -46,8 +46,8 @@ entries_are : (chains : Bool) (entries : List Entry) → entries_for chains entr
 entries_are true entries = refl
 entries_are false entries = refl
 
-named_by : (chains : Bool) (entries : List Entry) (m : Called) → MayCall chains m
-    → method_ref_at (entries ++ more_for chains entries) (entry_of (calls_for chains entries) m) ≡ Some (method_of m)
+named_by : (chains : Bool) (entries : List Entry) (m : FreeMeMethod) → MayCall chains m
+    → method_ref_at (entries ++ more_for chains entries) (entry_of (calls_for chains entries) m) ≡ Some (member_name_of m)
 named_by true entries CallsFree may = (calls_are_named entries).free
 named_by true entries CallsLink may = (calls_are_named entries).link
 named_by true entries CallsChain may = (calls_are_named entries).free_chain

@@ -18,11 +18,11 @@ use Rattle.fm_place.proofs.WovenLemmas.{after-inside, all-flat}
 use Rattle.fm_place.specs.Insertions.{after_at, before_at, Insertions}
 use Rattle.fm_place.specs.Woven.{kept, local_of, null_stored}
 use Rattle.fm_law_spelled.proofs.Growing.{chain_in}
-use Rattle.fm_law_spelled.specs.Calling.{Called, CallsChain, CallsFree, CallsLink, entry_of, IsCall, MayCall, method_of}
+use Rattle.fm_law_spelled.specs.Calling.{FreeMeMethod, CallsChain, CallsFree, CallsLink, entry_of, IsCall, MayCall, member_name_of}
 
 -- the entries of the methods that may be called name them
 abbrev pub NamesCalls : (chains : Bool) → Calls → List Entry → Type 0
-NamesCalls chains calls entries = (m : Called) → MayCall chains m → method_ref_at entries (entry_of calls m) ≡ Some (method_of m)
+NamesCalls chains calls entries = (m : FreeMeMethod) → MayCall chains m → method_ref_at entries (entry_of calls m) ≡ Some (member_name_of m)
 
 -- an instruction that is inserted into code with `locals` locals
 abbrev pub InsertedFits : (chains : Bool) → Calls → (locals : ℕ) → Insn → Type 0

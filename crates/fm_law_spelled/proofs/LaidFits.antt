@@ -25,7 +25,7 @@ use Rattle.fm_layout.specs.declared.rooms.Condition.TheVariants as condition
 use Rattle.fm_layout.specs.declared.rooms.Room.{Room}
 use Rattle.fm_layout.specs.declared.rooms.Room.TheVariants as room
 use Rattle.fm_law_spelled.proofs.InsertedFits.{FitsAs, InsertedFits, NamesCalls, NewFits}
-use Rattle.fm_law_spelled.specs.Calling.{method_of}
+use Rattle.fm_law_spelled.specs.Calling.{member_name_of}
 
 -- ---- any fact of laid items
 
@@ -127,7 +127,7 @@ inserted_fits chains calls locals entries named starts firsts start insn.Dup fit
 inserted_fits chains calls locals entries named starts firsts start (insn.Load reg.Ref local) fits = (fits, tt)
 inserted_fits chains calls locals entries named starts firsts start (insn.Store reg.Ref local) fits = (fits, tt)
 inserted_fits chains calls locals entries named starts firsts start (insn.Static index) fits =
-    (tt, inl (IsSome-from_some (method_ref_at entries index) (method_of fits.0) (ap (method_ref_at entries) fits.2 ∙ named fits.0 fits.1)))
+    (tt, inl (IsSome-from_some (method_ref_at entries index) (member_name_of fits.0) (ap (method_ref_at entries) fits.2 ∙ named fits.0 fits.1)))
 inserted_fits chains calls locals entries named starts firsts start i fits = absurd fits
 
 -- ---- all items

@@ -44,7 +44,7 @@ use Rattle.fm_law_spelled.proofs.Growing.{class_of_called, first_may, grown_is, 
 use Rattle.fm_law_spelled.proofs.InsertedFits.{chained_fit, InsertedFits, NamesCalls}
 use Rattle.fm_law_spelled.proofs.KeptNames.{field_kept, interface_method_kept, such_kept}
 use Rattle.fm_law_spelled.proofs.LaidFits.{HoldsOfTargets, laid_hold}
-use Rattle.fm_law_spelled.specs.Calling.{Grows, method_of}
+use Rattle.fm_law_spelled.specs.Calling.{Grows, member_name_of}
 use Rattle.fm_law_spelled.specs.Changed.{AttributeCan, CanWeave, ChangedAreAccepted, MethodCan, MethodsCan}
 
 -- ---- instructions
@@ -87,7 +87,7 @@ inserted_supported chains calls locals entries named starts firsts start insn.Du
 inserted_supported chains calls locals entries named starts firsts start (insn.Load reg.Ref local) fits = (refl, refl, refl, tt)
 inserted_supported chains calls locals entries named starts firsts start (insn.Store reg.Ref local) fits = (refl, refl, refl, tt)
 inserted_supported chains calls locals entries named starts firsts start (insn.Static index) fits =
-    let there : method_ref_at entries index ≡ Some (method_of fits.0) = ap (method_ref_at entries) fits.2 ∙ named fits.0 fits.1 in
+    let there : method_ref_at entries index ≡ Some (member_name_of fits.0) = ap (method_ref_at entries) fits.2 ∙ named fits.0 fits.1 in
     let class : Option (List ℕ) → Type 0 = λ o. IfSome o (λ name. ¬ IsFloatingArray name) in
     let named_class : option_map (λ (m : MemberName). m.class) (method_ref_at entries index) ≡ Some free_class =
     ap (option_map (λ (m : MemberName). m.class)) there ∙ ap (λ name. Some name) (class_of_called fits.0) in

@@ -12,32 +12,32 @@ use Rattle.fm_place.specs.Rewriting.{Plans, rewritten_major}
 -- ---- calls
 
 -- the methods that inserted calls name: one that frees an object, one that puts it before a chain, and one that frees a chain
-pub data Called : Type 0 where
-  CallsFree : Called
-  CallsLink : Called
-  CallsChain : Called
+pub data FreeMeMethod : Type 0 where
+  CallsFree : FreeMeMethod
+  CallsLink : FreeMeMethod
+  CallsChain : FreeMeMethod
 
 -- its name
-abbrev pub method_of : Called → MemberName
-method_of CallsFree = free_method
-method_of CallsLink = link_method
-method_of CallsChain = chain_method
+abbrev pub member_name_of : FreeMeMethod → MemberName
+member_name_of CallsFree = free_method
+member_name_of CallsLink = link_method
+member_name_of CallsChain = chain_method
 
 -- its entry
-abbrev pub entry_of : Calls → Called → ℕ
+abbrev pub entry_of : Calls → FreeMeMethod → ℕ
 entry_of calls CallsFree = calls.free
 entry_of calls CallsLink = calls.link
 entry_of calls CallsChain = calls.free_chain
 
 -- where no holder holds a chain only the first one is called
-abbrev pub MayCall : (chains : Bool) → Called → Type 0
+abbrev pub MayCall : (chains : Bool) → FreeMeMethod → Type 0
 MayCall chains CallsFree = Unit {0}
 MayCall chains CallsLink = chains ≡ true
 MayCall chains CallsChain = chains ≡ true
 
 -- the index is the entry of a method that may be called
 abbrev pub IsCall : (chains : Bool) → Calls → (index : ℕ) → Type 0
-IsCall chains calls index = (m : Called) × MayCall chains m × (index ≡ entry_of calls m)
+IsCall chains calls index = (m : FreeMeMethod) × MayCall chains m × (index ≡ entry_of calls m)
 
 -- ---- classes
 
@@ -52,5 +52,5 @@ grown more calls plans first c = record c {
 
 -- the entries name the methods that may be called, and a method of the class has chains only where the class may
 pub record Grows (chains : Bool) (more : List Entry) (calls : Calls) (plans : Plans) (first : ℕ) (c : ClassDef) : Type 0 where
-  pub named : (m : Called) → MayCall chains m → method_ref_at (c.pool.entries ++ more) (entry_of calls m) ≡ Some (method_of m)
+  pub named : (m : FreeMeMethod) → MayCall chains m → method_ref_at (c.pool.entries ++ more) (entry_of calls m) ≡ Some (member_name_of m)
   pub chained : (i : ℕ) → i < length c.methods → plan_has_chain (plans (first + i)) ≡ true → chains ≡ true

@@ -37,7 +37,7 @@ use Rattle.fm_law_relinked.proofs.FreeUse.{called_use, ClassTypesAreNumbered, ha
 use Rattle.fm_law_spelled.proofs.Growing.{grows, more}
 use Rattle.fm_law_relinked.proofs.Links.{marks_chained, written_chained}
 use Rattle.fm_law_relinked.proofs.PoolStays.{entry_same, method_entry}
-use Rattle.fm_law_spelled.specs.Calling.{Called, CallsChain, CallsFree, CallsLink, entry_of, MayCall}
+use Rattle.fm_law_spelled.specs.Calling.{FreeMeMethod, CallsChain, CallsFree, CallsLink, entry_of, MayCall}
 use Rattle.fm_law_relinked.specs.Codes.{code_with}
 use Rattle.fm_law_retyped.proofs.KeptRows.{same_row}
 use Rattle.fm_law_retyped.proofs.SafeMethods.{safe_can}
@@ -65,13 +65,13 @@ use Rattle.fm_world.specs.Programs.{classes_of, code_at, Outline, outline_of, Pr
 -- ---- FreeMe's methods
 
 -- which method of the machine each one is
-abbrev native_for : Called → Native
+abbrev native_for : FreeMeMethod → Native
 native_for CallsFree = FreeMeFree
 native_for CallsLink = FreeMeLink
 native_for CallsChain = FreeMeFreeChain
 
 -- their rows are those of their class
-abbrev row_for : Called → ℕ
+abbrev row_for : FreeMeMethod → ℕ
 row_for CallsFree = free_me_row
 row_for CallsLink = free_me_row + 1
 row_for CallsChain = free_me_row + 2
@@ -88,12 +88,12 @@ chain_row_is : (given : List ClassDef) → (method_at (classes_of given) chain_m
 unfolding classes_of built_in methods_of
 chain_row_is given = refl
 
-row_is : (given : List ClassDef) (m : Called) → (method_at (classes_of given) (number_of m)).method.row ≡ Some (row_for m)
+row_is : (given : List ClassDef) (m : FreeMeMethod) → (method_at (classes_of given) (number_of m)).method.row ≡ Some (row_for m)
 row_is given CallsFree = free_row_is given
 row_is given CallsLink = link_row_is given
 row_is given CallsChain = chain_row_is given
 
-native_row : (m : Called) → native_of_row (row_for m) ≡ Some (native_for m)
+native_row : (m : FreeMeMethod) → native_of_row (row_for m) ≡ Some (native_for m)
 native_row CallsFree = refl
 native_row CallsLink = refl
 native_row CallsChain = refl
@@ -102,13 +102,13 @@ classes_are : (given : List ClassDef) (main : List ℕ) → (program_of given ma
 unfolding outline_of program_of
 classes_are given main = refl
 
-own_row : (given : List ClassDef) (main : List ℕ) (m : Called) → (method_at (program_of given main).outline.classes (number_of m)).method.row ≡ Some (row_for m)
+own_row : (given : List ClassDef) (main : List ℕ) (m : FreeMeMethod) → (method_at (program_of given main).outline.classes (number_of m)).method.row ≡ Some (row_for m)
 own_row given main m = ap (λ classes. (method_at classes (number_of m)).method.row) (classes_are given main) ∙ row_is given m
 
-native_is : (given : List ClassDef) (main : List ℕ) (m : Called) → native_of (program_of given main).outline (number_of m) ≡ Some (native_for m)
+native_is : (given : List ClassDef) (main : List ℕ) (m : FreeMeMethod) → native_of (program_of given main).outline (number_of m) ≡ Some (native_for m)
 native_is given main m = ap (λ row. option_and_then native_of_row row) (own_row given main m) ∙ native_row m
 
-calls_native : ClassTypesAreNumbered → (given : List ClassDef) (main : List ℕ) → IsResolved (program_of given main) → (m : Called)
+calls_native : ClassTypesAreNumbered → (given : List ClassDef) (main : List ℕ) → IsResolved (program_of given main) → (m : FreeMeMethod)
     → CallsNative (program_of given main).outline (native_for m) (called_use m)
 calls_native numbered given main resolved m = record {
   method = record { 0 = number_of m };
@@ -273,7 +273,7 @@ module _ (numbered : ClassTypesAreNumbered) (given : List ClassDef) (main : List
     }
 
     -- an inserted call is one of its method
-    call_of : (m : Called) → MayCall (class_has_chain plans x.start x.own) m → (n : ℕ) → insn_of new n ≡ Some (insn.Static (entry_of calls m))
+    call_of : (m : FreeMeMethod) → MayCall (class_has_chain plans x.start x.own) m → (n : ℕ) → insn_of new n ≡ Some (insn.Static (entry_of calls m))
         → CallsNative q.outline (native_for m) (use_in q method (entry_of calls m))
     call_of m may n there =
         let used = used_by_item (chained_class plans x.start x.own) new (member_of new new_is) n (insn.Static (entry_of calls m)) (entry_of calls m) there refl in

@@ -24,7 +24,7 @@ use Rattle.fm_place.proofs.WovenLemmas.{after-inside}
 use Rattle.fm_place.specs.Insertions.{after_at, before_at, Holder, Insertions}
 use Rattle.fm_place.specs.PlansBy.{paired}
 use Rattle.fm_place.specs.Woven.{kept, local_of, null_stored_items}
-use Rattle.fm_place_weave.specs.ByPlan.{anchors_after, anchors_by, code_by, code_with, count_by, count_here, here, items_by, later, leading, nulls_by, released_by, step_by, taken_by, taken_count, woven_after}
+use Rattle.fm_place_weave.specs.ByPlan.{anchors_after, anchors_by, code_by, laid_out_code, count_by, count_here, here, items_by, later, leading, nulls_by, released_by, step_by, taken_by, taken_count, woven_after}
 use Rattle.fm_place_weave.specs.Conditions.{AreFlagged, AreLocals, IsFlagged, IsLocal}
 use Rattle.fm_place_weave.specs.Laws.{IsWholePlan, PlansAreInsertions, PlansMayBeWoven}
 
@@ -159,7 +159,7 @@ items-is calls code ins p is =
 
 pub code-is : (calls : Calls) (code : Code) (ins : Insertions) (p : ChainPlan) → IsWholePlan code ins p → code_by calls code p ≡ chained_code calls code ins
 code-is calls code ins p is =
-    λ k. code_with code (cond (plans_have_the_chains ins p is.plan_is k) 2 1) (is.plan_is.plan_is.holders k) (items-is calls code ins p is k) (anchors-is code ins p is k)
+    λ k. laid_out_code code (cond (plans_have_the_chains ins p is.plan_is k) 2 1) (is.plan_is.plan_is.holders k) (items-is calls code ins p is k) (anchors-is code ins p is k)
 
 -- ---- when it may be woven
 

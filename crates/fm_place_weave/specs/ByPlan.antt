@@ -106,8 +106,8 @@ abbrev pub items_by : Calls → Code → ChainPlan → List NewItem
 items_by calls code plan = woven_by calls code plan (anchors_by code plan)
 
 -- these new items laid out by their anchors: so many words more of stack and a local for each holder; tables follow their items
-abbrev pub code_with : Code → (words holders : ℕ) → List NewItem → List ℕ → Code
-code_with code words holders items anchors =
+abbrev pub laid_out_code : Code → (words holders : ℕ) → List NewItem → List ℕ → Code
+laid_out_code code words holders items anchors =
     let laid = laid_of code.items items in
     let tables = moved_tables code laid anchors in
     record {
@@ -121,7 +121,7 @@ code_with code words holders items anchors =
 
 -- the new code
 abbrev pub code_by : Calls → Code → ChainPlan → Code
-code_by calls code p = code_with code (added_words p) p.plan.holders (items_by calls code p) (anchors_by code p)
+code_by calls code p = laid_out_code code (added_words p) p.plan.holders (items_by calls code p) (anchors_by code p)
 
 -- ---- how long it is
 
