@@ -6,7 +6,7 @@ use Rattle.fm_conn.specs.Facts.{AreFacts, Facts}
 use Rattle.fm_place.specs.Insertions.{Holder, Insertions}
 use Rattle.fm_place.specs.Rewriting.{Plans}
 use Rattle.fm_place.specs.Safe.{full_plans, IsSafeMethod}
-use Rattle.fm_world.specs.Programs.{code_at, Program, program_of}
+use Rattle.fm_world.specs.Programs.{code_at, Program}
 use Rattle.fm_chain.specs.Chaining.{chained_classes, chained_marks_with}
 use Rattle.fm_chain.specs.Loops.{is_looped}
 
@@ -38,10 +38,6 @@ pub record SafeChainsOf (p : Program) (given written : List ClassDef) (marks : L
   pub written_is : written ≡ chained_classes (looped_plans p plans) given
   pub marks_are : marks ≡ chained_marks_with (looped_plans p plans) given
 
--- the same by the program that isn't narrowed
-abbrev pub SafeChains : (given : List ClassDef) (main : List ℕ) (written : List ClassDef) (marks : List (List (Option ℕ))) → Type 0
-SafeChains given main written marks = SafeChainsOf (program_of given main) given written marks
-
 -- of each method that has code, all that can be inserted
 abbrev pub full_chains : Program → Facts → Plans
 full_chains p facts = looped_plans p (full_plans p facts)
@@ -52,7 +48,3 @@ pub record FullChainsOf (p : Program) (given written : List ClassDef) (marks : L
   pub exact : AreFacts p facts
   pub written_is : written ≡ chained_classes (full_chains p facts) given
   pub marks_are : marks ≡ chained_marks_with (full_chains p facts) given
-
--- the same by the program that isn't narrowed
-abbrev pub FullChains : (given : List ClassDef) (main : List ℕ) (written : List ClassDef) (marks : List (List (Option ℕ))) → Type 0
-FullChains given main written marks = FullChainsOf (program_of given main) given written marks
