@@ -1,6 +1,6 @@
 // What is inserted into a method, chains too.
 
-ghost use Rattle.std.specs.Prelude.{◌≡◌, ◌≤◌, ◌<◌, IfOk, false, true, length, replicate, slice_set, if◌then◌else◌};
+ghost use Rattle.std.specs.Prelude.{◌≡◌, ◌≤◌, IfOk, false, length, replicate};
 ghost use Rattle.std.specs.List.{AllByRecursion};
 ghost use Rattle.fm_chain.specs.Planned.{IsSiteIn, chain_flags, flags_with};
 ghost use Rattle.fm_flow.specs.Flow.{IsFlowOf};
@@ -9,7 +9,7 @@ use crate::loops::looped;
 use fm_base::{NoMemory, Row};
 use fm_code::Code;
 use fm_flow::Flow;
-use fm_place::Plan;
+use fm_place::{Plan, set_if};
 use std::alloc::Global;
 
 /// What is inserted into a method, and which of its holders hold chains.
@@ -86,17 +86,11 @@ fn looped_row(
 {
     let mut row = Row::new(alloc, u32::from(holders))?;
     for pair in after {
-        set_if(&mut row, looped(alloc, code, flow, pair.0)?, pair.1);
+        set_if(
+            &mut row,
+            u32::from(pair.1),
+            looped(alloc, code, flow, pair.0)?,
+        );
     }
     Ok(row)
-}
-
-// Sets the bit of a holder, if the test holds.
-fn set_if(row: &mut Row, test: bool, holder: u16)
-    requires { holder < length row.old }
-    ensures { row.new ≡ (if test then slice_set row.old holder true else row.old) }
-{
-    if test {
-        row.set(u32::from(holder));
-    }
 }
