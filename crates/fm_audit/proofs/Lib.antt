@@ -14,3 +14,7 @@ pub mod MethodsLemmas
 pub mod LaidLemmas
 pub mod ReadBackLemmas
 pub mod WovenReadLemmas
+pub mod FewLemmas
+pub mod FoundAgainLemmas
+pub mod SafeAgainLemmas
+pub mod WhollyLemmas

@@ -1,11 +1,11 @@
 -- What is read of new items is listed item by item.
-use Rattle.std.proofs.Common.{◌≡◌, ℕ, suc, ◌+◌, ◌≤◌, ◌++◌, ◌==◌, cond, true, false, List, [], ◌∷◌, length, map, Option, Some, None, IsSomeAnd, refl, sym, ap, subst, ◌∙◌, arith}
+use Rattle.std.proofs.Common.{◌≡◌, ℕ, suc, ◌+◌, ◌≤◌, ◌++◌, ◌==◌, cond, true, false, List, [], ◌∷◌, length, map, Option, Some, None, refl, sym, ap, subst, ◌∙◌, arith}
 use Rattle.std.specs.Prelude.{nat_eq}
 use Rattle.std.specs.List.{flat_map, range_with_len}
 use Rattle.std.specs.Option.{option_map}
 use Rattle.std.proofs.lemmas.Bool.{false≢true}
 use Rattle.std.proofs.lemmas.Option.{none-some, same_Some}
-use Rattle.fm_base.proofs.OptionFacts.{cond-some_else, IsSomeAnd-from_some, option_map-some}
+use Rattle.fm_base.proofs.OptionFacts.{cond-some_else, option_map-some}
 use Rattle.fm_base.proofs.TestFacts.{apart-nat_eq, same-nat_eq}
 use Rattle.fm_code.specs.declared.code_array.Item.{Item}
 use Rattle.fm_place.proofs.HolderLemmas.{flat_range_same}
@@ -96,11 +96,9 @@ pub some_null : (free first : ℕ) (items new : List Item) (f : Found) → read 
 some_null free first items new f is some none =
     false≢true (sym some ∙ ap (λ (l : List ℕ). length l == 0) (starts_null free first items new f is ∙ none))
 
--- none is null at the start
-pub no_starts : (free first : ℕ) (items new : List Item) (f : Found) → read free first items new ≡ Some (read_in f) → length f.starts.items ≡ 0
-    → IsSomeAnd (read free first items new) (λ found. found.starts ≡ [])
-no_starts free first items new f is none =
-    IsSomeAnd-from_some (read free first items new) (λ found. found.starts ≡ []) (read_in f) is (empty f.starts.items none) where
-      empty : (xs : List ℕ) → length xs ≡ 0 → xs ≡ []
-      empty [] none = refl
-      empty (x ∷ xs) none = absurd (omega (arith, none))
+-- ---- what the code returns
+
+-- it was the only thing that can be read
+pub same_read : (free first : ℕ) (items new : List Item) (f : Found) (found : Read) → read free first items new ≡ Some (read_in f)
+    → read free first items new ≡ Some found → found ≡ read_in f
+same_read free first items new f found own other = same_Some found (read_in f) (sym other ∙ own)

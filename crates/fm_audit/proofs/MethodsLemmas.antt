@@ -14,23 +14,26 @@ use Rattle.fm_summ.specs.Exact.{AreExact}
 use Rattle.fm_summ_shapes.proofs.ShapesLemmas.{code_facts}
 use Rattle.fm_summ_shapes.specs.Analysed.{AreAnalysable, AreLeastTypings}
 use Rattle.fm_world.specs.Programs.{code_at, Program}
-use Rattle.fm_audit.proofs.ProgramFactsLemmas.{are_facts, are_listed, facts, insertions_in, least_typings, plans, safe_methods}
-use Rattle.fm_audit.specs.NewCodes.{StaysAt, StaysIn}
+use Rattle.fm_audit.proofs.ProgramFactsLemmas.{are_facts, are_listed, are_whole, facts, insertions_in, least_typings, plans, safe_methods}
+use Rattle.fm_audit.specs.NewCodes.{new_free_of, new_items_of, StaysAt, StaysIn}
 use Rattle.fm_audit.specs.Parts.{planned_of}
 use Rattle.fm_audit.specs.SafeMethods.{AreSafelyInserted, AreSafelyPlanned, IsSafelyPlannedAt, IsSafelyPlannedIn}
 use Rattle.fm_audit.specs.SafePlans.{IsSafelyPlanned}
 use Rattle.fm_audit.specs.declared.methods.JudgedMethods.{JudgedMethods}
+use Rattle.fm_audit.specs.declared.methods.NewCode.{NewCode}
 use Rattle.fm_audit.specs.declared.plans.Judged.{Judged}
 
 -- ---- one method
 
-pub safe_with_code : {E : Type 0} (p : Program) (s : Summaries) (method : ℕ) (code : Code) → code_at p method ≡ Some code
-    → (r : Result Judged E) → IfOk r (λ found. IsSafelyPlanned p s method code (planned_of found)) → IfOk r (λ found. IsSafelyPlannedAt p s method (planned_of found))
-safe_with_code p s method code is (Ok found) are = subst (λ o. IsSafelyPlannedIn p s method o (planned_of found)) (sym is) are
-safe_with_code p s method code is (Err e) are = tt
+pub safe_with_code : {E : Type 0} (p : Program) (s : Summaries) (method : ℕ) (code : Code) (free : ℕ) (new : List Item) → code_at p method ≡ Some code
+    → (r : Result Judged E) → IfOk r (λ found. IsSafelyPlanned p s method code free new (planned_of found))
+    → IfOk r (λ found. IsSafelyPlannedAt p s method free new (planned_of found))
+safe_with_code p s method code free new is (Ok found) are = subst (λ o. IsSafelyPlannedIn p s method o free new (planned_of found)) (sym is) are
+safe_with_code p s method code free new is (Err e) are = tt
 
-pub safe_without_code : (p : Program) (s : Summaries) (method : ℕ) → code_at p method ≡ None → IsSafelyPlannedAt p s method planned.Same
-safe_without_code p s method none = subst (λ o. IsSafelyPlannedIn p s method o planned.Same) (sym none) refl
+pub safe_without_code : (p : Program) (s : Summaries) (method free : ℕ) (new : List Item) → code_at p method ≡ None
+    → IsSafelyPlannedAt p s method free new planned.Same
+safe_without_code p s method free new none = subst (λ o. IsSafelyPlannedIn p s method o free new planned.Same) (sym none) refl
 
 -- the same of what stays as it is
 pub stays_with_code : {E : Type 0} (p : Program) (method : ℕ) (code : Code) (new : List Item) → code_at p method ≡ Some code
@@ -60,44 +63,47 @@ each_more P n before after made count more so_far now = (
 
 -- ---- all methods
 
-module _ (p : Program) (s : Summaries) (done : List Planned) (may : AreAnalysable p) (are : AreSafelyPlanned p s done) where
+module _ (p : Program) (s : Summaries) (new : List NewCode) (done : List Planned) (may : AreAnalysable p) (are : AreSafelyPlanned p s new done) where
   past : (method : ℕ) → length done ≤ method → (o : Option Code) → code_at p method ≡ o → code_at p method ≡ None
   past method beyond None is = is
   past method beyond (Some code) is = absurd (let inside = (code_facts p method code may is).0.inside in omega (arith, inside, are.one_each, beyond))
 
-  all : (method : ℕ) → IsSafelyPlannedAt p s method (planned_at done method)
+  all : (method : ℕ) → IsSafelyPlannedAt p s method (new_free_of p new method) (new_items_of p new method) (planned_at done method)
   all method = ⊎_elim
       (λ (inside : method < length done). are.each method inside)
       (λ (beyond : length done ≤ method).
-      subst (IsSafelyPlannedAt p s method) (sym (get_or_past done method planned.Same beyond))
-      (safe_without_code p s method (past method beyond (code_at p method) refl)))
+      subst (IsSafelyPlannedAt p s method (new_free_of p new method) (new_items_of p new method)) (sym (get_or_past done method planned.Same beyond))
+      (safe_without_code p s method (new_free_of p new method) (new_items_of p new method) (past method beyond (code_at p method) refl)))
       (cases_lt method (length done))
 
-  known : (method : ℕ) (code : Code) → code_at p method ≡ Some code → IsSafelyPlanned p s method code (planned_at done method)
-  known method code is = subst (λ o. IsSafelyPlannedIn p s method o (planned_at done method)) is (all method)
+  known : (method : ℕ) (code : Code) → code_at p method ≡ Some code
+      → IsSafelyPlanned p s method code (new_free_of p new method) (new_items_of p new method) (planned_at done method)
+  known method code is = subst (λ o. IsSafelyPlannedIn p s method o (new_free_of p new method) (new_items_of p new method) (planned_at done method)) is (all method)
 
-  none_in : (method : ℕ) (o : Option Code) (is : code_at p method ≡ o) → o ≡ None → insertions_in p s (planned_at done) known method o is ≡ None
+  none_in : (method : ℕ) (o : Option Code) (is : code_at p method ≡ o) → o ≡ None
+      → insertions_in p s (new_free_of p new) (new_items_of p new) (planned_at done) known method o is ≡ None
   none_in method None is none = refl
   none_in method (Some code) is none = absurd (none-some code (sym none))
 
-  pub are_inserted : (typings : Typings) → AreLeastTypings p typings → AreExact p typings s → AreSafelyInserted p done
+  pub are_inserted : (typings : Typings) → AreLeastTypings p typings → AreExact p typings s → AreSafelyInserted p new done
   are_inserted typings least exact = record {
-    facts = facts p s (planned_at done) known;
-    exact = are_facts p s (planned_at done) known typings least exact;
-    least = least_typings p s (planned_at done) known;
-    plans = plans p s (planned_at done) known;
-    methods = safe_methods p s (planned_at done) known;
+    facts = facts p s (new_free_of p new) (new_items_of p new) (planned_at done) known;
+    exact = are_facts p s (new_free_of p new) (new_items_of p new) (planned_at done) known typings least exact;
+    least = least_typings p s (new_free_of p new) (new_items_of p new) (planned_at done) known;
+    plans = plans p s (new_free_of p new) (new_items_of p new) (planned_at done) known;
+    methods = safe_methods p s (new_free_of p new) (new_items_of p new) (planned_at done) known;
     one_each = are.one_each;
-    listed = are_listed p s (planned_at done) known;
+    listed = are_listed p s (new_free_of p new) (new_items_of p new) (planned_at done) known;
     others = λ method none. (
       none_in method (code_at p method) refl none,
-      subst (λ o. IsSafelyPlannedIn p s method o (planned_at done method)) none (all method),
+      subst (λ o. IsSafelyPlannedIn p s method o (new_free_of p new method) (new_items_of p new method) (planned_at done method)) none (all method),
     );
+    whole = are_whole p s (new_free_of p new) (new_items_of p new) (planned_at done) known;
   }
 
 -- the same of what the code returns
-pub inserted_answers : {E : Type 0} (p : Program) (s : Summaries) → AreAnalysable p → (typings : Typings) → AreLeastTypings p typings → AreExact p typings s
-    → (r : Result JudgedMethods E) → IfOk r (λ (found : JudgedMethods). AreSafelyPlanned p s found.planned.items)
-    → IfOk r (λ (found : JudgedMethods). AreSafelyInserted p found.planned.items)
-inserted_answers p s may typings least exact (Ok found) is = are_inserted p s found.planned.items may is typings least exact
-inserted_answers p s may typings least exact (Err e) is = tt
+pub inserted_answers : {E : Type 0} (p : Program) (s : Summaries) (new : List NewCode) → AreAnalysable p → (typings : Typings) → AreLeastTypings p typings
+    → AreExact p typings s → (r : Result JudgedMethods E) → IfOk r (λ (found : JudgedMethods). AreSafelyPlanned p s new found.planned.items)
+    → IfOk r (λ (found : JudgedMethods). AreSafelyInserted p new found.planned.items)
+inserted_answers p s new may typings least exact (Ok found) is = are_inserted p s new found.planned.items may is typings least exact
+inserted_answers p s new may typings least exact (Err e) is = tt

@@ -6,6 +6,7 @@ use Rattle.fm_base.proofs.OptionFacts.{IsSomeAnd-at_some}
 use Rattle.fm_check.specs.Checking.{IsLeastTyping}
 use Rattle.fm_code.specs.Live.{Live}
 use Rattle.fm_code.specs.declared.code_array.Code.{Code}
+use Rattle.fm_code.specs.declared.code_array.Item.{Item}
 use Rattle.fm_conn.proofs.LinkLemmas.{classes_are_by_links}
 use Rattle.fm_conn.specs.Classes.{AreClassesOf, class_of}
 use Rattle.fm_conn.specs.Facts.{AreFacts, Facts}
@@ -28,10 +29,12 @@ use Rattle.fm_summ_shapes.specs.Analysed.{AreLeastTypings}
 use Rattle.fm_types.specs.States.{TypeState}
 use Rattle.fm_types.specs.Typed.{IsTypingOf}
 use Rattle.fm_world.specs.Programs.{code_at, Program}
+use Rattle.fm_audit.specs.ReadBack.{read_by}
+use Rattle.fm_audit.specs.Reading.{read}
 use Rattle.fm_audit.specs.SafePlans.{IsListedIn, IsSafelyPlanned}
 
-module _ (p : Program) (s : Summaries) (done : ℕ → Planned)
-    (known : (method : ℕ) (code : Code) → code_at p method ≡ Some code → IsSafelyPlanned p s method code (done method)) where
+module _ (p : Program) (s : Summaries) (free : ℕ → ℕ) (new : ℕ → List Item) (done : ℕ → Planned)
+    (known : (method : ℕ) (code : Code) → code_at p method ≡ Some code → IsSafelyPlanned p s method code (free method) (new method) (done method)) where
   -- ---- by the number of a method: what is known of it, and nothing of one without code
 
   abbrev states_by : (method : ℕ) (o : Option Code) → code_at p method ≡ o → List (Option TypeState)
@@ -75,6 +78,8 @@ module _ (p : Program) (s : Summaries) (done : ℕ → Planned)
     pub listed : IsListedIn code insertions (done method)
     pub safe : (told : Facts) → IsToldBy told method classes rows → LinkAlike told s → IfSome insertions (AreSafe told (method_with p method code states))
     pub plain : IfSome insertions HoldsNoChain
+    pub whole : (told : Facts) → IsToldBy told method classes rows → LinkAlike told s → (ins : Insertions) → AreSafe told (method_with p method code states) ins
+        → HoldsNoChain ins → read (free method) code.max_locals code.items (new method) ≡ Some (read_by code ins) → IsListedIn code (Some ins) (done method)
 
   known_as : (method : ℕ) (o : Option Code) (is : code_at p method ≡ o) (code : Code) → o ≡ Some code
       → IsKnownAs method code (states_by method o is) (live_by method o is) (class_by method o is) (insertions_in method o is)
@@ -93,6 +98,7 @@ module _ (p : Program) (s : Summaries) (done : ℕ → Planned)
         listed = by.listed;
         safe = by.safe;
         plain = by.plain;
+        whole = by.whole;
       })
 
   at_code : (method : ℕ) (code : Code) → code_at p method ≡ Some code
@@ -105,6 +111,13 @@ module _ (p : Program) (s : Summaries) (done : ℕ → Planned)
   -- what is planned for it is what is inserted
   pub are_listed : (method : ℕ) (code : Code) → code_at p method ≡ Some code → IsListedIn code (plans method) (done method)
   are_listed method code is = (at_code method code is).listed
+
+  -- safe insertions as which its new items are read are planned for it
+  pub are_whole : (method : ℕ) (code : Code) (ins : Insertions) → code_at p method ≡ Some code
+      → AreSafe facts (typed_method p facts.typing method code) ins → HoldsNoChain ins
+      → read (free method) code.max_locals code.items (new method) ≡ Some (read_by code ins) → IsListedIn code (Some ins) (done method)
+  are_whole method code ins is safe plain read_is =
+      let own = at_code method code is in own.whole facts (record { class = own.class_is; lives = own.live_is }) (λ m a b. refl) ins safe plain read_is
 
   -- ---- the whole program
 

@@ -68,7 +68,7 @@ safe_each classes busy rows freed a (suc n) j is low high =
 module _ (s : Seen) (g : Groups) (busy : List (List Bool)) (holding : Holding) (groups : AreGroups g) (busy_are : AreRowsIn g (count_of s) (is_busy_at s) busy)
     (holding_are : AreHolding s g.held.now (length g.held.now) holding.freed holding.rows.items) where
   -- the bit of a holder's class
-  busy_bit : (h j : ℕ) (p : ℕ × ℕ) → slice_get g.held.now h ≡ Some p → j < count_of s
+  pub busy_bit : (h j : ℕ) (p : ℕ × ℕ) → slice_get g.held.now h ≡ Some p → j < count_of s
       → has (row_of busy (get_or g.of_holders.items h 0)) j ≡ is_busy_at s j p.1
   busy_bit h j p there inside = (holder_row g (count_of s) (is_busy_at s) busy groups busy_are h p there).1.each j inside
 

@@ -31,7 +31,7 @@ use Rattle.fm_audit.specs.inner.Listed.{AreListed}
 -- ---- by facts that agree with what is known
 
 module _ (s : Seen) (facts : Facts) (told : IsToldBy facts s.method.number.0 s.classes.now s.live.now) where
-  busy_told : (class j : ℕ) → is_busy (facts_seen s) (typed_seen s) class j ≡ is_busy facts (typed_seen s) class j
+  pub busy_told : (class j : ℕ) → is_busy (facts_seen s) (typed_seen s) class j ≡ is_busy facts (typed_seen s) class j
   busy_told class j =
       sym (λ k. is_busy (record {
         typing = λ method. [];
@@ -40,7 +40,7 @@ module _ (s : Seen) (facts : Facts) (told : IsToldBy facts s.method.number.0 s.c
         class = λ method node. told.class node k;
       }) (typed_seen s) class j)
 
-  hold_told : (site class j : ℕ) → may_hold (facts_seen s) (typed_seen s) site class j ≡ may_hold facts (typed_seen s) site class j
+  pub hold_told : (site class j : ℕ) → may_hold (facts_seen s) (typed_seen s) site class j ≡ may_hold facts (typed_seen s) site class j
   hold_told site class j =
       sym (λ k. may_hold (record {
         typing = λ method. [];

@@ -1,7 +1,8 @@
 -- A plan with pairs that were checked is safe, by all facts that agree with what is known of the method.
-use Rattle.std.proofs.Common.{◌≡◌, IfOk, Result, Ok, Err, false, List, replicate, Some, None, sym, ◌∙◌, refl}
+use Rattle.std.proofs.Common.{◌≡◌, ℕ, IfOk, Result, Ok, Err, false, List, replicate, Some, None, sym, ◌∙◌, refl}
 use Rattle.fm_chain.specs.declared.plans.ChainPlan.{ChainPlan}
 use Rattle.fm_check.specs.Checking.{IsLeastTyping}
+use Rattle.fm_code.specs.declared.code_array.Item.{Item}
 use Rattle.fm_conn.specs.Classes.{AreClassesOf}
 use Rattle.fm_conn.specs.Summaries.{linked_by}
 use Rattle.fm_conn.specs.declared.summaries.Summaries.{Summaries}
@@ -16,19 +17,30 @@ use Rattle.fm_place_weave.specs.declared.planned.Planned.{Planned}
 use Rattle.fm_place_weave.specs.declared.planned.Planned.TheVariants as planned
 use Rattle.fm_types.specs.Typings.{states_of}
 use Rattle.fm_audit.proofs.SafeLemmas.{are_safe, held_all}
-use Rattle.fm_audit.proofs.WholeLemmas.{insertions-plain, insertions_by, whole}
+use Rattle.fm_audit.proofs.WhollyLemmas.{wholly_listed}
+use Rattle.fm_audit.proofs.WholeLemmas.{insertions-plain, insertions_by, whole as whole_plan}
 use Rattle.fm_audit.specs.Parts.{planned_of}
+use Rattle.fm_audit.specs.Reading.{Read, read}
 use Rattle.fm_audit.specs.SafePlans.{IsSafelyPlanned}
 use Rattle.fm_audit.specs.declared.plans.Judged.{Judged}
-use Rattle.fm_audit.specs.inner.Checked.{IsCheckedDone, IsCheckedPlan, IsJudgedDone, pairs_of}
+use Rattle.fm_audit.specs.inner.Checked.{IsCheckedDone, IsCheckedPlan, IsJudgedDone, IsSafelyRead, IsWhollyDone, IsWovenBy, pairs_of}
 
 module _ (s : Seen) (summaries : Summaries) (sites : List Site)
     (least : IsLeastTyping s.method.program.now s.method.number.0 (states_of s.method.typing.now))
     (live_are : IsLiveRowsOf s.method.code.now s.live.now) (classes_are : AreClassesOf (linked_by summaries) (typed_seen s) s.classes.now)
-    (sites_are : sites ≡ sites_of (facts_by s.classes.now summaries) (typed_seen s)) where
-  safe_plan : (plan : ChainPlan) → IsCheckedPlan s sites plan.plan → plan.looped ≡ replicate plan.plan.holders false
-      → IsSafelyPlanned s.method.program.now summaries s.method.number.0 s.method.code.now (planned.Woven plan)
-  safe_plan plan is flags = record {
+    (sites_are : sites ≡ sites_of (facts_by s.classes.now summaries) (typed_seen s)) (free : ℕ) (new : List Item) where
+  -- where what is read is safe, the method is woven by it
+  abbrev Wholly : Planned → Type 0
+  Wholly done =
+      (found : Read) (holders : ℕ) → read free s.method.code.now.max_locals s.method.code.now.items new ≡ Some found → IsSafelyRead s sites found holders
+      → IsWovenBy found holders done
+
+  abbrev Safely : Planned → Type 0
+  Safely done = IsSafelyPlanned s.method.program.now summaries s.method.number.0 s.method.code.now free new done
+
+  safe_plan : (plan : ChainPlan) → IsCheckedPlan s sites plan.plan → plan.looped ≡ replicate plan.plan.holders false → Wholly (planned.Woven plan)
+      → Safely (planned.Woven plan)
+  safe_plan plan is flags whole = record {
     states = states_of s.method.typing.now;
     live = s.live.now;
     classes = s.classes.now;
@@ -37,17 +49,19 @@ module _ (s : Seen) (summaries : Summaries) (sites : List Site)
     classes_are = classes_are;
     insertions = Some (insertions_by is.checked.held is.listed.before (count_of s));
     listed =
-        whole sites (count_of s) (pairs_of plan.plan) is.checked.held is.listed (held_all s sites (pairs_of plan.plan) plan.plan.holders is.checked)
+        whole_plan sites (count_of s) (pairs_of plan.plan) is.checked.held is.listed (held_all s sites (pairs_of plan.plan) plan.plan.holders is.checked)
         is.checked.own s.method.code.now plan refl (sym is.checked.count) refl refl flags;
     safe = λ facts told linked.
         are_safe s facts sites (pairs_of plan.plan) plan.plan.holders told
         (sites_are ∙ sym (sites_told facts (typed_seen s) s.classes.now summaries told.class linked)) is.listed is.checked;
     plain = insertions-plain is.checked.held is.listed.before (count_of s);
+    whole = λ facts told linked ins safe plain read_is.
+        wholly_listed s facts sites told (sites_are ∙ sym (sites_told facts (typed_seen s) s.classes.now summaries told.class linked)) ins safe plain free new
+        (planned.Woven plan) whole read_is;
   }
 
-  safe_done : (done : Planned) → IsCheckedDone s sites done
-      → IsSafelyPlanned s.method.program.now summaries s.method.number.0 s.method.code.now done
-  safe_done planned.Same is = record {
+  safe_done : (done : Planned) → IsCheckedDone s sites done → Wholly done → Safely done
+  safe_done planned.Same is whole = record {
     states = states_of s.method.typing.now;
     live = s.live.now;
     classes = s.classes.now;
@@ -58,12 +72,15 @@ module _ (s : Seen) (summaries : Summaries) (sites : List Site)
     listed = tt;
     safe = λ facts told linked. tt;
     plain = tt;
+    whole = λ facts told linked ins safe plain read_is.
+        wholly_listed s facts sites told (sites_are ∙ sym (sites_told facts (typed_seen s) s.classes.now summaries told.class linked)) ins safe plain free new
+        planned.Same whole read_is;
   }
-  safe_done (planned.Woven plan) is = safe_plan plan is.0 is.1
-  safe_done (planned.TooLong bytes chains) is = absurd is
+  safe_done (planned.Woven plan) is whole = safe_plan plan is.0 is.1 whole
+  safe_done (planned.TooLong bytes chains) is whole = absurd is
 
   -- the same of what the code returns
-  pub safe_answers : {E : Type 0} (answer : Result Judged E) → IfOk answer (IsJudgedDone s sites)
-      → IfOk answer (λ found. IsSafelyPlanned s.method.program.now summaries s.method.number.0 s.method.code.now (planned_of found))
-  safe_answers (Ok found) is = safe_done (planned_of found) is
-  safe_answers (Err e) is = tt
+  pub safe_answers : {E : Type 0} (answer : Result Judged E) → IfOk answer (IsJudgedDone s sites) → IfOk answer (IsWhollyDone s sites free new)
+      → IfOk answer (λ found. IsSafelyPlanned s.method.program.now summaries s.method.number.0 s.method.code.now free new (planned_of found))
+  safe_answers (Ok found) is whole = safe_done (planned_of found) is whole
+  safe_answers (Err e) is whole = tt

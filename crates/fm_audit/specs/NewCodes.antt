@@ -15,13 +15,26 @@ abbrev pub items_in : Option NewCode → List Item
 items_in None = []
 items_in (Some new) = new.items.now
 
--- those of a method by its number, where the first one that has new code has that number
-abbrev pub new_items : List NewCode → (first method : ℕ) → List Item
-new_items new first method = if nat_lt method first then [] else items_in (slice_get new (method - first))
+-- the index of FreeMe.free in its class
+abbrev pub free_in : Option NewCode → ℕ
+free_in None = 0
+free_in (Some new) = new.free
 
--- those of a method of the program, whose last methods have new code
+-- the new code of a method by its number, where the first one that has some has that number
+abbrev pub new_code : List NewCode → (first method : ℕ) → Option NewCode
+new_code new first method = if nat_lt method first then None else slice_get new (method - first)
+
+-- that of a method of the program, whose last methods have some
+abbrev pub new_code_of : Program → List NewCode → ℕ → Option NewCode
+new_code_of p new method = new_code new (length (methods_of p.outline.classes) - length new) method
+
+-- its items
 abbrev pub new_items_of : Program → List NewCode → ℕ → List Item
-new_items_of p new method = new_items new (length (methods_of p.outline.classes) - length new) method
+new_items_of p new method = items_in (new_code_of p new method)
+
+-- its index
+abbrev pub new_free_of : Program → List NewCode → ℕ → ℕ
+new_free_of p new method = free_in (new_code_of p new method)
 
 -- where no holder is null at the start of its new items, a method that has this code stays as it is
 abbrev pub StaysIn : Option Code → (new : List Item) → Planned → Type 0

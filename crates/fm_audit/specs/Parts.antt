@@ -1,7 +1,6 @@
 -- The parts of what makes written classes safe insertions, and what is to be done with a method that was judged by them.
 use Rattle.std.specs.Prelude.{ℕ}
 use Rattle.fm_place_weave.specs.declared.planned.Planned.{Planned}
-use Rattle.fm_place_weave.specs.declared.planned.Planned.TheVariants as planned
 use Rattle.fm_audit.specs.declared.parts.Part.{Part}
 use Rattle.fm_audit.specs.declared.parts.Part.TheVariants as part
 use Rattle.fm_audit.specs.declared.plans.Judged.{Judged}
@@ -16,7 +15,7 @@ part_number part.Uses = 4
 part_number part.Frees = 5
 part_number part.Layout = 6
 
--- what is to be done with a method; nothing where it fails a part
+-- what is to be done with a method
 abbrev pub planned_of : Judged → Planned
 planned_of (judged.Safe done) = done
-planned_of (judged.Fails part) = planned.Same
+planned_of (judged.Fails part done) = done

@@ -1,35 +1,43 @@
 -- What is to be done with all methods of a program is to insert what is safe by its facts, or nothing.
 use Rattle.std.specs.Prelude.{◌≡◌, ◌<◌, ℕ, List, length, Option, Some, None}
 use Rattle.fm_code.specs.declared.code_array.Code.{Code}
+use Rattle.fm_code.specs.declared.code_array.Item.{Item}
 use Rattle.fm_conn.specs.Facts.{AreFacts, Facts}
+use Rattle.fm_conn.specs.Links.{typed_method}
 use Rattle.fm_conn.specs.declared.summaries.Summaries.{Summaries}
 use Rattle.fm_place.specs.Insertions.{Insertions}
 use Rattle.fm_place.specs.Rewriting.{Plans}
-use Rattle.fm_place.specs.Safe.{IsSafeMethod}
+use Rattle.fm_place.specs.Safe.{AreSafe, HoldsNoChain, IsSafeMethod}
 use Rattle.fm_place_weave.specs.declared.planned.Planned.{Planned}
 use Rattle.fm_place_weave.specs.declared.planned.Planned.TheVariants as planned
 use Rattle.fm_rewrite.specs.Plans.{planned_at}
 use Rattle.fm_summ_shapes.specs.Analysed.{AreLeastTypings}
 use Rattle.fm_world.specs.Members.{methods_of}
 use Rattle.fm_world.specs.Programs.{code_at, Program}
+use Rattle.fm_audit.specs.NewCodes.{new_free_of, new_items_of}
+use Rattle.fm_audit.specs.ReadBack.{read_by}
+use Rattle.fm_audit.specs.Reading.{read}
 use Rattle.fm_audit.specs.SafePlans.{IsListedIn, IsSafelyPlanned}
+use Rattle.fm_audit.specs.declared.methods.NewCode.{NewCode}
 
 -- what is to be done with the method is safely planned for its code, and is nothing where it has none
-abbrev pub IsSafelyPlannedIn : Program → Summaries → ℕ → Option Code → Planned → Type 0
-IsSafelyPlannedIn p summaries method None done = done ≡ planned.Same
-IsSafelyPlannedIn p summaries method (Some code) done = IsSafelyPlanned p summaries method code done
+abbrev pub IsSafelyPlannedIn : Program → Summaries → ℕ → Option Code → (free : ℕ) → (new : List Item) → Planned → Type 0
+IsSafelyPlannedIn p summaries method None free new done = done ≡ planned.Same
+IsSafelyPlannedIn p summaries method (Some code) free new done = IsSafelyPlanned p summaries method code free new done
 
 -- this is safely planned for this method of the program
-abbrev pub IsSafelyPlannedAt : Program → Summaries → ℕ → Planned → Type 0
-IsSafelyPlannedAt p summaries method done = IsSafelyPlannedIn p summaries method (code_at p method) done
+abbrev pub IsSafelyPlannedAt : Program → Summaries → ℕ → (free : ℕ) → (new : List Item) → Planned → Type 0
+IsSafelyPlannedAt p summaries method free new done = IsSafelyPlannedIn p summaries method (code_at p method) free new done
 
 -- there is something to be done with each method of a program, and it is safely planned as the summaries link the ends of methods
-pub record AreSafelyPlanned (p : Program) (summaries : Summaries) (done : List Planned) : Type 0 where
+pub record AreSafelyPlanned (p : Program) (summaries : Summaries) (new : List NewCode) (done : List Planned) : Type 0 where
   pub one_each : length done ≡ length (methods_of p.outline.classes)
-  pub each : (method : ℕ) → method < length done → IsSafelyPlannedAt p summaries method (planned_at done method)
+  pub each : (method : ℕ) → method < length done
+      → IsSafelyPlannedAt p summaries method (new_free_of p new method) (new_items_of p new method) (planned_at done method)
 
--- what is to be done with each method lists what is inserted, and that is safe by exact facts of the program over least typings
-pub record AreSafelyInserted (p : Program) (done : List Planned) : Type 0 where
+-- What is to be done with each method lists what is inserted, and that is safe by exact facts of the program over least typings. Where the new items of a
+-- method are read as insertions that are safe by these facts, that is what is listed.
+pub record AreSafelyInserted (p : Program) (new : List NewCode) (done : List Planned) : Type 0 where
   pub facts : Facts
   pub exact : AreFacts p facts
   pub least : AreLeastTypings p facts.typing
@@ -38,3 +46,6 @@ pub record AreSafelyInserted (p : Program) (done : List Planned) : Type 0 where
   pub one_each : length done ≡ length (methods_of p.outline.classes)
   pub listed : (method : ℕ) (code : Code) → code_at p method ≡ Some code → IsListedIn code (plans method) (planned_at done method)
   pub others : (method : ℕ) → code_at p method ≡ None → (plans method ≡ None) × (planned_at done method ≡ planned.Same)
+  pub whole : (method : ℕ) (code : Code) (ins : Insertions) → code_at p method ≡ Some code → AreSafe facts (typed_method p facts.typing method code) ins
+      → HoldsNoChain ins → read (new_free_of p new method) code.max_locals code.items (new_items_of p new method) ≡ Some (read_by code ins)
+      → IsListedIn code (Some ins) (planned_at done method)

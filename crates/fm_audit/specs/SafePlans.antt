@@ -1,5 +1,5 @@
 -- The plans by which methods are changed safely, whoever wrote them.
-use Rattle.std.specs.Prelude.{◌≡◌, ℕ, List, [], Option, Some, None, IfSome, IsSomeAnd, ⊤}
+use Rattle.std.specs.Prelude.{◌≡◌, ℕ, List, Option, Some, None, IfSome, ⊤}
 use Rattle.std.specs.List.{range_with_len}
 use Rattle.fm_check.specs.Checking.{IsLeastTyping}
 use Rattle.fm_code.specs.declared.code_array.Code.{Code}
@@ -22,24 +22,18 @@ use Rattle.fm_place_weave.specs.declared.planned.Planned.TheVariants as planned
 use Rattle.fm_rewrite.specs.Plans.{LinkAlike}
 use Rattle.fm_types.specs.States.{TypeState}
 use Rattle.fm_world.specs.Programs.{Program}
+use Rattle.fm_audit.specs.ReadBack.{read_by}
 use Rattle.fm_audit.specs.Reading.{Read, read}
-use Rattle.fm_audit.specs.declared.plans.Judged.{Judged}
-use Rattle.fm_audit.specs.declared.plans.Judged.TheVariants as judged
 
 -- what the pairs of a plan are read from: as many holders are null at the start, in the order of their numbers
 abbrev pub read_of : Plan → Read
 read_of plan = record { starts = range_with_len 0 plan.holders; pairs = record { before = plan.before.items; after = plan.after.items } }
 
--- the new items of a method with this code are read so that no holder is null at the start, or exactly as this plan
+-- where a method with this code is woven by a plan, its new items are read exactly as this plan
 abbrev pub IsReadAs : (free : ℕ) → Code → (new : List Item) → Planned → Type 0
-IsReadAs free code new planned.Same = IsSomeAnd (read free code.max_locals code.items new) (λ found. found.starts ≡ [])
+IsReadAs free code new planned.Same = ⊤
 IsReadAs free code new (planned.Woven plan) = read free code.max_locals code.items new ≡ Some (read_of plan.plan)
 IsReadAs free code new (planned.TooLong bytes chains) = ⊥
-
--- the same of what they are found to be; where they fail a part, that says nothing of how they are read
-abbrev pub IsReadIn : (free : ℕ) → Code → (new : List Item) → Judged → Type 0
-IsReadIn free code new (judged.Safe done) = IsReadAs free code new done
-IsReadIn free code new (judged.Fails part) = ⊤
 
 -- nothing is inserted and the method stays as it is, or it is woven by the plan that lists these insertions
 abbrev pub IsListedIn : Code → Option Insertions → Planned → Type 0
@@ -48,8 +42,9 @@ IsListedIn code (Some insertions) (planned.Woven plan) = IsWholePlan code insert
 IsListedIn code o done = ⊥
 
 -- What is to be done with a method that has this code is to insert what is safe, or nothing: by a least typing, by its live locals, and by its classes as the
--- summaries link the ends of methods, the same by all facts that agree with these on the method.
-pub record IsSafelyPlanned (p : Program) (summaries : Summaries) (method : ℕ) (code : Code) (done : Planned) : Type 0 where
+-- summaries link the ends of methods, the same by all facts that agree with these on the method. Where its new items are read as insertions that are safe, it
+-- is woven by these.
+pub record IsSafelyPlanned (p : Program) (summaries : Summaries) (method : ℕ) (code : Code) (free : ℕ) (new : List Item) (done : Planned) : Type 0 where
   pub states : List (Option TypeState)
   pub live : LiveRows
   pub classes : Classes
@@ -61,3 +56,6 @@ pub record IsSafelyPlanned (p : Program) (summaries : Summaries) (method : ℕ) 
   pub safe : (facts : Facts) → IsToldBy facts method classes live → LinkAlike facts summaries
       → IfSome insertions (AreSafe facts (method_with p method code states))
   pub plain : IfSome insertions HoldsNoChain
+  pub whole : (facts : Facts) → IsToldBy facts method classes live → LinkAlike facts summaries
+      → (ins : Insertions) → AreSafe facts (method_with p method code states) ins → HoldsNoChain ins
+      → read free code.max_locals code.items new ≡ Some (read_by code ins) → IsListedIn code (Some ins) done

@@ -4,7 +4,8 @@ ghost use Rattle.std.specs.Prelude.{◌≡◌, ◌+◌, ◌<◌, ◌≤◌, ◌^
 ghost use Rattle.fm_base.specs.declared.limits.TheConstants.{MAX_LOCAL_WORDS};
 ghost use Rattle.fm_place.specs.inner.PlanRows.{AreFreedRows, IsSeen};
 ghost use Rattle.fm_audit.specs.ReadBy.{read_in};
-ghost use Rattle.fm_audit.specs.inner.Checked.{AreSafeFrees, AreFreesJudged, IsChecking};
+ghost use Rattle.fm_audit.specs.inner.Checked.{AreFreesJudged, IsChecking};
+ghost use Rattle.fm_audit.specs.inner.Holders.{holders_for};
 
 use crate::frees::{are_all_quiet, are_safe};
 use crate::holders::{are_own_items, counts_up, held_by_all};
@@ -59,8 +60,7 @@ pub(crate) fn checked(
 
 /// This number, if there are locals left for this number of holders, and there is one.
 fn holder_count(max_locals: u16, count: usize) -> Option<u16>
-    ensures { IfSome result (λ holders. (holders ≡ count) × (0 < holders)
-        × (max_locals + holders ≤ MAX_LOCAL_WORDS)) }
+    ensures { result ≡ holders_for max_locals count }
 {
     if count == 0 {
         return None;

@@ -4,7 +4,7 @@ ghost use Rattle.std.specs.Prelude.{◌≡◌, ◌-◌, ◌<◌, IfOk, length};
 ghost use Rattle.fm_conn.specs.Summaries.{AreSummariesOf};
 ghost use Rattle.fm_summ_shapes.specs.Analysed.{AreAnalysable};
 ghost use Rattle.fm_world.specs.Members.{methods_of};
-ghost use Rattle.fm_audit.specs.NewCodes.{AllStay, StaysAt, new_items};
+ghost use Rattle.fm_audit.specs.NewCodes.{AllStay, StaysAt, free_in, items_in, new_code};
 ghost use Rattle.fm_audit.specs.Parts.{planned_of};
 ghost use Rattle.fm_audit.specs.SafeMethods.{AreSafelyInserted, AreSafelyPlanned, IsSafelyPlannedAt};
 
@@ -30,7 +30,7 @@ pub struct NewCode<'a> {
 /// What the methods of a program are found to be, which get new code.
 #[derive(Debug, Drop)]
 pub struct JudgedMethods {
-    /// What is to be done with each; nothing with one that fails a part.
+    /// What is to be done with each.
     pub planned: Vec<Planned>,
     /// The first one that fails one of the parts 2 to 5, and the least one that it fails.
     pub failing: Option<(MethodId, Part)>,
@@ -46,7 +46,8 @@ pub fn judged_methods(
     new: &[NewCode<'_>],
 ) -> Result<JudgedMethods, NoMemory>
     requires { AreAnalysable program.now }
-    ensures safe { IfOk result (λ found. AreSafelyInserted program.now found.planned.items) }
+    ensures safe { IfOk result
+        (λ found. AreSafelyInserted program.now new.now found.planned.items) }
     ensures still { IfOk result (λ found. AllStay program.now new.now found.planned.items) }
 {
     let shapes = shapes_of(alloc, program)?;
@@ -64,7 +65,7 @@ fn all_judged(
     requires analysable { AreAnalysable program.now }
     requires summaries { AreSummariesOf program.now.outline summaries.now }
     ensures safe { IfOk result
-        (λ found. AreSafelyPlanned program.now summaries.now found.planned.items) }
+        (λ found. AreSafelyPlanned program.now summaries.now new.now found.planned.items) }
     ensures still { IfOk result (λ found. AllStay program.now new.now found.planned.items) }
 {
     let mut planned = Vec::new(alloc);
@@ -99,13 +100,14 @@ fn first_failing(
     }
     match found {
         Judged::Safe(_) => None,
-        Judged::Fails(part) => Some((method, *part)),
+        Judged::Fails(part, _) => Some((method, *part)),
     }
 }
 
 /// The new code of a method, where the first one that has new code has this number; else no items.
 fn new_code_at<'a>(new: &[NewCode<'a>], first: usize, number: usize) -> NewCode<'a>
-    ensures { result.items.now ≡ new_items new.now first number }
+    ensures items { result.items.now ≡ items_in (new_code new.now first number) }
+    ensures free { result.free ≡ free_in (new_code new.now first number) }
 {
     if number < first {
         return NewCode {
@@ -135,8 +137,8 @@ fn judged_method(
     requires analysable { AreAnalysable program.now }
     requires summaries { AreSummariesOf program.now.outline summaries.now }
     requires inside { method.0 < length (methods_of program.now.outline.classes) }
-    ensures safe { IfOk result
-        (λ found. IsSafelyPlannedAt program.now summaries.now method.0 (planned_of found)) }
+    ensures safe { IfOk result (λ found. IsSafelyPlannedAt program.now summaries.now method.0
+        free new.now (planned_of found)) }
     ensures still { IfOk result
         (λ found. StaysAt program.now method.0 new.now (planned_of found)) }
 {

@@ -7,8 +7,8 @@ ghost use Rattle.fm_summ_shapes.specs.Analysed.{AreAnalysable};
 ghost use Rattle.fm_world.specs.Programs.{code_at};
 ghost use Rattle.fm_audit.specs.NewCodes.{StaysIn};
 ghost use Rattle.fm_audit.specs.Parts.{planned_of};
-ghost use Rattle.fm_audit.specs.SafePlans.{IsReadIn, IsSafelyPlanned};
-ghost use Rattle.fm_audit.specs.inner.Checked.{IsJudgedDone};
+ghost use Rattle.fm_audit.specs.SafePlans.{IsReadAs, IsSafelyPlanned};
+ghost use Rattle.fm_audit.specs.inner.Checked.{IsJudgedDone, IsWhollyDone};
 
 use crate::checking::{Outcome, checked};
 use crate::frees::are_once;
@@ -32,18 +32,19 @@ use std::alloc::Global;
 pub enum Judged {
     /// What they insert is safe, and this is to be done with the method.
     Safe(Planned),
-    /// This is the least of the parts 2 to 5 that the method fails.
-    Fails(Part),
+    /// This is the least of the parts 2 to 5 that the method fails; this is to be done with it, so that its
+    /// new code is compared with some.
+    Fails(Part, Planned),
 }
 
 impl Judged {
-    /// What is to be done with the method; nothing where it fails a part.
+    /// What is to be done with the method.
     pub fn planned(self) -> Planned
         ensures { result ≡ planned_of self }
     {
         match self {
             Judged::Safe(planned) => planned,
-            Judged::Fails(_) => Planned::Same,
+            Judged::Fails(_, planned) => planned,
         }
     }
 }
@@ -64,9 +65,9 @@ pub fn judged_code(
     requires analysable { AreAnalysable program.now }
     requires summaries { AreSummariesOf program.now.outline summaries.now }
     requires code { code_at program.now method.0 ≡ Some code.now }
-    ensures safe { IfOk result (λ found.
-        IsSafelyPlanned program.now summaries.now method.0 code.now (planned_of found)) }
-    ensures read { IfOk result (IsReadIn free code.now new.now) }
+    ensures safe { IfOk result (λ found. IsSafelyPlanned program.now summaries.now method.0
+        code.now free new.now (planned_of found)) }
+    ensures read { IfOk result (λ found. IsReadAs free code.now new.now (planned_of found)) }
     ensures still { IfOk result (λ found. StaysIn (Some code.now) new.now (planned_of found)) }
 {
     let typed = Typed::of(alloc, program, method, code)?;
@@ -111,23 +112,20 @@ fn judged_in(
     requires seen { IsSeen seen.now }
     requires few { length seen.now.method.code.now.items < 2 ^ 32 }
     ensures safe { IfOk result (IsJudgedDone seen.now sites.now) }
-    ensures read { IfOk result (IsReadIn free seen.now.method.code.now new.now) }
+    ensures read { IfOk result
+        (λ found. IsReadAs free seen.now.method.code.now new.now (planned_of found)) }
+    ensures whole { IfOk result (IsWhollyDone seen.now sites.now free new.now) }
     ensures still { IfOk result
         (λ found. StaysIn (Some seen.now.method.code.now) new.now (planned_of found)) }
 {
     let code = seen.method.code;
     let Some(found) = read(alloc, free, code.max_locals, &code.items, new)? else {
-        return Ok(Judged::Fails(Part::Items));
+        return Ok(Judged::Fails(Part::Items, Planned::Same));
     };
-    let kept = are_kept(alloc, free, code.max_locals, &code.items, new)?;
-    if !kept {
-        return Ok(Judged::Fails(Part::Items));
-    }
-    if !are_insertable(code, &found) {
-        return Ok(Judged::Fails(Part::Items));
-    }
+    let well = has_items_of(alloc, free, code, &found, new)?;
     if found.starts.is_empty() {
-        return Ok(Judged::Safe(Planned::Same));
+        let stays = judged_by(well, Planned::Same);
+        return Ok(stays);
     }
     let outcome = checked(alloc, seen, sites, &found)?;
     match outcome {
@@ -138,10 +136,45 @@ fn judged_in(
                 before: found.inserted.before,
             };
             let plain = ChainPlan::plain(alloc, plan)?;
-            Ok(Judged::Safe(Planned::Woven(plain)))
+            let woven = judged_by(well, Planned::Woven(plain));
+            Ok(woven)
         }
-        Outcome::Fails(part) => Ok(Judged::Fails(part)),
+        Outcome::Fails(part) => Ok(Judged::Fails(least(well, part), Planned::Same)),
     }
+}
+
+/// A method with which this is to be done, whose new items keep the old ones well or not.
+fn judged_by(well: bool, planned: Planned) -> Judged
+    ensures { planned_of result ≡ planned }
+{
+    if well {
+        Judged::Safe(planned)
+    } else {
+        Judged::Fails(Part::Items, planned)
+    }
+}
+
+/// The least part that is failed besides this one, where new items keep the old ones well or not.
+fn least(well: bool, part: Part) -> Part {
+    if well { part } else { Part::Items }
+}
+
+/// Whether new items, which are read as this, keep the old ones with their targets, and insert what may be
+/// inserted. Takes memory for a number for each old item, and for the targets of switches.
+fn has_items_of(
+    alloc: Global,
+    free: u16,
+    code: &Code,
+    found: &Found,
+    new: &[Item],
+) -> Result<bool, NoMemory>
+    requires { length code.now.items < 2 ^ 32 }
+{
+    let kept = are_kept(alloc, free, code.max_locals, &code.items, new)?;
+    if !kept {
+        return Ok(false);
+    }
+    Ok(are_insertable(code, found))
 }
 
 /// Whether what is found may be inserted: each holder has a local that there may be, and none is freed

@@ -13,10 +13,11 @@ use Rattle.fm_code.specs.declared.class_file.ClassDef.{ClassDef}
 use Rattle.fm_code.specs.declared.class_file.Member.{Member}
 use Rattle.fm_code.specs.declared.code_array.Code.{Code}
 use Rattle.fm_code.specs.declared.constant_pool.Entry.{Entry}
+use Rattle.fm_conn.specs.Facts.{Facts}
 use Rattle.fm_conn.specs.Links.{typed_method}
 use Rattle.fm_conn.specs.Nodes.{TypedMethod}
 use Rattle.fm_place.specs.Insertions.{before_at, Insertions}
-use Rattle.fm_place.specs.Rewriting.{first_given, marks_with}
+use Rattle.fm_place.specs.Rewriting.{first_given, marks_with, Plans}
 use Rattle.fm_place.specs.Safe.{AreSafe}
 use Rattle.fm_place_weave.specs.declared.planned.Planned.{Planned}
 use Rattle.fm_place_weave.specs.declared.planned.Planned.TheVariants as planned
@@ -33,25 +34,32 @@ use Rattle.fm_summ_shapes.specs.Analysed.{AreAnalysable}
 use Rattle.fm_world.specs.Programs.{code_at, Program, program_of}
 use Rattle.fm_audit.specs.SafeMethods.{AreSafelyInserted}
 use Rattle.fm_audit.specs.SafePlans.{IsListedIn}
+use Rattle.fm_audit.specs.declared.methods.NewCode.{NewCode}
 use Rattle.fm_audit_classes.proofs.NumberedLemmas.{classes_each}
 use Rattle.fm_audit_classes.proofs.WovenClassLemmas.{classes_are, may_be_compared_each}
-use Rattle.fm_audit_classes.specs.Audited.{AreSafelyWritten}
+use Rattle.fm_audit_classes.specs.Audited.{AreSafelyWritten, AreSafePlans}
 use Rattle.fm_audit_classes.specs.inner.Compared.{MayBeComparedEach}
 use Rattle.fm_audit_classes.specs.inner.Inserted.{AreAllInserted, IsInserted}
 
 -- ---- holders
 
-no_chain : (p : Program) (done : List Planned) (are : AreSafelyInserted p done) (method : ℕ) → plan_has_chain (are.plans method) ≡ false
-no_chain p done are method = by_plan (are.plans method) refl where
-  by_plan : (o : Option Insertions) → are.plans method ≡ o → plan_has_chain o ≡ false
+-- no holder of insertions that are safe holds a chain
+pub safe_plain : (p : Program) (facts : Facts) (plans : Plans) → AreSafePlans p facts plans → (method : ℕ) → plan_has_chain (plans method) ≡ false
+safe_plain p facts plans safe method = by_plan (plans method) refl where
+  by_plan : (o : Option Insertions) → plans method ≡ o → plan_has_chain o ≡ false
   by_plan None is = refl
-  by_plan (Some ins) is = none_looped ins.holders (are.methods method ins is).plain
+  by_plan (Some ins) is = none_looped ins.holders (safe method ins is).plain
+
+pub no_chain : (p : Program) (new : List NewCode) (done : List Planned) (are : AreSafelyInserted p new done) (method : ℕ)
+    → plan_has_chain (are.plans method) ≡ false
+no_chain p new done are = safe_plain p are.facts are.plans are.methods
 
 -- ---- one method
 
-module _ (p : Program) (done : List Planned) (may : AreAnalysable p) (old : HasOldItems p) (are : AreSafelyInserted p done) where
+module _ (p : Program) (new : List NewCode) (done : List Planned) (may : AreAnalysable p) (old : HasOldItems p)
+    (are : AreSafelyInserted p new done) where
   -- what is inserted into a method that has this code is safe
-  safe_in : (method : ℕ) (code : Code) (ins : Insertions) → code_at p method ≡ Some code → are.plans method ≡ Some ins
+  pub safe_in : (method : ℕ) (code : Code) (ins : Insertions) → code_at p method ≡ Some code → are.plans method ≡ Some ins
       → AreSafe are.facts (typed_method p are.facts.typing method code) ins
   safe_in method code ins is planned_is =
       let safe = are.methods method ins planned_is in
@@ -87,7 +95,7 @@ module _ (p : Program) (done : List Planned) (may : AreAnalysable p) (old : HasO
           coded = coded;
           own = codes_own in_interface entries m code valid coded;
           whole = listed;
-          plain = sym (ap plan_has_chain planned_is) ∙ no_chain p done are method;
+          plain = sym (ap plan_has_chain planned_is) ∙ no_chain p new done are method;
           old_items = old method code is;
           rules = (code_facts p method code may is).0.spelled;
           room = safe.room;
@@ -103,13 +111,14 @@ module _ (p : Program) (done : List Planned) (may : AreAnalysable p) (old : HasO
 
 -- ---- the program
 
-module _ (given : List ClassDef) (p : Program) (done : List Planned) (judged : AreJudged given p) (are : AreSafelyInserted p done) where
+module _ (given : List ClassDef) (p : Program) (new : List NewCode) (done : List Planned) (judged : AreJudged given p) (are : AreSafelyInserted p new done) where
   counted : length done ≡ first_given + method_count given
   counted = are.one_each ∙ methods_counted given judged.main p judged.program_is
 
-  all_inserted : AreAllInserted are.plans first_given (drop first_given done) given
+  pub all_inserted : AreAllInserted are.plans first_given (drop first_given done) given
   all_inserted =
-      classes_each p are.plans done (inserted p done (judged_analysable given p judged) (judged_old given p judged) are) first_given given
+      classes_each p (λ n d m. IsInserted (are.plans n) d m) done
+      (inserted p new done (judged_analysable given p judged) (judged_old given p judged) are) first_given given
       (judged_spelled given p judged) (λ i inside. code_given given judged.main p judged.program_is i) (omega (arith, counted))
 
   parts : AllByRecursion IsShort given
@@ -117,12 +126,12 @@ module _ (given : List ClassDef) (p : Program) (done : List Planned) (judged : A
   parts short = (
     counted,
     let left = length-drop first_given done in omega (arith, left, counted),
-    may_be_compared_each are.plans (no_chain p done are) first_given (drop first_given done) given (judged_spelled given p judged) short all_inserted,
+    may_be_compared_each are.plans (no_chain p new done are) first_given (drop first_given done) given (judged_spelled given p judged) short all_inserted,
   )
 
 -- the program that isn't narrowed
-module _ (given : List ClassDef) (main : List ℕ) (done : List Planned) (judged : AreJudged given (program_of given main))
-    (are : AreSafelyInserted (program_of given main) done) where
+module _ (given : List ClassDef) (main : List ℕ) (new : List NewCode) (done : List Planned) (judged : AreJudged given (program_of given main))
+    (are : AreSafelyInserted (program_of given main) new done) where
   written_safely : (written : List ClassDef) → first_call (program_of given main) ≡ None → written ≡ classes_by (drop first_given done) given
       → AreSafelyWritten given main written
   written_safely written no_call is = record {
@@ -134,8 +143,8 @@ module _ (given : List ClassDef) (main : List ℕ) (done : List Planned) (judged
       plans = are.plans;
       methods = are.methods;
       written_is =
-          is ∙ classes_are are.plans (no_chain (program_of given main) done are) first_given (drop first_given done) given
-          (all_inserted given (program_of given main) done judged are);
+          is ∙ classes_are are.plans (no_chain (program_of given main) new done are) first_given (drop first_given done) given
+          (all_inserted given (program_of given main) new done judged are);
       marks_are = refl;
     };
     least = are.least;
@@ -149,13 +158,13 @@ pub record AreParts (given : List ClassDef) (done : List Planned) : Type 0 where
   pub own : length (drop first_given done) ≡ method_count given
   pub compared : MayBeComparedEach (drop first_given done) given
 
-pub parts_of : (given : List ClassDef) (p : Program) (done : List Planned) → AreJudged given p → AllByRecursion IsShort given → AreSafelyInserted p done
-    → AreParts given done
-parts_of given p done judged short are =
-    let found = parts given p done judged are short in record { all = found.0; own = found.1; compared = found.2 }
+pub parts_of : (given : List ClassDef) (p : Program) (new : List NewCode) (done : List Planned) → AreJudged given p → AllByRecursion IsShort given
+    → AreSafelyInserted p new done → AreParts given done
+parts_of given p new done judged short are =
+    let found = parts given p new done judged are short in record { all = found.0; own = found.1; compared = found.2 }
 
-pub audited : (given : List ClassDef) (p : Program) (done : List Planned) (written : List ClassDef) → AreJudged given p → AreSafelyInserted p done
-    → first_call p ≡ None → written ≡ classes_by (drop first_given done) given → (main : List ℕ) → p ≡ program_of given main → AreSafelyWritten given main written
-audited given p done written judged are no_call is main program_is =
-    written_safely given main done (subst (AreJudged given) program_is judged) (subst (λ q. AreSafelyInserted q done) program_is are) written
+pub audited : (given : List ClassDef) (p : Program) (new : List NewCode) (done : List Planned) (written : List ClassDef) → AreJudged given p
+    → AreSafelyInserted p new done → first_call p ≡ None → written ≡ classes_by (drop first_given done) given → (main : List ℕ) → p ≡ program_of given main → AreSafelyWritten given main written
+audited given p new done written judged are no_call is main program_is =
+    written_safely given main new done (subst (AreJudged given) program_is judged) (subst (λ q. AreSafelyInserted q new done) program_is are) written
     (sym (ap first_call program_is) ∙ no_call) is

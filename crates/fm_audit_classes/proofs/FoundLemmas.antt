@@ -1,7 +1,9 @@
 -- What an audit returns: that written classes are safe, or what it names.
-use Rattle.std.proofs.Common.{◌≡◌, sym, ◌∙◌, ap, subst, ℕ, ◌+◌, ◌<◌, ◌≤◌, List, length, drop, Option, Some, None, Result, Ok, Err, IfSome, OnOk, arith}
+use Rattle.std.proofs.Common.{◌≡◌, sym, ◌∙◌, ap, subst, ℕ, ◌+◌, ◌<◌, ◌≤◌, List, length, map, drop, Option, Some, None, Result, Ok, Err, IfSome, OnOk, arith}
 use Rattle.std.specs.Prelude.{IfErr}
+use Rattle.std.specs.List.{AllByRecursion}
 use Rattle.fm_base.specs.declared.ids.MethodId.{MethodId}
+use Rattle.fm_code.specs.Spells.{HasSpelling}
 use Rattle.fm_code.specs.declared.class_file.ClassDef.{ClassDef}
 use Rattle.fm_place.specs.Rewriting.{first_given}
 use Rattle.fm_place_weave.specs.declared.planned.Planned.{Planned}
@@ -13,12 +15,16 @@ use Rattle.fm_rewrite.specs.inner.ByPlans.{classes_by, method_count}
 use Rattle.fm_world.specs.BuiltIns.{built_in}
 use Rattle.fm_world.specs.Members.{methods_of}
 use Rattle.fm_world.specs.Programs.{Program, program_of}
+use Rattle.fm_audit.specs.NewCodes.{AllStay}
 use Rattle.fm_audit.specs.SafeMethods.{AreSafelyInserted}
+use Rattle.fm_audit.specs.declared.methods.NewCode.{NewCode}
 use Rattle.fm_audit_classes.proofs.AuditedLemmas.{audited}
-use Rattle.fm_audit_classes.specs.Audited.{ComesOfAudit}
+use Rattle.fm_audit_classes.proofs.UnsafeLemmas.{refused_unsafe}
+use Rattle.fm_audit_classes.specs.Audited.{ComesOfAudit, NoneIsSafe}
 use Rattle.fm_audit_classes.specs.declared.error.AuditFail.{AuditFail}
 use Rattle.fm_audit_classes.specs.declared.error.AuditFail.TheVariants as fail
-use Rattle.fm_audit_classes.specs.inner.Found.{AreOthers, ComesOfJudged, IsFound, IsOtherClass}
+use Rattle.fm_audit_classes.specs.inner.Codes.{pair_of, written_codes}
+use Rattle.fm_audit_classes.specs.inner.Found.{AreWhollyWritten, ComesOfJudged, IsFalseOf, IsFound, IsNamed, IsRefused, IsUnsafe}
 
 -- ---- how many there are
 
@@ -30,27 +36,45 @@ methods_judged given p judged = methods_counted given judged.main p judged.progr
 
 -- ---- what is returned
 
--- where plans insert what is safe
-pub comes_of_judged : (given : List ClassDef) (p : Program) (done : List Planned) (written : List ClassDef) → AreJudged given p → AreSafelyInserted p done
-    → (r : Result Unit AuditFail) → OnOk r (written ≡ classes_by (drop first_given done) given)
-    → IfErr r (IsFound (length p.outline.classes) (length (methods_of p.outline.classes))) → ComesOfJudged p given written r
-comes_of_judged given p done written judged are (Ok tested) is found = λ no_call main program_is.
-    audited given p done written judged are no_call is main program_is
-comes_of_judged given p done written judged are (Err e) is found = found
+refused_by : (p : Program) (given written : List ClassDef) (e : AuditFail) → IsFound (length p.outline.classes) (length (methods_of p.outline.classes)) e
+    → IsUnsafe p given written e → IsRefused p given written e
+refused_by p given written (fail.CallsFree method offset) found unsafe = absurd found
+refused_by p given written (fail.NotSafe class method part) found unsafe = record { class_inside = found.0; method_inside = found.1; unsafe = unsafe }
+refused_by p given written fail.NoMemory found unsafe = tt
+
+-- where plans insert what is safe, and all of it
+pub comes_of_judged : (given : List ClassDef) (p : Program) (new : List NewCode) (done : List Planned) (written : List ClassDef) → AreJudged given p
+    → AreSafelyInserted p new done → AllStay p new done → length new ≡ method_count given → AllByRecursion HasSpelling written
+    → map pair_of new ≡ written_codes given written → (r : Result Unit AuditFail) → OnOk r (written ≡ classes_by (drop first_given done) given)
+    → IfErr r (IsFound (length p.outline.classes) (length (methods_of p.outline.classes)))
+    → IfErr r (IsFalseOf (AreWhollyWritten (drop first_given done) given written)) → ComesOfJudged p given written r
+comes_of_judged given p new done written judged are stay count spelled codes (Ok tested) is found never = λ no_call main program_is.
+    audited given p new done written judged are no_call is main program_is
+comes_of_judged given p new done written judged are stay count spelled codes (Err e) is found never =
+    refused_by p given written e found (refused_unsafe given p new done judged are stay count written spelled codes e never)
 
 -- ---- what is named
 
 pub not_written : (p : Program) (given : List ClassDef) (main : List ℕ) (written : List ClassDef) (e : AuditFail) → first_call p ≡ None
-    → IsFound (length p.outline.classes) (length (methods_of p.outline.classes)) e → AreOthers given written e → p ≡ program_of given main
-    → ComesOfAudit given main written (Err e)
-not_written p given main written (fail.CallsFree method offset) none found others is = absurd found
-not_written p given main written (fail.NotSafe class method part) none found others is = record {
+    → IsRefused p given written e → p ≡ program_of given main → ComesOfAudit given main written (Err e)
+not_written p given main written (fail.CallsFree method offset) none refused is = absurd refused
+not_written p given main written (fail.NotSafe class method part) none refused is = record {
   no_call = ap first_call (sym is) ∙ none;
-  class_inside = subst (λ (q : Program). class.0 < length q.outline.classes) is found.0;
-  method_inside = subst (λ (q : Program). IfSome method (λ (m : MethodId). m.0 < length (methods_of q.outline.classes))) is found.1;
-  others = others;
+  class_inside = subst (λ (q : Program). class.0 < length q.outline.classes) is refused.class_inside;
+  method_inside = subst (λ (q : Program). IfSome method (λ (m : MethodId). m.0 < length (methods_of q.outline.classes))) is refused.method_inside;
+  unsafe = subst (λ (q : Program). NoneIsSafe q given written) is refused.unsafe;
 }
-not_written p given main written fail.NoMemory none found others is = tt
+not_written p given main written fail.NoMemory none refused is = tt
+
+-- another class may be named
+unsafe_by : (p : Program) (given written : List ClassDef) (e : AuditFail) → NoneIsSafe p given written → IsUnsafe p given written e
+unsafe_by p given written (fail.CallsFree method offset) none = tt
+unsafe_by p given written (fail.NotSafe class method part) none = none
+unsafe_by p given written fail.NoMemory none = tt
+
+pub named_again : (p : Program) (given written : List ClassDef) (class : ℕ) (method : Option MethodId) (e : AuditFail) → IsNamed p given written class method
+    → IsFound (length p.outline.classes) (length (methods_of p.outline.classes)) e → IsRefused p given written e
+named_again p given written class method e named found = refused_by p given written e found (unsafe_by p given written e named.unsafe)
 
 -- what is named among fewer is named among more
 pub found_within : (classes more_classes methods more_methods : ℕ) (e : AuditFail) → classes ≤ more_classes → methods ≤ more_methods
@@ -71,10 +95,3 @@ pub found_within_err : (classes more_classes methods more_methods : ℕ) (r : Re
 found_within_err classes more_classes methods more_methods (Ok tested) fewer less found = tt
 found_within_err classes more_classes methods more_methods (Err e) fewer less found =
     found_within classes more_classes methods more_methods e fewer less found
-
--- a class that is named without a method is what is named
-pub other_found : (classes methods : ℕ) (e : AuditFail) → IsOtherClass classes e → IsFound classes methods e
-other_found classes methods (fail.CallsFree method offset) other = absurd other
-other_found classes methods (fail.NotSafe class method part) other =
-    (other.0, subst (λ (m : Option MethodId). IfSome m (λ (k : MethodId). k.0 < methods)) (sym other.1) tt)
-other_found classes methods fail.NoMemory other = tt

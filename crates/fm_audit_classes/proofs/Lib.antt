@@ -3,6 +3,9 @@ pub mod InsertedLemmas
 pub mod WovenClassLemmas
 pub mod NumberedLemmas
 pub mod AuditedLemmas
-pub mod FoundLemmas
 pub mod StepLemmas
-pub mod StaysLemmas
+pub mod NewCodeLemmas
+pub mod UnsafeLemmas
+pub mod FoundLemmas
+pub mod WholeClassLemmas
+pub mod PushedLemmas

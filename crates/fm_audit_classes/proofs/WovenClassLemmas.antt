@@ -1,22 +1,34 @@
 -- Classes by what is to be done with their methods, where that is insertions that have room.
-use Rattle.std.proofs.Common.{arith, ◌≡◌, refl, sym, ◌∙◌, ap, subst, ℕ, suc, ◌+◌, ◌≤◌, ◌||◌, Bool, true, false, cond, List, [], ◌∷◌, length, Option, Some, None}
+use Rattle.std.proofs.Common.{arith, ◌≡◌, refl, sym, ◌∙◌, ap, subst, ℕ, suc, ◌+◌, ◌≤◌, ◌||◌, Bool, true, false, cond, List, [], ◌∷◌, length, map, Option, Some, None}
 use Rattle.std.specs.Prelude.{if◌then◌else◌, is_some}
 use Rattle.std.specs.List.{AllByRecursion, list_any, range_with_len}
-use Rattle.std.specs.Option.{option_map}
-use Rattle.std.proofs.lemmas.Bool.{and_parts}
+use Rattle.std.specs.Option.{option_map, option_or}
+use Rattle.std.proofs.lemmas.Bool.{and_parts, le-ltb}
 use Rattle.fm_chain.proofs.WithoutChains.{calls_same, class_none, class_same, plain_calls}
 use Rattle.fm_chain.specs.Chaining as changing
-use Rattle.fm_chain.specs.Chaining.{chained_class, class_has_chain, entries_for, plan_has_chain}
+use Rattle.fm_chain.specs.Chaining.{calls_for, chained_class, class_has_chain, entries_for, plan_has_chain}
 use Rattle.fm_chain.specs.declared.calls.Calls.{Calls}
+use Rattle.fm_chain.specs.declared.plans.ChainPlan.{ChainPlan}
+use Rattle.fm_code.specs.AccessFlags.{is_interface}
+use Rattle.fm_code.specs.CodeRules.{CodeIsValid}
+use Rattle.fm_code.specs.FreeEntries.{with_free}
+use Rattle.fm_code.specs.Members.{MethodAttrIsValid, MethodIsValid}
 use Rattle.fm_code.specs.Spells.{HasSpelling}
 use Rattle.fm_code.specs.declared.class_file.ClassDef.{ClassDef}
 use Rattle.fm_code.specs.declared.class_file.Member.{Member}
+use Rattle.fm_code.specs.declared.class_file.MemberAttr.{MemberAttr}
+use Rattle.fm_code.specs.declared.class_file.MemberAttr.TheVariants as attribute
+use Rattle.fm_code.specs.declared.code_array.Code.{Code}
+use Rattle.fm_code.specs.declared.code_array.TheConstants.{MAX_CODE_BYTES}
+use Rattle.fm_code.specs.declared.constant_pool.Entry.{Entry}
+use Rattle.fm_layout.specs.Laid.{laid_length, laid_of, refused_length}
 use Rattle.fm_law_spelled.proofs.ClassSpelled.{changed_spelled}
 use Rattle.fm_law_spelled.specs.Changed.{IsShort, MethodsCan}
 use Rattle.fm_place.specs.Insertions.{Insertions}
 use Rattle.fm_place.specs.Rewriting.{changes, Plans, rewritten_class, rewritten_from}
 use Rattle.fm_place_weave.proofs.ClassLawLemmas.{by_change, classes_are_chained}
-use Rattle.fm_place_weave.specs.ClassByPlan.{class_by, first_long, has_chains, long_method, MayDoAll}
+use Rattle.fm_place_weave.specs.ByPlan.{code_by, items_by}
+use Rattle.fm_place_weave.specs.ClassByPlan.{attribute_by, class_by, first_long, has_chains, long_attributes, long_code, long_method, MayDoAll, method_by, methods_by}
 use Rattle.fm_place_weave.specs.ClassLaws.{AreAlike}
 use Rattle.fm_place_weave.specs.declared.planned.Planned.{Planned}
 use Rattle.fm_place_weave.specs.declared.planned.Planned.TheVariants as planned
@@ -97,6 +109,40 @@ changed_all plans first (d ∷ done) [] are = absurd are
 changed_all plans first (d ∷ done) (m ∷ methods) are =
     λ k. changed_do (plans first) d m are.0 k || changed_all plans (first + 1) done methods are.1 k
 
+-- ---- methods that bytes spell
+
+-- a code that is spelled isn't too long
+short_code : (entries : List Entry) (calls : Calls) (plan : ChainPlan) (code : Code) → CodeIsValid entries (code_by calls code plan) → long_code calls plan code ≡ None
+unfolding laid_of laid_length
+short_code entries calls plan code valid =
+    ap (λ b. cond b (Some (refused_length code.items (items_by calls code plan))) None)
+    (le-ltb MAX_CODE_BYTES (laid_length code.items (items_by calls code plan)) valid.not_long)
+
+short_attributes : (entries : List Entry) (calls : Calls) (plan : ChainPlan) (attributes : List MemberAttr)
+    → AllByRecursion (MethodAttrIsValid entries) (map (attribute_by calls plan) attributes) → long_attributes calls plan attributes ≡ None
+short_attributes entries calls plan [] valid = refl
+short_attributes entries calls plan (attribute.Coded name code ∷ rest) valid =
+    λ k. option_or (short_code entries calls plan code valid.0.1 k) (short_attributes entries calls plan rest valid.1 k)
+short_attributes entries calls plan (attribute.Constant name value ∷ rest) valid = absurd valid.0
+short_attributes entries calls plan (attribute.Other raw ∷ rest) valid = short_attributes entries calls plan rest valid.1
+
+short_method : (in_interface : Bool) (entries : List Entry) (calls : Calls) (o : Option Insertions) (d : Planned) (m : Member) → IsInserted o d m
+    → MethodIsValid in_interface entries (method_by calls d m) → long_method calls d m ≡ None
+short_method in_interface entries calls o planned.Same m is valid = refl
+short_method in_interface entries calls o (planned.Woven plan) m is valid = short_attributes entries calls plan m.attributes valid.attributes
+short_method in_interface entries calls None (planned.TooLong bytes chains) m is valid = absurd is
+short_method in_interface entries calls (Some ins) (planned.TooLong bytes chains) m is valid = absurd is
+
+never_long : (in_interface : Bool) (entries : List Entry) (plans : Plans) (first : ℕ) (calls : Calls) (n : ℕ) (done : List Planned) (methods : List Member)
+    → AreInserted plans first done methods → AllByRecursion (MethodIsValid in_interface entries) (methods_by calls done methods)
+    → first_long calls n done methods ≡ None
+never_long in_interface entries plans first calls n [] [] are valid = refl
+never_long in_interface entries plans first calls n [] (m ∷ methods) are valid = absurd are
+never_long in_interface entries plans first calls n (d ∷ done) [] are valid = absurd are
+never_long in_interface entries plans first calls n (d ∷ done) (m ∷ methods) are valid =
+    λ k. option_or (placed n (short_method in_interface entries calls (plans first) d m are.0 valid.0 k))
+    (never_long in_interface entries plans (first + 1) calls (n + 1) done methods are.1 valid.1 k)
+
 -- ---- the class
 
 module _ (plans : Plans) (plain : (method : ℕ) → plan_has_chain (plans method) ≡ false) (first : ℕ) (done : List Planned) (c : ClassDef)
@@ -135,6 +181,11 @@ module _ (plans : Plans) (plain : (method : ℕ) → plan_has_chain (plans metho
         subst HasSpelling (sym is)
         (changed_spelled plans first c spelled short room
         (subst (λ calls. MethodsCan plans calls first c.methods) (sym (calls_same plans plain first c)) all));
+    fitting = λ made.
+        let valid = subst
+        (λ (chains : Bool). AllByRecursion (MethodIsValid (is_interface c.flags) (entries_for chains c.pool.entries)) (methods_by (calls_for chains c.pool.entries) done c.methods))
+        (plain_all plans first done c.methods are) made.1.methods in
+        never_long (is_interface c.flags) (with_free c.pool.entries) plans first (calls_for false c.pool.entries) 0 done c.methods are valid;
   }
 
 -- ---- all classes

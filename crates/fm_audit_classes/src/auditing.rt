@@ -2,10 +2,9 @@
 
 ghost use Rattle.std.specs.Prelude.{◌≡◌, ◌+◌, ℕ, IfErr, IfOk, List, OnOk, drop, length};
 ghost use Rattle.std.specs.List.{AllByRecursion};
-ghost use Rattle.fm_audit.specs.SafeMethods.{AreSafelyInserted};
 ghost use Rattle.fm_audit_classes.specs.Audited.{ComesOfAudit};
-ghost use Rattle.fm_audit_classes.specs.inner.Codes.{StayTogether};
-ghost use Rattle.fm_audit_classes.specs.inner.Found.{AreOthers, ComesOfJudged, IsFound};
+ghost use Rattle.fm_audit_classes.specs.inner.Compared.{MayBeComparedEach};
+ghost use Rattle.fm_audit_classes.specs.inner.Found.{AreWhollyWritten, ComesOfJudged, IsFalseOf, IsFound, IsRefused};
 ghost use Rattle.fm_code.specs.Fits.{FitsTwo};
 ghost use Rattle.fm_code.specs.Spells.{HasSpelling};
 ghost use Rattle.fm_law_spelled.specs.Changed.{IsShort};
@@ -68,11 +67,9 @@ fn audited(
     requires short { AllByRecursion IsShort classes.now }
     requires spelled { AllByRecursion HasSpelling written.now }
     requires one_each { length written.now ≡ length classes.now }
-    ensures comes { ComesOfJudged program.now classes.now written.now result }
-    ensures others { IfErr result (AreOthers classes.now written.now) }
+    ensures { ComesOfJudged program.now classes.now written.now result }
 {
-    let first = program.classes() - classes.len() as u32;
-    let codes = new_codes(alloc, first, classes, written)?;
+    let codes = new_codes(alloc, classes, written)?;
     let found = judged_methods(alloc, program, codes.as_slice())?;
     are_written_by(alloc, program, classes, written, codes.len(), &found)
 }
@@ -88,12 +85,8 @@ fn first_cause(
 ) -> Result<AuditFail, NoMemory>
     requires judged { AreJudged classes.now program.now }
     requires one_each { length written.now ≡ length classes.now }
-    requires found { IsFound (length program.now.outline.classes)
-        (length (methods_of program.now.outline.classes)) cause }
-    requires others { AreOthers classes.now written.now cause }
-    ensures found { IfOk result (IsFound (length program.now.outline.classes)
-        (length (methods_of program.now.outline.classes))) }
-    ensures others { IfOk result (AreOthers classes.now written.now) }
+    requires refused { IsRefused program.now classes.now written.now cause }
+    ensures { IfOk result (IsRefused program.now classes.now written.now) }
 {
     let AuditFail::NotSafe(..) = cause else {
         return Ok(cause);
@@ -137,13 +130,14 @@ fn are_written_by(
     requires spelled { AllByRecursion HasSpelling written.now }
     requires one_each { length written.now ≡ length classes.now }
     requires count { count ≡ method_count classes.now }
-    requires planned { AreSafelyInserted program.now found.now.planned.items }
-    requires still { StayTogether classes.now written.now found.now.planned.items }
+    requires own { length found.now.planned.items ≡ first_given + method_count classes.now }
+    requires planned { MayBeComparedEach (drop first_given found.now.planned.items) classes.now }
     ensures same { OnOk result
         (written.now ≡ classes_by (drop first_given found.now.planned.items) classes.now) }
     ensures found { IfErr result (IsFound (length program.now.outline.classes)
         (length (methods_of program.now.outline.classes))) }
-    ensures others { IfErr result (AreOthers classes.now written.now) }
+    ensures whole { IfErr result (IsFalseOf
+        (AreWhollyWritten (drop first_given found.now.planned.items) classes.now written.now)) }
 {
     let first_class = program.classes() - classes.len() as u32;
     let first_method = program.methods() - count as u32;

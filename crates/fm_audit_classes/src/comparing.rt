@@ -1,10 +1,12 @@
 // Whether written classes are the given ones, each by what is to be done with its methods.
 
-ghost use Rattle.std.specs.Prelude.{◌≡◌, ◌+◌, ◌<◌, ◌^◌, IfErr, IfOk, IsTrue, OnOk, false, length, true};
+ghost use Rattle.std.specs.Prelude.{◌≡◌, ◌+◌, ◌<◌, ◌^◌, IfErr, IfOk, IsTrue, OnOk, length, true};
 ghost use Rattle.std.specs.List.{AllByRecursion};
-ghost use Rattle.fm_audit_classes.specs.inner.Found.{AreOthers, IsFound};
+ghost use Rattle.fm_audit_classes.specs.inner.Found.{AreWhollyWritten, IsFalseOf, IsFound};
+ghost use Rattle.fm_audit_classes.specs.inner.Low.{are_low};
 ghost use Rattle.fm_audit_classes.specs.inner.Compared.{MayBeCompared, MayBeComparedEach};
 ghost use Rattle.fm_code.specs.Spells.{HasSpelling};
+ghost use Rattle.fm_place_weave.specs.ClassByPlan.{class_by};
 ghost use Rattle.fm_rewrite.specs.inner.ByPlans.{changes_by, classes_by, is_changed, method_count, rewritten_by};
 
 use crate::error::AuditFail;
@@ -36,11 +38,11 @@ pub(crate) fn are_written(
     requires lengths { length written.now ≡ length classes.now }
     requires class_numbers { numbers.0 + length classes.now < 2 ^ 32 }
     requires method_numbers { numbers.1 + method_count classes.now < 2 ^ 32 }
-    requires still { written.now ≡ classes.now → changes_by planned.now ≡ false }
     ensures same { OnOk result (written.now ≡ classes_by planned.now classes.now) }
     ensures found { IfErr result
         (IsFound (numbers.0 + length classes.now) (numbers.1 + method_count classes.now)) }
-    ensures others { IfErr result (AreOthers classes.now written.now) }
+    ensures whole { IfErr result
+        (IsFalseOf (AreWhollyWritten planned.now classes.now written.now)) }
 {
     let mut rest = planned;
     for place in 0..classes.len() {
@@ -70,8 +72,8 @@ fn is_written(
     requires written { HasSpelling written.now }
     ensures same { IfOk result
         (λ same. IsTrue same → written.now ≡ rewritten_by planned.now class.now) }
-    ensures still { IfOk result
-        (λ same. changes_by planned.now ≡ false → written.now ≡ class.now → IsTrue same) }
+    ensures whole { IfOk result (λ same. are_low planned.now class.now.methods ≡ true
+        → written.now ≡ rewritten_by planned.now class.now → IsTrue same) }
 {
     if !changes(planned) {
         return is_same(alloc, written, class);
@@ -89,8 +91,10 @@ fn is_woven(
     requires changed { changes_by planned.now ≡ true }
     requires class { MayBeCompared planned.now class.now }
     requires written { HasSpelling written.now }
-    ensures { IfOk result
+    ensures same { IfOk result
         (λ same. IsTrue same → written.now ≡ rewritten_by planned.now class.now) }
+    ensures whole { IfOk result (λ same. are_low planned.now class.now.methods ≡ true
+        → written.now ≡ class_by planned.now class.now → IsTrue same) }
 {
     if !are_low(planned, &class.methods) {
         return Ok(false);

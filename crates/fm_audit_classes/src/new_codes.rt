@@ -1,49 +1,40 @@
 // The new code of methods, by class files that somebody wrote.
 
-ghost use Rattle.std.specs.Prelude.{◌≡◌, ◌+◌, ◌++◌, ◌<◌, ◌^◌, IfErr, IfOk, OnOk, length, map};
+ghost use Rattle.std.specs.Prelude.{◌≡◌, ◌+◌, ◌++◌, IfOk, OnOk, length, map, slice_get};
 ghost use Rattle.std.specs.List.{AllByRecursion};
-ghost use Rattle.fm_audit_classes.specs.inner.Codes.{items_of_new, written_items};
-ghost use Rattle.fm_audit_classes.specs.inner.Found.{AreOthers, IsOtherClass};
+ghost use Rattle.fm_audit_classes.specs.inner.Codes.{code_items, codes_in, free_for, method_items, pair_of, written_codes};
+ghost use Rattle.fm_code.specs.Members.{code_of};
 ghost use Rattle.fm_code.specs.Spells.{HasSpelling};
 ghost use Rattle.fm_rewrite.specs.inner.ByPlans.{method_count};
-ghost use Rattle.fm_world.specs.Uses.{items_of};
 
-use crate::error::AuditFail;
-use fm_audit::{NewCode, Part};
-use fm_base::{ClassId, NoMemory};
-use fm_code::{ClassDef, Member};
+use fm_audit::NewCode;
+use fm_base::NoMemory;
+use fm_code::{ClassDef, Item, Member};
 use fm_place_weave::pool_for;
 use fm_pool::AddFail;
 use std::alloc::Global;
 
-/// The new code of each method of these classes, in their order, of which the first one has this number.
-/// A refusal names the first class whose written one has another number of methods. Takes a few words for
-/// each method, and the pool of one class at a time.
+/// The new code of each method of these classes, in their order: that of the method in the same place of
+/// the written class, if there is one. Takes a few words for each method, and the pool of one class at a
+/// time.
 pub(crate) fn new_codes<'a>(
     alloc: Global,
-    first: u32,
     classes: &[ClassDef],
     written: &'a [ClassDef],
-) -> Result<Vec<NewCode<'a>>, AuditFail>
+) -> Result<Vec<NewCode<'a>>, NoMemory>
     requires spelled { AllByRecursion HasSpelling classes.now }
     requires lengths { length written.now ≡ length classes.now }
-    requires numbers { first + length classes.now < 2 ^ 32 }
     ensures one_each { IfOk result (λ codes. length codes.items ≡ method_count classes.now) }
-    ensures items { IfOk result (λ codes. map items_of_new codes.items ≡ written_items written.now) }
-    ensures other { IfErr result (IsOtherClass (first + length classes.now)) }
-    ensures others { IfErr result (AreOthers classes.now written.now) }
+    ensures codes { IfOk result
+        (λ codes. map pair_of codes.items ≡ written_codes classes.now written.now) }
 {
     let mut codes = Vec::new(alloc);
     for place in 0..classes.len() {
         let class = &classes[place];
         let new = &written[place];
-        let methods = new.methods.as_slice();
-        let number = ClassId(first + place as u32);
-        if class.methods.len() != methods.len() {
-            return Err(AuditFail::NotSafe(number, None, Part::Classes));
-        }
         let free = free_of(alloc, class)?;
-        push_codes(&mut codes, free, methods)?;
+        let count = class.methods.len();
+        push_codes(&mut codes, free, count, new.methods.as_slice())?;
     }
     Ok(codes)
 }
@@ -51,6 +42,7 @@ pub(crate) fn new_codes<'a>(
 /// The index of FreeMe.free in the pool of a class when it has its entries; 0 where that pool is full.
 fn free_of(alloc: Global, class: &ClassDef) -> Result<u16, NoMemory>
     requires { HasSpelling class.now }
+    ensures { IfOk result (λ free. free ≡ free_for class.now) }
 {
     match pool_for(alloc, class, false) {
         Ok(pool) => Ok(pool.calls.free),
@@ -59,32 +51,40 @@ fn free_of(alloc: Global, class: &ClassDef) -> Result<u16, NoMemory>
     }
 }
 
-/// Puts the code of each of these methods behind the others.
+/// Puts this many codes behind the others, those of the methods in these places.
 fn push_codes<'a>(
     codes: &mut Vec<NewCode<'a>>,
     free: u16,
+    count: usize,
     methods: &'a [Member],
 ) -> Result<(), NoMemory>
-    ensures count { OnOk result
-        (length codes.new.items ≡ length codes.old.items + length methods.now) }
-    ensures items { OnOk result (map items_of_new codes.new.items
-        ≡ map items_of_new codes.old.items ++ map items_of methods.now) }
+    ensures count { OnOk result (length codes.new.items ≡ length codes.old.items + count) }
+    ensures codes { OnOk result (map pair_of codes.new.items
+        ≡ map pair_of codes.old.items ++ codes_in free count methods.now) }
 {
-    for method in methods {
-        codes.push(new_code(free, method))?;
+    for place in 0..count {
+        let items = items_at(methods, place);
+        codes.push(NewCode { free, items })?;
     }
     Ok(())
 }
 
-/// The code of a method; without items where it has none.
-fn new_code(free: u16, method: &Member) -> NewCode<'_>
-    ensures { items_of_new result ≡ items_of method.now }
+/// The items of the method in a place; none where there is no method, or it has no code.
+fn items_at(methods: &[Member], place: usize) -> &[Item]
+    ensures { result.now ≡ method_items (slice_get methods.now place) }
+{
+    match methods.get(place) {
+        Some(method) => items_of(method),
+        None => &[],
+    }
+}
+
+/// The items of a method; none where it has no code.
+fn items_of(method: &Member) -> &[Item]
+    ensures { result.now ≡ code_items (code_of method.now) }
 {
     match method.code() {
-        Some(code) => NewCode {
-            free,
-            items: code.items.as_slice(),
-        },
-        None => NewCode { free, items: &[] },
+        Some(code) => code.items.as_slice(),
+        None => &[],
     }
 }

@@ -1,7 +1,9 @@
 -- What is checked of the pairs that a method's new items are read as, by what is known of the method.
 use Rattle.std.specs.Prelude.{◌≡◌, ◌+◌, ◌<◌, ◌≤◌, ℕ, true, false, List, length, replicate, Some, Contains, IsSomeAnd, nat_eq, slice_get, ⊤}
 use Rattle.std.specs.List.{flat_map, IsDistinct, range_with_len}
+use Rattle.fm_code.specs.declared.code_array.Item.{Item}
 use Rattle.fm_base.specs.declared.limits.TheConstants.{MAX_LOCAL_WORDS}
+use Rattle.fm_chain.specs.declared.plans.ChainPlan.{ChainPlan}
 use Rattle.fm_place.specs.PlansBy.{paired}
 use Rattle.fm_place.specs.declared.busy_rows.Seen.{Seen}
 use Rattle.fm_place.specs.declared.found_sites.Site.{Site}
@@ -10,7 +12,7 @@ use Rattle.fm_place_weave.specs.declared.planned.Planned.{Planned}
 use Rattle.fm_place_weave.specs.declared.planned.Planned.TheVariants as planned
 use Rattle.fm_place.specs.inner.PlanRows.{count_of, is_busy_at, may_hold_at}
 use Rattle.fm_audit.specs.Parts.{planned_of}
-use Rattle.fm_audit.specs.Reading.{Pairs, Read}
+use Rattle.fm_audit.specs.Reading.{Pairs, Read, read}
 use Rattle.fm_audit.specs.declared.checking.Outcome.{Outcome}
 use Rattle.fm_audit.specs.declared.checking.Outcome.TheVariants as outcome
 use Rattle.fm_audit.specs.declared.checking.Freeing.{Freeing}
@@ -40,6 +42,19 @@ pub record IsChecked (s : Seen) (sites : List Site) (pairs : Pairs) (holders : �
   pub own : are_own_items held pairs.after ≡ true
   pub frees : AreSafeFrees s held pairs.before
 
+-- As many holders as there are, that are null at the start by their numbers, have sites of their own, and what is freed before each item is safe. Where all
+-- that holds, no part is failed.
+pub record IsSafelyRead (s : Seen) (sites : List Site) (found : Read) (holders : ℕ) : Type 0 where
+  pub held : List (ℕ × ℕ)
+  pub freed : ℕ → List ℕ
+  pub some : 0 < holders
+  pub room : s.method.code.now.max_locals + holders ≤ MAX_LOCAL_WORDS
+  pub starts : found.starts ≡ range_with_len 0 holders
+  pub held_is : held_by_all sites found.pairs.after (range_with_len 0 holders) ≡ Some held
+  pub own : are_own_items held found.pairs.after ≡ true
+  pub listed : found.pairs.before ≡ flat_map (paired freed) (range_with_len 0 (count_of s))
+  pub items : (j : ℕ) → j < count_of s → IsSafeItem s held j (freed j)
+
 -- the same of what was read, at whose start these holders are null, by their numbers
 pub record IsCheckedFor (s : Seen) (sites : List Site) (found : Read) (holders : ℕ) : Type 0 where
   pub checked : IsChecked s sites found.pairs holders
@@ -62,15 +77,38 @@ IsCheckedDone s sites (planned.TooLong bytes chains) = ⊥
 
 -- ---- as the code finds it
 
+-- what is freed before an item isn't safe, for some item
+abbrev pub AreUnsafeFrees : Seen → (held before : List (ℕ × ℕ)) → Type 0
+AreUnsafeFrees s held before =
+    (freed : ℕ → List ℕ) → before ≡ flat_map (paired freed) (range_with_len 0 (count_of s)) → ((j : ℕ) → j < count_of s → IsSafeItem s held j (freed j)) → ⊥
+
 -- what is freed is safe, or a part is failed by it
 abbrev pub AreFreesJudged : Seen → (held before : List (ℕ × ℕ)) → Freeing → Type 0
 AreFreesJudged s held before freeing.Safe = AreSafeFrees s held before
-AreFreesJudged s held before (freeing.Fails part) = ⊤
+AreFreesJudged s held before (freeing.Fails part) = AreUnsafeFrees s held before
 
 -- what was read is checked for these holders, or fails a part
 abbrev pub IsChecking : Seen → List Site → Read → Outcome → Type 0
 IsChecking s sites found (outcome.Safe holders) = IsCheckedFor s sites found holders
-IsChecking s sites found (outcome.Fails part) = ⊤
+IsChecking s sites found (outcome.Fails part) = (holders : ℕ) → IsSafelyRead s sites found holders → ⊥
+
+-- the plan is that of what was read, for these holders, and none holds a chain
+pub record IsPlanRead (found : Read) (many : ℕ) (plan : ChainPlan) : Type 0 where
+  pub holders : plan.plan.holders ≡ many
+  pub before : plan.plan.before.items ≡ found.pairs.before
+  pub after : plan.plan.after.items ≡ found.pairs.after
+  pub flags : plan.looped ≡ replicate many false
+
+-- the method is woven by such a plan
+abbrev pub IsWovenBy : Read → (holders : ℕ) → Planned → Type 0
+IsWovenBy found holders (planned.Woven plan) = IsPlanRead found holders plan
+IsWovenBy found holders done = ⊥
+
+-- where what new items are read as is safe, the method is woven by it
+abbrev pub IsWhollyDone : Seen → List Site → (free : ℕ) → (new : List Item) → Judged → Type 0
+IsWhollyDone s sites free new j =
+    (found : Read) (holders : ℕ) → read free s.method.code.now.max_locals s.method.code.now.items new ≡ Some found → IsSafelyRead s sites found holders
+    → IsWovenBy found holders (planned_of j)
 
 -- what is to be done with the method is checked
 abbrev pub IsJudgedDone : Seen → List Site → Judged → Type 0

@@ -1,7 +1,8 @@
 -- At which sites the holders of a method take their objects, by what its new items are read as.
-use Rattle.std.specs.Prelude.{ℕ, ◌+◌, ◌==◌, ◌&&◌, Bool, true, false, List, [], ◌∷◌, Option, Some, None, slice_get, if◌then◌else◌}
+use Rattle.std.specs.Prelude.{ℕ, ◌+◌, ◌-◌, ◌==◌, ◌&&◌, Bool, true, false, List, [], ◌∷◌, Option, Some, None, nat_lt, slice_get, if◌then◌else◌}
 use Rattle.std.specs.List.{list_all}
 use Rattle.std.specs.Option.{option_map}
+use Rattle.fm_base.specs.declared.limits.TheConstants.{MAX_LOCAL_WORDS}
 use Rattle.fm_place.specs.declared.found_sites.Site.{Site}
 
 -- the numbers count up from this one
@@ -59,3 +60,12 @@ is_own_item held p = is_of_item (slice_get held p.1) p.0
 -- each holder that takes an object takes it after its own item
 abbrev pub are_own_items : (held after : List (ℕ × ℕ)) → Bool
 are_own_items held after = list_all (is_own_item held) after
+
+-- ---- how many there are
+
+-- this many holders, if there are some, and locals left for them
+abbrev pub holders_for : (max_locals count : ℕ) → Option ℕ
+holders_for max_locals count =
+    if count == 0 then None else
+    if nat_lt (MAX_LOCAL_WORDS - max_locals) count then None else
+    Some count

@@ -13,7 +13,8 @@ use Rattle.fm_rewrite.specs.Plans.{CallsFit}
 use Rattle.fm_rewrite.specs.inner.ByPlans.{changes_by, others, own}
 use Rattle.fm_audit_classes.specs.inner.Low.{are_low}
 
--- no holder holds a chain; where there is room in the methods the class may be woven, and is one that bytes spell, as long as its pool isn't full and no method is too long
+-- No holder holds a chain. Where there is room in the methods the class may be woven, and is one that bytes spell, as long as its pool isn't full and no method
+-- is too long; and where bytes spell it, no method is.
 pub record MayBeCompared (done : List Planned) (c : ClassDef) : Type 0 where
   pub one_each : length done ≡ length c.methods
   pub spelled : HasSpelling c
@@ -21,6 +22,7 @@ pub record MayBeCompared (done : List Planned) (c : ClassDef) : Type 0 where
   pub may : are_low done c.methods ≡ true → (calls : Calls) → CallsFit calls → MayDoAll calls done c.methods
   pub woven : are_low done c.methods ≡ true → changes_by done ≡ true → FitsTwo (free_index c) → length (with_free c.pool.entries) ≤ 65535
       → first_long (calls_for false c.pool.entries) 0 done c.methods ≡ None → HasSpelling (class_by done c)
+  pub fitting : HasSpelling (class_by done c) → first_long (calls_for false c.pool.entries) 0 done c.methods ≡ None
 
 -- the same of each class
 abbrev pub MayBeComparedEach : List Planned → List ClassDef → Type 0

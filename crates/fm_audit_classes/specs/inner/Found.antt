@@ -1,12 +1,16 @@
--- What a refusal of written classes names.
-use Rattle.std.specs.Prelude.{◌≡◌, ◌<◌, ℕ, List, length, None, IfSome, Result, Ok, Err}
+-- What a refusal of written classes names, and when there is one.
+use Rattle.std.specs.Prelude.{◌≡◌, ◌<◌, ℕ, true, List, [], ◌∷◌, length, None, Option, IfSome, Result, Ok, Err}
+use Rattle.fm_base.specs.declared.ids.MethodId.{MethodId}
 use Rattle.fm_code.specs.declared.class_file.ClassDef.{ClassDef}
+use Rattle.fm_place_weave.specs.declared.planned.Planned.{Planned}
 use Rattle.fm_rewrite.specs.FreeCalls.{first_call}
+use Rattle.fm_rewrite.specs.inner.ByPlans.{classes_by, others, own}
 use Rattle.fm_world.specs.Members.{methods_of}
 use Rattle.fm_world.specs.Programs.{Program, program_of}
-use Rattle.fm_audit_classes.specs.Audited.{AreSafelyWritten}
+use Rattle.fm_audit_classes.specs.Audited.{AreSafelyWritten, NoneIsSafe}
 use Rattle.fm_audit_classes.specs.declared.error.AuditFail.{AuditFail}
 use Rattle.fm_audit_classes.specs.declared.error.AuditFail.TheVariants as fail
+use Rattle.fm_audit_classes.specs.inner.Low.{are_low}
 
 -- it names one of this many classes, and one of this many methods or none
 abbrev pub IsFound : (classes methods : ℕ) → AuditFail → Type 0
@@ -14,19 +18,41 @@ IsFound classes methods (fail.CallsFree method offset) = ⊥
 IsFound classes methods (fail.NotSafe class method part) = (class.0 < classes) × IfSome method (λ m. m.0 < methods)
 IsFound classes methods fail.NoMemory = Unit {0}
 
--- it names one of this many classes, without a method
-abbrev pub IsOtherClass : (classes : ℕ) → AuditFail → Type 0
-IsOtherClass classes (fail.CallsFree method offset) = ⊥
-IsOtherClass classes (fail.NotSafe class method part) = (class.0 < classes) × (method ≡ None)
-IsOtherClass classes fail.NoMemory = Unit {0}
+-- where classes are refused, this doesn't hold
+abbrev pub IsFalseOf : Type 0 → AuditFail → Type 0
+IsFalseOf P (fail.CallsFree method offset) = Unit {0}
+IsFalseOf P (fail.NotSafe class method part) = P → ⊥
+IsFalseOf P fail.NoMemory = Unit {0}
 
--- where classes are refused, the written ones aren't the given ones
-abbrev pub AreOthers : (given written : List ClassDef) → AuditFail → Type 0
-AreOthers given written (fail.CallsFree method offset) = Unit {0}
-AreOthers given written (fail.NotSafe class method part) = written ≡ given → ⊥
-AreOthers given written fail.NoMemory = Unit {0}
+-- there is room in all methods of these classes
+abbrev pub AreLowEach : List Planned → List ClassDef → Type 0
+AreLowEach done [] = Unit {0}
+AreLowEach done (c ∷ classes) = (are_low (own c done) c.methods ≡ true) × AreLowEach (others c done) classes
 
--- where the program doesn't call FreeMe, the written classes are safe, or the refusal names what is there
+-- the written classes are the given ones by what is to be done with their methods, and there is room in these
+pub record AreWhollyWritten (done : List Planned) (given written : List ClassDef) : Type 0 where
+  pub low : AreLowEach done given
+  pub same : written ≡ classes_by done given
+
+-- no safe insertions give the written classes, where these are refused
+abbrev pub IsUnsafe : Program → (given written : List ClassDef) → AuditFail → Type 0
+IsUnsafe p given written (fail.CallsFree method offset) = Unit {0}
+IsUnsafe p given written (fail.NotSafe class method part) = NoneIsSafe p given written
+IsUnsafe p given written fail.NoMemory = Unit {0}
+
+-- what is named is there, and no safe insertions give the written classes
+pub record IsNamed (p : Program) (given written : List ClassDef) (class : ℕ) (method : Option MethodId) : Type 0 where
+  pub class_inside : class < length p.outline.classes
+  pub method_inside : IfSome method (λ m. m.0 < length (methods_of p.outline.classes))
+  pub unsafe : NoneIsSafe p given written
+
+-- so it is with a refusal
+abbrev pub IsRefused : Program → (given written : List ClassDef) → AuditFail → Type 0
+IsRefused p given written (fail.CallsFree method offset) = ⊥
+IsRefused p given written (fail.NotSafe class method part) = IsNamed p given written class.0 method
+IsRefused p given written fail.NoMemory = Unit {0}
+
+-- where the program doesn't call FreeMe, the written classes are safe, or they are refused
 abbrev pub ComesOfJudged : Program → (given written : List ClassDef) → Result Unit AuditFail → Type 0
 ComesOfJudged p given written (Ok done) = first_call p ≡ None → (main : List ℕ) → p ≡ program_of given main → AreSafelyWritten given main written
-ComesOfJudged p given written (Err e) = IsFound (length p.outline.classes) (length (methods_of p.outline.classes)) e
+ComesOfJudged p given written (Err e) = IsRefused p given written e

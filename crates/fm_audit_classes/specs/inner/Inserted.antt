@@ -36,14 +36,22 @@ IsInserted None planned.Same m = Unit {0}
 IsInserted (Some ins) (planned.Woven plan) m = HasInsertions ins plan m
 IsInserted o d m = ⊥
 
--- the same of the methods of a class, of which the first has this number
+-- this holds of each method of a class with what is to be done with it and its number, of which the first is this
+abbrev pub AreEachMethod : (ℕ → Planned → Member → Type 0) → (first : ℕ) → List Planned → List Member → Type 0
+AreEachMethod P first [] [] = Unit {0}
+AreEachMethod P first (d ∷ done) (m ∷ methods) = P first d m × AreEachMethod P (first + 1) done methods
+AreEachMethod P first done methods = ⊥
+
+-- of classes
+abbrev pub AreEachClass : (ℕ → Planned → Member → Type 0) → (first : ℕ) → List Planned → List ClassDef → Type 0
+AreEachClass P first done [] = Unit {0}
+AreEachClass P first done (c ∷ classes) =
+    AreEachMethod P first (own c done) c.methods × AreEachClass P (first + length c.methods) (others c done) classes
+
+-- what is to be done with the methods of a class is what is inserted into them
 abbrev pub AreInserted : Plans → (first : ℕ) → List Planned → List Member → Type 0
-AreInserted plans first [] [] = Unit {0}
-AreInserted plans first (d ∷ done) (m ∷ methods) = IsInserted (plans first) d m × AreInserted plans (first + 1) done methods
-AreInserted plans first done methods = ⊥
+AreInserted plans first done methods = AreEachMethod (λ n d m. IsInserted (plans n) d m) first done methods
 
 -- of classes
 abbrev pub AreAllInserted : Plans → (first : ℕ) → List Planned → List ClassDef → Type 0
-AreAllInserted plans first done [] = Unit {0}
-AreAllInserted plans first done (c ∷ classes) =
-    AreInserted plans first (own c done) c.methods × AreAllInserted plans (first + length c.methods) (others c done) classes
+AreAllInserted plans first done classes = AreEachClass (λ n d m. IsInserted (plans n) d m) first done classes

@@ -1,6 +1,6 @@
 use Rattle.std.proofs.Common.{rules, ◌≡◌, ℕ, List, length, subst, sym, arith}
 use Rattle.fm_audit.proofs.MethodsLemmas.{each_more}
-use Rattle.fm_audit.specs.NewCodes.{new_items_of, StaysAt}
+use Rattle.fm_audit.specs.NewCodes.{new_free_of, new_items_of, StaysAt}
 use Rattle.fm_audit.specs.Parts.{planned_of}
 use Rattle.fm_audit.specs.SafeMethods.{IsSafelyPlannedAt}
 use Rattle.fm_code.specs.declared.code_array.Item.{Item}
@@ -13,12 +13,16 @@ loop-number-preserved c =
     let p = c.args.program.now in
     let k = c.loop-number.number in
     let judged : ℕ → Planned → Type 0 =
-    λ m done. IsSafelyPlannedAt p c.args.summaries.now m done × StaysAt p m (new_items_of p c.args.new.now m) done in
+    λ m done. IsSafelyPlannedAt p c.args.summaries.now m (new_free_of p c.args.new.now m) (new_items_of p c.args.new.now m) done
+    × StaysAt p m (new_items_of p c.args.new.now m) done in
+    let free : c.new_code_at-own.result.free ≡ new_free_of p c.args.new.now k = search rules in
     let own : c.new_code_at-own.result.items.now ≡ new_items_of p c.args.new.now k = search rules in
     each_more judged k c.loop-number.planned.items c.push.new.self.items c.planned-made.result c.loop-number.invariant.0 c.in_ok-push.ensures.items
     c.loop-number.invariant.1
     (subst (judged k) (sym c.planned-made.ensures) (
-      c.in_ok-found.ensures.safe,
+      subst (λ (items : List Item). IsSafelyPlannedAt p c.args.summaries.now k (new_free_of p c.args.new.now k) items (planned_of c.in_ok-found.found)) own
+          (subst (λ (n : ℕ). IsSafelyPlannedAt p c.args.summaries.now k n c.new_code_at-own.result.items.now (planned_of c.in_ok-found.found)) free
+          c.in_ok-found.ensures.safe),
       subst (λ (items : List Item). StaysAt p k items (planned_of c.in_ok-found.found)) own c.in_ok-found.ensures.still,
     ))
 

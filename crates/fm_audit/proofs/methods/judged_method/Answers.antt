@@ -12,7 +12,7 @@ judged_code-requires-clause-code c =
 pub returns-in-Coded-clause-safe : goal.returns-in-Coded-clause-safe
 returns-in-Coded-clause-safe c =
     let code_is = coded_at c.args.program.now c.args.method.0 c.in-Coded.code (ap (λ (m : MethodInfo). m.body) (sym c.method.ensures) ∙ c.in-Coded.is) in
-    safe_with_code c.args.program.now c.args.summaries.now c.args.method.0 c.in-Coded.code code_is c.judged_code.result c.judged_code.ensures.safe
+    safe_with_code c.args.program.now c.args.summaries.now c.args.method.0 c.in-Coded.code c.args.free c.args.new.now code_is c.judged_code.result c.judged_code.ensures.safe
 
 pub returns-in-Coded-clause-still : goal.returns-in-Coded-clause-still
 returns-in-Coded-clause-still c =
@@ -21,7 +21,7 @@ returns-in-Coded-clause-still c =
 
 pub returns-in_default-clause-safe : goal.returns-in_default-clause-safe
 returns-in_default-clause-safe c =
-    safe_without_code c.args.program.now c.args.summaries.now c.args.method.0
+    safe_without_code c.args.program.now c.args.summaries.now c.args.method.0 c.args.free c.args.new.now
     (no_code c.args.program.now c.args.method.0 c.method.result.now.body c.requires.analysable (ap (λ (m : MethodInfo). m.body) c.method.ensures)
     c.in_default.not-Coded)
 

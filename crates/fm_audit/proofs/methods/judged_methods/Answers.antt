@@ -15,4 +15,4 @@ returns-clause-safe c =
     let shapes = c.in_ok-shapes.ensures in
     let exact = c.in_ok-summaries.ensures shapes.typings
     (subst (AreShapesOf c.args.program.now shapes.typings) (sym c.as_slice.ensures.value) shapes.are) in
-    inserted_answers c.args.program.now c.in_ok-summaries.summaries c.requires shapes.typings shapes.least exact c.all_judged.result c.all_judged.ensures.safe
+    inserted_answers c.args.program.now c.in_ok-summaries.summaries c.args.new.now c.requires shapes.typings shapes.least exact c.all_judged.result c.all_judged.ensures.safe

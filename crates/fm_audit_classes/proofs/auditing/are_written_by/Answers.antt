@@ -1,10 +1,12 @@
-use Rattle.std.proofs.Common.{◌≡◌, ◌-◌, ◌+◌, sym, ◌∙◌, ap, subst, false, List, drop, length, arith, OnOk}
-use Rattle.fm_audit_classes.proofs.AuditedLemmas.{parts_of}
+use Rattle.std.proofs.Common.{◌≡◌, ◌-◌, ◌+◌, sym, ◌∙◌, ap, subst, List, drop, length, arith, OnOk}
+use Rattle.std.specs.Prelude.{IfErr}
+use Rattle.std.proofs.lemmas.List.{length-drop}
 use Rattle.fm_audit_classes.proofs.FoundLemmas.{classes_judged, found_within_err, methods_judged}
 use Rattle.fm_audit_classes.specs.inner.Compared.{MayBeComparedEach}
+use Rattle.fm_audit_classes.specs.inner.Found.{AreWhollyWritten, IsFalseOf}
 use Rattle.fm_place.specs.Rewriting.{first_given}
 use Rattle.fm_place_weave.specs.declared.planned.Planned.{Planned}
-use Rattle.fm_rewrite.specs.inner.ByPlans.{changes_by, classes_by, method_count}
+use Rattle.fm_rewrite.specs.inner.ByPlans.{classes_by, method_count}
 use Rattle.fm_world.specs.Members.{methods_of}
 use Rattle.fm_audit_classes.proofs.auditing.are_written_by.Goals as goal
 
@@ -30,28 +32,24 @@ overflow_sub-first_method c =
 
 pub split_at-requires : goal.split_at-requires
 split_at-requires c =
-    let parts = parts_of c.args.classes.now c.args.program.now c.args.found.now.planned.items c.requires.judged c.requires.short c.requires.planned in
     let all = methods_judged c.args.classes.now c.args.program.now c.requires.judged in
-    let counted = parts.all in
     let lent = ap length c.as_slice.ensures.value in
-    omega (arith, all, counted, lent, c.methods.ensures, c.requires.count)
+    omega (arith, all, lent, c.methods.ensures, c.requires.count, c.requires.own)
 
 pub are_written-requires-clause-one_each : goal.are_written-requires-clause-one_each
 are_written-requires-clause-one_each c =
     let done = c.args.found.now.planned.items in
-    let parts = parts_of c.args.classes.now c.args.program.now done c.requires.judged c.requires.short c.requires.planned in
     let all = methods_judged c.args.classes.now c.args.program.now c.requires.judged in
     let first : c.methods.result - c.args.count ≡ first_given = omega (arith, all, c.methods.ensures, c.requires.count) in
-    ap length c.split_at.ensures.back ∙ (λ k. length (drop (first k) (c.as_slice.ensures.value k))) ∙ parts.own
+    ap length c.split_at.ensures.back ∙ (λ k. length (drop (first k) (c.as_slice.ensures.value k)))
+    ∙ (let left = length-drop first_given done in omega (arith, left, c.requires.own))
 
 pub are_written-requires-clause-classes : goal.are_written-requires-clause-classes
 are_written-requires-clause-classes c =
-    let done = c.args.found.now.planned.items in
-    let parts = parts_of c.args.classes.now c.args.program.now done c.requires.judged c.requires.short c.requires.planned in
     let all = methods_judged c.args.classes.now c.args.program.now c.requires.judged in
     let first : c.methods.result - c.args.count ≡ first_given = omega (arith, all, c.methods.ensures, c.requires.count) in
     subst (λ (ds : List Planned). MayBeComparedEach ds c.args.classes.now)
-    (sym (c.split_at.ensures.back ∙ (λ k. drop (first k) (c.as_slice.ensures.value k)))) parts.compared
+    (sym (c.split_at.ensures.back ∙ (λ k. drop (first k) (c.as_slice.ensures.value k)))) c.requires.planned
 
 pub are_written-requires-clause-class_numbers : goal.are_written-requires-clause-class_numbers
 are_written-requires-clause-class_numbers c =
@@ -65,8 +63,6 @@ are_written-requires-clause-method_numbers c =
 
 pub returns-clause-same : goal.returns-clause-same
 returns-clause-same c =
-    let done = c.args.found.now.planned.items in
-    let parts = parts_of c.args.classes.now c.args.program.now done c.requires.judged c.requires.short c.requires.planned in
     let all = methods_judged c.args.classes.now c.args.program.now c.requires.judged in
     let first : c.methods.result - c.args.count ≡ first_given = omega (arith, all, c.methods.ensures, c.requires.count) in
     subst (λ (ds : List Planned). OnOk c.are_written.result (c.args.written.now ≡ classes_by ds c.args.classes.now))
@@ -81,9 +77,9 @@ returns-clause-found c =
     (c.methods.result - c.args.count + method_count c.args.classes.now) (length (methods_of p.outline.classes)) c.are_written.result
     (omega (arith, classes, c.classes.ensures)) (omega (arith, methods, c.methods.ensures, c.requires.count)) c.are_written.ensures.found
 
-pub are_written-requires-clause-still : goal.are_written-requires-clause-still
-are_written-requires-clause-still c = λ same.
+pub returns-clause-whole : goal.returns-clause-whole
+returns-clause-whole c =
     let all = methods_judged c.args.classes.now c.args.program.now c.requires.judged in
     let first : c.methods.result - c.args.count ≡ first_given = omega (arith, all, c.methods.ensures, c.requires.count) in
-    subst (λ (ds : List Planned). changes_by ds ≡ false)
-    (sym (c.split_at.ensures.back ∙ (λ k. drop (first k) (c.as_slice.ensures.value k)))) (c.requires.still same)
+    subst (λ (ds : List Planned). IfErr c.are_written.result (IsFalseOf (AreWhollyWritten ds c.args.classes.now c.args.written.now)))
+    (c.split_at.ensures.back ∙ (λ k. drop (first k) (c.as_slice.ensures.value k))) c.are_written.ensures.whole

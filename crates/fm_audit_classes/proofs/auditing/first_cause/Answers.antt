@@ -1,7 +1,6 @@
 use Rattle.std.proofs.Common.{◌+◌, ◌-◌, ◌<◌, ℕ, Option, IfSome, subst, length, arith}
-use Rattle.fm_audit_classes.proofs.FoundLemmas.{classes_judged, found_within}
-use Rattle.fm_audit_classes.proofs.StaysLemmas.{all_others}
-use Rattle.fm_audit_classes.specs.inner.Found.{AreOthers}
+use Rattle.fm_audit_classes.proofs.FoundLemmas.{classes_judged, found_within, named_again}
+use Rattle.fm_audit_classes.specs.inner.Found.{IsRefused}
 use Rattle.fm_rewrite.proofs.JudgedLemmas.{judged_spelled}
 use Rattle.fm_world.specs.Members.{methods_of}
 use Rattle.fm_audit_classes.proofs.auditing.first_cause.Goals as goal
@@ -31,16 +30,14 @@ overflow_add-number c =
     let all = classes_judged c.args.classes.now c.args.program.now c.requires.judged in
     omega (arith, within, all, c.classes.ensures, c.classes.type_inv)
 
-pub returns-clause-found : goal.returns-clause-found
-returns-clause-found c =
+pub returns : goal.returns
+returns c =
     let within : c.in-Some.place < length c.args.classes.now =
     subst (λ (o : Option ℕ). IfSome o (λ place. place < length c.args.classes.now)) c.in-Some.is c.in_ok-other.ensures in
-    let all = classes_judged c.args.classes.now c.args.program.now c.requires.judged in
-    let methods = length (methods_of c.args.program.now.outline.classes) in
-    found_within (c.classes.result - length c.args.classes.now + c.in-Some.place + 1) (length c.args.program.now.outline.classes) methods methods
-    c.other_class.result (omega (arith, within, all, c.classes.ensures)) (omega arith) (c.other_class.ensures methods)
-
-pub returns-clause-others : goal.returns-clause-others
-returns-clause-others c =
-    all_others c.args.classes.now c.args.written.now c.other_class.result
-    (subst (AreOthers c.args.classes.now c.args.written.now) c.in-NotSafe.is c.requires.others)
+    let p = c.args.program.now in
+    let all = classes_judged c.args.classes.now p c.requires.judged in
+    let methods = length (methods_of p.outline.classes) in
+    named_again p c.args.classes.now c.args.written.now _ _ c.other_class.result
+    (subst (IsRefused p c.args.classes.now c.args.written.now) c.in-NotSafe.is c.requires.refused)
+    (found_within (c.classes.result - length c.args.classes.now + c.in-Some.place + 1) (length p.outline.classes) methods methods c.other_class.result
+    (omega (arith, within, all, c.classes.ensures)) (omega arith) (c.other_class.ensures methods))

@@ -1,14 +1,15 @@
-use Rattle.std.proofs.Common.{◌≡◌, ◌∙◌, sym, ap, subst, ◌+◌, ◌-◌, ◌<◌, false, List, drop, take, length, length-take, refl, arith}
+use Rattle.std.proofs.Common.{◌≡◌, ◌∙◌, sym, ap, subst, ◌+◌, ◌-◌, ◌<◌, true, List, drop, take, length, length-take, refl, arith}
 use Rattle.std.proofs.lemmas.Bool.{false≢true}
 use Rattle.std.proofs.lemmas.List.{length-drop}
 use Rattle.fm_audit_classes.proofs.FoundLemmas.{found_within}
-use Rattle.fm_audit_classes.proofs.StaysLemmas.{all_others, same_class, still_dropped, still_taken}
-use Rattle.fm_audit_classes.proofs.StepLemmas.{spelled_more, written_more}
+use Rattle.fm_audit_classes.proofs.StepLemmas.{false_of, spelled_more, whole_more, written_more}
+use Rattle.fm_audit_classes.specs.inner.Found.{AreWhollyWritten}
+use Rattle.fm_audit_classes.specs.inner.Low.{are_low}
 use Rattle.fm_audit_classes.specs.inner.Compared.{MayBeCompared, MayBeComparedEach}
 use Rattle.fm_code.specs.declared.class_file.ClassDef.{ClassDef}
 use Rattle.fm_place_weave.specs.declared.planned.Planned.{Planned}
 use Rattle.fm_rewrite.proofs.StepLemmas.{left, others_counted}
-use Rattle.fm_rewrite.specs.inner.ByPlans.{changes_by, classes_by, method_count, others, own, rewritten_by}
+use Rattle.fm_rewrite.specs.inner.ByPlans.{classes_by, method_count, others, own, rewritten_by}
 use Rattle.fm_audit_classes.proofs.comparing.are_written.Goals as goal
 
 pub split_at-requires : goal.split_at-requires
@@ -69,8 +70,8 @@ returns-then-not-same-clause-found c =
     (c.args.numbers.1 + method_count c.args.classes.now) c.not_safe.result (omega (arith, c.loop-place-test.true))
     (omega (arith, own, taken, all, shorter)) c.not_safe.ensures
 
-pub returns-then-not-same-clause-others : goal.returns-then-not-same-clause-others
-returns-then-not-same-clause-others c =
+pub returns-then-not-same-clause-whole : goal.returns-then-not-same-clause-whole
+returns-then-not-same-clause-whole c =
     let here = c.loop-place in
     let classes = c.args.classes.now in
     let written = c.args.written.now in
@@ -79,13 +80,13 @@ returns-then-not-same-clause-others c =
     let within = c.loop-place-test.true in
     let inside : here.place < length written = omega (arith, within, c.requires.lengths) in
     let front = c.split_at.ensures.front ∙ ap (λ n. take n here.rest.now) c.len.ensures in
-    all_others classes written c.not_safe.result
-    (λ same.
-    let quiet : changes_by c.split_at.result.0.now ≡ false =
-    subst (λ (ds : List Planned). changes_by ds ≡ false) (sym front) (still_taken (length class.methods) here.rest.now (here.invariant.still same)) in
-    let found = c.in_ok-same.ensures.still quiet
-    (same_class classes written here.place class new within inside c.index-classes-place.is c.index-written-place.is same) in
-    false≢true (sym c.if-not-same.true ∙ found))
+    false_of (AreWhollyWritten c.args.planned.now classes written) c.not_safe.result
+    (λ whole.
+    let more = whole_more classes written here.place class new here.rest.now within inside c.index-classes-place.is c.index-written-place.is
+    (here.invariant.whole whole) in
+    let low : are_low c.split_at.result.0.now class.methods ≡ true = subst (λ (ds : List Planned). are_low ds class.methods ≡ true) (sym front) more.low in
+    let same : new ≡ rewritten_by c.split_at.result.0.now class = more.same ∙ ap (λ ds. rewritten_by ds class) (sym front) in
+    false≢true (sym c.if-not-same.true ∙ c.in_ok-same.ensures.whole low same))
 
 pub loop-place-preserved : goal.loop-place-preserved
 loop-place-preserved c =
@@ -113,7 +114,9 @@ loop-place-preserved c =
           subst (λ (d : List Planned). MayBeComparedEach d rest) (sym after)
           (left classes place class within is (λ (cs : List ClassDef). MayBeComparedEach done cs) here.invariant.may).1;
       spelled = (spelled_more written place new inside c.index-written-place.is here.invariant.spelled).1;
-      still = λ same. subst (λ (ds : List Planned). changes_by ds ≡ false) (sym after) (still_dropped (length class.methods) done (here.invariant.still same));
+      whole = λ whole.
+          subst (λ (ds : List Planned). AreWhollyWritten ds rest (drop (place + 1) written)) (sym after)
+          (whole_more classes written place class new done within inside is c.index-written-place.is (here.invariant.whole whole)).more;
       same = λ same_rest.
           let here_same : new ≡ rewritten_by (own class done) class =
           c.in_ok-same.ensures.same c.if-not-same.false ∙ ap (λ d. rewritten_by d class) front in

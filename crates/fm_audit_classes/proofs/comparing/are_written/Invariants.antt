@@ -1,8 +1,9 @@
-use Rattle.std.proofs.Common.{◌≡◌, ◌≤◌, false, drop, length}
+use Rattle.std.proofs.Common.{◌≡◌, ◌≤◌, drop, length}
 use Rattle.std.specs.List.{AllByRecursion}
 use Rattle.fm_code.specs.Spells.{HasSpelling}
-use Rattle.fm_rewrite.specs.inner.ByPlans.{changes_by, classes_by, method_count}
+use Rattle.fm_rewrite.specs.inner.ByPlans.{classes_by, method_count}
 use Rattle.fm_audit_classes.specs.inner.Compared.{MayBeComparedEach}
+use Rattle.fm_audit_classes.specs.inner.Found.{AreWhollyWritten}
 use Rattle.fm_audit_classes.proofs.comparing.are_written.Given as goal
 
 abbrev pub invariant-loop-place : goal.invariant-loop-place
@@ -11,6 +12,6 @@ invariant-loop-place l = record {
   one_each : length l.rest ≡ method_count (drop l.place l.classes);
   may : MayBeComparedEach l.rest (drop l.place l.classes);
   spelled : AllByRecursion HasSpelling (drop l.place l.written);
-  still : l.written ≡ l.classes → changes_by l.rest ≡ false;
+  whole : AreWhollyWritten l.planned l.classes l.written → AreWhollyWritten l.rest (drop l.place l.classes) (drop l.place l.written);
   same : drop l.place l.written ≡ classes_by l.rest (drop l.place l.classes) → l.written ≡ classes_by l.planned l.classes;
 }

@@ -1,4 +1,5 @@
 use Rattle.std.proofs.Common.{rules, ◌≡◌, ◌∙◌, sym, ap, subst, Bool, true, false, None}
+use Rattle.std.proofs.lemmas.Bool.{false≢true}
 use Rattle.fm_chain.specs.Chaining.{calls_for, entries_for}
 use Rattle.fm_chain.specs.declared.calls.Calls.{Calls}
 use Rattle.fm_code.specs.Fits.{FitsTwo}
@@ -6,6 +7,7 @@ use Rattle.fm_code.specs.Spells.{HasSpelling}
 use Rattle.fm_place.specs.Rewriting.{free_index}
 use Rattle.fm_place_weave.specs.ClassByPlan.{first_long}
 use Rattle.fm_audit_classes.specs.inner.Low.{are_low}
+use Rattle.fm_audit_classes.proofs.WholeClassLemmas.{never_full, never_too_long, woven_whole}
 use Rattle.fm_audit_classes.proofs.comparing.is_woven.Goals as goal
 
 pub woven_class-requires-clause-pool : goal.woven_class-requires-clause-pool
@@ -31,3 +33,24 @@ is_same-requires-clause-second c =
     let none : first_long (calls_for false class.pool.entries) 0 done class.methods ≡ None =
     sym (ap (λ (calls : Calls). first_long calls 0 done class.methods) made.calls) ∙ c.in-Ok-woven_class.ensures.fits in
     subst HasSpelling (sym c.in-Ok-woven_class.ensures.woven) (c.requires.class.woven low c.requires.changed fits made.fits none)
+
+-- ---- what isn't the class by what is to be done
+
+pub returns-then-not-are_low-clause-whole : goal.returns-then-not-are_low-clause-whole
+returns-then-not-are_low-clause-whole c = λ low is.
+    let high : are_low c.args.planned.now c.args.class.now.methods ≡ false = search rules in
+    absurd (false≢true (sym high ∙ low))
+
+pub returns-in-Err-Full-clause-whole : goal.returns-in-Err-Full-clause-whole
+returns-in-Err-Full-clause-whole c = λ low is.
+    absurd (never_full c.args.planned.now c.args.class.now c.args.written.now c.requires.class c.requires.written is c.in-Err-Full.ensures.refused.0)
+
+pub returns-in-Ok-woven_class-clause-whole : goal.returns-in-Ok-woven_class-clause-whole
+returns-in-Ok-woven_class-clause-whole c =
+    woven_whole c.args.planned.now c.args.class.now c.args.written.now c.in-Ok-woven_class.woven c.in-Ok-woven_class.ensures.woven c.is_same.result
+    c.is_same.ensures.all
+
+pub returns-in-Err-TooLong-clause-whole : goal.returns-in-Err-TooLong-clause-whole
+returns-in-Err-TooLong-clause-whole c = λ low is.
+    absurd (never_too_long c.args.planned.now c.args.class.now c.args.written.now c.requires.class c.requires.written is c.in-Ok.pool.calls _
+    c.in-Ok.ensures.calls c.in-Err-TooLong.ensures.refused)

@@ -1,12 +1,14 @@
-use Rattle.std.proofs.Common.{◌≡◌, ◌∙◌, sym, true}
+use Rattle.std.proofs.Common.{◌≡◌, ◌∙◌, sym, false, true}
 use Rattle.fm_rewrite.specs.inner.ByPlans.{changes_by}
-use Rattle.fm_audit_classes.proofs.StaysLemmas.{never_still, once_still}
+use Rattle.fm_audit_classes.proofs.WholeClassLemmas.{whole_by, whole_still}
 use Rattle.fm_audit_classes.proofs.comparing.is_written.Goals as goal
 
-pub returns-then-not-changes-clause-still : goal.returns-then-not-changes-clause-still
-returns-then-not-changes-clause-still c = once_still _ _ c.is_same.result c.is_same.ensures.all
+pub returns-then-not-changes-clause-whole : goal.returns-then-not-changes-clause-whole
+returns-then-not-changes-clause-whole c =
+    let still : changes_by c.args.planned.now ≡ false = sym c.changes.ensures ∙ c.if-not-changes.true in
+    whole_still c.args.planned.now c.args.class.now c.args.written.now still c.is_same.result c.is_same.ensures.all
 
-pub returns-clause-still : goal.returns-clause-still
-returns-clause-still c =
+pub returns-clause-whole : goal.returns-clause-whole
+returns-clause-whole c =
     let changed : changes_by c.args.planned.now ≡ true = sym c.changes.ensures ∙ c.if-not-changes.false in
-    never_still _ c.args.planned.now changed c.is_woven.result
+    whole_by c.args.planned.now c.args.class.now c.args.written.now changed c.is_woven.result c.is_woven.ensures.whole

@@ -1,10 +1,11 @@
-use Rattle.std.proofs.Common.{◌≡◌, ◌+◌, ◌++◌, drop, length, map}
-use Rattle.fm_world.specs.Uses.{items_of}
-use Rattle.fm_audit_classes.specs.inner.Codes.{items_of_new}
+use Rattle.std.proofs.Common.{◌≡◌, ◌+◌, ◌-◌, ◌++◌, length, map}
+use Rattle.std.specs.List.{range_with_len}
+use Rattle.fm_audit_classes.specs.inner.Codes.{code_in, codes_in, pair_of}
 use Rattle.fm_audit_classes.proofs.new_codes.push_codes.Given as goal
 
-abbrev pub invariant-loop-method : goal.invariant-loop-method
-invariant-loop-method l = record {
-  count : length l.codes.items + length (drop l.method-index l.methods) ≡ length l.fn.codes.items + length l.methods;
-  items : map items_of_new l.codes.items ++ map items_of (drop l.method-index l.methods) ≡ map items_of_new l.fn.codes.items ++ map items_of l.methods;
+abbrev pub invariant-loop-place : goal.invariant-loop-place
+invariant-loop-place l = record {
+  count : length l.codes.items ≡ length l.fn.codes.items + l.place;
+  pairs : map pair_of l.codes.items ++ map (code_in l.free l.methods) (range_with_len l.place (l.count - l.place))
+      ≡ map pair_of l.fn.codes.items ++ codes_in l.free l.count l.methods;
 }

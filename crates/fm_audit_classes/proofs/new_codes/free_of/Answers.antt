@@ -1,0 +1,15 @@
+use Rattle.std.proofs.Common.{◌∙◌, sym, ap, cond, length}
+use Rattle.std.proofs.lemmas.Bool.{le-ltb, lt-ltb}
+use Rattle.fm_chain.specs.declared.calls.Calls.{Calls}
+use Rattle.fm_code.specs.FreeEntries.{with_free}
+use Rattle.fm_place.specs.Rewriting.{free_index}
+use Rattle.fm_audit_classes.proofs.new_codes.free_of.Goals as goal
+
+pub returns-in-Ok : goal.returns-in-Ok
+returns-in-Ok c =
+    ap (λ (calls : Calls). calls.free) c.in-Ok.ensures.calls
+    ∙ sym (ap (λ b. cond b 0 (free_index c.args.class.now)) (le-ltb 65535 (length (with_free c.args.class.now.pool.entries)) c.in-Ok.ensures.fits))
+
+pub returns-in-Err-Full : goal.returns-in-Err-Full
+returns-in-Err-Full c =
+    sym (ap (λ b. cond b 0 (free_index c.args.class.now)) (lt-ltb 65535 (length (with_free c.args.class.now.pool.entries)) c.in-Err-Full.ensures.refused.0))
