@@ -5,8 +5,9 @@ use Rattle.std.specs.List.{AllByRecursion}
 use Rattle.std.proofs.lemmas.Bool.{ltb-false}
 use Rattle.fm_chain.proofs.LaidChains.{chained_is_laid_out}
 use Rattle.fm_chain.proofs.PlanLaws.{plans_have_the_chains}
-use Rattle.fm_chain.specs.Chained.{chained}
+use Rattle.fm_chain.specs.Chained.{added_words as words_of, chained}
 use Rattle.fm_chain.specs.Laws.{CallsSuit}
+use Rattle.fm_chain.specs.Planned.{added_words}
 use Rattle.fm_chain.specs.declared.calls.Calls.{Calls}
 use Rattle.fm_chain.specs.declared.plans.ChainPlan.{ChainPlan}
 use Rattle.fm_code.specs.declared.class_file.Member.{Member}
@@ -62,8 +63,12 @@ module _ (ins : Insertions) (plan : ChainPlan) (m : Member) (has : HasInsertions
       let holders : plan.plan.holders ≡ length ins.holders = has.whole.plan_is.plan_is.holders in
       omega (arith, same, all, items, holders, has.room, low.before, low.after)
 
+  -- no holder holds a chain: one word of stack is added
+  words : added_words plan ≡ 1
+  words = ap (λ b. cond b 2 1) (plans_have_the_chains ins plan has.whole.plan_is ∙ has.plain)
+
   may_be : MayBeWoven calls has.code plan
-  may_be = may-be-woven calls has.code ins plan has.whole has.old_items has.rules low.stack suits few
+  may_be = may-be-woven calls has.code ins plan has.whole has.old_items has.rules (let stack = low.stack in omega (arith, stack, words)) suits few
 
   -- its attributes may be woven
   may_all : (attributes : List MemberAttr) → AllByRecursion (IsOwnCode has.code) attributes → AllByRecursion (MayWeave calls plan) attributes
@@ -79,7 +84,7 @@ module _ (ins : Insertions) (plan : ChainPlan) (m : Member) (has : HasInsertions
   can_code : long_code calls plan has.code ≡ None → CanWeave calls has.code ins
   can_code none = record {
     old_items = has.old_items;
-    stack = low.stack;
+    stack = let stack = low.stack in let own : words_of ins ≡ 1 = ap (λ b. cond b 2 1) has.plain in omega (arith, stack, own);
     suits = suits;
     new_items = chained_is_laid_out calls has.code ins has.old_items suits few;
     short = subst (λ (items : List NewItem). laid_length has.code.items items ≤ MAX_CODE_BYTES) (items-is calls has.code ins plan has.whole)

@@ -20,7 +20,8 @@ use Rattle.fm_place.specs.PlansBy.{paired}
 use Rattle.fm_place.specs.Rewriting.{first_given, Plans, rewritten}
 use Rattle.fm_place.specs.Safe.{AreSafe}
 use Rattle.fm_place.specs.Woven.{woven_code}
-use Rattle.fm_place.specs.declared.limits.TheConstants.{MAX_HOLDING_STACK_WORDS}
+use Rattle.fm_base.specs.declared.limits.TheConstants.{MAX_STACK_WORDS}
+use Rattle.fm_audit_classes.specs.declared.low.TheConstants.{MAX_WOVEN_STACK_WORDS}
 use Rattle.fm_place.specs.declared.plans.Plan.{Plan}
 use Rattle.fm_place_weave.specs.declared.planned.Planned.{Planned}
 use Rattle.fm_place_weave.specs.declared.planned.Planned.TheVariants as planned
@@ -56,7 +57,7 @@ use Rattle.fm_audit_classes.specs.inner.Low.{are_low, is_low, is_low_in}
 
 -- ---- methods without code
 
-none_at : (n i : ℕ) → ◌≡◌ {A = Option Code} (get_or (replicate n None) i None) None
+none_at : (n i : ℕ) → get_or (replicate {A = Option Code} n None) i None ≡ None
 none_at zero i = refl
 none_at (suc n) zero = refl
 none_at (suc n) (suc i) = none_at n i
@@ -89,11 +90,11 @@ low_classes first done [] low = tt
 low_classes first done (c ∷ classes) low =
     (low_methods first (own c done) c.methods low.0, low_classes (first + length c.methods) (others c done) classes low.1)
 
-low_plan : (plan : Plan) (code : Code) → code.max_stack ≤ MAX_HOLDING_STACK_WORDS → length plan.before.items + length plan.after.items ≤ 65535
+low_plan : (plan : Plan) (code : Code) → code.max_stack + 1 ≤ MAX_STACK_WORDS → length plan.before.items + length plan.after.items ≤ 65535
     → is_low_in plan (Some code) ≡ true
 low_plan plan code stack few =
     ap (λ b. cond b false (cond (nat_lt 65535 (length plan.before.items)) false (not (nat_lt 65535 (length plan.after.items)))))
-    (le-ltb MAX_HOLDING_STACK_WORDS code.max_stack stack)
+    (le-ltb MAX_WOVEN_STACK_WORDS code.max_stack (omega (arith, stack)))
     ∙ ap (λ b. cond b false (not (nat_lt 65535 (length plan.after.items)))) (le-ltb 65535 (length plan.before.items) (omega (arith, few)))
     ∙ ap not (le-ltb 65535 (length plan.after.items) (omega (arith, few)))
 
@@ -199,7 +200,7 @@ module _ (given : List ClassDef) (p : Program) (new : List NewCode) (done : List
         let own = safe method ins is in absurd (none-some own.x (sym (ap (option_map (typed_method p are.facts.typing method)) none) ∙ own.is))
 
   -- the insertions are what is to be done
-  abbrev again : AreSafelyInserted p new done
+  again : AreSafelyInserted p new done
   again = record {
     facts = are.facts;
     exact = are.exact;

@@ -1,14 +1,14 @@
 -- What becomes of an audit of class files that were written, by whoever, for those of a program: they are these with safe insertions, or
 -- there is a cause for which they aren't.
-use Rattle.std.specs.Prelude.{◌≡◌, ◌<◌, ◌≤◌, ℕ, List, length, Option, Some, None, IfSome, Result, Ok, Err}
+use Rattle.std.specs.Prelude.{◌≡◌, ◌+◌, ◌<◌, ◌≤◌, ℕ, List, length, Option, Some, None, IfSome, Result, Ok, Err}
 use Rattle.fm_base.specs.declared.ids.MethodId.{MethodId}
+use Rattle.fm_base.specs.declared.limits.TheConstants.{MAX_STACK_WORDS}
 use Rattle.fm_code.specs.declared.class_file.ClassDef.{ClassDef}
 use Rattle.fm_code.specs.declared.code_array.Code.{Code}
 use Rattle.fm_conn.specs.Facts.{AreFacts, Facts}
 use Rattle.fm_place.specs.Insertions.{Insertions}
 use Rattle.fm_place.specs.Rewriting.{Plans, rewritten}
 use Rattle.fm_place.specs.Safe.{IsSafeMethod, Safe}
-use Rattle.fm_place.specs.declared.limits.TheConstants.{MAX_HOLDING_STACK_WORDS}
 use Rattle.fm_rewrite.specs.FreeCalls.{first_call}
 use Rattle.fm_summ_shapes.specs.Analysed.{AreLeastTypings}
 use Rattle.fm_world.specs.Members.{methods_of}
@@ -27,10 +27,10 @@ pub record AreSafelyWritten (given : List ClassDef) (main : List ℕ) (written :
 abbrev pub AreSafePlans : Program → Facts → Plans → Type 0
 AreSafePlans p facts plans = (method : ℕ) (plan : Insertions) → plans method ≡ Some plan → IsSafeMethod p facts method plan
 
--- a method into which something is inserted has a stack of 1,022 words at most, as where freeme inserts something
+-- the stack of each method into which something is inserted may have a word more, as it has in what is written
 abbrev pub HaveStack : Program → Plans → Type 0
 HaveStack p plans =
-    (method : ℕ) (plan : Insertions) (code : Code) → plans method ≡ Some plan → code_at p method ≡ Some code → code.max_stack ≤ MAX_HOLDING_STACK_WORDS
+    (method : ℕ) (plan : Insertions) (code : Code) → plans method ≡ Some plan → code_at p method ≡ Some code → code.max_stack + 1 ≤ MAX_STACK_WORDS
 
 -- by some exact facts over least typings no insertions that are safe give these classes
 pub record NoneIsSafe (p : Program) (given written : List ClassDef) : Type 0 where

@@ -5,8 +5,10 @@ ghost use Rattle.fm_audit_classes.specs.inner.Low.{are_low, is_low, is_low_code}
 
 use fm_code::{Code, Member};
 use fm_place::Plan;
-use fm_place::limits::MAX_HOLDING_STACK_WORDS;
 use fm_place_weave::Planned;
+
+/// The most words of a stack that may have one more.
+const MAX_WOVEN_STACK_WORDS: u16 = 1_023;
 
 /// The most pairs of an item and a holder. Each makes an item of new code, which has no more bytes.
 const MAX_PAIRS: usize = 65_535;
@@ -41,7 +43,7 @@ pub(crate) fn is_low(planned: &Planned, method: &Member) -> bool
 fn is_low_code(code: &Code, plan: &Plan) -> bool
     ensures { result ≡ is_low_code code.now plan.now }
 {
-    if code.max_stack > MAX_HOLDING_STACK_WORDS {
+    if code.max_stack > MAX_WOVEN_STACK_WORDS {
         return false;
     }
     if plan.before.len() > MAX_PAIRS {

@@ -6,7 +6,7 @@ use Rattle.std.proofs.lemmas.List.{length-map}
 use Rattle.fm_base.proofs.ListFacts.{AllByRecursion-both, AllByRecursion-weaker}
 use Rattle.fm_base.specs.declared.limits.TheConstants.{MAX_FILE_BYTES}
 use Rattle.fm_chain.proofs.LaidChains.{chained_anchors_are_anchors}
-use Rattle.fm_chain.specs.Chained.{added_words, anchors_of, chained, chained_code, has_chain}
+use Rattle.fm_chain.specs.Chained.{anchors_of, chained, chained_code, has_chain}
 use Rattle.fm_chain.specs.declared.calls.Calls.{Calls}
 use Rattle.fm_code.proofs.CodeItems.{HasBytes}
 use Rattle.fm_code.proofs.InsnPrefixes.{insn_at_not_empty}
@@ -197,9 +197,7 @@ module _ (chains : Bool) (entries more : List Entry) (calls : Calls) (named : Na
   pub code_fits : CodeFits code → length (code_bytes code) ≤ MAX_FILE_BYTES → CodeFits (chained_code calls code plan)
   code_fits fits short = record {
     max_stack =
-        let low = can.stack in
-        let words : added_words plan ≤ 2 = at_most_two (has_chain plan) in
-        omega (arith, low, words);
+        let low = can.stack in omega (arith, low);
     max_locals = let room = can.suits.room in omega (arith, room);
     code_length = let size = laid_size in let limit = can.short in omega (arith, size, limit);
     items = is_code.bytes;

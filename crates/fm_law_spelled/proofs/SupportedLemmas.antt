@@ -6,7 +6,7 @@ use Rattle.std.proofs.lemmas.Bool.{false≢true}
 use Rattle.std.proofs.lemmas.List.{length-map}
 use Rattle.fm_base.proofs.ListFacts.{AllByRecursion-get_or, AllByRecursion-weaker}
 use Rattle.fm_base.proofs.OptionFacts.{IsSome-from_some, Some-from_is_some, Some-from_some_and}
-use Rattle.fm_chain.specs.Chained.{added_words, anchors_of, chained, chained_code, has_chain}
+use Rattle.fm_chain.specs.Chained.{anchors_of, chained, chained_code, has_chain}
 use Rattle.fm_chain.specs.Chaining.{chained_attribute, chained_method, chained_methods, class_calls, class_has_chain, plan_has_chain}
 use Rattle.fm_chain.specs.declared.calls.Calls.{Calls}
 use Rattle.fm_code.specs.AccessFlags.{is_interface}
@@ -39,7 +39,6 @@ use Rattle.fm_pool.proofs.GrownPool.{and_kept, class_from, class_kept, entry_kep
 use Rattle.fm_read_limits.proofs.FloatingLemmas.{array_begins}
 use Rattle.fm_read_limits.proofs.LimitLemmas.{code_is, first_code}
 use Rattle.fm_read_limits.specs.inner.Declared.{PoolIsValid}
-use Rattle.fm_law_spelled.proofs.CodeSpelled.{at_most_two}
 use Rattle.fm_law_spelled.proofs.Growing.{class_of_called, first_may, grown_is, grows, MayChain, more_for, pool_supported, rest_may}
 use Rattle.fm_law_spelled.proofs.InsertedFits.{chained_fit, InsertedFits, NamesCalls}
 use Rattle.fm_law_spelled.proofs.KeptNames.{field_kept, interface_method_kept, such_kept}
@@ -266,9 +265,7 @@ module _ (chains : Bool) (entries more : List Entry) (pool : PoolIsValid entries
 code_within : (calls : Calls) (code : Code) (plan : Insertions) → CanWeave calls code plan → CodeIsWithin code → CodeIsWithin (chained_code calls code plan)
 code_within calls code plan can within = record {
   stack =
-      let low = can.stack in
-      let words : added_words plan ≤ 2 = at_most_two (has_chain plan) in
-      omega (arith, low, words);
+      let low = can.stack in omega (arith, low);
   locals = let room = can.suits.room in omega (arith, room);
   handlers =
       let same = length-map code.handlers (moved_handler (laid_of code.items (chained calls code plan)).firsts (anchors_of plan code.items)) in

@@ -2,7 +2,7 @@
 -- has a spelling then.
 use Rattle.std.specs.Prelude.{ℕ, ◌+◌, ◌≤◌, List, [], ◌∷◌, length, Option, Some, None}
 use Rattle.std.specs.List.{AllByRecursion}
-use Rattle.fm_base.specs.declared.limits.TheConstants.{MAX_FILE_BYTES}
+use Rattle.fm_base.specs.declared.limits.TheConstants.{MAX_FILE_BYTES, MAX_STACK_WORDS}
 use Rattle.fm_code.specs.ClassBytes.{class_bytes}
 use Rattle.fm_code.specs.Profile.{Profile}
 use Rattle.fm_code.specs.Spells.{HasSpelling}
@@ -14,20 +14,19 @@ use Rattle.fm_code.specs.declared.code_array.Code.{Code}
 use Rattle.fm_code.specs.declared.code_array.TheConstants.{MAX_CODE_BYTES}
 use Rattle.fm_layout.specs.Conditions.{AreNewItems, AreOldItems}
 use Rattle.fm_layout.specs.Laid.{laid_length}
-use Rattle.fm_chain.specs.Chained.{chained}
+use Rattle.fm_chain.specs.Chained.{added_words, chained}
 use Rattle.fm_chain.specs.Chaining.{changed_class, class_calls, class_has_chain, entries_for}
 use Rattle.fm_chain.specs.Laws.{CallsSuit}
 use Rattle.fm_chain.specs.declared.calls.Calls.{Calls}
 use Rattle.fm_place.specs.Insertions.{Insertions}
 use Rattle.fm_place.specs.Rewriting.{Plans}
-use Rattle.fm_place.specs.declared.limits.TheConstants.{MAX_HOLDING_STACK_WORDS}
 
 -- ---- what is required
 
 -- of a code and its insertions: there is room for what is inserted, and the code isn't too long with it
 pub record CanWeave (calls : Calls) (code : Code) (plan : Insertions) : Type 0 where
   pub old_items : AreOldItems code.items
-  pub stack : code.max_stack ≤ MAX_HOLDING_STACK_WORDS
+  pub stack : code.max_stack + added_words plan ≤ MAX_STACK_WORDS
   pub suits : CallsSuit calls code plan
   pub new_items : AreNewItems code.items (chained calls code plan)
   pub short : laid_length code.items (chained calls code plan) ≤ MAX_CODE_BYTES

@@ -12,6 +12,7 @@ use Rattle.fm_chain.proofs.LaidChains.{chained_anchors_are_anchors, chained_is_l
 use Rattle.fm_chain.proofs.Replaced.{sum_cons}
 use Rattle.fm_chain.proofs.PlanLaws.{plans_have_the_chains}
 use Rattle.fm_chain.specs.Chained.{anchors_from, anchors_of, chained, chained_code, chained_items, count_at, holds_chain, looped_at, released, taken, taken_items}
+use Rattle.fm_chain.specs.Planned.{added_words, has_chain}
 use Rattle.fm_chain.specs.declared.calls.Calls.{Calls}
 use Rattle.fm_chain.specs.declared.plans.ChainPlan.{ChainPlan}
 use Rattle.fm_code.proofs.EdgesLemmas.{Contains-first, Contains-later}
@@ -183,6 +184,13 @@ flags-listed : (looped : List Bool) (H : ℕ) (f : ℕ → List ℕ) (j n : ℕ)
 flags-listed looped H f j zero room each = tt
 flags-listed looped H f j (suc n) room each =
     AllByRecursion-append (IsFlagged looped) (paired f j) (listed f (j + 1) n) (all-flagged looped H j (f j) room (each j)) (flags-listed looped H f (j + 1) n room each)
+
+-- what is inserted takes two words of stack at most
+pub words_few : (p : ChainPlan) → added_words p ≤ 2
+words_few p = by_chain (has_chain p) where
+  by_chain : (b : Bool) → cond b 2 1 ≤ 2
+  by_chain true = omega arith
+  by_chain false = omega arith
 
 pub may-be-woven : PlansMayBeWoven
 may-be-woven calls code ins p is old rules stack suits few =

@@ -1,13 +1,13 @@
 -- What weaving requires of a method's code and its plan.
 use Rattle.std.specs.Prelude.{◌+◌, ℕ, ◌<◌, ◌≤◌, Bool, List, length}
 use Rattle.std.specs.List.{AllByRecursion}
-use Rattle.fm_base.specs.declared.limits.TheConstants.{MAX_LOCAL_WORDS}
+use Rattle.fm_base.specs.declared.limits.TheConstants.{MAX_LOCAL_WORDS, MAX_STACK_WORDS}
 use Rattle.fm_code.specs.Edges.{MeetsCodeRules}
 use Rattle.fm_code.specs.declared.code_array.Code.{Code}
 use Rattle.fm_layout.specs.Conditions.{AreNewItems, AreOldItems}
 use Rattle.fm_layout.specs.Laid.{laid_of}
 use Rattle.fm_layout.specs.Tables.{AreAnchors}
-use Rattle.fm_place.specs.declared.limits.TheConstants.{MAX_HOLDING_STACK_WORDS}
+use Rattle.fm_chain.specs.Planned.{added_words}
 use Rattle.fm_chain.specs.declared.calls.Calls.{Calls}
 use Rattle.fm_chain.specs.declared.plans.ChainPlan.{ChainPlan}
 use Rattle.fm_place_weave.specs.ByPlan.{anchors_by, items_by}
@@ -37,12 +37,12 @@ pub record HasRoom (code : Code) (p : ChainPlan) : Type 0 where
   pub freed : AreFlagged p.looped p.plan.before.items
   pub taken : AreFlagged p.looped p.plan.after.items
 
--- the code may be woven by the plan: its result may be laid out, and there is room for two more
--- words on its stack
+-- the code may be woven by the plan: its result may be laid out, and there is room for what is put
+-- on its stack besides
 pub record MayBeWoven (calls : Calls) (code : Code) (plan : ChainPlan) : Type 0 where
   pub old_items : AreOldItems code.items
   pub rules : MeetsCodeRules code
   pub room : HasRoom code plan
-  pub stack : code.max_stack ≤ MAX_HOLDING_STACK_WORDS
+  pub stack : code.max_stack + added_words plan ≤ MAX_STACK_WORDS
   pub new_items : AreNewItems code.items (items_by calls code plan)
   pub anchors : AreAnchors code (laid_of code.items (items_by calls code plan)) (anchors_by code plan)

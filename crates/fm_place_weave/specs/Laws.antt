@@ -1,8 +1,9 @@
 -- What the words on plans have to do with the definitions of what is inserted.
-use Rattle.std.specs.Prelude.{◌≡◌, ◌<◌, ◌≤◌, length}
+use Rattle.std.specs.Prelude.{◌≡◌, ◌+◌, ◌<◌, ◌≤◌, length}
+use Rattle.fm_base.specs.declared.limits.TheConstants.{MAX_STACK_WORDS}
 use Rattle.fm_chain.specs.Chained.{anchors_of, chained, chained_code}
 use Rattle.fm_chain.specs.Laws.{CallsSuit}
-use Rattle.fm_chain.specs.Planned.{IsChainPlanOf}
+use Rattle.fm_chain.specs.Planned.{added_words, IsChainPlanOf}
 use Rattle.fm_chain.specs.declared.calls.Calls.{Calls}
 use Rattle.fm_chain.specs.declared.plans.ChainPlan.{ChainPlan}
 use Rattle.fm_code.specs.Edges.{MeetsCodeRules}
@@ -11,7 +12,6 @@ use Rattle.fm_layout.specs.Conditions.{AreOldItems}
 use Rattle.fm_layout.specs.Laid.{narrow_length}
 use Rattle.fm_layout.specs.declared.laying.TheConstants.{MAX_NEW_ITEMS}
 use Rattle.fm_place.specs.Insertions.{Insertions}
-use Rattle.fm_place.specs.declared.limits.TheConstants.{MAX_HOLDING_STACK_WORDS}
 use Rattle.fm_place_weave.specs.ByPlan.{anchors_by, code_by, items_by, narrow_by}
 use Rattle.fm_place_weave.specs.Conditions.{MayBeWoven}
 
@@ -30,11 +30,11 @@ pub record IsWovenAlike (calls : Calls) (code : Code) (ins : Insertions) (plan :
 abbrev pub PlansAreInsertions : Type 0
 PlansAreInsertions = (calls : Calls) (code : Code) (ins : Insertions) (plan : ChainPlan) → IsWholePlan code ins plan → IsWovenAlike calls code ins plan
 
--- what suits a method may be woven, as long as the bytes of its new items can be counted
+-- what suits a method may be woven, as long as there is room on its stack and the bytes of its new items can be counted
 abbrev pub PlansMayBeWoven : Type 0
 PlansMayBeWoven =
     (calls : Calls) (code : Code) (ins : Insertions) (plan : ChainPlan) → IsWholePlan code ins plan → AreOldItems code.items → MeetsCodeRules code
-    → code.max_stack ≤ MAX_HOLDING_STACK_WORDS → CallsSuit calls code ins → length (chained calls code ins) < MAX_NEW_ITEMS → MayBeWoven calls code plan
+    → code.max_stack + added_words plan ≤ MAX_STACK_WORDS → CallsSuit calls code ins → length (chained calls code ins) < MAX_NEW_ITEMS → MayBeWoven calls code plan
 
 -- the bytes that are counted from a plan are those of its new items, whatever the indices of the methods are
 abbrev pub BytesAreCounted : Type 0

@@ -46,7 +46,7 @@ use Rattle.fm_place.specs.inner.PlanRows.{pair_of}
 use Rattle.fm_place_weave.proofs.LengthLemmas.{length-part, number_by-is}
 use Rattle.fm_place_weave.proofs.NarrowLemmas.{narrow-is}
 use Rattle.fm_place_weave.proofs.PairLemmas.{leading_within}
-use Rattle.fm_place_weave.proofs.PlanLemmas.{items-is, may-be-woven}
+use Rattle.fm_place_weave.proofs.PlanLemmas.{items-is, may-be-woven, words_few}
 use Rattle.fm_place_weave.specs.ByPlan.{count_here, here, later, leading, narrow_by, no_calls, number_after, number_by, taken_count}
 use Rattle.fm_place_weave.specs.Conditions.{AreFlagged, AreLocals, HasRoom, MayBeWoven}
 use Rattle.fm_place_weave.specs.Laws.{IsWholePlan}
@@ -289,7 +289,7 @@ module _ (facts : Facts) (x : TypedMethod) where
       by_stack true high = room_of_none chains narrow (none_held high)
       by_stack false low =
           (may-be-woven no_calls x.code (made_for chains) (held_for chains) (whole chains) old rules
-          (omega (arith, ltb-false MAX_HOLDING_STACK_WORDS x.code.max_stack low))
+          (let short = ltb-false MAX_HOLDING_STACK_WORDS x.code.max_stack low in let words = words_few (held_for chains) in omega (arith, short, words))
           (all_suits chains no_calls no_calls_fit narrow) (items_few chains no_calls (items_counted x.code rules).1)).room
 
     -- their bytes fit 32 bits
@@ -337,5 +337,6 @@ module _ (facts : Facts) (x : TypedMethod) where
 pub full_may_be_woven : FullPlansMayBeWoven
 full_may_be_woven calls facts x plan chains held fit old rules narrow is held_is some =
     subst (MayBeWoven calls x.code) (sym held_is)
-    (may-be-woven calls x.code (made_for facts x chains) (held_for facts x plan is chains) (whole facts x plan is chains) old rules (held_stack facts x plan is some)
+    (may-be-woven calls x.code (made_for facts x chains) (held_for facts x plan is chains) (whole facts x plan is chains) old rules
+    (let short = held_stack facts x plan is some in let words = words_few (held_for facts x plan is chains) in omega (arith, short, words))
     (all_suits facts x chains calls fit narrow.locals) (items_few facts x plan is chains calls (items_counted x.code rules).1))

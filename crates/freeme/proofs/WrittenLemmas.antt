@@ -12,7 +12,7 @@ use Rattle.fm_base.proofs.OptionFacts.{Some-from_some_and}
 use Rattle.fm_chain.proofs.ChainEntriesAdded.{calls_are_named}
 use Rattle.fm_chain.proofs.LaidChains.{chained_is_laid_out}
 use Rattle.fm_chain.specs.ChainEntries.{sought_chain}
-use Rattle.fm_chain.specs.Chained.{chained}
+use Rattle.fm_chain.specs.Chained.{added_words, chained, has_chain}
 use Rattle.fm_chain.specs.Chaining.{calls_for, chained_class, chained_from, changed_class, class_calls, class_has_chain, entries_for}
 use Rattle.fm_chain.specs.SafeChains.{looped_plan, with_loops}
 use Rattle.fm_chain.specs.declared.calls.Calls.{Calls}
@@ -55,6 +55,7 @@ use Rattle.fm_cli.specs.Printed.{printed}
 use Rattle.fm_world.specs.BuiltIns.{built_in}
 use Rattle.fm_world.specs.Causes.{own_name}
 use Rattle.fm_world.specs.Programs.{code_at, Program}
+use Rattle.fm_law_spelled.proofs.CodeSpelled.{at_most_two}
 use Rattle.fm_law_spelled.proofs.ApartLemmas.{names_apart, printed_name}
 use Rattle.fm_law_spelled.proofs.ClassSpelled.{changed_spelled}
 use Rattle.fm_law_spelled.proofs.SupportedLemmas.{changed_accepted}
@@ -199,7 +200,10 @@ module _ (chains : Bool) (p : Program) (facts : Facts) (may : AreAnalysable p) (
       subst (λ (ins : Insertions). laid_length code.items (chained calls code ins) ≤ MAX_CODE_BYTES → CanWeave calls code ins) (sym own.all)
       (λ limit. record {
         old_items = old method code is;
-        stack = low_stack facts x own.held;
+        stack =
+            let low = low_stack facts x own.held in
+            let words : added_words all ≤ 2 = at_most_two (has_chain all) in
+            omega (arith, low, words);
         suits = suits;
         new_items = chained_is_laid_out calls code all (old method code is) suits few;
         short = limit;
