@@ -19,7 +19,7 @@ use Rattle.fm_cli_requests.proofs.MatchLemmas.{first_found, first_is}
 use Rattle.fm_cli_requests.specs.ProgramText.{AskForText, text_words}
 use Rattle.fm_cli_requests.specs.declared.program_text.ProgramText.{ProgramText}
 use Rattle.fm_cli_requests.specs.declared.program_text.ProgramText.TheVariants as text
-use Rattle.fm_cli_requests.specs.FmrunRequest.{AskNoJob, Asks, HasNoValues, HasValuesOf, IsBudget, FmrunJob, faults_in, fmrun_command, fmrun_rules, job_of, matched_in}
+use Rattle.fm_cli_requests.specs.FmrunRequest.{AskNoJob, Asks, HasNoJob, HasValuesOf, IsBudget, FmrunJob, faults_in, fmrun_command, fmrun_rules, job_of, matched_in}
 use Rattle.fm_cli_requests.specs.Values.{IsNumber, IsValue, command_with}
 use Rattle.fm_cli_requests.specs.inner.FmrunRequest.{IsNoBudget}
 use Rattle.fm_cli_requests.specs.inner.Values.{IsNoNumber}
@@ -51,7 +51,7 @@ faults_are app words result = faults_by fmrun_command app words result is_free_c
 
 -- what the matches hold is what the words ask for
 pub asked_by : (words : List (List ℕ)) (asked : Option FmrunRequest) → faults_in words ≡ []
-    → MatchOption asked (HasNoValues (matched_in words)) (λ r. HasValuesOf (matched_in words) (job_of r)) → MatchOption asked (AskNoJob words) (λ r. Asks words (job_of r))
+    → MatchOption asked (HasNoJob (matched_in words)) (λ r. HasValuesOf (matched_in words) (job_of r)) → MatchOption asked (AskNoJob words) (λ r. Asks words (job_of r))
 asked_by words None faultless h = λ job asks. h job asks.values
 asked_by words (Some r) faultless h = record { faultless = faultless; values = h }
 

@@ -17,8 +17,8 @@ use Rattle.fm_cli_requests.proofs.ProgramTextLemmas.{one_of_two}
 use Rattle.fm_cli_requests.specs.ProgramText.{AskForText, text_words}
 use Rattle.fm_cli_requests.specs.declared.program_text.ProgramText.{ProgramText}
 use Rattle.fm_cli_requests.specs.declared.program_text.ProgramText.TheVariants as text
-use Rattle.fm_cli_requests.specs.AuditRequest.{AuditJob}
-use Rattle.fm_cli_requests.specs.FreemeRequest.{AskFor, AskForNone, AskNoAudit, AskNoJob, AskToAudit, Asks, FreemeJob, HasNothing, HasValuesFor, faults_in, freeme_command, freeme_rules, matched_in}
+use Rattle.fm_cli_requests.specs.AuditRequest.{Audit}
+use Rattle.fm_cli_requests.specs.FreemeRequest.{AskForRequest, AskForNoRequest, AskNoAudit, AskNoJob, AskToAudit, Asks, FreemeJob, HasNoRequest, HasValuesFor, faults_in, freeme_command, freeme_rules, matched_in}
 use Rattle.fm_cli_requests.specs.declared.freeme_request.FreemeRequest.{FreemeRequest}
 use Rattle.fm_cli_requests.specs.declared.freeme_request.FreemeRequest.TheVariants as request
 
@@ -48,14 +48,14 @@ faults_are app words result = faults_by freeme_command app words result is_free_
 
 -- what the matches hold is what the words ask for
 pub asked_by : (words : List (List ℕ)) (asked : Option FreemeRequest) → faults_in words ≡ []
-    → MatchOption asked (HasNothing (matched_in words)) (HasValuesFor (matched_in words)) → MatchOption asked (AskForNone words) (AskFor words)
+    → MatchOption asked (HasNoRequest (matched_in words)) (HasValuesFor (matched_in words)) → MatchOption asked (AskForNoRequest words) (AskForRequest words)
 asked_by words None faultless h =
     record { no_job = λ job asks. h.no_job job asks.values; no_audit = λ job asks. h.no_audit job asks.values }
 asked_by words (Some (request.Write r)) faultless h = record { faultless = faultless; values = h }
 asked_by words (Some (request.Audit r)) faultless h = record { faultless = faultless; values = h }
 
 -- words in which there is a fault ask for nothing
-pub faulty : (words : List (List ℕ)) (kind : ErrorKind) → ¬ (kind ≡ OutOfMemory) → (kind ≡ OutOfMemory) ⊎ IsAmong kind (faults_in words) → AskForNone words
+pub faulty : (words : List (List ℕ)) (kind : ErrorKind) → ¬ (kind ≡ OutOfMemory) → (kind ≡ OutOfMemory) ⊎ IsAmong kind (faults_in words) → AskForNoRequest words
 faulty words kind known fails =
     let fault = is_fault (faults_in words) kind known fails in
     record { no_job = λ job asks. fault asks.faultless; no_audit = λ job asks. fault asks.faultless }
@@ -118,14 +118,14 @@ asks_one words a b p q =
     }
 
 -- for one audit at most
-pub audits_one : (words : List (List ℕ)) (a b : AuditJob) → AskToAudit words a → AskToAudit words b → a ≡ b
+pub audits_one : (words : List (List ℕ)) (a b : Audit) → AskToAudit words a → AskToAudit words b → a ≡ b
 audits_one words a b p q =
     let folder = same_value (first_of (codes "audit") (matched_in words)) a.folder b.folder p.values.folder q.values.folder in
     let classes = named_once (codes "main") (matched_in words) a.main b.main a.files b.files None None p.values.classes q.values.classes in
     λ i. record { folder = folder i; main = classes.main_is i; files = classes.files_are i }
 
 -- and never for both
-pub audits_alone : (words : List (List ℕ)) (job : AuditJob) → AskToAudit words job → AskNoJob words
+pub audits_alone : (words : List (List ℕ)) (job : Audit) → AskToAudit words job → AskNoJob words
 audits_alone words job audits writing asks =
     let some = audits.values.folder in
     let none = asks.values.no_audit in cc

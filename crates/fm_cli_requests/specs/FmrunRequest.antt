@@ -58,8 +58,8 @@ pub record HasValuesOf (matches : List Row) (job : FmrunJob) : Type 0 where
   pub classes : NameClasses (codes "class") matches job.main job.files job.made
 
 -- what clap matched is no job
-abbrev pub HasNoValues : List Row → Type 0
-HasNoValues matches = (job : FmrunJob) → ¬ HasValuesOf matches job
+abbrev pub HasNoJob : List Row → Type 0
+HasNoJob matches = (job : FmrunJob) → ¬ HasValuesOf matches job
 
 -- clap finds no fault in the words, and what it matches there is the job
 pub record Asks (words : List (List ℕ)) (job : FmrunJob) : Type 0 where

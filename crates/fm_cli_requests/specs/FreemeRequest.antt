@@ -1,7 +1,7 @@
 -- What the words of the command line ask freeme for.
 use Rattle.std.specs.Prelude.{◌≡◌, ◌↔◌, ℕ, Bool, List, [], ◌∷◌, Option, Some, None, IsTrue, map, codes}
 use Rattle.clap.specs.Words.{App, Kinds, Row, Rule, fault_of, first_of, matches_of}
-use Rattle.fm_cli_requests.specs.AuditRequest.{AuditJob, AuditsNothing, HasAuditOf, audit_of}
+use Rattle.fm_cli_requests.specs.AuditRequest.{Audit, HasNoAudit, HasAuditOf, audit_of}
 use Rattle.fm_cli_requests.specs.ClassFiles.{NameClasses}
 use Rattle.fm_cli_requests.specs.ProgramText.{AskForNoText, AskForText}
 use Rattle.fm_cli_requests.specs.Values.{IsGiven, IsValue, command_with, files_rule, flag_rule, option_rule}
@@ -52,8 +52,8 @@ pub record HasValuesOf (matches : List Row) (job : FreemeJob) : Type 0 where
   pub chains_of_files : IsTrue job.chains → job.made ≡ None
 
 -- what clap matched is no job
-abbrev pub HasNoValues : List Row → Type 0
-HasNoValues matches = (job : FreemeJob) → ¬ HasValuesOf matches job
+abbrev pub HasNoJob : List Row → Type 0
+HasNoJob matches = (job : FreemeJob) → ¬ HasValuesOf matches job
 
 -- clap finds no fault in the words, and what it matches there is the job
 pub record Asks (words : List (List ℕ)) (job : FreemeJob) : Type 0 where
@@ -65,13 +65,13 @@ abbrev pub AskNoJob : List (List ℕ) → Type 0
 AskNoJob words = (job : FreemeJob) → ¬ Asks words job
 
 -- the same of what is to be audited
-pub record AskToAudit (words : List (List ℕ)) (job : AuditJob) : Type 0 where
+pub record AskToAudit (words : List (List ℕ)) (audit : Audit) : Type 0 where
   pub faultless : faults_in words ≡ []
-  pub values : HasAuditOf (matched_in words) job
+  pub values : HasAuditOf (matched_in words) audit
 
 -- the words ask for no audit
 abbrev pub AskNoAudit : List (List ℕ) → Type 0
-AskNoAudit words = (job : AuditJob) → ¬ AskToAudit words job
+AskNoAudit words = (audit : Audit) → ¬ AskToAudit words audit
 
 -- the words ask for a text, and so for nothing else
 pub record AskOnlyForText (words : List (List ℕ)) : Type 0 where
@@ -105,16 +105,16 @@ HasValuesFor matches (request.Write r) = HasValuesOf matches (job_of r)
 HasValuesFor matches (request.Audit r) = HasAuditOf matches (audit_of r)
 
 -- it is nothing that may be requested
-pub record HasNothing (matches : List Row) : Type 0 where
-  pub no_job : HasNoValues matches
-  pub no_audit : AuditsNothing matches
+pub record HasNoRequest (matches : List Row) : Type 0 where
+  pub no_job : HasNoJob matches
+  pub no_audit : HasNoAudit matches
 
 -- the words ask for what is requested
-abbrev pub AskFor : List (List ℕ) → FreemeRequest → Type 0
-AskFor words (request.Write r) = Asks words (job_of r)
-AskFor words (request.Audit r) = AskToAudit words (audit_of r)
+abbrev pub AskForRequest : List (List ℕ) → FreemeRequest → Type 0
+AskForRequest words (request.Write r) = Asks words (job_of r)
+AskForRequest words (request.Audit r) = AskToAudit words (audit_of r)
 
 -- they ask for nothing that may be requested
-pub record AskForNone (words : List (List ℕ)) : Type 0 where
+pub record AskForNoRequest (words : List (List ℕ)) : Type 0 where
   pub no_job : AskNoJob words
   pub no_audit : AskNoAudit words

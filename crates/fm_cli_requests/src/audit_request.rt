@@ -2,7 +2,7 @@
 
 ghost use Rattle.std.specs.Prelude.{◌≡◌, ◌↔◌, None, Some, IfOk, IsTrue, MatchOption, codes};
 ghost use Rattle.clap.specs.Words.{first_of, found_of, rows_of};
-ghost use Rattle.fm_cli_requests.specs.AuditRequest.{AuditsNothing, HasAuditOf, audit_of};
+ghost use Rattle.fm_cli_requests.specs.AuditRequest.{HasNoAudit, HasAuditOf, audit_of};
 
 use crate::class_files::{NamedClasses, classes_in, lacks_value};
 use crate::values::{is_given, is_value};
@@ -30,7 +30,7 @@ pub(crate) fn audit_in<'a>(
 ) -> Result<Option<AuditRequest<'a>>, NoMemory>
     requires { first_of (codes "audit") (rows_of (found_of matches.now)) ≡ Some folder.now }
     ensures { let rows = rows_of (found_of matches.now) in
-        IfOk result (λ asked. MatchOption asked (AuditsNothing rows)
+        IfOk result (λ asked. MatchOption asked (HasNoAudit rows)
         (λ r. HasAuditOf rows (audit_of r))) }
 {
     if !lacks_value(matches, "out") {

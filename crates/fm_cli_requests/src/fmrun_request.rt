@@ -4,7 +4,7 @@ ghost use Rattle.std.specs.Prelude.{◌≡◌, ◌↔◌, false, IfOk, IfSome, I
 ghost use Rattle.clap.specs.Words.{app_of, first_of, found_of, rows_of, rule_of};
 ghost use Rattle.fm_cli.specs.Words.{texts};
 ghost use Rattle.fm_cli_requests.specs.Values.{IsValue};
-ghost use Rattle.fm_cli_requests.specs.FmrunRequest.{Asks, AskNoJob, HasValuesOf, HasNoValues, IsBudget, class_rule, fmrun_command, job_of};
+ghost use Rattle.fm_cli_requests.specs.FmrunRequest.{Asks, AskNoJob, HasValuesOf, HasNoJob, IsBudget, class_rule, fmrun_command, job_of};
 ghost use Rattle.fm_cli_requests.specs.inner.FmrunRequest.{HasBudgets, HasNoBudgets, IsNoBudget};
 
 use crate::class_files::{NamedClasses, classes_in};
@@ -92,7 +92,7 @@ fn request_in<'a>(
     matches: &ArgMatches<'a>,
 ) -> Result<Option<FmrunRequest<'a>>, NoMemory>
     ensures { let rows = rows_of (found_of matches.now) in
-        IfOk result (λ asked. MatchOption asked (HasNoValues rows)
+        IfOk result (λ asked. MatchOption asked (HasNoJob rows)
         (λ r. HasValuesOf rows (job_of r))) }
 {
     let Some(budgets) = budgets_in(matches) else {

@@ -3,7 +3,7 @@
 ghost use Rattle.std.specs.Prelude.{◌≡◌, None, IfOk, MatchOption, codes};
 ghost use Rattle.clap.specs.Words.{app_of, first_of, found_of, rows_of};
 ghost use Rattle.fm_cli.specs.Words.{texts};
-ghost use Rattle.fm_cli_requests.specs.FreemeRequest.{AskFor, AskForNone, HasNoValues, HasNothing, HasValuesFor, HasValuesOf, freeme_command, job_of};
+ghost use Rattle.fm_cli_requests.specs.FreemeRequest.{AskForRequest, AskForNoRequest, HasNoJob, HasNoRequest, HasValuesFor, HasValuesOf, freeme_command, job_of};
 
 use crate::audit_request::{AuditRequest, audit_in};
 use crate::class_files::{NamedClasses, classes_in};
@@ -41,8 +41,8 @@ pub struct WriteRequest<'a> {
 
 /// What the words ask for, or None where they aren't of that form.
 pub fn request_of(alloc: Global, words: &[String]) -> Result<Option<FreemeRequest<'_>>, NoMemory>
-    ensures { IfOk result (λ asked. MatchOption asked (AskForNone (texts words.now))
-        (AskFor (texts words.now))) }
+    ensures { IfOk result (λ asked. MatchOption asked (AskForNoRequest (texts words.now))
+        (AskForRequest (texts words.now))) }
 {
     let command = freeme_command(alloc)?;
     match command.try_get_matches_from(words) {
@@ -76,7 +76,7 @@ fn request_in<'a>(
     matches: &ArgMatches<'a>,
 ) -> Result<Option<FreemeRequest<'a>>, NoMemory>
     ensures { let rows = rows_of (found_of matches.now) in
-        IfOk result (λ asked. MatchOption asked (HasNothing rows) (HasValuesFor rows)) }
+        IfOk result (λ asked. MatchOption asked (HasNoRequest rows) (HasValuesFor rows)) }
 {
     let Some(folder) = matches.get_str("audit") else {
         return match write_in(alloc, matches)? {
@@ -98,7 +98,7 @@ fn write_in<'a>(
 ) -> Result<Option<WriteRequest<'a>>, NoMemory>
     requires { first_of (codes "audit") (rows_of (found_of matches.now)) ≡ None }
     ensures { let rows = rows_of (found_of matches.now) in
-        IfOk result (λ asked. MatchOption asked (HasNoValues rows)
+        IfOk result (λ asked. MatchOption asked (HasNoJob rows)
         (λ r. HasValuesOf rows (job_of r))) }
 {
     let Some(folder) = matches.get_str("out") else {

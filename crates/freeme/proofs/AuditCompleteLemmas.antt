@@ -6,7 +6,7 @@ use Rattle.fm_cli.specs.Line.{Tells}
 use Rattle.fm_cli.specs.declared.command_refusal.CommandRefusal.TheVariants as refusal
 use Rattle.fm_cli.specs.declared.status.TheConstants.{DONE, LIMIT, OUT_OF_MEMORY}
 use Rattle.fm_cli_requests.proofs.FreemeRequestLemmas.{audits_one}
-use Rattle.fm_cli_requests.specs.AuditRequest.{AuditJob}
+use Rattle.fm_cli_requests.specs.AuditRequest.{Audit}
 use Rattle.fm_code.specs.declared.class_file.ClassDef.{ClassDef}
 use Rattle.fm_files.specs.Files.{Bytes, Contents, Disk}
 use Rattle.fm_files.specs.Sink.{Output}
@@ -68,7 +68,7 @@ not_unread files file old new none unread =
 
 -- ---- an audit that nothing is against
 
-module _ {old new : Disk} {before after report report' : Output} (audit : AuditJob) (classes others : List ClassDef) (can : CanBeAudited audit old.contents classes others) (none : NoAuditFails audit old new before after report report') where
+module _ {old new : Disk} {before after report report' : Output} (audit : Audit) (classes others : List ClassDef) (can : CanBeAudited audit old.contents classes others) (none : NoAuditFails audit old new before after report report') where
   abbrev main : List ℕ
   main = (given_in audit).main
 
@@ -161,6 +161,6 @@ module _ {old new : Disk} {before after report report' : Output} (audit : AuditJ
 pub audits_complete : {words : List Bytes} {old new : Disk} (before after report report' : Output) (result : ℕ) → IsAuditCall words old new before after report report' result
     → AuditsComplete words old new before after report report' result
 audits_complete {words} {old} {new} before after report report' result call audit classes others asked can none =
-    let P : AuditJob → Type 0 = λ a. AuditsTo a old new call.outcome in
+    let P : Audit → Type 0 = λ a. AuditsTo a old new call.outcome in
     let comes = subst P (audits_one words call.audit audit call.asked asked) call.comes in
     ends_reported audit classes others can none call.outcome result (ends_so audit classes others can none call.outcome comes) call.reports

@@ -12,7 +12,7 @@ use Rattle.fm_base.specs.declared.ids.MethodId.{MethodId}
 use Rattle.fm_base.specs.declared.limits.TheConstants.{MAX_CLASS_FILES}
 use Rattle.fm_check_program.specs.Untyped.{AreTyped}
 use Rattle.fm_cli.specs.declared.command_refusal.CommandRefusal.TheVariants as refusal
-use Rattle.fm_cli_requests.specs.AuditRequest.{AuditJob, audit_of}
+use Rattle.fm_cli_requests.specs.AuditRequest.{Audit, audit_of}
 use Rattle.fm_cli_requests.specs.FreemeRequest.{FreemeJob}
 use Rattle.fm_cli_requests.specs.declared.audit_request.AuditRequest.{AuditRequest}
 use Rattle.fm_code.specs.declared.class_file.ClassDef.{ClassDef}
@@ -72,7 +72,7 @@ untouched_then {old} {between} {new} first second = record {
 }
 
 -- the class files of the program are read
-pub only_reads : (audit : AuditJob) (old new : Disk) → ReadsAll audit.files old new → OnlyReads audit old new
+pub only_reads : (audit : Audit) (old new : Disk) → ReadsAll audit.files old new → OnlyReads audit old new
 only_reads audit old new all = record {
   reads = record {
     faults = rises_more (λ name there. inl there) all.reads.faults;
@@ -83,7 +83,7 @@ only_reads audit old new all = record {
 }
 
 -- and then those that are audited
-pub both_read : (audit : AuditJob) (classes : List ClassDef) (names : List Bytes) (old between new : Disk) → names ≡ audited_files audit classes
+pub both_read : (audit : Audit) (classes : List ClassDef) (names : List Bytes) (old between new : Disk) → names ≡ audited_files audit classes
     → OnlyReads audit old between → ReadsAll names between new → OnlyReads audit old new
 both_read audit classes names old between new same first second =
     let Such : Bytes → Type 0 = λ name. Contains audit.files name ⊎ IsClassFileIn audit.folder name in
@@ -101,7 +101,7 @@ both_read audit classes names old between new same first second =
 -- ---- the program
 
 -- the job that would write its classes
-abbrev job_for : AuditJob → FreemeJob
+abbrev job_for : Audit → FreemeJob
 job_for audit = record { folder = audit.folder; main = audit.main; files = audit.files; made = None; rapid = false; chains = false }
 
 -- what became of its files by their names and their classes as slices
@@ -119,7 +119,7 @@ audit_reads {names} {classes} {items} {old} {between} request same lent all read
     record { read = subst Q (sym lent) (subst P files read); all = subst R files all }
 
 -- a file of it isn't taken
-pub first_refused : (audit : AuditJob) (old new : Disk) (r : JobRefusal) → ComesOfFiles {Y = Global} audit.files old new (Err r) → AuditsTo audit old new (Err (free_refusal.Job r))
+pub first_refused : (audit : Audit) (old new : Disk) (r : JobRefusal) → ComesOfFiles {Y = Global} audit.files old new (Err r) → AuditsTo audit old new (Err (free_refusal.Job r))
 first_refused audit old new (job_refusal.TooLong file) comes = inl comes
 first_refused audit old new (job_refusal.Class file r) comes = inl comes
 first_refused audit old new (job_refusal.Shared (refusal.Read file)) comes = inl comes
@@ -139,7 +139,7 @@ audit_first_refused {names} old new request same r comes =
     first_refused (audit_of request) old new r (subst P (ap (map (λ n. n.now)) same) comes)
 
 module _ {request : AuditRequest} {classes : List ClassDef} {old between : Disk} (reads : ReadsAudit request classes old between) where
-  abbrev audit : AuditJob
+  abbrev audit : Audit
   audit = audit_of request
 
   source : AreGiven (given_in audit) old.contents classes
@@ -221,7 +221,7 @@ module _ {request : AuditRequest} {classes : List ClassDef} {old between : Disk}
 
 -- ---- what is audited
 
-module _ {audit : AuditJob} {audited : AuditedProgram} {old between : Disk} (so : IsJudgedSo audit audited old between) where
+module _ {audit : Audit} {audited : AuditedProgram} {old between : Disk} (so : IsJudgedSo audit audited old between) where
   abbrev items : List ClassDef
   items = audited.classes.items
 

@@ -8,7 +8,7 @@ use Rattle.fm_cli.specs.Outside.{HasNoFileFault}
 use Rattle.fm_cli.specs.declared.command_refusal.CommandRefusal.TheVariants as refusal
 use Rattle.fm_cli.specs.declared.status.TheConstants.{DONE, WORDS, READ, WRITE, OUT_OF_MEMORY}
 use Rattle.fm_cli_requests.proofs.FreemeRequestLemmas.{audits_alone, audits_one}
-use Rattle.fm_cli_requests.specs.AuditRequest.{AuditJob}
+use Rattle.fm_cli_requests.specs.AuditRequest.{Audit}
 use Rattle.fm_cli_requests.specs.FreemeRequest.{AskNoAudit, AskNoJob, AskToAudit, FreemeJob, matched_in}
 use Rattle.fm_code.specs.declared.class_file.ClassDef.{ClassDef}
 use Rattle.fm_files.specs.Files.{Bytes, Disk}
@@ -41,7 +41,7 @@ IsOfAudits status = (status ≢ WORDS) × (status ≢ POOL_FULL) × (status ≢ 
 class_of_audits : (status : ℕ) → 66 ≤ status → status ≤ 69 → IsOfAudits status
 class_of_audits status low high = (λ e. omega arith, λ e. omega arith, λ e. omega arith)
 
-of_audits : (audit : AuditJob) (old new : Disk) (o : Outcome) → AuditsTo audit old new o → IsOfAudits (outcome_status o)
+of_audits : (audit : Audit) (old new : Disk) (o : Outcome) → AuditsTo audit old new o → IsOfAudits (outcome_status o)
 of_audits audit old new (Ok lines) comes = (λ e. omega arith, λ e. omega arith, λ e. omega arith)
 of_audits audit old new (Err (free_refusal.NotSafe name part)) comes = (λ e. omega arith, λ e. omega arith, λ e. omega arith)
 of_audits audit old new (Err (free_refusal.Rewrite (fail.CallsFree method offset) name)) comes = (λ e. omega arith, λ e. omega arith, λ e. omega arith)
@@ -60,7 +60,7 @@ of_audits audit old new (Err (free_refusal.Job (job_refusal.Check name))) comes 
 of_audits audit old new (Err (free_refusal.Job (job_refusal.Write name))) comes = absurd comes
 
 -- no read failed, or that is its status
-audit_fails : (audit : AuditJob) (old new : Disk) (o : Outcome) → AuditsTo audit old new o → HasNoFileFault old new ⊎ (outcome_status o ≡ READ)
+audit_fails : (audit : Audit) (old new : Disk) (o : Outcome) → AuditsTo audit old new o → HasNoFileFault old new ⊎ (outcome_status o ≡ READ)
 audit_fails audit old new (Ok lines) comes =
     inl (faultless_then old comes.audited.between new comes.audited.judged.untouched.faultless comes.audited.read.faultless)
 audit_fails audit old new (Err (free_refusal.NotSafe name part)) comes =
@@ -97,7 +97,7 @@ safe_lines_some (c ∷ classes) some =
     let own = safe_line_some c in omega (arith, length-append (safe_line c) (flat_map safe_line classes))
 
 -- a program has a class
-safe_some : (words : List Bytes) (audit : AuditJob) (old new : Disk) (lines : List ℕ) → AskToAudit words audit → IsSafe audit lines old new → 0 < length lines
+safe_some : (words : List Bytes) (audit : Audit) (old new : Disk) (lines : List ℕ) → AskToAudit words audit → IsSafe audit lines old new → 0 < length lines
 safe_some words audit old new lines asked safe =
     let source = safe.audited.judged.checked.linked.source in
     let some = classes_some (codes "main") (matched_in words) audit.main audit.files None old.contents source.read asked.values.classes source.taken.taken in
@@ -106,21 +106,21 @@ safe_some words audit old new lines asked safe =
     let is = ap length safe.lines_are in
     omega arith
 
-outcome_some : (words : List Bytes) (audit : AuditJob) (old new : Disk) (o : Outcome) → AskToAudit words audit → AuditsTo audit old new o → 0 < length (outcome_line o)
+outcome_some : (words : List Bytes) (audit : Audit) (old new : Disk) (o : Outcome) → AskToAudit words audit → AuditsTo audit old new o → 0 < length (outcome_line o)
 outcome_some words audit old new (Ok lines) asked comes = safe_some words audit old new (string_bytes lines) asked comes
 outcome_some words audit old new (Err r) asked comes = refusal_some r
 
 -- ---- what the lines say
 
 module _ (old new : Disk) (before after report report' : Output) where
-  safe_said : (audit : AuditJob) (o : Outcome) → AuditsTo audit old new o → outcome_status o ≡ DONE → IsLinePut o before after report report' → SaysSafe audit old new before after report report'
+  safe_said : (audit : Audit) (o : Outcome) → AuditsTo audit old new o → outcome_status o ≡ DONE → IsLinePut o before after report report' → SaysSafe audit old new before after report report'
   safe_said audit (Ok lines) comes is put = record { lines = string_bytes lines; safe = comes; line = put.0; unreported = put.1 }
   safe_said audit (Err (free_refusal.Job (job_refusal.Class file r))) comes is put = absurd (let c = class_status r in let low = c.low in let high = c.high in omega arith)
   safe_said audit (Err (free_refusal.Job (job_refusal.Shared refusal.Words))) comes is put = absurd (omega arith)
   safe_said audit (Err (free_refusal.Rewrite cause name)) comes is put = absurd (let r = rewrite_bounds cause in let low = r.0 in let high = r.1 in omega arith)
   safe_said audit o comes is put = absurd (omega arith)
 
-  not_safe_said : (words : List Bytes) (audit : AuditJob) → AskToAudit words audit → (o : Outcome) → AuditsTo audit old new o → outcome_status o ≡ NOT_SAFE
+  not_safe_said : (words : List Bytes) (audit : Audit) → AskToAudit words audit → (o : Outcome) → AuditsTo audit old new o → outcome_status o ≡ NOT_SAFE
       → IsLinePut o before after report report' → SaysNotSafe words old new before after report report'
   not_safe_said words audit asked (Err (free_refusal.NotSafe name part)) comes is put =
       record { audit = audit; asked = asked; name = name; part = part; not_safe = comes; refused = put }
@@ -158,7 +158,7 @@ no_audit_or_lacking words old new o (inr (inl nothing)) = inl nothing.unasked.no
 no_audit_or_lacking words old new o (inr (inr lacking)) = inr lacking
 
 module _ {words : List Bytes} {old new : Disk} (before after report report' : Output) (result : ℕ) (o : Outcome) (comes : ComesOf words old new o) (reports : IsReported o before after report report' result) where
-  pub job_only_reads : (audit : AuditJob) → AskToAudit words audit → OnlyReads audit old new
+  pub job_only_reads : (audit : Audit) → AskToAudit words audit → OnlyReads audit old new
   job_only_reads audit asked = by (no_audit_or_lacking words old new o comes) where
     by : AskNoAudit words ⊎ LacksRequest old new o → OnlyReads audit old new
     by (inl none) = absurd (none audit asked)
@@ -262,7 +262,7 @@ module _ {words : List Bytes} {old new : Disk} (before after report report' : Ou
   pub audit_changes : ChangesOnly words old new
   audit_changes = record {
     asked = λ job has. absurd (no_job job has);
-    audited = λ audit has. subst (λ (a : AuditJob). OnlyReads a old new) (audits_one words call.audit audit call.asked has) call.within;
+    audited = λ audit has. subst (λ (a : Audit). OnlyReads a old new) (audits_one words call.audit audit call.asked has) call.within;
     unasked = λ none. absurd (none.no_audit call.audit call.asked);
   }
 
@@ -272,7 +272,7 @@ module _ {words : List Bytes} {old new : Disk} (before after report report' : Ou
   pub audit_safe : IsForSafe words old new before after report report' result
   audit_safe audit has is =
       let line = own_line DONE (λ e. omega arith) (λ e. omega arith) is in
-      let P : AuditJob → Type 0 = λ a. SaysSafe a old new before after report report' in
+      let P : Audit → Type 0 = λ a. SaysSafe a old new before after report report' in
       subst P (audits_one words call.audit audit call.asked has) (safe_said old new before after report report' call.audit call.outcome call.comes line.0 line.1)
 
   pub audit_not_safe : IsForNotSafe words old new before after report report' result

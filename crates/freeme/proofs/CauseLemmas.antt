@@ -24,9 +24,9 @@ use Rattle.freeme.specs.Causes.{AskFor, AskForGiven, IsKnownAs, IsKnownStatus, S
 use Rattle.fm_load.specs.Causes.{FailsARead, FailsAWrite, IsMissing, HasTooMany, IsKnownLong, IsKnownRefused, IsKnownUnlinked, IsKnownUntyped}
 use Rattle.fm_load.specs.LinkRefusal.{cause_line}
 use Rattle.fm_load.specs.Returned.{ReadsFirst, ReadsFrom, with_contents}
-use Rattle.fm_cli_requests.specs.FreemeRequest.{AskForNone, AskNothing, AskOnlyForText, AskToAudit, Asks, FreemeJob}
+use Rattle.fm_cli_requests.specs.FreemeRequest.{AskForNoRequest, AskNothing, AskOnlyForText, AskToAudit, Asks, FreemeJob}
 use Rattle.fm_cli_requests.specs.ProgramText.{AskForNoText}
-use Rattle.fm_cli_requests.specs.AuditRequest.{AuditJob}
+use Rattle.fm_cli_requests.specs.AuditRequest.{Audit}
 use Rattle.freeme.specs.Audits.{OnlyReads}
 use Rattle.freeme.specs.Jobs.{given_of, main_name}
 use Rattle.fm_load.specs.Taking.{total_bytes, IsTooLong, IsRefused}
@@ -564,7 +564,7 @@ module _ {words : List Bytes} {old new : Disk} (before after report report' : Ou
       let unlike : (s : ℕ) → list_any (λ y. eqb y s) before_writes ≡ false → result ≢ s = λ s none. unlike_elements s before_writes none result among_these in
       reported_silent before after report report' result o reports (unlike DONE refl) (unlike WRITE refl) (unlike OUT_OF_MEMORY refl)
 
-  pub changes_only : ((audit : AuditJob) → AskToAudit words audit → OnlyReads audit old new) → ChangesOnly words old new
+  pub changes_only : ((audit : Audit) → AskToAudit words audit → OnlyReads audit old new) → ChangesOnly words old new
   changes_only audited = record {
     asked = λ job asked. stays job asked comes;
     audited = audited;
@@ -575,7 +575,7 @@ module _ {words : List Bytes} {old new : Disk} (before after report report' : Ou
     stays job asked (inr (inl nothing)) = absurd (nothing.unasked.no_job job asked)
     stays job asked (inr (inr lacking)) = let P : Disk → Type 0 = λ d. StaysWithin job old d in subst P (sym lacking.kept) (reads_within job old old (reads_none job.files old))
 
-    unchanged : AskForNone words → ComesOf words old new o → new ≡ old
+    unchanged : AskForNoRequest words → ComesOf words old new o → new ≡ old
     unchanged none (inl j) = absurd (none.no_job j.job j.asked)
     unchanged none (inr (inl nothing)) = nothing.kept
     unchanged none (inr (inr lacking)) = lacking.kept

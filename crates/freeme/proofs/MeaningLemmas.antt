@@ -3,7 +3,7 @@ use Rattle.std.proofs.Common.{◌≡◌, ◌⊎◌, ◌++◌, inl, inr, ℕ, Lis
 use Rattle.std.specs.List.{AllByRecursion}
 use Rattle.fm_base.proofs.ListFacts.{AllByRecursion-weaker}
 use Rattle.fm_cli_requests.proofs.FreemeRequestLemmas.{asks_one}
-use Rattle.fm_cli_requests.specs.AuditRequest.{AuditJob}
+use Rattle.fm_cli_requests.specs.AuditRequest.{Audit}
 use Rattle.fm_cli_requests.specs.FreemeRequest.{AskOnlyForText, FreemeJob}
 use Rattle.fm_code.specs.ClassBytes.{class_bytes}
 use Rattle.fm_code.specs.Spells.{HasSpelling}
@@ -93,7 +93,7 @@ read_spelled files classes old new read =
     given_spelled are
 
 -- what is safe does what the program does
-safe_alike : (audit : AuditJob) (lines : List ℕ) (old new : Disk) → IsSafe audit lines old new → HasAuditedAlike audit old new
+safe_alike : (audit : Audit) (lines : List ℕ) (old new : Disk) → IsSafe audit lines old new → HasAuditedAlike audit old new
 safe_alike audit lines old new safe =
     let audited = safe.audited in
     let source = audited.judged.checked.linked.source in

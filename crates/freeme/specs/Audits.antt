@@ -11,7 +11,7 @@ use Rattle.fm_audit_classes.specs.Audited.{AreSafelyWritten, ComesOfAudit}
 use Rattle.fm_audit_classes.specs.declared.error.AuditFail.TheVariants as audit_fail
 use Rattle.fm_cli.specs.Encoding.{modified}
 use Rattle.fm_cli.specs.declared.command_refusal.CommandRefusal.TheVariants as refusal
-use Rattle.fm_cli_requests.specs.AuditRequest.{AuditJob}
+use Rattle.fm_cli_requests.specs.AuditRequest.{Audit}
 use Rattle.fm_code.specs.declared.class_file.ClassDef.{ClassDef}
 use Rattle.fm_law_headline.specs.InStep.{DoAlike}
 use Rattle.fm_link_refusals.specs.Refused.{refusal_of}
@@ -31,29 +31,29 @@ use Rattle.freeme.specs.declared.refusal.FreeRefusal.TheVariants as free_refusal
 -- ---- what is audited
 
 -- the class files of the program and its main class
-abbrev pub given_in : AuditJob → Given
+abbrev pub given_in : Audit → Given
 given_in audit = record { files = audit.files; made = None; main = modified audit.main }
 
 -- the files that are audited: those to which the classes of the program would be written, in their order
-abbrev pub audited_files : AuditJob → List ClassDef → List Bytes
+abbrev pub audited_files : Audit → List ClassDef → List Bytes
 audited_files audit classes = map (written_name audit.folder) classes
 
 -- only class files of the program and of the folder are read, and nothing is written
-pub record OnlyReads (audit : AuditJob) (old new : Disk) : Type 0 where
+pub record OnlyReads (audit : Audit) (old new : Disk) : Type 0 where
   pub reads : ReadsOnly (λ name. Contains audit.files name ⊎ IsClassFileIn audit.folder name) old new
   pub writes : KeepsWrites old new
 
 -- ---- the program
 
 -- its class files were read, and nothing else was done; they make a program of typed methods that doesn't call FreeMe
-pub record IsJudged (audit : AuditJob) (classes : List ClassDef) (old new : Disk) : Type 0 where
+pub record IsJudged (audit : Audit) (classes : List ClassDef) (old new : Disk) : Type 0 where
   pub checked : AreChecked (given_in audit) old.contents classes
   pub no_call : first_call (given_program (given_in audit) classes) ≡ None
   pub reads : ReadsAs audit.files classes old new
   pub untouched : IsUntouched old new
 
 -- they make a program of typed methods, and this is the first method that calls FreeMe, at this offset, by its name
-pub record IsCalling (audit : AuditJob) (method : MethodId) (offset : ℕ) (name : Bytes) (old new : Disk) : Type 0 where
+pub record IsCalling (audit : Audit) (method : MethodId) (offset : ℕ) (name : Bytes) (old new : Disk) : Type 0 where
   pub classes : List ClassDef
   pub checked : AreChecked (given_in audit) old.contents classes
   pub reads : ReadsAs audit.files classes old new
@@ -64,18 +64,18 @@ pub record IsCalling (audit : AuditJob) (method : MethodId) (offset : ℕ) (name
 -- ---- the files that are audited
 
 -- after the program is judged this becomes of them
-pub record OfAudited (audit : AuditJob) (P : List Bytes → Disk → Disk → Type 0) (old new : Disk) : Type 0 where
+pub record OfAudited (audit : Audit) (P : List Bytes → Disk → Disk → Type 0) (old new : Disk) : Type 0 where
   pub classes : List ClassDef
   pub between : Disk
   pub judged : IsJudged audit classes old between
   pub becomes : P (audited_files audit classes) between new
 
 -- this becomes of the class files of the program, or else of those that are audited
-abbrev pub OfEither : AuditJob → (List Bytes → Disk → Disk → Type 0) → Disk → Disk → Type 0
+abbrev pub OfEither : Audit → (List Bytes → Disk → Disk → Type 0) → Disk → Disk → Type 0
 OfEither audit P old new = P audit.files old new ⊎ OfAudited audit P old new
 
 -- after the program is judged all of them are read, each as a class with a spelling, of the profile and within the limits
-pub record AreAudited (audit : AuditJob) (classes written : List ClassDef) (old new : Disk) : Type 0 where
+pub record AreAudited (audit : Audit) (classes written : List ClassDef) (old new : Disk) : Type 0 where
   pub between : Disk
   pub judged : IsJudged audit classes old between
   pub read : AreRead (audited_files audit classes) written between new
@@ -85,7 +85,7 @@ abbrev pub safe_line : ClassDef → List ℕ
 safe_line c = class_text c ++ (codes ": safe" ++ 10 ∷ [])
 
 -- their classes are those of the program with safe insertions, and so do what these do (JVMS 2.6, 2.10, 2.11); there is a line for each
-pub record IsSafe (audit : AuditJob) (lines : List ℕ) (old new : Disk) : Type 0 where
+pub record IsSafe (audit : Audit) (lines : List ℕ) (old new : Disk) : Type 0 where
   pub classes : List ClassDef
   pub written : List ClassDef
   pub audited : AreAudited audit classes written old new
@@ -99,7 +99,7 @@ named o class None = (class_info o class.0).name
 named o class (Some method) = method_text (declared_name o.classes method.0)
 
 -- they aren't, and this is the name of the class or the method for which they aren't, and the number of the part that it fails
-pub record IsNotSafe (audit : AuditJob) (name : Bytes) (number : ℕ) (old new : Disk) : Type 0 where
+pub record IsNotSafe (audit : Audit) (name : Bytes) (number : ℕ) (old new : Disk) : Type 0 where
   pub classes : List ClassDef
   pub written : List ClassDef
   pub audited : AreAudited audit classes written old new
@@ -113,7 +113,7 @@ pub record IsNotSafe (audit : AuditJob) (name : Bytes) (number : ℕ) (old new :
 -- ---- how an audit comes out
 
 -- what one that comes out so does to the files
-abbrev pub AuditsTo : AuditJob → Disk → Disk → Result (String Global) FreeRefusal → Type 0
+abbrev pub AuditsTo : Audit → Disk → Disk → Result (String Global) FreeRefusal → Type 0
 AuditsTo audit old new (Ok lines) = IsSafe audit (string_bytes lines) old new
 AuditsTo audit old new (Err (free_refusal.NotSafe name part)) = IsNotSafe audit name part old new
 AuditsTo audit old new (Err (free_refusal.Rewrite (fail.CallsFree method offset) name)) = IsCalling audit method offset name old new

@@ -18,8 +18,8 @@ use Rattle.fm_load.specs.LinkRefusal.{link_line}
 use Rattle.fm_load.specs.Refusal.{IsRefusedBy, check_line, many_line, long_line, write_line}
 use Rattle.freeme.specs.Audits.{IsNotSafe, IsSafe, OnlyReads}
 use Rattle.freeme.specs.Refusal.{not_safe_line, rewrite_line, rewrite_status}
-use Rattle.fm_cli_requests.specs.AuditRequest.{AuditJob}
-use Rattle.fm_cli_requests.specs.FreemeRequest.{AskForNone, AskNoAudit, AskNothing, AskOnlyForText, AskToAudit, Asks, FreemeJob}
+use Rattle.fm_cli_requests.specs.AuditRequest.{Audit}
+use Rattle.fm_cli_requests.specs.FreemeRequest.{AskForNoRequest, AskNoAudit, AskNothing, AskOnlyForText, AskToAudit, Asks, FreemeJob}
 use Rattle.fm_cli_requests.specs.ProgramText.{AskForText}
 use Rattle.fm_cli_requests.specs.declared.program_text.ProgramText.{ProgramText}
 use Rattle.freeme.specs.Jobs.{given_of, IsJobProgram}
@@ -332,14 +332,14 @@ PutsOnce before after report report' = (GetsAtMostOne before after × (report' �
 -- of its folder and changes nothing, and words that ask for neither leave the files as they were
 pub record ChangesOnly (words : List Bytes) (old new : Disk) : Type 0 where
   pub asked : (job : FreemeJob) → Asks words job → StaysWithin job old new
-  pub audited : (audit : AuditJob) → AskToAudit words audit → OnlyReads audit old new
-  pub unasked : AskForNone words → new ≡ old
+  pub audited : (audit : Audit) → AskToAudit words audit → OnlyReads audit old new
+  pub unasked : AskForNoRequest words → new ≡ old
 
 -- ---- audits
 
 -- all files of an audit are taken, and those that are audited are safe insertions; nothing else happened to the files, the output got a line
 -- of each class as one piece, and the report is as it was
-pub record SaysSafe (audit : AuditJob) (old new : Disk) (before after report report' : Output) : Type 0 where
+pub record SaysSafe (audit : Audit) (old new : Disk) (before after report report' : Output) : Type 0 where
   pub lines : List ℕ
   pub safe : IsSafe audit lines old new
   pub line : after ≡ with_piece lines before
@@ -348,12 +348,12 @@ pub record SaysSafe (audit : AuditJob) (old new : Disk) (before after report rep
 -- an audit is done only there
 abbrev pub IsForSafe : List Bytes → Disk → Disk → Output → Output → Output → Output → ℕ → Type 0
 IsForSafe words old new before after report report' result =
-    (audit : AuditJob) → AskToAudit words audit → result ≡ DONE → SaysSafe audit old new before after report report'
+    (audit : Audit) → AskToAudit words audit → result ≡ DONE → SaysSafe audit old new before after report report'
 
 -- the words ask for an audit, all files of which are taken, and those that are audited aren't safe insertions; the line names the first class or
 -- method and the part for which they aren't
 pub record SaysNotSafe (words : List Bytes) (old new : Disk) (before after report report' : Output) : Type 0 where
-  pub audit : AuditJob
+  pub audit : Audit
   pub asked : AskToAudit words audit
   pub name : Bytes
   pub part : ℕ
@@ -366,4 +366,4 @@ IsForNotSafe words old new before after report report' result = result ≡ NOT_S
 
 -- an audit changes no contents and writes nothing, at any status
 abbrev pub IsUnwrittenByAudits : List Bytes → Disk → Disk → Type 0
-IsUnwrittenByAudits words old new = (audit : AuditJob) → AskToAudit words audit → KeepsWrites old new
+IsUnwrittenByAudits words old new = (audit : Audit) → AskToAudit words audit → KeepsWrites old new

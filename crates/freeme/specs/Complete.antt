@@ -1,7 +1,7 @@
 -- That a job is done where nothing is against it and nothing fails, as long as there is memory.
 use Rattle.std.specs.Prelude.{◌≡◌, ℕ, ◌≤◌, ◌⊎◌, List, [], ◌∷◌, Contains, None, IsSome}
 use Rattle.fm_cli.specs.declared.status.TheConstants.{DONE, OUT_OF_MEMORY}
-use Rattle.fm_cli_requests.specs.AuditRequest.{AuditJob}
+use Rattle.fm_cli_requests.specs.AuditRequest.{Audit}
 use Rattle.fm_cli_requests.specs.FreemeRequest.{AskToAudit, Asks, FreemeJob}
 use Rattle.fm_code.specs.declared.class_file.ClassDef.{ClassDef}
 use Rattle.fm_conn.specs.Facts.{AreFacts, Facts}
@@ -52,14 +52,14 @@ IsComplete words old new before after report report' result =
 
 -- Contents are known, and nothing is against the audit in them: its files hold these classes, which are taken as those of a job are, link, are typed and don't call
 -- FreeMe; and the files that are audited hold these others, each with a spelling, of the profile and within the limits, as are they in length (JVMS 4).
-pub record CanBeAudited (audit : AuditJob) (contents : Contents) (classes others : List ClassDef) : Type 0 where
+pub record CanBeAudited (audit : Audit) (contents : Contents) (classes others : List ClassDef) : Type 0 where
   pub known : IsSome contents
   pub checked : AreChecked (given_in audit) contents classes
   pub no_call : first_call (given_program (given_in audit) classes) ≡ None
   pub taken : AllTaken contents (audited_files audit classes) others
 
 -- in this call no read of a file of the audit or of a class file of its folder failed, and no put of the lines or of a refusal's
-pub record NoAuditFails (audit : AuditJob) (old new : Disk) (before after report report' : Output) : Type 0 where
+pub record NoAuditFails (audit : Audit) (old new : Disk) (before after report report' : Output) : Type 0 where
   pub reads : (file : Bytes) → Contains audit.files file ⊎ IsClassFileIn audit.folder file → new.read_faults file ≤ old.read_faults file
   pub puts : after.faults ≤ before.faults
   pub reports : report'.faults ≤ report.faults
@@ -67,5 +67,5 @@ pub record NoAuditFails (audit : AuditJob) (old new : Disk) (before after report
 -- an audit that words ask for finds what is audited safe or not, where nothing is against it and nothing fails, or memory can't be had
 abbrev pub AuditsComplete : List Bytes → Disk → Disk → Output → Output → Output → Output → ℕ → Type 0
 AuditsComplete words old new before after report report' result =
-    (audit : AuditJob) (classes others : List ClassDef) → AskToAudit words audit → CanBeAudited audit old.contents classes others
+    (audit : Audit) (classes others : List ClassDef) → AskToAudit words audit → CanBeAudited audit old.contents classes others
     → NoAuditFails audit old new before after report report' → Contains (DONE ∷ NOT_SAFE ∷ OUT_OF_MEMORY ∷ []) result

@@ -4,7 +4,7 @@ use Rattle.std.specs.List.{AllByRecursion}
 use Rattle.fm_files.specs.Files.{Bytes, Disk}
 use Rattle.fm_cli.specs.declared.status.TheConstants.{DONE}
 use Rattle.fm_code.specs.declared.class_file.ClassDef.{ClassDef}
-use Rattle.fm_cli_requests.specs.AuditRequest.{AuditJob}
+use Rattle.fm_cli_requests.specs.AuditRequest.{Audit}
 use Rattle.fm_cli_requests.specs.FreemeRequest.{AskOnlyForText, AskToAudit, Asks, FreemeJob}
 use Rattle.fm_law_chains.specs.FreesAll.{FreesAll}
 use Rattle.fm_law_headline.specs.Headline.{DoesTheSame, EndTheSame, MakesAsHeld}
@@ -73,7 +73,7 @@ RunsAlike words old new result = (job : FreemeJob) → Asks words job → job.ma
 
 -- The class files of an audit and those that are audited, whose bytes the reads of this call returned in this order: each spells its class (JVMS 4). With the main
 -- class of the audit the second program does what the first one does, on memory that reuses cells in any way, step for matched step, and no freed cell is used.
-pub record HasAuditedAlike (audit : AuditJob) (old new : Disk) : Type 0 where
+pub record HasAuditedAlike (audit : Audit) (old new : Disk) : Type 0 where
   pub given : List ClassDef
   pub one_each : length given ≡ length audit.files
   pub spelled : AllByRecursion ClassIsSpelled given
@@ -86,4 +86,4 @@ pub record HasAuditedAlike (audit : AuditJob) (old new : Disk) : Type 0 where
 
 -- where the audit is done
 abbrev pub AuditsAlike : List Bytes → Disk → Disk → ℕ → Type 0
-AuditsAlike words old new result = (audit : AuditJob) → AskToAudit words audit → result ≡ DONE → HasAuditedAlike audit old new
+AuditsAlike words old new result = (audit : Audit) → AskToAudit words audit → result ≡ DONE → HasAuditedAlike audit old new

@@ -29,8 +29,8 @@ use Rattle.fm_load.specs.Returned.{ReadsAs, ReadsInOrder}
 use Rattle.fm_load.specs.Taking.{ClassIsSpelled}
 use Rattle.fm_load.specs.Changes.{RisesOnlyAt, ChangesOnlyAt, ReadsOnly}
 use Rattle.freeme.specs.Refusal.{refusal_line, refusal_status}
-use Rattle.fm_cli_requests.specs.AuditRequest.{AuditJob}
-use Rattle.fm_cli_requests.specs.FreemeRequest.{AskForNone, AskToAudit, Asks, FreemeJob}
+use Rattle.fm_cli_requests.specs.AuditRequest.{Audit}
+use Rattle.fm_cli_requests.specs.FreemeRequest.{AskForNoRequest, AskToAudit, Asks, FreemeJob}
 use Rattle.fm_cli_requests.specs.ProgramText.{AskForNoText, AskForText}
 use Rattle.fm_cli_requests.specs.declared.program_text.ProgramText.{ProgramText}
 use Rattle.fm_cli_requests.specs.declared.program_text.ProgramText.TheVariants as text
@@ -183,7 +183,7 @@ pub record ComesOfJob (words : List Bytes) (old new : Disk) (outcome : Outcome) 
 
 -- the words ask for no job and for no audit, which is refused, and leaves the files as they were
 pub record ComesOfNothing (words : List Bytes) (old new : Disk) (outcome : Outcome) : Type 0 where
-  pub unasked : AskForNone words
+  pub unasked : AskForNoRequest words
   pub refused : outcome ≡ Err (free_refusal.Job (job_refusal.Shared refusal.Words))
   pub kept : new ≡ old
 
@@ -218,7 +218,7 @@ pub record IsJobCall (words : List Bytes) (old new : Disk) (before after report 
 -- a call for an audit, which comes out in some way, and that is reported
 pub record IsAuditCall (words : List Bytes) (old new : Disk) (before after report report' : Output) (result : ℕ) : Type 0 where
   pub no_text : AskForNoText words
-  pub audit : AuditJob
+  pub audit : Audit
   pub asked : AskToAudit words audit
   pub within : OnlyReads audit old new
   pub outcome : Outcome

@@ -11,7 +11,7 @@ use Rattle.fm_base.specs.declared.ids.ClassId.{ClassId}
 use Rattle.fm_base.specs.declared.ids.MethodId.{MethodId}
 use Rattle.fm_base.specs.declared.limits.TheConstants.{MAX_CLASS_FILES}
 use Rattle.fm_cli.specs.declared.command_refusal.CommandRefusal.TheVariants as refusal
-use Rattle.fm_cli_requests.specs.AuditRequest.{AuditJob}
+use Rattle.fm_cli_requests.specs.AuditRequest.{Audit}
 use Rattle.fm_code.specs.declared.class_file.ClassDef.{ClassDef}
 use Rattle.fm_files.specs.Files.{Bytes, Disk}
 use Rattle.fm_files.specs.Sink.{Output}
@@ -37,13 +37,13 @@ abbrev pub names_in : AuditedProgram → List Bytes
 names_in audited = map string_bytes audited.names.items
 
 -- the program is judged, and the files that are audited have these names
-pub record IsJudgedSo (audit : AuditJob) (audited : AuditedProgram) (old new : Disk) : Type 0 where
+pub record IsJudgedSo (audit : Audit) (audited : AuditedProgram) (old new : Disk) : Type 0 where
   pub judged : IsJudged audit audited.classes.items old new
   pub program_is : audited.program ≡ given_program (given_in audit) audited.classes.items
   pub names_are : names_in audited ≡ audited_files audit audited.classes.items
 
 -- it is, or the audit ends
-abbrev pub JudgesTo : AuditJob → Disk → Disk → Result AuditedProgram FreeRefusal → Type 0
+abbrev pub JudgesTo : Audit → Disk → Disk → Result AuditedProgram FreeRefusal → Type 0
 JudgesTo audit old new (Ok audited) = IsJudgedSo audit audited old new
 JudgesTo audit old new (Err r) = AuditsTo audit old new (Err r)
 
@@ -108,7 +108,7 @@ IsCallRefused o method offset (free_refusal.Job (job_refusal.Shared refusal.OutO
 IsCallRefused o method offset r = ⊥
 
 -- an audit comes out in some way, and that is reported
-pub record IsAuditReported (audit : AuditJob) (old new : Disk) (before after report report' : Output) (result : ℕ) : Type 0 where
+pub record IsAuditReported (audit : Audit) (old new : Disk) (before after report report' : Output) (result : ℕ) : Type 0 where
   pub outcome : Outcome
   pub comes : AuditsTo audit old new outcome
   pub reports : IsReported outcome before after report report' result

@@ -3,7 +3,7 @@ use Rattle.std.proofs.lemmas.Result.{IfOk-weaker}
 use Rattle.clap.specs.Words.{Row, app_of}
 use Rattle.clap.specs.Values.{kind_of}
 use Rattle.fm_cli.specs.Words.{texts}
-use Rattle.fm_cli_requests.specs.FmrunRequest.{HasNoValues, HasValuesOf, job_of}
+use Rattle.fm_cli_requests.specs.FmrunRequest.{HasNoJob, HasValuesOf, job_of}
 use Rattle.fm_cli_requests.specs.declared.fmrun_request.FmrunRequest.{FmrunRequest}
 use Rattle.fm_cli_requests.proofs.FmrunRequestLemmas.{asked_by, faults_are, faulty, matched_are}
 use Rattle.fm_cli_requests.proofs.fmrun_request.request_of.Goals as goal
@@ -15,7 +15,7 @@ returns-in-Ok c =
     let faultless = faults_are app words (Ok c.in-Ok.matches) c.in_ok-command.ensures c.in-Ok.ensures.kinds in
     let are = matched_are app words c.in-Ok.matches c.in_ok-command.ensures c.in-Ok.ensures.matches in
     IfOk-weaker c.request_in.result _ _
-    (λ asked h. asked_by words asked faultless (subst (λ (rows : List Row). MatchOption asked (HasNoValues rows) (λ (r : FmrunRequest). HasValuesOf rows (job_of r))) (sym are) h))
+    (λ asked h. asked_by words asked faultless (subst (λ (rows : List Row). MatchOption asked (HasNoJob rows) (λ (r : FmrunRequest). HasValuesOf rows (job_of r))) (sym are) h))
     c.request_in.ensures
 
 pub returns : goal.returns

@@ -3,7 +3,7 @@ use Rattle.std.proofs.lemmas.Result.{IfOk-weaker}
 use Rattle.clap.specs.Words.{Row, app_of}
 use Rattle.clap.specs.Values.{kind_of}
 use Rattle.fm_cli.specs.Words.{texts}
-use Rattle.fm_cli_requests.specs.FreemeRequest.{HasNothing, HasValuesFor}
+use Rattle.fm_cli_requests.specs.FreemeRequest.{HasNoRequest, HasValuesFor}
 use Rattle.fm_cli_requests.proofs.FreemeRequestLemmas.{asked_by, faults_are, faulty, matched_are}
 use Rattle.fm_cli_requests.proofs.freeme_request.request_of.Goals as goal
 
@@ -14,7 +14,7 @@ returns-in-Ok c =
     let faultless = faults_are app words (Ok c.in-Ok.matches) c.in_ok-command.ensures c.in-Ok.ensures.kinds in
     let are = matched_are app words c.in-Ok.matches c.in_ok-command.ensures c.in-Ok.ensures.matches in
     IfOk-weaker c.request_in.result _ _
-    (λ asked h. asked_by words asked faultless (subst (λ (rows : List Row). MatchOption asked (HasNothing rows) (HasValuesFor rows)) (sym are) h))
+    (λ asked h. asked_by words asked faultless (subst (λ (rows : List Row). MatchOption asked (HasNoRequest rows) (HasValuesFor rows)) (sym are) h))
     c.request_in.ensures
 
 pub returns : goal.returns

@@ -3,17 +3,17 @@ use Rattle.fm_cli.specs.Words.{texts}
 use Rattle.fm_cli.specs.declared.command_refusal.CommandRefusal.TheVariants as refusal
 use Rattle.fm_cli_requests.proofs.ClassFilesLemmas.{made_alone}
 use Rattle.fm_cli_requests.specs.AuditRequest.{audit_of}
-use Rattle.fm_cli_requests.specs.FreemeRequest.{AskFor, AskForNone, Asks, job_of, matched_in}
+use Rattle.fm_cli_requests.specs.FreemeRequest.{AskForRequest, AskForNoRequest, Asks, job_of, matched_in}
 use Rattle.fm_cli_requests.specs.declared.freeme_request.FreemeRequest.{FreemeRequest}
 use Rattle.fm_load.specs.declared.refusal.JobRefusal.TheVariants as job_refusal
 use Rattle.freeme.specs.declared.refusal.FreeRefusal.TheVariants as free_refusal
 use Rattle.freeme.proofs.top_call.do_words.Goals as goal
 
 -- what words ask for is what is requested
-asked_so : (words : List (List ℕ)) (o : Option FreemeRequest) (asked request : FreemeRequest) → o ≡ Some asked → asked ≡ request → MatchOption o (AskForNone words) (AskFor words)
-    → AskFor words request
+asked_so : (words : List (List ℕ)) (o : Option FreemeRequest) (asked request : FreemeRequest) → o ≡ Some asked → asked ≡ request → MatchOption o (AskForNoRequest words) (AskForRequest words)
+    → AskForRequest words request
 asked_so words o asked request some is asks =
-    let P : Option FreemeRequest → Type 0 = λ x. MatchOption x (AskForNone words) (AskFor words) in subst (AskFor words) is (subst P some asks)
+    let P : Option FreemeRequest → Type 0 = λ x. MatchOption x (AskForNoRequest words) (AskForRequest words) in subst (AskForRequest words) is (subst P some asks)
 
 pub do_job-outcome-requires : goal.do_job-outcome-requires
 do_job-outcome-requires g c =
@@ -54,7 +54,7 @@ returns-in-Audit g c =
 pub returns-in-Ok-None : goal.returns-in-Ok-None
 returns-in-Ok-None g c =
     let words = texts c.args.words.now in
-    let P : Option FreemeRequest → Type 0 = λ x. MatchOption x (AskForNone words) (AskFor words) in
+    let P : Option FreemeRequest → Type 0 = λ x. MatchOption x (AskForNoRequest words) (AskForRequest words) in
     inl (record {
       no_text = c.requires;
       outcome = Err (free_refusal.Job (job_refusal.Shared refusal.Words));
