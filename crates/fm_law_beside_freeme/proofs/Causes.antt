@@ -9,6 +9,10 @@ use Rattle.fm_base.proofs.OptionFacts.{cond-some_then, option_and_then-some}
 use Rattle.fm_base.proofs.TestFacts.{and_right}
 use Rattle.fm_base.specs.declared.ids.ClassId.{ClassId}
 use Rattle.fm_base.specs.declared.ids.MethodId.{MethodId}
+use Rattle.fm_chain.proofs.WithoutChains.{class_none}
+use Rattle.fm_chain.specs.Chained.{chained}
+use Rattle.fm_chain.specs.Chaining.{class_calls, plan_has_chain}
+use Rattle.fm_chain.specs.declared.calls.Calls.{Calls}
 use Rattle.fm_code.specs.FreeEntries.{with_free}
 use Rattle.fm_code.specs.Members.{code_of}
 use Rattle.fm_code.specs.declared.class_file.ClassDef.{ClassDef}
@@ -17,11 +21,12 @@ use Rattle.fm_code.specs.declared.code_array.Code.{Code}
 use Rattle.fm_code.specs.declared.code_array.TheConstants.{MAX_CODE_BYTES}
 use Rattle.fm_layout.specs.Laid.{laid_length, narrow_length, refused_length}
 use Rattle.fm_place.specs.Insertions.{Insertions}
-use Rattle.fm_place.specs.Rewriting.{changes, first_given, free_index, Plans}
+use Rattle.fm_place.specs.Rewriting.{changes, first_given, Plans}
 use Rattle.fm_place.specs.Safe.{full_plans, IsProgramOf}
-use Rattle.fm_place.specs.Woven.{woven}
+use Rattle.fm_rewrite.proofs.ProgramByLemmas.{full_where}
 use Rattle.fm_rewrite.proofs.ProgramMeantLemmas.{code_given}
-use Rattle.fm_rewrite.specs.Rewritten.{first_cause, first_full, first_long, full_from, full_pool, long_among, long_code, long_from, long_method, max_pool_indices, method_too_long, pool_full}
+use Rattle.fm_rewrite.proofs.WithoutChains.{plans_plain}
+use Rattle.fm_rewrite.specs.Causes.{first_cause, full_from, full_pool, long_among, long_code, long_from, long_method, max_pool_indices, method_too_long, pool_full}
 use Rattle.fm_rewrite.specs.declared.error.RewriteFail.{RewriteFail}
 use Rattle.fm_rewrite.specs.declared.error.RewriteFail.TheVariants as fail
 use Rattle.fm_law_beside_freeme.proofs.Calls.{call_there}
@@ -46,6 +51,10 @@ count_in e = 0
 
 -- ---- pools
 
+-- no holder of theirs holds a chain
+abbrev HaveNoChains : Plans → Type 0
+HaveNoChains plans = (method : ℕ) → plan_has_chain (plans method) ≡ false
+
 -- a file at a place among these, the first of which is the class of this number
 record IsFullFile (class : ℕ) (given : List ClassDef) (full : ℕ × ℕ) : Type 0 where
   place : ℕ
@@ -55,9 +64,10 @@ record IsFullFile (class : ℕ) (given : List ClassDef) (full : ℕ × ℕ) : Ty
   indices_are : full.1 ≡ length (with_free file.pool.entries)
   too_many : max_pool_indices < full.1
 
-pool_is_full : (plans : Plans) (first indices : ℕ) (c : ClassDef) → full_pool plans first c ≡ Some indices
+pool_is_full : (plans : Plans) → HaveNoChains plans → (first indices : ℕ) (c : ClassDef) → full_pool plans first c ≡ Some indices
     → (indices ≡ length (with_free c.pool.entries)) × (max_pool_indices < indices)
-pool_is_full plans first indices c is =
+pool_is_full plans none first indices c full =
+    let is = sym (ap (full_where c (changes plans first c)) (class_none plans none first c)) ∙ full in
     let count = length (with_free c.pool.entries) in
     let both = cond-some_then (changes plans first c && nat_lt max_pool_indices count) (Some count) indices is in
     let same : count ≡ indices = let own = both.1 in cc in
@@ -77,15 +87,15 @@ first_file class c given indices are many = record {
   too_many = many;
 }
 
-full_there : (plans : Plans) (class first : ℕ) (given : List ClassDef) (full : ℕ × ℕ) → full_from plans class first given ≡ Some full → IsFullFile class given full
-full_there plans class first [] full is = cc
-full_there plans class first (c ∷ given) full is =
-    by_first (full_pool plans first c) refl is (full_there plans (class + 1) (first + length c.methods) given full) where
+full_there : (plans : Plans) → HaveNoChains plans → (class first : ℕ) (given : List ClassDef) (full : ℕ × ℕ) → full_from plans class first given ≡ Some full → IsFullFile class given full
+full_there plans none class first [] full is = cc
+full_there plans none class first (c ∷ given) full is =
+    by_first (full_pool plans first c) refl is (full_there plans none (class + 1) (first + length c.methods) given full) where
       by_first : (o : Option ℕ) → full_pool plans first c ≡ o
           → option_or (option_map (λ indices. (class, indices)) o) (full_from plans (class + 1) (first + length c.methods) given) ≡ Some full
           → (full_from plans (class + 1) (first + length c.methods) given ≡ Some full → IsFullFile (class + 1) given full)
           → IsFullFile class (c ∷ given) full
-      by_first None none found later =
+      by_first None here found later =
           let rest = later found in
           let place = rest.class_is in
           record {
@@ -98,7 +108,7 @@ full_there plans class first (c ∷ given) full is =
           }
       by_first (Some indices) here found later =
           let both : ◌≡◌ {A = ℕ × ℕ} (class, indices) full = cc in
-          let own = pool_is_full plans first indices c here in
+          let own = pool_is_full plans none first indices c here in
           subst (λ (f : ℕ × ℕ). IsFullFile class (c ∷ given) f) both (first_file class c given indices own.0 own.1)
 
 -- ---- methods
@@ -111,9 +121,9 @@ record IsLongCode (first : ℕ) (codes : List (Option Code)) (long : ℕ × ℕ)
   method_is : long.0 ≡ first + place
   too_many : MAX_CODE_BYTES < long.1
 
-code_is_long : (free bytes : ℕ) (plan : Insertions) (code : Code) → long_code free plan code ≡ Some bytes → MAX_CODE_BYTES < bytes
-code_is_long free bytes plan code is =
-    let items = woven free code plan in
+code_is_long : (calls : Calls) (bytes : ℕ) (plan : Insertions) (code : Code) → long_code calls plan code ≡ Some bytes → MAX_CODE_BYTES < bytes
+code_is_long calls bytes plan code is =
+    let items = chained calls code plan in
     let both = cond-some_then (nat_lt MAX_CODE_BYTES (laid_length code.items items)) (Some (refused_length code.items items)) bytes is in
     let same : refused_length code.items items ≡ bytes = let own = both.1 in cc in
     let many = ltb-true MAX_CODE_BYTES (laid_length code.items items) both.0 in
@@ -126,23 +136,23 @@ code_is_long free bytes plan code is =
       by_narrow narrow laid many same = by_test (nat_lt MAX_CODE_BYTES narrow) narrow laid refl many same
 
 -- a method that is too long has code
-method_is_long : (free bytes : ℕ) (plan : Option Insertions) (m : Member) → long_method free plan m ≡ Some bytes
+method_is_long : (calls : Calls) (bytes : ℕ) (plan : Option Insertions) (m : Member) → long_method calls plan m ≡ Some bytes
     → (code : Code) × (code_of m ≡ Some code) × (MAX_CODE_BYTES < bytes)
-method_is_long free bytes plan m is =
-    let own = option_and_then-some (λ (own : Insertions). option_and_then (long_code free own) (code_of m)) plan bytes is in
-    let code = option_and_then-some (long_code free own.0) (code_of m) bytes own.2 in (
+method_is_long calls bytes plan m is =
+    let own = option_and_then-some (λ (own : Insertions). option_and_then (long_code calls own) (code_of m)) plan bytes is in
+    let code = option_and_then-some (long_code calls own.0) (code_of m) bytes own.2 in (
       code.0,
       code.1,
-      code_is_long free bytes own.0 code.0 code.2,
+      code_is_long calls bytes own.0 code.0 code.2,
     )
 
-among_there : (plans : Plans) (free first : ℕ) (methods : List Member) (long : ℕ × ℕ) → long_among plans free first methods ≡ Some long
+among_there : (plans : Plans) (calls : Calls) (first : ℕ) (methods : List Member) (long : ℕ × ℕ) → long_among plans calls first methods ≡ Some long
     → IsLongCode first (map code_of methods) long
-among_there plans free first [] long is = cc
-among_there plans free first (m ∷ methods) long is = by_first (long_method free (plans first) m) refl is (among_there plans free (first + 1) methods long) where
-  by_first : (o : Option ℕ) → long_method free (plans first) m ≡ o
-      → option_or (option_map (λ bytes. (first, bytes)) o) (long_among plans free (first + 1) methods) ≡ Some long
-      → (long_among plans free (first + 1) methods ≡ Some long → IsLongCode (first + 1) (map code_of methods) long)
+among_there plans calls first [] long is = cc
+among_there plans calls first (m ∷ methods) long is = by_first (long_method calls (plans first) m) refl is (among_there plans calls (first + 1) methods long) where
+  by_first : (o : Option ℕ) → long_method calls (plans first) m ≡ o
+      → option_or (option_map (λ bytes. (first, bytes)) o) (long_among plans calls (first + 1) methods) ≡ Some long
+      → (long_among plans calls (first + 1) methods ≡ Some long → IsLongCode (first + 1) (map code_of methods) long)
       → IsLongCode first (code_of m ∷ map code_of methods) long
   by_first None none found later =
       let rest = later found in
@@ -150,7 +160,7 @@ among_there plans free first (m ∷ methods) long is = by_first (long_method fre
       record { place = suc rest.place; code = rest.code; there = rest.there; method_is = omega (arith, place); too_many = rest.too_many }
   by_first (Some bytes) here found later =
       let both : ◌≡◌ {A = ℕ × ℕ} (first, bytes) long = cc in
-      let own = method_is_long free bytes (plans first) m here in
+      let own = method_is_long calls bytes (plans first) m here in
       subst (λ (l : ℕ × ℕ). IsLongCode first (code_of m ∷ map code_of methods) l) both
       (record { place = 0; code = own.0; there = own.1; method_is = omega arith; too_many = own.2 })
 
@@ -168,8 +178,8 @@ long_there : (plans : Plans) (first : ℕ) (given : List ClassDef) (long : ℕ �
     → IsLongCode first (flat_map (λ (c : ClassDef). map code_of c.methods) given) long
 long_there plans first [] long is = cc
 long_there plans first (c ∷ given) long is =
-    by_first (long_among plans (free_index c) first c.methods) refl is (long_there plans (first + length c.methods) given long) where
-      by_first : (o : Option (ℕ × ℕ)) → long_among plans (free_index c) first c.methods ≡ o
+    by_first (long_among plans (class_calls plans first c) first c.methods) refl is (long_there plans (first + length c.methods) given long) where
+      by_first : (o : Option (ℕ × ℕ)) → long_among plans (class_calls plans first c) first c.methods ≡ o
           → option_or o (long_from plans (first + length c.methods) given) ≡ Some long
           → (long_from plans (first + length c.methods) given ≡ Some long
           → IsLongCode (first + length c.methods) (flat_map (λ (d : ClassDef). map code_of d.methods) given) long)
@@ -188,7 +198,7 @@ long_there plans first (c ∷ given) long is =
           }
       by_first (Some own) here found later =
           let same : own ≡ long = cc in
-          let code = among_there plans (free_index c) first c.methods long (here ∙ ap (λ (l : ℕ × ℕ). Some l) same) in
+          let code = among_there plans (class_calls plans first c) first c.methods long (here ∙ ap (λ (l : ℕ × ℕ). Some l) same) in
           record {
             place = code.place;
             code = code.code;
@@ -199,10 +209,17 @@ long_there plans first (c ∷ given) long is =
 
 -- ---- causes
 
-module _ (given : List ClassDef) (main : List ℕ) (p : Program) (program_is : IsProgramOf given main p) (plans : Plans) where
-  full_named : (class indices : ℕ) → first_full plans given ≡ Some (class, indices) → IsTooFull given class indices
+module _ (given : List ClassDef) (main : List ℕ) (p : Program) (program_is : IsProgramOf given main p) (plans : Plans) (none : HaveNoChains plans) where
+  -- the first of them
+  abbrev first_full : Option (ℕ × ℕ)
+  first_full = full_from plans (length built_in) first_given given
+
+  abbrev first_long : Option (ℕ × ℕ)
+  first_long = long_from plans first_given given
+
+  full_named : (class indices : ℕ) → first_full ≡ Some (class, indices) → IsTooFull given class indices
   full_named class indices is =
-      let file = full_there plans (length built_in) first_given given (class, indices) is in
+      let file = full_there plans none (length built_in) first_given given (class, indices) is in
       record {
         place = file.place;
         file = file.file;
@@ -212,7 +229,7 @@ module _ (given : List ClassDef) (main : List ℕ) (p : Program) (program_is : I
         too_many = file.too_many;
       }
 
-  long_named : (method bytes : ℕ) → first_long plans given ≡ Some (method, bytes) → IsTooLong p method bytes
+  long_named : (method bytes : ℕ) → first_long ≡ Some (method, bytes) → IsTooLong p method bytes
   long_named method bytes is =
       let long = long_there plans first_given given (method, bytes) is in
       let number : method ≡ first_given + long.place = long.method_is in
@@ -224,14 +241,14 @@ module _ (given : List ClassDef) (main : List ℕ) (p : Program) (program_is : I
 
   -- the cause is a pool that is full, and then it is the first one
   pool_named : (class : ClassId) (indices : ℕ) → first_cause plans given ≡ Some (fail.PoolFull class indices) → IsTooFull given class.0 indices
-  pool_named class indices is = by_full (first_full plans given) refl is where
+  pool_named class indices is = by_full first_full refl is where
     by_long : (l : Option (ℕ × ℕ)) → option_map method_too_long l ≡ Some (fail.PoolFull class indices) → IsTooFull given class.0 indices
     by_long None found = cc
     by_long (Some long) found = cc
 
-    by_full : (o : Option (ℕ × ℕ)) → first_full plans given ≡ o
-        → option_or (option_map pool_full o) (option_map method_too_long (first_long plans given)) ≡ Some (fail.PoolFull class indices) → IsTooFull given class.0 indices
-    by_full None none found = by_long (first_long plans given) found
+    by_full : (o : Option (ℕ × ℕ)) → first_full ≡ o
+        → option_or (option_map pool_full o) (option_map method_too_long first_long) ≡ Some (fail.PoolFull class indices) → IsTooFull given class.0 indices
+    by_full None none found = by_long first_long found
     by_full (Some full) here found =
         let same : pool_full full ≡ fail.PoolFull class indices = cc in
         let number : full.0 ≡ class.0 = ap (λ e. class_in e) same in
@@ -241,8 +258,8 @@ module _ (given : List ClassDef) (main : List ℕ) (p : Program) (program_is : I
   -- the cause is a method that is too long, and then it is the first one
   method_named : (method : MethodId) (bytes : ℕ) → first_cause plans given ≡ Some (fail.MethodTooLong method bytes)
       → IsTooLong p method.0 bytes
-  method_named method bytes is = by_full (first_full plans given) is where
-    by_long : (l : Option (ℕ × ℕ)) → first_long plans given ≡ l → option_map method_too_long l ≡ Some (fail.MethodTooLong method bytes)
+  method_named method bytes is = by_full first_full is where
+    by_long : (l : Option (ℕ × ℕ)) → first_long ≡ l → option_map method_too_long l ≡ Some (fail.MethodTooLong method bytes)
         → IsTooLong p method.0 bytes
     by_long None none found = cc
     by_long (Some long) here found =
@@ -252,15 +269,15 @@ module _ (given : List ClassDef) (main : List ℕ) (p : Program) (program_is : I
         subst (λ n. IsTooLong p method.0 n) count
         (subst (λ k. IsTooLong p k long.1) number (long_named long.0 long.1 here))
 
-    by_full : (o : Option (ℕ × ℕ)) → option_or (option_map pool_full o) (option_map method_too_long (first_long plans given)) ≡ Some (fail.MethodTooLong method bytes)
+    by_full : (o : Option (ℕ × ℕ)) → option_or (option_map pool_full o) (option_map method_too_long first_long) ≡ Some (fail.MethodTooLong method bytes)
         → IsTooLong p method.0 bytes
-    by_full None found = by_long (first_long plans given) refl found
+    by_full None found = by_long first_long refl found
     by_full (Some full) found = cc
 
 pub refusals_named : RefusalsNameWhatIsThere
 refusals_named given main p program_is (fail.CallsFree method offset) comes = call_there p (method.0, offset) comes
 refusals_named given main p program_is (fail.PoolFull class indices) comes =
-    pool_named given main p program_is (full_plans p comes.facts) class indices comes.first
+    pool_named given main p program_is (full_plans p comes.facts) (plans_plain p comes.facts) class indices comes.first
 refusals_named given main p program_is (fail.MethodTooLong method bytes) comes =
-    method_named given main p program_is (full_plans p comes.facts) method bytes comes.first
+    method_named given main p program_is (full_plans p comes.facts) (plans_plain p comes.facts) method bytes comes.first
 refusals_named given main p program_is fail.NoMemory comes = tt

@@ -1,9 +1,9 @@
--- What is written by plans, and what is reported of it, doesn't depend on the numbers of their
+-- What is written by plans, and what is counted of it, doesn't depend on the numbers of their
 -- holders' classes.
-use Rattle.std.proofs.Common.{◌≡◌, refl, sym, ◌∙◌, ap, ℕ, ◌+◌, ◌*◌, ◌&&◌, ◌++◌, Bool, true, false, cond, List, [], ◌∷◌, length, map, replicate, Option, Some, None, is_some, option_and_then}
-use Rattle.std.specs.Prelude.{◌==◌, nat_lt}
+use Rattle.std.proofs.Common.{◌≡◌, refl, ◌∙◌, ap, ℕ, ◌+◌, ◌*◌, ◌++◌, Bool, true, false, cond, List, [], ◌∷◌, length, map, Option, Some, None, is_some}
+use Rattle.std.specs.Prelude.{◌==◌}
 use Rattle.std.specs.List.{flat_map, list_any, range_with_len, sum}
-use Rattle.std.specs.Option.{option_map, option_or}
+use Rattle.std.specs.Option.{option_map}
 use Rattle.std.proofs.lemmas.List.{length-map}
 use Rattle.fm_code.specs.FreeEntries.{with_free}
 use Rattle.fm_code.specs.Members.{code_of}
@@ -13,18 +13,15 @@ use Rattle.fm_code.specs.declared.class_file.MemberAttr.{MemberAttr}
 use Rattle.fm_code.specs.declared.class_file.MemberAttr.TheVariants as attribute
 use Rattle.fm_code.specs.declared.code_array.Code.{Code}
 use Rattle.fm_code.specs.declared.code_array.Item.{Item}
-use Rattle.fm_code.specs.declared.code_array.TheConstants.{MAX_CODE_BYTES}
 use Rattle.fm_code.specs.declared.instructions.Insn.{Insn}
-use Rattle.fm_layout.specs.Laid.{laid_length, laid_of, marks_of, refused_length}
+use Rattle.fm_layout.specs.Laid.{laid_of, marks_of}
 use Rattle.fm_layout.specs.Tables.{moved_tables}
 use Rattle.fm_layout.specs.declared.new_items.NewItem.{NewItem}
 use Rattle.fm_place.specs.Insertions.{after_at, before_at, Holder, Insertions, numbers_of}
-use Rattle.fm_place.specs.Rewriting.{changes, first_given, free_count, free_index, frees_in, marks_from, marks_in, marks_of_methods, marks_with, method_marks, Plans, rewritten, rewritten_attribute, rewritten_class, rewritten_from, rewritten_major, rewritten_method, rewritten_methods, site_count, sites_in}
+use Rattle.fm_place.specs.Rewriting.{changes, free_count, free_index, frees_in, marks_from, marks_in, marks_of_methods, method_marks, Plans, rewritten_attribute, rewritten_class, rewritten_from, rewritten_major, rewritten_method, rewritten_methods, site_count, sites_in}
 use Rattle.fm_place.specs.Woven.{anchors_from, anchors_of, count_at, freed, freed_items, kept, local_of, null_stored, null_stored_items, top_stored, top_stored_items, woven, woven_code, woven_from, woven_item}
-use Rattle.fm_rewrite.specs.Rewritten.{counts_from, counts_of, first_cause, full_from, full_pool, long_among, long_code, long_from, long_method, max_pool_indices, method_too_long, pool_full}
+use Rattle.fm_rewrite.specs.Rewritten.{counts_from}
 use Rattle.fm_rewrite.specs.declared.counts.Count.{Count}
-use Rattle.fm_law_beside_freeme.specs.Exact.{ServeAlike}
-use Rattle.fm_world.specs.BuiltIns.{built_in}
 use Rattle.fm_place_weave.proofs.ClassLawLemmas.{by_change}
 
 -- ---- plans without the numbers of classes
@@ -128,15 +125,6 @@ free_count_plain : (o : Option Insertions) → free_count (option_map plain o) �
 free_count_plain None = refl
 free_count_plain (Some plan) = refl
 
-long_plain : (free : ℕ) (plan : Option Insertions) (m : Member) → long_method free (option_map plain plan) m ≡ long_method free plan m
-long_plain free None m = refl
-long_plain free (Some plan) m = by_code (code_of m) where
-  by_code : (o : Option Code) → option_and_then (long_code free (plain plan)) o ≡ option_and_then (long_code free plan) o
-  by_code None = refl
-  by_code (Some code) =
-      ap (λ (items : List NewItem). cond (nat_lt MAX_CODE_BYTES (laid_length code.items items)) (Some (refused_length code.items items)) None)
-      (woven_plain free code plan)
-
 module _ (plans : Plans) where
   methods_plain : (free first : ℕ) (methods : List Member) → rewritten_methods (plains plans) free first methods ≡ rewritten_methods plans free first methods
   methods_plain free first [] = refl
@@ -157,7 +145,7 @@ module _ (plans : Plans) where
   class_plain : (first : ℕ) (c : ClassDef) → rewritten_class (plains plans) first c ≡ rewritten_class plans first c
   class_plain first c = ap (by_change (plains plans) first c) (changes_plain first c) ∙ class_by_plain first c (changes plans first c)
 
-  classes_plain : (first : ℕ) (given : List ClassDef) → rewritten_from (plains plans) first given ≡ rewritten_from plans first given
+  pub classes_plain : (first : ℕ) (given : List ClassDef) → rewritten_from (plains plans) first given ≡ rewritten_from plans first given
   classes_plain first [] = refl
   classes_plain first (c ∷ given) = (λ k. class_plain first c k ∷ classes_plain (first + length c.methods) given k)
 
@@ -168,7 +156,7 @@ module _ (plans : Plans) where
   marks_of_plain free first [] = refl
   marks_of_plain free first (m ∷ methods) = (λ k. method_marks_plain free first m k ∷ marks_of_plain free (first + 1) methods k)
 
-  marks_plain : (first : ℕ) (given : List ClassDef) → marks_from (plains plans) first given ≡ marks_from plans first given
+  pub marks_plain : (first : ℕ) (given : List ClassDef) → marks_from (plains plans) first given ≡ marks_from plans first given
   marks_plain first [] = refl
   marks_plain first (c ∷ given) = (λ k. marks_of_plain (free_index c) first c.methods k ++ marks_plain (first + length c.methods) given k)
 
@@ -183,43 +171,3 @@ module _ (plans : Plans) where
   pub counts_plain : (first : ℕ) (given : List ClassDef) → counts_from (plains plans) first given ≡ counts_from plans first given
   counts_plain first [] = refl
   counts_plain first (c ∷ given) = (λ k. count_of_plain first c k ∷ counts_plain (first + length c.methods) given k)
-
-  -- ---- causes
-
-  pool_plain : (first : ℕ) (c : ClassDef) → full_pool (plains plans) first c ≡ full_pool plans first c
-  pool_plain first c =
-      ap (λ b. cond (b && nat_lt max_pool_indices (length (with_free c.pool.entries))) (Some (length (with_free c.pool.entries))) None) (changes_plain first c)
-
-  pools_plain : (class first : ℕ) (given : List ClassDef) → full_from (plains plans) class first given ≡ full_from plans class first given
-  pools_plain class first [] = refl
-  pools_plain class first (c ∷ given) =
-      (λ k. option_or (option_map (λ indices. (class, indices)) (pool_plain first c k)) (pools_plain (class + 1) (first + length c.methods) given k))
-
-  among_plain : (free first : ℕ) (methods : List Member) → long_among (plains plans) free first methods ≡ long_among plans free first methods
-  among_plain free first [] = refl
-  among_plain free first (m ∷ methods) =
-      (λ k. option_or (option_map (λ bytes. (first, bytes)) (long_plain free (plans first) m k)) (among_plain free (first + 1) methods k))
-
-  longs_plain : (first : ℕ) (given : List ClassDef) → long_from (plains plans) first given ≡ long_from plans first given
-  longs_plain first [] = refl
-  longs_plain first (c ∷ given) = (λ k. option_or (among_plain (free_index c) first c.methods k) (longs_plain (first + length c.methods) given k))
-
-  cause_plain : (given : List ClassDef) → first_cause (plains plans) given ≡ first_cause plans given
-  cause_plain given =
-      λ k. option_or (option_map pool_full (pools_plain (length built_in) first_given given k)) (option_map method_too_long (longs_plain first_given given k))
-
--- ---- two plans
-
--- plans that differ only in these numbers serve alike
-pub plain_serve_alike : (given : List ClassDef) (plans others : Plans) → ((method : ℕ) → plains plans method ≡ plains others method) → ServeAlike given plans others
-plain_serve_alike given plans others same = record {
-  written = sym (classes_plain plans first_given given) ∙ ap (λ (p : Plans). rewritten p given) all ∙ classes_plain others first_given given;
-  marks = marks_are plans ∙ ap (λ (p : Plans). marks_with p given) all ∙ sym (marks_are others);
-  counts = sym (counts_plain plans first_given given) ∙ ap (λ (p : Plans). counts_of p given) all ∙ counts_plain others first_given given;
-  cause = sym (cause_plain plans given) ∙ ap (λ (p : Plans). first_cause p given) all ∙ cause_plain others given;
-} where
-  all : plains plans ≡ plains others
-  all = λ k method. same method k
-
-  marks_are : (own : Plans) → marks_with own given ≡ marks_with (plains own) given
-  marks_are own = sym (ap (λ (marks : List (List (Option ℕ))). replicate first_given [] ++ marks) (marks_plain own first_given given))

@@ -1,12 +1,13 @@
 -- Exact facts over least typings serve alike: the result for class files doesn't depend on which of
 -- these are taken.
-use Rattle.std.specs.Prelude.{◌≡◌, List}
+use Rattle.std.specs.Prelude.{◌≡◌, false, List}
 use Rattle.fm_summ_shapes.specs.Analysed.{AreLeastTypings}
 use Rattle.fm_code.specs.declared.class_file.ClassDef.{ClassDef}
 use Rattle.fm_conn.specs.Facts.{AreFacts, Facts}
 use Rattle.fm_place.specs.Rewriting.{marks_with, Plans, rewritten}
 use Rattle.fm_place.specs.Safe.{full_plans}
-use Rattle.fm_rewrite.specs.Rewritten.{AreNotRewrittenOf, AreRewrittenOf, counts_of, first_cause}
+use Rattle.fm_rewrite.specs.Causes.{AreNotWoven, first_cause}
+use Rattle.fm_rewrite.specs.Rewritten.{AreRewrittenOf, counts_of}
 use Rattle.fm_rewrite.specs.declared.error.RewriteFail.{RewriteFail}
 use Rattle.fm_rewrite.specs.declared.rewriting.Rewritten.{Rewritten}
 use Rattle.fm_world.specs.Programs.{Program}
@@ -38,9 +39,9 @@ WrittenInOneWay =
 
 -- classes that are written aren't refused
 abbrev pub WrittenOrRefused : Type 0
-WrittenOrRefused = (given : List ClassDef) (p : Program) (made : Rewritten) (cause : RewriteFail) → AreRewrittenOf p given made → AreNotRewrittenOf p given cause → ⊥
+WrittenOrRefused = (given : List ClassDef) (p : Program) (made : Rewritten) (cause : RewriteFail) → AreRewrittenOf p given made → AreNotWoven false p given cause → ⊥
 
 -- and classes that are refused have one cause
 abbrev pub RefusedForOneCause : Type 0
 RefusedForOneCause =
-    (given : List ClassDef) (p : Program) (cause other : RewriteFail) → AreNotRewrittenOf p given cause → AreNotRewrittenOf p given other → cause ≡ other
+    (given : List ClassDef) (p : Program) (cause other : RewriteFail) → AreNotWoven false p given cause → AreNotWoven false p given other → cause ≡ other

@@ -7,7 +7,8 @@ use Rattle.fm_code.specs.declared.code_array.Item.{Item}
 use Rattle.fm_code.specs.declared.code_array.TheConstants.{MAX_CODE_BYTES}
 use Rattle.fm_place.specs.Safe.{IsProgramOf}
 use Rattle.fm_rewrite.specs.FreeCalls.{calls_free}
-use Rattle.fm_rewrite.specs.Rewritten.{ComesOfRewritingOf, max_pool_indices}
+use Rattle.fm_rewrite.specs.Causes.{max_pool_indices}
+use Rattle.fm_rewrite.specs.Rewritten.{ComesOfRewritingOf}
 use Rattle.fm_rewrite.specs.declared.error.RewriteFail.{RewriteFail}
 use Rattle.fm_rewrite.specs.declared.error.RewriteFail.TheVariants as fail
 use Rattle.fm_world.specs.BuiltIns.{built_in}

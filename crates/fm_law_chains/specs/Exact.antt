@@ -7,7 +7,7 @@ use Rattle.fm_conn.specs.Facts.{Facts}
 use Rattle.fm_law_beside_freeme.specs.Exact.{AreLeastFacts}
 use Rattle.fm_place.specs.Rewriting.{Plans}
 use Rattle.fm_rewrite.specs.Rewritten.{counts_of}
-use Rattle.fm_rewrite.specs.RewrittenWithChains.{first_cause}
+use Rattle.fm_rewrite.specs.Causes.{first_cause}
 use Rattle.fm_world.specs.Programs.{Program}
 
 -- by both plans the given classes are written alike, with the same marks and counts, and the first cause against it is the same

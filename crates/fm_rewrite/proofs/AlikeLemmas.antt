@@ -9,7 +9,7 @@ use Rattle.fm_place.specs.Insertions.{Insertions}
 use Rattle.fm_place.specs.Rewriting.{Plans}
 use Rattle.fm_rewrite.proofs.MeantLemmas.{member_meant}
 use Rattle.fm_rewrite.specs.Alike.{ArePlannedFrom, ClassesArePlannedAlike, IsShortEnough, MembersArePlannedAlike}
-use Rattle.fm_rewrite.specs.RewrittenWithChains.{plans_for}
+use Rattle.fm_rewrite.specs.Causes.{plans_for}
 use Rattle.fm_rewrite.specs.inner.Meant.{AreMeant, IsMeant}
 use Rattle.fm_place_weave.specs.ClassLaws.{AreAlike, IsAlike}
 use Rattle.fm_place_weave.specs.declared.planned.Planned.{Planned}

@@ -15,7 +15,7 @@ use Rattle.fm_place.specs.Insertions.{Insertions}
 use Rattle.fm_place.specs.Rewriting.{changes, free_count, frees_in, Plans, site_count, sites_in}
 use Rattle.fm_rewrite.proofs.AlikeLemmas.{alike_all}
 use Rattle.fm_rewrite.specs.Alike.{IsShortEnough}
-use Rattle.fm_rewrite.specs.RewrittenWithChains.{long_among, long_method}
+use Rattle.fm_rewrite.specs.Causes.{long_among, long_method}
 use Rattle.fm_rewrite.specs.inner.ByPlans.{changes_by, frees_by, frees_of_one, is_changed, long_by, rewritten_by, sites_by, sites_of_one}
 use Rattle.fm_rewrite.specs.inner.Meant.{AreMeant, IsMeant}
 use Rattle.fm_place_weave.proofs.ClassLawLemmas.{classes_are_chained}

@@ -32,7 +32,7 @@ use Rattle.fm_read_limits.proofs.LimitLemmas.{code_is, first_code}
 use Rattle.fm_rewrite.proofs.FullPlanLemmas.{held_for, whole}
 use Rattle.fm_rewrite.specs.Alike.{IsOwnCode, IsPlannedAt}
 use Rattle.fm_rewrite.specs.Plans.{inserted_for, IsPlannedByFacts}
-use Rattle.fm_rewrite.specs.RewrittenWithChains.{long_code, long_method, plans_for}
+use Rattle.fm_rewrite.specs.Causes.{long_code, long_method, plans_for}
 use Rattle.fm_rewrite.specs.inner.Meant.{IsMeant}
 use Rattle.fm_place_weave.proofs.NarrowLemmas.{narrow-is}
 use Rattle.fm_place_weave.proofs.PlanLemmas.{items-is}

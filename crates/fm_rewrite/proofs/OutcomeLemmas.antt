@@ -10,8 +10,8 @@ use Rattle.fm_rewrite.proofs.ProgramByLemmas.{all_counts, all_full, all_long, al
 use Rattle.fm_rewrite.proofs.ProgramMeantLemmas.{all_meant, all_planned}
 use Rattle.fm_rewrite.specs.FreeCalls.{first_call}
 use Rattle.fm_rewrite.specs.Plans.{ArePlanned}
-use Rattle.fm_rewrite.specs.Rewritten.{method_too_long, pool_full}
-use Rattle.fm_rewrite.specs.RewrittenWithChains.{ComesOfWeaving, full_from, long_from, plans_for}
+use Rattle.fm_rewrite.specs.Causes.{full_from, long_from, method_too_long, plans_for, pool_full}
+use Rattle.fm_rewrite.specs.RewrittenWithChains.{ComesOfWeaving}
 use Rattle.fm_rewrite.specs.declared.error.RewriteFail.{RewriteFail}
 use Rattle.fm_rewrite.specs.declared.error.RewriteFail.TheVariants as fail
 use Rattle.fm_rewrite.specs.declared.rewriting.Rewritten.{Rewritten}

@@ -7,8 +7,8 @@ use Rattle.fm_chain.specs.Chaining.{chained_from, entries_for}
 use Rattle.fm_code.specs.declared.class_file.ClassDef.{ClassDef}
 use Rattle.fm_place.specs.Rewriting.{Plans}
 use Rattle.fm_rewrite.proofs.ClassMeantLemmas.{class_chains, class_changes, class_frees, class_long, class_same, class_short, class_sites, or_first, or_rest}
-use Rattle.fm_rewrite.specs.Rewritten.{counts_from, max_pool_indices}
-use Rattle.fm_rewrite.specs.RewrittenWithChains.{full_from, long_from}
+use Rattle.fm_rewrite.specs.Causes.{full_from, long_from, max_pool_indices}
+use Rattle.fm_rewrite.specs.Rewritten.{counts_from}
 use Rattle.fm_rewrite.specs.inner.ByPlans.{classes_by, counts_by, first_full_by, first_long_by, long_by, others, own}
 use Rattle.fm_rewrite.specs.inner.Meant.{AreAllMeant}
 use Rattle.fm_place_weave.specs.declared.planned.Planned.{Planned}

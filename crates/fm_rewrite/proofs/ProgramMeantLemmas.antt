@@ -17,7 +17,7 @@ use Rattle.fm_rewrite.proofs.AlikeLemmas.{members_meant}
 use Rattle.fm_rewrite.specs.Alike.{ArePlannedFrom}
 use Rattle.fm_rewrite.specs.Plans.{ArePlanned, IsPlannedByFacts, planned_at}
 use Rattle.fm_rewrite.specs.inner.ByPlans.{method_count, others, own}
-use Rattle.fm_rewrite.specs.RewrittenWithChains.{plans_for}
+use Rattle.fm_rewrite.specs.Causes.{plans_for}
 use Rattle.fm_rewrite.specs.inner.Meant.{AreAllMeant, AreAllPlanned}
 use Rattle.fm_place_weave.specs.declared.planned.Planned.{Planned}
 use Rattle.fm_place_weave.specs.declared.planned.Planned.TheVariants as planned

@@ -9,7 +9,7 @@ use Rattle.fm_code.specs.declared.code_array.Code.{Code}
 use Rattle.fm_code.specs.declared.constant_pool.Entry.{Entry}
 use Rattle.fm_conn.specs.Facts.{Facts}
 use Rattle.fm_rewrite.specs.Plans.{IsPlannedByFacts}
-use Rattle.fm_rewrite.specs.RewrittenWithChains.{plans_for}
+use Rattle.fm_rewrite.specs.Causes.{plans_for}
 use Rattle.fm_place_weave.specs.ClassLaws.{AreAlike, IsAlike}
 use Rattle.fm_place_weave.specs.declared.planned.Planned.{Planned}
 use Rattle.fm_place_weave.specs.declared.planned.Planned.TheVariants as planned

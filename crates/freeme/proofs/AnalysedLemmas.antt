@@ -28,6 +28,7 @@ use Rattle.fm_rapid.specs.Opening.{HasOpening}
 use Rattle.fm_rapid.specs.Reach.{IsWithin, narrowed, Reach}
 use Rattle.fm_rewrite.proofs.FreeCallsLemmas.{first_call_is}
 use Rattle.fm_rewrite.proofs.JudgedLemmas.{classes_counted}
+use Rattle.fm_rewrite.specs.Causes.{AreNotWoven}
 use Rattle.fm_rewrite.specs.declared.error.RewriteFail.{RewriteFail}
 use Rattle.fm_rewrite.specs.declared.error.RewriteFail.TheVariants as fail
 use Rattle.fm_rewrite.specs.declared.rewriting.Rewritten.{Rewritten}
@@ -48,7 +49,7 @@ use Rattle.freeme.specs.Causes.{BecomesAs, BecomesByFacts, cause_status}
 use Rattle.freeme.proofs.RewritingLemmas.{CausesAgree, full_exact}
 use Rattle.freeme.specs.Jobs.{IsAnalysed, IsJobProgram, main_name}
 use Rattle.freeme.specs.Refusal.{rewrite_status}
-use Rattle.freeme.specs.Rewriting.{AreNotRewrittenBy, AreRewrittenBy, cause_by, facts_by, IsFullBy, own_facts}
+use Rattle.freeme.specs.Rewriting.{AreRewrittenBy, cause_by, facts_by, IsFullBy, own_facts}
 use Rattle.freeme.specs.TopCall.{IsFirstCause}
 use Rattle.freeme.specs.declared.status.TheConstants.{CALLS_FREE}
 
@@ -121,7 +122,7 @@ module _ (job : FreemeJob) (classes : List ClassDef) (p : Program) (analysed : I
     status_is = is;
   })
 
-  by_cause : (cause : RewriteFail) → AreNotRewrittenBy job.chains p classes cause → Rewrites job classes (rewrite_status cause)
+  by_cause : (cause : RewriteFail) → AreNotWoven job.chains p classes cause → Rewrites job classes (rewrite_status cause)
   by_cause cause refused = by_facts (rewrite_status cause) refused.no_call refused.facts refused.exact refused.least (ap cause_status refused.first)
 
   -- the first cause gives its status

@@ -14,16 +14,14 @@ use Rattle.fm_place.specs.Safe.{IsProgramOf}
 use Rattle.fm_rewrite.proofs.JudgedLemmas.{classes_counted}
 use Rattle.fm_rewrite.proofs.ProgramMeantLemmas.{methods_counted}
 use Rattle.fm_rewrite.specs.FreeCalls.{call_among, call_in_method, first_call}
-use Rattle.fm_rewrite.specs.Rewritten.{method_too_long, pool_full}
-use Rattle.fm_rewrite.specs.RewrittenWithChains.{first_cause, full_from, full_pool, long_among, long_from, long_method, plans_for}
+use Rattle.fm_rewrite.specs.Causes.{AreNotWoven, first_cause, full_from, full_pool, long_among, long_from, long_method, method_too_long, plans_for, pool_full}
 use Rattle.fm_rewrite.specs.declared.error.RewriteFail.{RewriteFail}
 use Rattle.fm_rewrite.specs.declared.error.RewriteFail.TheVariants as fail
 use Rattle.fm_rewrite.specs.inner.ByPlans.{method_count}
 use Rattle.fm_world.specs.BuiltIns.{built_in}
 use Rattle.fm_world.specs.Members.{methods_of}
 use Rattle.fm_world.specs.Programs.{Program}
-use Rattle.freeme.proofs.RewritingLemmas.{cause_is}
-use Rattle.freeme.specs.Rewriting.{AreNotRewrittenBy, ComesOfRewritingBy}
+use Rattle.freeme.specs.Rewriting.{ComesOfRewritingBy}
 use Rattle.freeme.specs.inner.Freeing.{ComesOfFreeing, IsNamed, IsThere}
 use Rattle.freeme.specs.declared.refusal.FreeRefusal.TheVariants as free_refusal
 
@@ -131,18 +129,16 @@ method_inside plans given method bytes e = by (first_full plans given) refl (fir
 -- ---- numbers of a program
 
 module _ (given : List ClassDef) (main : List ℕ) (p : Program) (program_is : IsProgramOf given main p) (chains : Bool) where
-  pool_there : (class : ClassId) (indices : ℕ) → AreNotRewrittenBy chains p given (fail.PoolFull class indices) → class.0 < length p.outline.classes
+  pool_there : (class : ClassId) (indices : ℕ) → AreNotWoven chains p given (fail.PoolFull class indices) → class.0 < length p.outline.classes
   pool_there class indices refused =
-      let first = sym (cause_is chains p refused.facts given) ∙ refused.first in
-      let inside = pool_inside (plans_for chains p refused.facts) given class indices first in
+      let inside = pool_inside (plans_for chains p refused.facts) given class indices refused.first in
       let count = classes_counted given main p program_is in
       omega (arith, inside, count)
 
-  method_there : (method : MethodId) (bytes : ℕ) → AreNotRewrittenBy chains p given (fail.MethodTooLong method bytes)
+  method_there : (method : MethodId) (bytes : ℕ) → AreNotWoven chains p given (fail.MethodTooLong method bytes)
       → method.0 < length (methods_of p.outline.classes)
   method_there method bytes refused =
-      let first = sym (cause_is chains p refused.facts given) ∙ refused.first in
-      let inside = method_inside (plans_for chains p refused.facts) given method bytes first in
+      let inside = method_inside (plans_for chains p refused.facts) given method bytes refused.first in
       let count = methods_counted given main p program_is in
       omega (arith, inside, count)
 

@@ -9,22 +9,17 @@ use Rattle.fm_law_beside_freeme.specs.Exact.{AreLeastFacts, LeastFactsServeAlike
 use Rattle.fm_law_chains.specs.Exact.{LeastFactsServeChains}
 use Rattle.fm_law_same_runs.specs.Beside.{Marks}
 use Rattle.fm_place.specs.Safe.{full_plans}
-use Rattle.fm_rewrite.proofs.WithoutChains.{cause_same, plans_plain}
-use Rattle.fm_rewrite.specs.Rewritten.{AreNotRewrittenOf, ComesOfRewritingOf}
-use Rattle.fm_rewrite.specs.RewrittenWithChains.{AreNotWoven, ComesOfChainingOf, plans_for}
-use Rattle.fm_rewrite.specs.RewrittenWithChains as chaining
+use Rattle.fm_rewrite.proofs.WithoutChains.{plans_plain}
+use Rattle.fm_rewrite.specs.Rewritten.{ComesOfRewritingOf}
+use Rattle.fm_rewrite.specs.Causes.{plans_for}
+use Rattle.fm_rewrite.specs.RewrittenWithChains.{ComesOfChainingOf}
 use Rattle.fm_rewrite.specs.declared.error.RewriteFail.{RewriteFail}
 use Rattle.fm_rewrite.specs.declared.error.RewriteFail.TheVariants as fail
 use Rattle.fm_rewrite.specs.declared.rewriting.Rewritten.{Rewritten}
 use Rattle.fm_world.specs.Programs.{Program}
-use Rattle.freeme.specs.Rewriting.{AreNotRewrittenBy, cause_by, ComesOfRewritingBy, facts_by, IsFullBy}
+use Rattle.freeme.specs.Rewriting.{cause_by, ComesOfRewritingBy, facts_by, IsFullBy}
 
 -- ---- by plans
-
--- the first cause is that by the plans of the mode
-pub cause_is : (chained : Bool) (p : Program) (facts : Facts) (given : List ClassDef) → cause_by chained p facts given ≡ chaining.first_cause (plans_for chained p facts) given
-cause_is false p facts given = sym (cause_same (full_plans p facts) (plans_plain p facts) given)
-cause_is true p facts given = refl
 
 -- the classes written are those by these plans
 pub full_written : (chained : Bool) (p : Program) (given written : List ClassDef) (marks : Marks) (full : IsFullBy chained p given written marks)
@@ -41,12 +36,6 @@ full_exact true p given written marks full = full.exact
 
 -- ---- what is rewritten, or isn't
 
-not_written : (p : Program) (given : List ClassDef) (cause : RewriteFail) → AreNotRewrittenOf p given cause → AreNotRewrittenBy false p given cause
-not_written p given cause by = record { no_call = by.no_call; facts = by.facts; exact = by.exact; least = by.least; first = by.first }
-
-not_chained : (p : Program) (given : List ClassDef) (cause : RewriteFail) → AreNotWoven true p given cause → AreNotRewrittenBy true p given cause
-not_chained p given cause by = record { no_call = by.no_call; facts = by.facts; exact = by.exact; least = by.least; first = by.first }
-
 pub comes_without : (p : Program) (given : List ClassDef) (result : Result Rewritten RewriteFail) → ComesOfRewritingOf p given result
     → ComesOfRewritingBy false p given result
 comes_without p given (Ok made) by = record {
@@ -58,8 +47,8 @@ comes_without p given (Ok made) by = record {
   counts_are = by.counts_are;
 }
 comes_without p given (Err (fail.CallsFree method offset)) by = by
-comes_without p given (Err (fail.PoolFull class indices)) by = not_written p given (fail.PoolFull class indices) by
-comes_without p given (Err (fail.MethodTooLong method bytes)) by = not_written p given (fail.MethodTooLong method bytes) by
+comes_without p given (Err (fail.PoolFull class indices)) by = by
+comes_without p given (Err (fail.MethodTooLong method bytes)) by = by
 comes_without p given (Err fail.NoMemory) by = tt
 
 pub comes_with : (p : Program) (given : List ClassDef) (result : Result Rewritten RewriteFail) → ComesOfChainingOf p given result
@@ -73,8 +62,8 @@ comes_with p given (Ok made) by = record {
   counts_are = by.counts_are;
 }
 comes_with p given (Err (fail.CallsFree method offset)) by = by
-comes_with p given (Err (fail.PoolFull class indices)) by = not_chained p given (fail.PoolFull class indices) by
-comes_with p given (Err (fail.MethodTooLong method bytes)) by = not_chained p given (fail.MethodTooLong method bytes) by
+comes_with p given (Err (fail.PoolFull class indices)) by = by
+comes_with p given (Err (fail.MethodTooLong method bytes)) by = by
 comes_with p given (Err fail.NoMemory) by = tt
 
 -- ---- which facts are taken makes no difference

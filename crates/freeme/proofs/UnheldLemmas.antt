@@ -20,7 +20,7 @@ use Rattle.fm_place.specs.Insertions.{all_holders, full_insertions, Holder, Inse
 use Rattle.fm_place.specs.Rewriting.{changes, first_given, Plans, site_count, sites_in}
 use Rattle.fm_rewrite.proofs.FullPlanLemmas.{holders_counted}
 use Rattle.fm_rewrite.specs.Rewritten.{counts_from}
-use Rattle.fm_rewrite.specs.RewrittenWithChains.{plans_for}
+use Rattle.fm_rewrite.specs.Causes.{plans_for}
 use Rattle.fm_rewrite.specs.declared.counts.Count.{Count}
 use Rattle.fm_rewrite.specs.declared.rewriting.Rewritten.{Rewritten}
 use Rattle.fm_world.specs.Programs.{code_at, Program}

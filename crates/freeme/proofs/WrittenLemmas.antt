@@ -47,8 +47,8 @@ use Rattle.fm_rewrite.proofs.MeantLemmas.{codes_own}
 use Rattle.fm_rewrite.proofs.ProgramMeantLemmas.{code_given}
 use Rattle.fm_rewrite.specs.Alike.{IsOwnCode}
 use Rattle.fm_rewrite.specs.Plans.{CallsFit, HasOldItems, inserted_for}
-use Rattle.fm_rewrite.specs.Rewritten.{AreJudged, counts_from, method_too_long, pool_full}
-use Rattle.fm_rewrite.specs.RewrittenWithChains.{full_from, full_pool, long_among, long_code, long_from, long_method, plans_for}
+use Rattle.fm_rewrite.specs.Causes.{full_from, full_pool, long_among, long_code, long_from, long_method, method_too_long, plans_for, pool_full}
+use Rattle.fm_rewrite.specs.Rewritten.{AreJudged, counts_from}
 use Rattle.fm_rewrite.specs.inner.ByPlans.{method_count}
 use Rattle.fm_rewrite.specs.declared.rewriting.Rewritten.{Rewritten}
 use Rattle.fm_cli.specs.Printed.{printed}
@@ -60,7 +60,7 @@ use Rattle.fm_law_spelled.proofs.ApartLemmas.{names_apart, printed_name}
 use Rattle.fm_law_spelled.proofs.ClassSpelled.{changed_spelled}
 use Rattle.fm_law_spelled.proofs.SupportedLemmas.{changed_accepted}
 use Rattle.freeme.proofs.ChainedFew.{few_items}
-use Rattle.freeme.proofs.RewritingLemmas.{cause_is, full_written}
+use Rattle.freeme.proofs.RewritingLemmas.{full_written}
 use Rattle.freeme.specs.Rewriting.{AreRewrittenBy, own_facts}
 use Rattle.fm_law_spelled.specs.Names.{AreNew}
 use Rattle.fm_law_spelled.specs.Changed.{AttributeCan, CanWeave, IsShort, MethodCan, MethodsCan}
@@ -320,8 +320,7 @@ module _ {chains : Bool} (given : List ClassDef) (p : Program) (made : Rewritten
 
   all_can : CanChangeAll made_plans first_given given
   all_can =
-      let none = sym (cause_is chains p (own_facts are) given) ∙ are.no_cause in
-      let parts = or_first (option_map pool_full (full_from made_plans (length built_in) first_given given)) (option_map method_too_long (long_from made_plans first_given given)) none in
+      let parts = or_first (option_map pool_full (full_from made_plans (length built_in) first_given given)) (option_map method_too_long (long_from made_plans first_given given)) are.no_cause in
       classes_can chains p (own_facts are) (judged_analysable given p judged) (judged_old given p judged) (length built_in) first_given given (judged_spelled given p judged)
       (λ i inside. code_given given judged.main p judged.program_is i) (map_none pool_full (full_from made_plans (length built_in) first_given given) parts.0)
       (map_none method_too_long (long_from made_plans first_given given) parts.1)

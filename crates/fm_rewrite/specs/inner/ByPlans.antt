@@ -4,7 +4,7 @@ use Rattle.std.specs.Prelude.{◌≡◌, ℕ, ◌+◌, ◌&&◌, ◌<◌, ◌≤
 use Rattle.std.specs.List.{AllByRecursion, list_any}
 use Rattle.std.specs.Option.{option_map, option_or}
 use Rattle.fm_code.specs.declared.class_file.ClassDef.{ClassDef}
-use Rattle.fm_rewrite.specs.Rewritten.{max_pool_indices}
+use Rattle.fm_rewrite.specs.Causes.{max_pool_indices}
 use Rattle.fm_rewrite.specs.declared.counts.Count.{Count}
 use Rattle.fm_rewrite.specs.declared.error.RewriteFail.{RewriteFail}
 use Rattle.fm_rewrite.specs.declared.error.RewriteFail.TheVariants as fail

@@ -11,7 +11,7 @@ use Rattle.fm_conn.specs.Facts.{Facts}
 use Rattle.fm_place.specs.Insertions.{Insertions}
 use Rattle.fm_place.specs.Rewriting.{Plans}
 use Rattle.fm_rewrite.specs.Alike.{ArePlannedFrom}
-use Rattle.fm_rewrite.specs.RewrittenWithChains.{long_method}
+use Rattle.fm_rewrite.specs.Causes.{long_method}
 use Rattle.fm_rewrite.specs.inner.ByPlans.{others, own}
 use Rattle.fm_place_weave.specs.ClassByPlan.{long_attributes}
 use Rattle.fm_place_weave.specs.ClassLaws.{IsPlanIn}
