@@ -59,21 +59,21 @@ fn is_changed(planned: &Planned) -> bool
     }
 }
 
-/// Whether one of the methods is woven with a holder of a chain.
+/// Whether one of the methods is woven with a holder of a chain, or would be if it weren't too long.
 pub(crate) fn has_chains(planned: &[Planned]) -> bool
     requires { AllByRecursion HasFlags planned.now }
     ensures { result ≡ has_chains planned.now }
 {
     for method in planned {
-        if has_chain(method) {
+        if chains_in(method) {
             return true;
         }
     }
     false
 }
 
-/// Whether the method is woven with a holder of a chain.
-fn has_chain(planned: &Planned) -> bool
+/// Whether the method is woven with a holder of a chain, or would be if it weren't too long.
+fn chains_in(planned: &Planned) -> bool
     requires { HasFlags planned.now }
     ensures { result ≡ chains_in planned.now }
 {
