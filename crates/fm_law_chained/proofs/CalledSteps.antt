@@ -1,5 +1,5 @@
 -- The steps that call FreeMe.link and FreeMe.freeChain.
-use Rattle.std.proofs.Common.{◌≡◌, inl, inr, ℕ, suc, Bool, true, false, List, [], ◌∷◌, Option, Some, None, refl, sym, ap, subst, ◌∙◌}
+use Rattle.std.proofs.Common.{◌≡◌, inl, inr, ℕ, suc, Bool, true, false, List, [], ◌∷◌, Option, Some, None, refl, ap, ◌∙◌}
 use Rattle.std.specs.Prelude.{if◌then◌else◌, slice_get}
 use Rattle.fm_base.specs.declared.kinds.TypeRef.{TypeRef}
 use Rattle.fm_cells.specs.Objects.{Object}
@@ -22,7 +22,7 @@ use Rattle.fm_frames.specs.declared.natives.Native.{Native}
 use Rattle.fm_frames.specs.declared.natives.Native.TheVariants.{FreeMeFreeChain, FreeMeLink}
 use Rattle.fm_frames.specs.declared.values.Value.{Value}
 use Rattle.fm_frames.specs.declared.values.Value.TheVariants as value
-use Rattle.fm_law_chained.specs.Called.{called, CallsNative, ChainsFault, ChainsFree, HasFaulted, IsCalled, LinksFault, LinksJoin, LinksPassOver, with_frame, with_stack}
+use Rattle.fm_law_chained.specs.Called.{called, CallsNative, ChainsFault, ChainsFree, faulted_at, IsCalled, LinksFault, LinksJoin, LinksPassOver, with_frame, with_stack}
 use Rattle.fm_law_sound.specs.Sound.{IsReference}
 use Rattle.fm_native.proofs.FreeRows.{chain-is, freeing_chain}
 use Rattle.fm_types.specs.Named.{class_of_method}
@@ -143,12 +143,13 @@ module _ (p : Program) (choose : Choose) (x : State) (f : Frame) (callers : List
     abbrev faulted : Moved
     faulted = attempted p choose (with_frame x (with_stack f stack) callers) (faulty 1)
 
-    fault_is : HasFaulted p f (cell_of first) faulted
+    fault_is : faulted ≡ faulted_at p (with_frame x (with_stack f stack) callers) f (cell_of first)
     unfolding performed continued
-    fault_is = record { ended = refl; printed = refl }
+    fault_is = refl
 
-    pub lost_faulted : sight p.outline x.areas.store first ≡ Gone → HasFaulted p f (cell_of first) (step p choose (with_frame x (with_stack f stack) callers))
-    lost_faulted s_is = subst (HasFaulted p f (cell_of first)) (sym (step_by stack (faulty 1) (link_by Gone s_is))) fault_is
+    pub lost_faulted : sight p.outline x.areas.store first ≡ Gone
+        → step p choose (with_frame x (with_stack f stack) callers) ≡ faulted_at p (with_frame x (with_stack f stack) callers) f (cell_of first)
+    lost_faulted s_is = step_by stack (faulty 1) (link_by Gone s_is) ∙ fault_is
 
   -- ---- freeChain
 
@@ -179,11 +180,12 @@ module _ (p : Program) (choose : Choose) (x : State) (f : Frame) (callers : List
     abbrev unwalked : Moved
     unwalked = done_by p 1 freeing_chain (with_frame x (with_stack f chain_stack) callers) (chain_freed x.areas chain None (λ y. Did y []))
 
-    unwalked_faulted : HasFaulted p f (cell_of chain) unwalked
-    unwalked_faulted = record { ended = refl; printed = refl }
+    unwalked_faulted : unwalked ≡ faulted_at p (with_frame x (with_stack f chain_stack) callers) f (cell_of chain)
+    unwalked_faulted = refl
 
-    pub chain_faulted : chain_from x.areas.store (cell_of chain) ≡ None → HasFaulted p f (cell_of chain) (step p choose (with_frame x (with_stack f chain_stack) callers))
-    chain_faulted none = subst (HasFaulted p f (cell_of chain)) (sym (step_by chain_stack freeing_chain chain_by ∙ walked None none)) unwalked_faulted
+    pub chain_faulted : chain_from x.areas.store (cell_of chain) ≡ None
+        → step p choose (with_frame x (with_stack f chain_stack) callers) ≡ faulted_at p (with_frame x (with_stack f chain_stack) callers) f (cell_of chain)
+    chain_faulted none = step_by chain_stack freeing_chain chain_by ∙ walked None none ∙ unwalked_faulted
 
 -- ---- the laws
 
@@ -201,8 +203,8 @@ links_join p choose x f callers call cell first chain rest object is reference c
 
 pub links_fault : LinksFault
 links_fault p choose x f callers call cell first chain rest is reference cell_is none =
-    subst (λ n. HasFaulted p f n (step p choose (with_frame x (with_stack f (chain ∷ first ∷ rest)) callers))) cell_is
-    (lost_faulted p choose x f callers call first chain rest is (sees_cell p.outline x.areas first cell None reference cell_is none))
+    lost_faulted p choose x f callers call first chain rest is (sees_cell p.outline x.areas first cell None reference cell_is none)
+    ∙ ap (faulted_at p (with_frame x (with_stack f (chain ∷ first ∷ rest)) callers) f) cell_is
 
 pub chains_free : ChainsFree
 chains_free p choose x f callers call chain rest cells is found = chain_freed_is p choose x f callers call chain rest is cells found

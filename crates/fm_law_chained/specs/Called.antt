@@ -10,7 +10,7 @@ use Rattle.fm_frames.specs.Acts.{all_freed, cell_of, chain_from, chained, Choose
 use Rattle.fm_frames.specs.CallRows.{native_of}
 use Rattle.fm_frames.specs.Starts.{to_start}
 use Rattle.fm_frames.specs.States.{Areas, Frame, Moved, State}
-use Rattle.fm_frames.specs.Steps.{next_insn, offset_at, step}
+use Rattle.fm_frames.specs.Steps.{halted, next_insn, offset_at, step}
 use Rattle.fm_frames.specs.declared.ends.Ended.TheVariants as end
 use Rattle.fm_frames.specs.declared.natives.Native.{Native}
 use Rattle.fm_frames.specs.declared.natives.Native.TheVariants.{FreeMeFreeChain, FreeMeLink}
@@ -56,10 +56,9 @@ called x f callers areas stack = record {
   printed = [];
 }
 
--- the run ends in a fault at this cell, and nothing is printed
-pub record HasFaulted (p : Program) (f : Frame) (cell : ℕ) (m : Moved) : Type 0 where
-  pub ended : m.state.ended ≡ Some (end.Fault (record { 0 = f.method }) (offset_at p f) cell)
-  pub printed : m.printed ≡ []
+-- the run ends in a fault at this cell: nothing is freed, linked, counted or printed, and all else is as it was
+abbrev pub faulted_at : Program → State → Frame → ℕ → Moved
+faulted_at p x f cell = halted x (end.Fault (record { 0 = f.method }) (offset_at p f) cell)
 
 -- ---- link
 
@@ -87,7 +86,8 @@ abbrev pub LinksFault : Type 0
 LinksFault =
     (p : Program) (choose : Choose) (x : State) (f : Frame) (callers : List Frame) (call cell : ℕ) (first chain : Value) (rest : List Value)
     → IsCalled p FreeMeLink f call → IsReference first → cell_of first ≡ suc cell → object_at x.areas.store (suc cell) ≡ None
-    → HasFaulted p f (suc cell) (step p choose (with_frame x (with_stack f (chain ∷ first ∷ rest)) callers))
+    → step p choose (with_frame x (with_stack f (chain ∷ first ∷ rest)) callers)
+    ≡ faulted_at p (with_frame x (with_stack f (chain ∷ first ∷ rest)) callers) f (suc cell)
 
 -- ---- freeChain
 
@@ -103,4 +103,4 @@ abbrev pub ChainsFault : Type 0
 ChainsFault =
     (p : Program) (choose : Choose) (x : State) (f : Frame) (callers : List Frame) (call : ℕ) (chain : Value) (rest : List Value)
     → IsCalled p FreeMeFreeChain f call → chain_from x.areas.store (cell_of chain) ≡ None
-    → HasFaulted p f (cell_of chain) (step p choose (with_frame x (with_stack f (chain ∷ rest)) callers))
+    → step p choose (with_frame x (with_stack f (chain ∷ rest)) callers) ≡ faulted_at p (with_frame x (with_stack f (chain ∷ rest)) callers) f (cell_of chain)

@@ -29,7 +29,8 @@ pub fn law_freed()
 {}
 
 /// A step that calls FreeMe.link returns the chain where the other operand is null or lives for ever; it puts an
-/// object that may be freed before the chain, and returns that; and it ends in a fault at a cell that isn't held.
+/// object that may be freed before the chain, and returns that; and it ends in a fault at a cell that isn't held,
+/// and changes nothing else.
 pub fn law_link_called()
     ensures passed { LinksPassOver }
     ensures joined { LinksJoin }
@@ -37,7 +38,7 @@ pub fn law_link_called()
 {}
 
 /// A step that calls FreeMe.freeChain frees all cells that the walk along the chain finds, or ends in a fault at the
-/// first one where it finds none.
+/// first one where it finds none, and frees none.
 pub fn law_chain_called()
     ensures freed { ChainsFree }
     ensures lost { ChainsFault }

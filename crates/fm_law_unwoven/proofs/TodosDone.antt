@@ -280,7 +280,7 @@ module _ (q : Program) (marks : Marks) (choose : Choose) (method : ℕ) (old : C
           OneLost 1 method (offset_at q (at (item + 1) locals stack)) (cell_of chain) (loaded y item locals stack w.calls.free_chain chain_local all_four)
           (record { before = []; todo = ToFreeAll h; behind = todos; is = refl; misses = is })
           (omega arith) (load_passed y item locals stack w.calls.free_chain chain_local all_four)
-          (record { goes_on = refl; inserted = ap is_some lies.2.1 }) fault.ended fault.printed
+          (record { goes_on = refl; inserted = ap is_some lies.2.1 }) (ap (λ (m : Moved). m.state.ended) fault) (ap (λ (m : Moved). m.printed) fault)
 
   -- ---- chains
 
@@ -373,7 +373,7 @@ module _ (q : Program) (marks : Marks) (choose : Choose) (method : ℕ) (old : C
           (omega arith)
           (one_passed q marks choose y (at item locals (v ∷ rest)) callers doubled 1 both_loaded lies.1 dup_is refl
           (one_passed q marks choose (counted q choose y) (at (item + 1) locals (v ∷ v ∷ rest)) callers both_loaded 0 both_loaded lies.2.1 chain_loaded refl refl))
-          (record { goes_on = refl; inserted = ap is_some lies.2.2.1 }) fault.ended fault.printed
+          (record { goes_on = refl; inserted = ap is_some lies.2.2.1 }) (ap (λ (m : Moved). m.state.ended) fault) (ap (λ (m : Moved). m.printed) fault)
       by_object n is (Some a) there = by_fixed n is a there a.fixed refl
 
       by_cell : (n : ℕ) → cell_of v ≡ n → Done y (at item locals (v ∷ rest)) (ToLink h joins ∷ todos) next
