@@ -1,4 +1,4 @@
--- What inserted items do to a state: they change holders and free what these kept, and nothing else.
+-- What inserted items do to a state: they change holders, link what holders of chains get, and free what holders kept, and nothing else.
 use Rattle.std.specs.Prelude.{◌≡◌, ℕ, zero, suc, ◌+◌, ◌<◌, Bool, true, false, not, Option, List, [], ◌∷◌, ◌++◌, length, drop, Some, None, slice_set}
 use Rattle.fm_code.specs.declared.code_array.Code.{Code}
 use Rattle.fm_cells.specs.Objects.{Object}
@@ -153,7 +153,8 @@ pub record IsLost (old : Code) (f : Frame) (areas : Areas) (todos : List Todo) :
   pub is : todos ≡ before ++ todo ∷ behind
   pub misses : Misses old (all_areas_after old f.stack before f.locals areas) f.stack (all_locals_after old f.stack before f.locals) todo
 
--- All is done, or the run ends in a fault where a cell that is to be freed isn't held.
+-- All is done, or the run ends in a fault, where what is to be freed or put before a chain isn't held, or a walk along a chain that is to be freed finds
+-- none.
 pub data IsDone (q : Program) (marks : Marks) (choose : Choose) (old : Code) (y : State) (f : Frame) (callers : List Frame) (todos : List Todo) (next : ℕ) : Type 0 where
   AllDone : IsPassed q marks choose (all_steps_to todos) (with_frame y f callers) (state_after old y f callers todos next)
       → IsDone q marks choose old y f callers todos next

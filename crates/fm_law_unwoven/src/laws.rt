@@ -48,8 +48,9 @@ pub fn law_laid_code()
     ensures { CodesAreLaid }
 {}
 
-/// Inserted items change the locals of holders and free what these kept, step by step, and nothing else;
-/// or the run ends in a fault where that isn't held.
+/// Inserted items change the locals of holders, link what holders of chains get, and free what holders kept,
+/// step by step, and nothing else; or the run ends in a fault, where what is to be freed or linked isn't held, or
+/// the walk along a chain finds none.
 pub fn law_todos()
     ensures { TodosAreDone }
 {}
