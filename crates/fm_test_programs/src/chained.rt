@@ -74,3 +74,121 @@ const JUMP_TO_START_CHAINED_WRITTEN: ClassFile<'static> = ClassFile {
         ..NOTHING
     },
 };
+
+/// A pool with room for the entries of `FreeMe.free`, and with one entry too many for those of chains.
+pub const CHAINS_POOL_FULL: TestProgram<'static> = TestProgram {
+    read: &[CHAINS_POOL_FULL_READ],
+    written: &[],
+};
+
+const CHAINS_POOL_FULL_READ: ClassFile<'static> = ClassFile {
+    name: "M.class",
+    bytes: Repeated {
+        start: b"\
+            \xca\xfe\xba\xbe\0\0\0\x31\xff\xf3\x01\0\x01M\x07\0\x01\x01\0\x10java/lang/Object\x07\
+            \0\x03\x01\0\x04main\x01\0\x16([Ljava/lang/String;)V\x01\0\x04Code",
+        piece: b"\x01\0\0",
+        count: 65_515,
+        end: b"\
+            \0!\0\x02\0\x04\0\0\0\0\0\x01\0\x09\0\x05\0\x06\0\x01\0\x07\0\0\0\x13\0\x01\0\x01\0\0\
+            \0\x07\x04\xbc\x0aW\xa7\xff\xfc\0\0\0\0\0\0",
+    },
+};
+
+/// A pool with just room for the entries of chains.
+pub const CHAINS_POOL_FITS: TestProgram<'static> = TestProgram {
+    read: &[CHAINS_POOL_FITS_READ],
+    written: &[CHAINS_POOL_FITS_WRITTEN],
+};
+
+const CHAINS_POOL_FITS_READ: ClassFile<'static> = ClassFile {
+    name: "M.class",
+    bytes: Repeated {
+        start: b"\
+            \xca\xfe\xba\xbe\0\0\0\x31\xff\xf2\x01\0\x01M\x07\0\x01\x01\0\x10java/lang/Object\x07\
+            \0\x03\x01\0\x04main\x01\0\x16([Ljava/lang/String;)V\x01\0\x04Code",
+        piece: b"\x01\0\0",
+        count: 65_514,
+        end: b"\
+            \0!\0\x02\0\x04\0\0\0\0\0\x01\0\x09\0\x05\0\x06\0\x01\0\x07\0\0\0\x13\0\x01\0\x01\0\0\
+            \0\x07\x04\xbc\x0aW\xa7\xff\xfc\0\0\0\0\0\0",
+    },
+};
+
+const CHAINS_POOL_FITS_WRITTEN: ClassFile<'static> = ClassFile {
+    name: "M.class",
+    bytes: Repeated {
+        start: b"\
+            \xca\xfe\xba\xbe\0\0\0\x31\xff\xff\x01\0\x01M\x07\0\x01\x01\0\x10java/lang/Object\x07\
+            \0\x03\x01\0\x04main\x01\0\x16([Ljava/lang/String;)V\x01\0\x04Code",
+        piece: b"\x01\0\0",
+        count: 65_514,
+        end: b"\
+            \x01\0\x06FreeMe\x07\xff\xf2\x01\0\x04free\x01\0\x15(Ljava/lang/Object;)V\x0c\xff\xf4\
+            \xff\xf5\x0a\xff\xf3\xff\xf6\x01\0\x04link\x01\0\x38(Ljava/lang/Object;Ljava/lang/Obje\
+            ct;)Ljava/lang/Object;\x0c\xff\xf8\xff\xf9\x0a\xff\xf3\xff\xfa\x01\0\x09freeChain\x0c\
+            \xff\xfc\xff\xf5\x0a\xff\xf3\xff\xfd\0!\0\x02\0\x04\0\0\0\0\0\x01\0\x09\0\x05\0\x06\0\
+            \x01\0\x07\0\0\0\x21\0\x03\0\x02\0\0\0\x15\x01L\x04\xbc\x0aY+\xb8\xff\xfbLW+\xb8\xff\
+            \xfe\x01L\xa7\xff\xf0\0\0\0\0\0\0",
+    },
+};
+
+/// A method with a loop that gets as long as a method may be.
+pub const CHAINS_LONG_FITS: TestProgram<'static> = TestProgram {
+    read: &[CHAINS_LONG_FITS_READ],
+    written: &[CHAINS_LONG_FITS_WRITTEN],
+};
+
+const CHAINS_LONG_FITS_READ: ClassFile<'static> = ClassFile {
+    name: "M.class",
+    bytes: Repeated {
+        start: b"\
+            \xca\xfe\xba\xbe\0\0\0\x31\0\x08\x01\0\x01M\x07\0\x01\x01\0\x10java/lang/Object\x07\0\
+            \x03\x01\0\x04main\x01\0\x16([Ljava/lang/String;)V\x01\0\x04Code\0!\0\x02\0\x04\0\0\0\
+            \0\0\x01\0\x09\0\x05\0\x06\0\x01\0\x07\0\0\xff\xfd\0\x01\0\x01\0\0\xff\xf1\x04\xbc\x0a\
+            W\xa7\xff\xfc",
+        piece: b"\0",
+        count: 65_513,
+        end: b"\
+            \xb1\0\0\0\0\0\0",
+    },
+};
+
+const CHAINS_LONG_FITS_WRITTEN: ClassFile<'static> = ClassFile {
+    name: "M.class",
+    bytes: Repeated {
+        start: b"\
+            \xca\xfe\xba\xbe\0\0\0\x31\0\x15\x01\0\x01M\x07\0\x01\x01\0\x10java/lang/Object\x07\0\
+            \x03\x01\0\x04main\x01\0\x16([Ljava/lang/String;)V\x01\0\x04Code\x01\0\x06FreeMe\x07\0\
+            \x08\x01\0\x04free\x01\0\x15(Ljava/lang/Object;)V\x0c\0\x0a\0\x0b\x0a\0\x09\0\x0c\x01\
+            \0\x04link\x01\0\x38(Ljava/lang/Object;Ljava/lang/Object;)Ljava/lang/Object;\x0c\0\x0e\
+            \0\x0f\x0a\0\x09\0\x10\x01\0\x09freeChain\x0c\0\x12\0\x0b\x0a\0\x09\0\x13\0!\0\x02\0\
+            \x04\0\0\0\0\0\x01\0\x09\0\x05\0\x06\0\x01\0\x07\0\x01\0\x0b\0\x03\0\x02\0\0\xff\xff\
+            \x01L\x04\xbc\x0aY+\xb8\0\x11LW+\xb8\0\x14\x01L\xa7\xff\xf0",
+        piece: b"\0",
+        count: 65_513,
+        end: b"\
+            \xb1\0\0\0\0\0\0",
+    },
+};
+
+/// A method with a loop that would get one byte longer than that.
+pub const CHAINS_TOO_LONG: TestProgram<'static> = TestProgram {
+    read: &[CHAINS_TOO_LONG_READ],
+    written: &[],
+};
+
+const CHAINS_TOO_LONG_READ: ClassFile<'static> = ClassFile {
+    name: "M.class",
+    bytes: Repeated {
+        start: b"\
+            \xca\xfe\xba\xbe\0\0\0\x31\0\x08\x01\0\x01M\x07\0\x01\x01\0\x10java/lang/Object\x07\0\
+            \x03\x01\0\x04main\x01\0\x16([Ljava/lang/String;)V\x01\0\x04Code\0!\0\x02\0\x04\0\0\0\
+            \0\0\x01\0\x09\0\x05\0\x06\0\x01\0\x07\0\0\xff\xfe\0\x01\0\x01\0\0\xff\xf2\x04\xbc\x0a\
+            W\xa7\xff\xfc",
+        piece: b"\0",
+        count: 65_514,
+        end: b"\
+            \xb1\0\0\0\0\0\0",
+    },
+};

@@ -121,7 +121,7 @@ const RAPID: [Row; 4] = [
 ];
 
 // Where holders of sites in loops hold chains.
-const CHAINED: [Row; 6] = [
+const CHAINED: [Row; 10] = [
     (
         CHAINS_CHAINED,
         0,
@@ -144,6 +144,14 @@ const CHAINED: [Row; 6] = [
         72,
         "refused: calls FreeMe M.main([Ljava/lang/String;)V 8\n",
     ),
+    (CHAINS_POOL_FULL, 73, "refused: pool M 65536\n"),
+    (CHAINS_POOL_FITS, 0, "M: 1 sites, 1 frees\n"),
+    (
+        CHAINS_TOO_LONG,
+        74,
+        "refused: long M.main([Ljava/lang/String;)V 65536\n",
+    ),
+    (CHAINS_LONG_FITS, 0, "M: 1 sites, 1 frees\n"),
 ];
 
 // The same beside narrowed targets.
