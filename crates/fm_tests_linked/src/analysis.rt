@@ -319,6 +319,7 @@ fn is_live(
     if local >= code.max_locals || item as usize >= code.items.len() {
         return Ok(None);
     }
+    // For its clause: the code is one that is in a class file.
     let typed = Typed::of(alloc, program, method, code)?;
     let rows = live(alloc, code)?;
     Ok(Some(rows.is_live(local, item)))

@@ -106,8 +106,8 @@ fn nop(alloc: Global) -> Result<Code, NoMemory>
     written_nop(alloc)
 }
 
-// The ends of the edges from item j of the code, which has 12 items, as a walk that begins there finds
-// them.
+// The ends of the edges from item j of the code, which has 12 items, in rising order: what a walk that begins
+// there marks.
 fn ends(alloc: Global, code: &Code, flow: &Flow, j: u32) -> Result<Vec<u32>, NoMemory>
     requires flow { IsFlowOf code.now flow.now }
     requires items { length code.now.items ≡ 12 }
@@ -117,11 +117,22 @@ fn ends(alloc: Global, code: &Code, flow: &Flow, j: u32) -> Result<Vec<u32>, NoM
     let mut waiting = Vec::new(alloc);
     let mut done = flow.no_marks(alloc)?;
     flow.mark_edges(j, &mut row, &mut waiting, &mut done)?;
-    Ok(waiting)
+    set_bits(alloc, &row)
+}
+
+// The bits of a row that are set.
+fn set_bits(alloc: Global, row: &Row) -> Result<Vec<u32>, NoMemory> {
+    let mut found = Vec::new(alloc);
+    for i in 0..row.bits() {
+        if row.get(i) {
+            found.push(i)?;
+        }
+    }
+    Ok(found)
 }
 
 #[test]
-fn edges_rise_and_lead_to_handlers(rt: HostRuntime) -> Result<(), Fail> {
+fn edges_lead_to_targets_and_handlers(rt: HostRuntime) -> Result<(), Fail> {
     let code = code(rt.alloc())?;
     let flow = Flow::of(rt.alloc(), &code)?;
     assert_eq!(rt;
