@@ -1,7 +1,7 @@
 // Audits: pairs of classes as they are read and as somebody wrote them, and what is reported of each.
 
 use crate::tests::changes::changed;
-use crate::tests::{M, ends_with};
+use crate::tests::{A, Call, FREES, M, THREE, ends_so as call_ends_so, ends_with};
 use fm_base::NoMemory;
 use fm_files::MemFiles;
 use fm_test_programs::*;
@@ -180,13 +180,18 @@ fn words_for(alloc: Global, program: &TestProgram) -> Result<String, NoMemory> {
     Ok(words)
 }
 
-// Whether the audit of the program with this change ends so.
+// Whether the audit of the program with this change ends so, and the class that is changed lies there as before.
 fn is_audited(alloc: Global, program: &TestProgram, change: &Change) -> Result<bool, NoMemory> {
     let Some(mut files) = changed_files(alloc, program, change)? else {
         return Ok(false);
     };
+    let Some(bytes) = files.bytes("d/M.class") else {
+        return Ok(false);
+    };
+    let before = Vec::from_slice(alloc, bytes)?;
     let words = words_for(alloc, program)?;
-    ends_with(alloc, words.as_str(), &mut files, change.3, change.4)
+    let ends = ends_with(alloc, words.as_str(), &mut files, change.3, change.4)?;
+    Ok(ends && files.bytes("d/M.class") == Some(before.as_slice()))
 }
 
 // The first change of the program whose audit ends otherwise.
@@ -276,7 +281,7 @@ type Row = (
 
 const WORDS: &str = "--audit d --main M M.class";
 
-const FILES: [Row; 8] = [
+const FILES: [Row; 10] = [
     (&[("M.class", M), ("d/M.class", M)], WORDS, 0, "M: safe\n"),
     (&[("M.class", M)], WORDS, 65, "refused: read d/M.class\n"),
     (&[("d/M.class", M)], WORDS, 65, "refused: read M.class\n"),
@@ -310,6 +315,18 @@ const FILES: [Row; 8] = [
     ),
     (
         &[("M.class", M), ("d/M.class", M)],
+        "--audit d --main M --rapid M.class",
+        64,
+        "refused: words\n",
+    ),
+    (
+        &[("M.class", M), ("d/M.class", M)],
+        "--audit d --main M --chains M.class",
+        64,
+        "refused: words\n",
+    ),
+    (
+        &[("M.class", M), ("d/M.class", M)],
         "--audit d --make 1",
         64,
         "refused: words\n",
@@ -331,6 +348,96 @@ fn files_that_are_audited_are_taken_or_refused(rt: HostRuntime) -> Result<(), Fa
     for row in FILES {
         assert!(rt; ends_so(rt.alloc(), &row)?, "{}", row.3);
     }
+    Ok(())
+}
+
+// The file with the class M that is changed, what is changed of it with what is put in its place, the status of the audit,
+// and its line.
+type Refused = (
+    &'static str,
+    &'static [u8],
+    &'static [u8],
+    u8,
+    &'static str,
+);
+
+const REFUSED: [Refused; 5] = [
+    // a stack of 1,025 words
+    (
+        "M.class",
+        b"\0\0\0\x0d\0\0\0\x01",
+        b"\0\0\0\x0d\x04\x01\0\x01",
+        68,
+        "refused: limit stack M.class main 1025\n",
+    ),
+    (
+        "d/M.class",
+        b"\0\0\0\x0d\0\0\0\x01",
+        b"\0\0\0\x0d\x04\x01\0\x01",
+        68,
+        "refused: limit stack d/M.class main 1025\n",
+    ),
+    // fconst_0; return
+    (
+        "M.class",
+        b"\0\0\0\x0d\0\0\0\x01\0\0\0\x01\xb1",
+        b"\0\0\0\x0e\0\x01\0\x01\0\0\0\x02\x0b\xb1",
+        69,
+        "refused: unsupported M.class main 0\n",
+    ),
+    (
+        "d/M.class",
+        b"\0\0\0\x0d\0\0\0\x01\0\0\0\x01\xb1",
+        b"\0\0\0\x0e\0\x01\0\x01\0\0\0\x02\x0b\xb1",
+        69,
+        "refused: unsupported d/M.class main 0\n",
+    ),
+    // nop, and nothing after it
+    (
+        "M.class",
+        b"\0\0\0\x01\xb1",
+        b"\0\0\0\x01\0",
+        71,
+        "refused: check M.main([Ljava/lang/String;)V\n",
+    ),
+];
+
+// Whether the audit with this change ends so.
+fn is_refused(alloc: Global, row: &Refused) -> Result<bool, NoMemory> {
+    let (name, old, new, status, line) = row;
+    let Some(other) = changed(alloc, M, old, new)? else {
+        return Ok(false);
+    };
+    let mut files = MemFiles::new(alloc, Vec::new(alloc));
+    for file in ["M.class", "d/M.class"] {
+        let bytes = if file == *name { other.as_slice() } else { M };
+        files.add(file, bytes)?;
+    }
+    ends_with(alloc, WORDS, &mut files, *status, line)
+}
+
+#[test]
+fn files_of_an_audit_are_refused_as_those_of_a_job(rt: HostRuntime) -> Result<(), Fail> {
+    for row in REFUSED {
+        assert!(rt; is_refused(rt.alloc(), &row)?, "{}", row.4);
+    }
+    Ok(())
+}
+
+// Whether a program whose second class calls FreeMe is refused.
+fn is_second_refused(alloc: Global) -> Result<bool, NoMemory> {
+    let class = FREES.bytes(alloc)?;
+    let mut files = MemFiles::new(alloc, Vec::new(alloc));
+    files.add("A.class", A)?;
+    files.add("M.class", class.as_slice())?;
+    let words = "--audit d --main A A.class M.class";
+    let line = "refused: calls FreeMe M.main([Ljava/lang/String;)V 1\n";
+    ends_with(alloc, words, &mut files, 72, line)
+}
+
+#[test]
+fn a_second_class_that_frees_is_refused(rt: HostRuntime) -> Result<(), Fail> {
+    assert!(rt; is_second_refused(rt.alloc())?);
     Ok(())
 }
 
@@ -362,5 +469,29 @@ fn fails_at(alloc: Global, failing: u32, lines: &str) -> Result<bool, NoMemory> 
 fn a_read_that_fails_ends_an_audit(rt: HostRuntime) -> Result<(), Fail> {
     assert!(rt; fails_at(rt.alloc(), 1, "refused: read M.class\n")?);
     assert!(rt; fails_at(rt.alloc(), 2, "refused: read d/M.class\n")?);
+    Ok(())
+}
+
+// The put of the lines fails, and that of a refusal.
+#[test]
+fn a_put_that_fails_ends_an_audit(rt: HostRuntime) -> Result<(), Fail> {
+    let lines = Call {
+        words: WORDS,
+        files: &[("M.class", M), ("d/M.class", M)],
+        failing_put: 1,
+        status: 75,
+        lines: "",
+        after: &[("d/M.class", M)],
+        ..THREE
+    };
+    assert!(rt; call_ends_so(rt.alloc(), &lines)?);
+    let refusal = Call {
+        files: &[("M.class", M)],
+        failing_put: 0,
+        failing_report: 1,
+        after: &[],
+        ..lines
+    };
+    assert!(rt; call_ends_so(rt.alloc(), &refusal)?);
     Ok(())
 }
