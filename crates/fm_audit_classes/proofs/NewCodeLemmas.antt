@@ -176,6 +176,6 @@ few_mapped f a (suc n) few (suc i) = few_mapped f (a + 1) n few i
 pub all_few : (given written : List ClassDef) → AllByRecursion HasSpelling written → AreFew (written_codes given written)
 all_few [] written spelled i = omega arith
 all_few (c ∷ given) [] spelled i = omega arith
-all_few (c ∷ given) (w ∷ written) spelled =
+all_few (c ∷ given) (w ∷ written) spelled i =
     few_joined (codes_in (free_for c) (length c.methods) w.methods) (written_codes given written)
-    (few_mapped (code_in (free_for c) w.methods) 0 (length c.methods) (items_few w spelled.0)) (all_few given written spelled.1)
+    (few_mapped (code_in (free_for c) w.methods) 0 (length c.methods) (items_few w spelled.0)) (all_few given written spelled.1) i

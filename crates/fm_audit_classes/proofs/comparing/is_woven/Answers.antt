@@ -1,11 +1,13 @@
-use Rattle.std.proofs.Common.{rules, ◌≡◌, ◌∙◌, sym, ap, subst, Bool, true, false, None}
+use Rattle.std.proofs.Common.{rules, ◌≡◌, ◌<◌, ◌∙◌, sym, ap, subst, Bool, true, false, None, Some, length}
 use Rattle.std.proofs.lemmas.Bool.{false≢true}
 use Rattle.fm_chain.specs.Chaining.{calls_for, entries_for}
 use Rattle.fm_chain.specs.declared.calls.Calls.{Calls}
 use Rattle.fm_code.specs.Fits.{FitsTwo}
 use Rattle.fm_code.specs.Spells.{HasSpelling}
 use Rattle.fm_place.specs.Rewriting.{free_index}
-use Rattle.fm_place_weave.specs.ClassByPlan.{first_long}
+use Rattle.fm_place_weave.specs.ClassByPlan.{first_long, IsFirstLong, IsFull}
+use Rattle.fm_place_weave.specs.declared.error.WeaveFail.{WeaveFail}
+use Rattle.fm_pool.specs.declared.error.AddFail.{AddFail}
 use Rattle.fm_audit_classes.specs.inner.Low.{are_low}
 use Rattle.fm_audit_classes.proofs.WholeClassLemmas.{never_full, never_too_long, woven_whole}
 use Rattle.fm_audit_classes.proofs.comparing.is_woven.Goals as goal
@@ -43,7 +45,10 @@ returns-then-not-are_low-clause-whole c = λ low is.
 
 pub returns-in-Err-Full-clause-whole : goal.returns-in-Err-Full-clause-whole
 returns-in-Err-Full-clause-whole c = λ low is.
-    absurd (never_full c.args.planned.now c.args.class.now c.args.written.now c.requires.class c.requires.written is c.in-Err-Full.ensures.refused.0)
+    let entries = entries_for false c.args.class.now.pool.entries in
+    let full : (65535 < length entries) × (c.in-Err-Full.field-0-0 ≡ length entries) =
+    subst (λ (fail : AddFail). IsFull entries fail) c.in-Err-Full.field-0-is c.in-Err-Full.ensures.refused in
+    absurd (never_full c.args.planned.now c.args.class.now c.args.written.now c.requires.class c.requires.written is full.0)
 
 pub returns-in-Ok-woven_class-clause-whole : goal.returns-in-Ok-woven_class-clause-whole
 returns-in-Ok-woven_class-clause-whole c =
@@ -52,5 +57,8 @@ returns-in-Ok-woven_class-clause-whole c =
 
 pub returns-in-Err-TooLong-clause-whole : goal.returns-in-Err-TooLong-clause-whole
 returns-in-Err-TooLong-clause-whole c = λ low is.
+    let long = first_long c.in-Ok.pool.calls 0 c.args.planned.now c.args.class.now.methods in
+    let first : long ≡ Some (c.in-Err-TooLong.field-0-0, c.in-Err-TooLong.field-0-1) =
+    subst (λ (fail : WeaveFail). IsFirstLong long fail) c.in-Err-TooLong.field-0-is c.in-Err-TooLong.ensures.refused in
     absurd (never_too_long c.args.planned.now c.args.class.now c.args.written.now c.requires.class c.requires.written is c.in-Ok.pool.calls _
-    c.in-Ok.ensures.calls c.in-Err-TooLong.ensures.refused)
+    c.in-Ok.ensures.calls first)

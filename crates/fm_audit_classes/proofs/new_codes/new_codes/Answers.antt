@@ -26,7 +26,7 @@ loop-place-preserved c =
           omega (arith, cut, pushed, so_far, c.len-count.ensures);
       pairs =
           class_pushed here.codes.items c.push_codes.new.codes.items classes written place class new c.in_ok-free.free c.as_slice.result.now _ within inside
-          c.index-classes-place.is c.index-written-place.is c.in_ok-free.ensures c.as_slice.ensures.value
+          c.index-classes-place.is c.index-written-place.is c.in_ok-free.ensures c.as_slice.ensures
           (c.in_ok-push_codes.ensures.codes ∙ ap (λ n. map pair_of here.codes.items ++ codes_in c.in_ok-free.free n c.as_slice.result.now) c.len-count.ensures)
           here.invariant.pairs;
     }
