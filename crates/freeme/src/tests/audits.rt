@@ -353,13 +353,7 @@ fn files_that_are_audited_are_taken_or_refused(rt: HostRuntime) -> Result<(), Fa
 
 // The file with the class M that is changed, what is changed of it with what is put in its place, the status of the audit,
 // and its line.
-type Refused = (
-    &'static str,
-    &'static [u8],
-    &'static [u8],
-    u8,
-    &'static str,
-);
+type Refused = (&'static str, &'static [u8], &'static [u8], u8, &'static str);
 
 const REFUSED: [Refused; 5] = [
     // a stack of 1,025 words
