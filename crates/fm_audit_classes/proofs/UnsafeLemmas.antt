@@ -200,7 +200,7 @@ module _ (given : List ClassDef) (p : Program) (new : List NewCode) (done : List
         let own = safe method ins is in absurd (none-some own.x (sym (ap (option_map (typed_method p are.facts.typing method)) none) ∙ own.is))
 
   -- the insertions are what is to be done
-  again : AreSafelyInserted p new done
+  abbrev again : AreSafelyInserted p new done
   again = record {
     facts = are.facts;
     exact = are.exact;
