@@ -1,5 +1,6 @@
 -- What a job leaves after its files are read, and after its classes are written.
-use Rattle.std.proofs.Common.{false, ◌≡◌, ◌≢◌, ◌≤◌, ℕ, ◌+◌, inl, inr, ⊎_elim, true, List, [], ◌∷◌, ◌++◌, length, map, take, Contains, Option, Some, None, IfSome, IsSomeAnd, Bor, Result, Ok, Err, string_bytes, refl, sym, ap, ◌∙◌, subst, arith}
+use Rattle.std.specs.declared.alloc.Global.{Global}
+use Rattle.std.proofs.Common.{false, ◌≡◌, ◌≢◌, ◌≤◌, ℕ, ◌+◌, inl, inr, ⊎_elim, Bool, true, List, [], ◌∷◌, ◌++◌, length, map, take, Contains, Option, Some, None, IfSome, IsSomeAnd, Bor, Result, Ok, Err, String, string_bytes, refl, sym, ap, ◌∙◌, subst, arith}
 use Rattle.std.specs.List.{AllByRecursion, slice_get}
 use Rattle.std.proofs.lemmas.List.{take-map}
 use Rattle.std.proofs.lemmas.List.Elements.{All-contains, All-from_recursion}
@@ -38,6 +39,7 @@ use Rattle.freeme.proofs.AnalysedLemmas.{does_by, DoLaws, frees_by, is_program, 
 use Rattle.freeme.proofs.WrittenLemmas.{one_count_each, written_accepted, written_apart, written_spelled}
 use Rattle.freeme.proofs.TakenAgain.{again_taken, AgainLaws}
 use Rattle.freeme.proofs.UnheldLemmas.{are_still}
+use Rattle.fm_law_spelled.specs.Changed.{IsShort}
 use Rattle.fm_law_spelled.specs.Names.{AreNew}
 use Rattle.fm_load.specs.Given.{AreGiven, Given, IsFirstUntypedName, IsMadeAlone, IsUntouched, IsNotLinked, IsNotTyped, AreChecked, given_program, made_classes}
 use Rattle.fm_load.specs.Changes.{RisesOnlyAt, ChangesOnlyAt}
@@ -52,6 +54,7 @@ use Rattle.fm_load.specs.Reading.{ReadsAll}
 use Rattle.fm_load.specs.Returned.{ReadsAs, ReadsFirst}
 use Rattle.fm_load.specs.inner.Giving.{AreMadeOf}
 use Rattle.freeme.specs.inner.Freeing.{ComesOfFreeing}
+use Rattle.freeme.specs.inner.Parts.{AreJudgedAs, ComesOfJudging, ComesOfWriting}
 use Rattle.freeme.specs.inner.Writing.{AreApart, KeepsReads, ComesOfClasses}
 use Rattle.freeme.specs.declared.refusal.FreeRefusal.{FreeRefusal}
 use Rattle.freeme.specs.declared.refusal.FreeRefusal.TheVariants as free_refusal
@@ -71,11 +74,14 @@ have_names classes spelled = AllByRecursion-weaker ClassIsSpelled HasName named 
   named c spells = let found = Some-from_some_and (class_name_at c.pool.entries c.this_class) _ spells.this_class in IsSome-from_some (class_name_at c.pool.entries c.this_class) found.0 found.1
 
 -- they are accepted
-pub accepted_classes : {given : Given} {contents : Contents} {classes : List ClassDef} → AreGiven given contents classes → AllByRecursion IsAccepted classes
-accepted_classes {given} {contents} {classes} are =
+accepted_of : (classes : List ClassDef) → AllByRecursion ClassIsSpelled classes → AllByRecursion Profile classes → AllByRecursion IsAccepted classes
+accepted_of classes spelled profiles =
     AllByRecursion-weaker (λ c. ClassIsSpelled c × Profile c) IsAccepted
     (λ c both. record { spelled = (class_bytes c, both.0); within = both.1.limits; supported = both.1.supported }) classes
-    (AllByRecursion-both ClassIsSpelled Profile classes (given_spelled are) (given_accepted are))
+    (AllByRecursion-both ClassIsSpelled Profile classes spelled profiles)
+
+pub accepted_classes : {given : Given} {contents : Contents} {classes : List ClassDef} → AreGiven given contents classes → AllByRecursion IsAccepted classes
+accepted_classes {given} {contents} {classes} are = accepted_of classes (given_spelled are) (given_accepted are)
 
 -- the only bytes that spell a class are its own
 are_spelled_so : (classes : List ClassDef) → AllByRecursion HasSpelling classes → AllByRecursion ClassIsSpelled classes
@@ -91,6 +97,73 @@ apart_of classes new place = at (slice_get classes place) refl where
       let P : Option (List ℕ) → Type 0 = λ o. IfSome o (λ text. ¬ Contains (take place (map class_text classes)) text) in
       let Q : List (List ℕ) → Type 0 = λ texts. ¬ Contains texts (class_text c) in
       subst Q (take-map class_text place classes) (subst P there (new place))
+
+-- ---- their program, which is judged
+
+module _ (classes : List ClassDef) (profiles : AllByRecursion Profile classes) where
+  pub are_within : AllByRecursion IsWithinLimits classes
+  are_within = AllByRecursion-weaker Profile IsWithinLimits (λ c profile. profile.limits) classes profiles
+
+  module _ (spelled : AllByRecursion ClassIsSpelled classes) (main : List ℕ) {whole : Program} (linked : IsLinked classes main (Ok whole) × AreTyped (program_of classes main)) where
+    -- the walk over what it reaches may begin
+    pub may_be_analysed : AreAnalysable whole
+    may_be_analysed = judged_analysable classes whole (record {
+      main = main;
+      program_is = is_program false classes main whole linked.0.1;
+      accepted = accepted_of classes spelled profiles;
+      linked = linked.0.0;
+      typed = linked.1;
+    })
+
+    pub may_open : HasOpening whole.outline
+    may_open =
+        let may = subst AreAnalysable linked.0.1 may_be_analysed in
+        subst (λ (p : Program). HasOpening p.outline) (sym linked.0.1) (opens classes main (accepted_of classes spelled profiles) linked.0.0 may)
+
+    -- so it is judged as it is analysed
+    pub judged_as : (rapid : Bool) (p : Program) → IsAnalysed rapid whole p → AreJudgedAs rapid classes main p
+    judged_as rapid p is = record { linked = linked.0.0; typed = linked.1; analysed = subst (λ (q : Program). IsAnalysed rapid q p) linked.0.1 is }
+
+-- ---- what is written of them
+
+module _ {classes : List ClassDef} {p : Program} (judged : AreJudged classes p) (short : AllByRecursion IsShort classes) {chains : Bool} {made : Rewritten} (rewritten : AreRewrittenBy chains p classes made) where
+  made_spelled : AllByRecursion ClassIsSpelled made.classes.items
+  made_spelled = are_spelled_so made.classes.items (written_spelled classes p made judged rewritten short)
+
+  -- by slices of them and of their counts
+  module _ {written : List ClassDef} (lent : written ≡ made.classes.items) where
+    pub lent_spelled : AllByRecursion ClassIsSpelled written
+    lent_spelled = subst (AllByRecursion ClassIsSpelled) (sym lent) made_spelled
+
+    pub lent_named : AllByRecursion HasName written
+    lent_named = have_names written lent_spelled
+
+    pub lent_apart : AreApart written
+    lent_apart = subst AreApart (sym lent) (apart_of made.classes.items (written_apart classes p made judged rewritten))
+
+    pub lent_counted : {counts : List Count} → counts ≡ made.counts.items → length counts ≡ length written
+    lent_counted reported = ap length reported ∙ one_count_each classes made rewritten ∙ ap length (sym lent)
+
+    -- all are written, and these are their lines
+    pub freed_in : {counts : List Count} {folder : Bytes} {old new : Disk} (lines : String Global) → counts ≡ made.counts.items
+        → string_bytes lines ≡ class_lines written counts → AllWritten folder written old new → ComesOfWriting chains p classes folder old new (Ok lines)
+    freed_in {counts} {folder} {old} {new} lines reported is now = record {
+      made = made;
+      rewritten = rewritten;
+      written = subst (λ (cs : List ClassDef). AllWritten folder cs old new) lent now;
+      lines_are = is ∙ ap (class_lines written) reported ∙ ap (λ (cs : List ClassDef). class_lines cs made.counts.items) lent;
+    }
+
+    -- or not all of them
+    pub cut_off : {folder : Bytes} {old new : Disk} (r : JobRefusal) → ComesOfClasses folder written old new (Err r)
+        → ComesOfWriting chains p classes folder old new (Err (free_refusal.Job r))
+    cut_off {folder} {old} {new} r now = inr (record {
+      made = made;
+      rewritten = rewritten;
+      cause = r;
+      refused = refl;
+      comes = subst (λ (cs : List ClassDef). ComesOfClasses folder cs old new (Err r)) lent now;
+    })
 
 -- ---- after the files are read
 
@@ -287,157 +360,117 @@ module _ {request : WriteRequest} {names : List (Bor Bytes)} {classes : List Cla
   pub spelled : AllByRecursion ClassIsSpelled classes
   spelled = given_spelled reads.source
 
-  pub named : AllByRecursion HasName classes
-  named = have_names classes spelled
+  pub profiles : AllByRecursion Profile classes
+  profiles = given_accepted reads.source
 
-  -- the classes make no program
+  pub short : AllByRecursion IsShort classes
+  short = given_short reads.source
+
   pub ends_read : StaysWithin (job_of request) old between
   ends_read = reads_within (job_of request) old between reads.all
 
-  pub within : AllByRecursion IsWithinLimits classes
-  within = AllByRecursion-weaker Profile IsWithinLimits (λ c profile. profile.limits) classes (given_accepted reads.source)
-
-  -- or a program of which a method isn't typed
-  pub ends_refused : (r : JobRefusal) → ComesOfProgram classes (main_name (job_of request)) (Err r) → ComesTo (job_of request) old between (Err (free_refusal.Job r))
-  ends_refused (job_refusal.Link fail) now = is_not_linked (job_of request) old between classes reads.source reads.faultless reads.calls reads.all (refusal_of fail) now
-  ends_refused (job_refusal.Check name) now = is_not_typed (job_of request) old between classes reads.source reads.faultless reads.calls reads.all name now.0 now.1
-  ends_refused (job_refusal.Shared refusal.OutOfMemory) now = inl (read_untouched (job_of request) old between classes reads.source reads.faultless reads.calls reads.all)
-  ends_refused r now = absurd now
-
-  -- memory can't be had before anything is written
-  pub ends_out_of_memory : ComesTo (job_of request) old between (Err (free_refusal.Job (job_refusal.Shared refusal.OutOfMemory)))
-  ends_out_of_memory = inl (read_untouched (job_of request) old between classes reads.source reads.faultless reads.calls reads.all)
+  -- the classes make no program, or one of which a method isn't typed, or memory can't be had for it
+  pub ends_unjudged : (r : FreeRefusal) → ComesOfJudging request.rapid classes (main_name (job_of request)) (Err r) → ComesTo (job_of request) old between (Err r)
+  ends_unjudged (free_refusal.Job (job_refusal.Link fail)) now =
+      is_not_linked (job_of request) old between classes reads.source reads.faultless reads.calls reads.all (refusal_of fail) now
+  ends_unjudged (free_refusal.Job (job_refusal.Check name)) now =
+      is_not_typed (job_of request) old between classes reads.source reads.faultless reads.calls reads.all name now.0 now.1
+  ends_unjudged (free_refusal.Job (job_refusal.Shared refusal.OutOfMemory)) now =
+      inl (read_untouched (job_of request) old between classes reads.source reads.faultless reads.calls reads.all)
+  ends_unjudged r now = absurd now
 
   -- they make a program whose methods are typed
-  pub are_checked : {program : Program} → IsLinked classes (main_name (job_of request)) (Ok program) × AreTyped (program_of classes (main_name (job_of request))) → AreChecked (given_of (job_of request)) old.contents classes
-  are_checked (linked, typed) = record { linked = record { source = reads.source; linked = linked.0 }; typed = typed }
+  module _ {p : Program} (so : AreJudgedAs request.rapid classes (main_name (job_of request)) p) where
+    are_checked : AreChecked (given_of (job_of request)) old.contents classes
+    are_checked = record { linked = record { source = reads.source; linked = so.linked }; typed = so.typed }
 
-  -- the program is that of judged class files
-  pub are_judged : {program : Program} → IsLinked classes (main_name (job_of request)) (Ok program) × AreTyped (program_of classes (main_name (job_of request))) → AreJudged classes program
-  are_judged (linked, typed) = record {
-    main = main_name (job_of request);
-    program_is = is_program false classes (main_name (job_of request)) _ linked.1;
-    accepted = accepted_classes reads.source;
-    linked = linked.0;
-    typed = typed;
-  }
+    -- it is that of judged class files
+    abbrev of_given : IsProgramOf classes (main_name (job_of request)) p
+    of_given = is_program request.rapid classes (main_name (job_of request)) p so.analysed
 
-  -- the walk over what it reaches may begin
-  pub may_be_analysed : {program : Program} → IsLinked classes (main_name (job_of request)) (Ok program) × AreTyped (program_of classes (main_name (job_of request))) → AreAnalysable program
-  may_be_analysed {program} judged = judged_analysable classes program (are_judged judged)
-
-  pub may_open : {program : Program} → IsLinked classes (main_name (job_of request)) (Ok program) × AreTyped (program_of classes (main_name (job_of request))) → HasOpening program.outline
-  may_open (linked, typed) =
-      let main = main_name (job_of request) in
-      let may = subst AreAnalysable linked.1 (may_be_analysed (linked, typed)) in
-      subst (λ (p : Program). HasOpening p.outline) (sym linked.1) (opens classes main (accepted_classes reads.source) linked.0 may)
-
-  -- the program that is analysed is that of the job
-  pub is_analysed : {program : Program} (p : Program) → IsLinked classes (main_name (job_of request)) (Ok program) × AreTyped (program_of classes (main_name (job_of request)))
-      → IsAnalysed request.rapid program p → IsJobProgram (job_of request) classes p
-  is_analysed p (linked, typed) is = subst (λ (whole : Program). IsAnalysed request.rapid whole p) linked.1 is
-
-  -- it is that of judged class files
-  abbrev of_given : (p : Program) → IsJobProgram (job_of request) classes p → IsProgramOf classes (main_name (job_of request)) p
-  of_given p analysed = is_program request.rapid classes (main_name (job_of request)) p analysed
-
-  abbrev pub judged : (p : Program) → AreChecked (given_of (job_of request)) old.contents classes → IsJobProgram (job_of request) classes p → AreJudged classes p
-  judged p checked analysed = record {
-    main = main_name (job_of request);
-    program_is = of_given p analysed;
-    accepted = accepted_classes reads.source;
-    linked = checked.linked.linked;
-    typed = checked.typed;
-  }
-
-  -- a program that isn't rewritten
-  pub ends_not_freed : (p : Program) → AreChecked (given_of (job_of request)) old.contents classes → IsJobProgram (job_of request) classes p → (r : FreeRefusal)
-      → ComesOfFreeing request.chains p classes (Err r) → ComesTo (job_of request) old between (Err r)
-  ends_not_freed p checked analysed (free_refusal.Rewrite cause name) now =
-      is_not_freed (job_of request) old between classes reads.source reads.faultless reads.calls reads.all p analysed cause name checked now.0
-      (now.1 ∙ ap (λ (q : Program). cause_name q.outline cause) (of_given p analysed))
-  ends_not_freed p checked analysed (free_refusal.Job (job_refusal.Shared refusal.OutOfMemory)) now = ends_out_of_memory
-  ends_not_freed p checked analysed r now = absurd now
-
-  -- the classes that are rewritten, with what is reported of them
-  module _ (checked : AreChecked (given_of (job_of request)) old.contents classes) {p : Program} (analysed : IsJobProgram (job_of request) classes p) (made : Rewritten) (rewritten : AreRewrittenBy request.chains p classes made) where
-    abbrev own_judged : AreJudged classes p
-    own_judged = judged p checked analysed
-
-    made_spelled : AllByRecursion ClassIsSpelled made.classes.items
-    made_spelled =
-        are_spelled_so made.classes.items
-        (written_spelled classes p made own_judged rewritten (given_short reads.source))
-
-    taken_again : AgainLaws → AreTakenAgain p (main_name (job_of request)) made (own_facts rewritten)
-    taken_again again =
-        again_taken request.chains classes (main_name (job_of request)) p (of_given p analysed) made (judged_spelled classes p own_judged) checked.linked.linked
-        again rewritten.marks rewritten.full
-
-    made_profiles : AllByRecursion Profile made.classes.items
-    made_profiles = written_accepted classes p made own_judged rewritten (given_accepted reads.source)
-
-    -- what is tested of the class files is all that the laws require
-    are_taken : CheckedAreTaken → AreTaken classes (main_name (job_of request))
-    are_taken taken =
-        let no_call = sym (first_call_is classes (main_name (job_of request)) p (of_given p analysed)) ∙ rewritten.no_call in
-        taken (given_of (job_of request)) old.contents classes checked no_call
-
-    does_the_same : CheckedAreTaken → DoLaws
-        → DoesTheSame p classes (main_name (job_of request)) made.classes.items rewritten.marks (own_facts rewritten)
-    does_the_same taken laws =
-        does_by request.chains request.rapid classes (main_name (job_of request)) p analysed laws (are_taken taken) made.classes.items rewritten.marks rewritten.full
-        (AllByRecursion-weaker ClassIsSpelled HasSpelling (λ c spells. (class_bytes c, spells)) made.classes.items made_spelled)
-        (AllByRecursion-weaker Profile IsSupported (λ c profile. profile.supported) made.classes.items made_profiles)
-
-    frees_all : CheckedAreTaken → DoLaws → request.chains ≡ true
-        → FreesAll p (program_of classes (main_name (job_of request))) (program_of made.classes.items (main_name (job_of request))) (own_facts rewritten)
-        rewritten.marks
-    frees_all taken laws =
-        frees_by request.chains request.rapid classes (main_name (job_of request)) p analysed laws (are_taken taken) made.classes.items rewritten.marks rewritten.full
-
-    abbrev freed : AgainLaws → CheckedAreTaken → DoLaws → AreFreed (job_of request) old.contents made
-    freed again taken laws = record {
-      classes = classes;
-      checked = checked;
-      program = p;
-      analysed = analysed;
-      rewritten = rewritten;
-      spelled = made_spelled;
-      profile = made_profiles;
-      again = taken_again again;
-      does = does_the_same taken laws;
-      all = frees_all taken laws;
+    abbrev pub judged : AreJudged classes p
+    judged = record {
+      main = main_name (job_of request);
+      program_is = of_given;
+      accepted = accepted_classes reads.source;
+      linked = so.linked;
+      typed = so.typed;
     }
 
-    -- and by slices of both
-    module _ {written : List ClassDef} (lent : written ≡ made.classes.items) where
-      pub lent_spelled : AllByRecursion ClassIsSpelled written
-      lent_spelled = subst (AllByRecursion ClassIsSpelled) (sym lent) made_spelled
+    -- which isn't rewritten
+    ends_not_freed : (r : FreeRefusal) → ComesOfFreeing request.chains p classes (Err r) → ComesTo (job_of request) old between (Err r)
+    ends_not_freed (free_refusal.Rewrite cause name) now =
+        is_not_freed (job_of request) old between classes reads.source reads.faultless reads.calls reads.all p so.analysed cause name are_checked now.0
+        (now.1 ∙ ap (λ (q : Program). cause_name q.outline cause) of_given)
+    ends_not_freed (free_refusal.Job (job_refusal.Shared refusal.OutOfMemory)) now =
+        inl (read_untouched (job_of request) old between classes reads.source reads.faultless reads.calls reads.all)
+    ends_not_freed r now = absurd now
 
-      pub lent_named : AllByRecursion HasName written
-      lent_named = have_names written lent_spelled
+    -- the classes that are rewritten, with what is reported of them
+    module _ (made : Rewritten) (rewritten : AreRewrittenBy request.chains p classes made) where
+      all_spelled : AllByRecursion ClassIsSpelled made.classes.items
+      all_spelled = made_spelled judged short rewritten
 
-      pub lent_apart : AreApart written
-      lent_apart = subst AreApart (sym lent) (apart_of made.classes.items (written_apart classes p made own_judged rewritten))
+      taken_again : AgainLaws → AreTakenAgain p (main_name (job_of request)) made (own_facts rewritten)
+      taken_again again =
+          again_taken request.chains classes (main_name (job_of request)) p of_given made (judged_spelled classes p judged) so.linked
+          again rewritten.marks rewritten.full
 
-      pub lent_counted : {counts : List Count} → counts ≡ made.counts.items → length counts ≡ length written
-      lent_counted reported = ap length reported ∙ one_count_each classes made rewritten ∙ ap length (sym lent)
+      made_profiles : AllByRecursion Profile made.classes.items
+      made_profiles = written_accepted classes p made judged rewritten profiles
 
-  -- they are written, or a write didn't come off
-  module _ {new : Disk} (keeps : KeepsReads between new) (written : List ClassDef) where
-    pub ends_within : (r : Result Unit JobRefusal) → ComesOfClasses request.folder.now written between new r → StaysWithin (job_of request) old new
-    ends_within r comes = writes_within (job_of request) old between new reads.all keeps (writes_in request.folder.now written between new r comes)
+      -- what is tested of the class files is all that the laws require
+      are_taken : CheckedAreTaken → AreTaken classes (main_name (job_of request))
+      are_taken taken =
+          let no_call = sym (first_call_is classes (main_name (job_of request)) p of_given) ∙ rewritten.no_call in
+          taken (given_of (job_of request)) old.contents classes are_checked no_call
 
-  module _ {new : Disk} (keeps : KeepsReads between new) (again : AgainLaws) (taken : CheckedAreTaken) (laws : DoLaws) (checked : AreChecked (given_of (job_of request)) old.contents classes) {p : Program} (analysed : IsJobProgram (job_of request) classes p) (made : Rewritten) (rewritten : AreRewrittenBy request.chains p classes made) {written : List ClassDef} (lent : written ≡ made.classes.items) where
-    pub ends_done : {counts : List Count} (lines : List ℕ) → counts ≡ made.counts.items → lines ≡ class_lines written counts → AllWritten request.folder.now written between new
-        → IsDone (job_of request) lines old new
-    ends_done lines reported is now =
-        let P : List ClassDef → Type 0 = λ cs. AllWritten request.folder.now cs between new in
-        is_done (job_of request) old between new reads.all keeps made reads.faultless (freed checked analysed made rewritten again taken laws) reads.calls lines
-        (is ∙ ap (class_lines written) reported ∙ ap (λ (cs : List ClassDef). class_lines cs made.counts.items) lent) (subst P lent now)
+      does_the_same : CheckedAreTaken → DoLaws
+          → DoesTheSame p classes (main_name (job_of request)) made.classes.items rewritten.marks (own_facts rewritten)
+      does_the_same taken laws =
+          does_by request.chains request.rapid classes (main_name (job_of request)) p so.analysed laws (are_taken taken) made.classes.items rewritten.marks rewritten.full
+          (AllByRecursion-weaker ClassIsSpelled HasSpelling (λ c spells. (class_bytes c, spells)) made.classes.items all_spelled)
+          (AllByRecursion-weaker Profile IsSupported (λ c profile. profile.supported) made.classes.items made_profiles)
 
-    pub ends_unwritten : (r : JobRefusal) → ComesOfClasses request.folder.now written between new (Err r) → ComesTo (job_of request) old new (Err (free_refusal.Job r))
-    ends_unwritten r now =
-        let P : List ClassDef → Type 0 = λ cs. ComesOfClasses request.folder.now cs between new (Err r) in
-        write_ended (job_of request) old between new reads.all keeps made reads.faultless (freed checked analysed made rewritten again taken laws) reads.calls r (subst P lent now)
+      frees_all : CheckedAreTaken → DoLaws → request.chains ≡ true
+          → FreesAll p (program_of classes (main_name (job_of request))) (program_of made.classes.items (main_name (job_of request))) (own_facts rewritten)
+          rewritten.marks
+      frees_all taken laws =
+          frees_by request.chains request.rapid classes (main_name (job_of request)) p so.analysed laws (are_taken taken) made.classes.items rewritten.marks rewritten.full
+
+      abbrev freed : AgainLaws → CheckedAreTaken → DoLaws → AreFreed (job_of request) old.contents made
+      freed again taken laws = record {
+        classes = classes;
+        checked = are_checked;
+        program = p;
+        analysed = so.analysed;
+        rewritten = rewritten;
+        spelled = all_spelled;
+        profile = made_profiles;
+        again = taken_again again;
+        does = does_the_same taken laws;
+        all = frees_all taken laws;
+      }
+
+    -- they are written, or they aren't
+    module _ {new : Disk} (keeps : KeepsReads between new) where
+      pub ends_within : (r : Result (String Global) FreeRefusal) → ComesOfWriting request.chains p classes request.folder.now between new r
+          → StaysWithin (job_of request) old new
+      ends_within (Ok lines) now =
+          writes_within (job_of request) old between new reads.all keeps
+          (writes_in request.folder.now now.made.classes.items between new (Ok tt) now.written)
+      ends_within (Err r) (inl now) = subst (StaysWithin (job_of request) old) (sym now.1) ends_read
+      ends_within (Err r) (inr now) =
+          writes_within (job_of request) old between new reads.all keeps
+          (writes_in request.folder.now now.made.classes.items between new (Err now.cause) now.comes)
+
+      pub ends_written : AgainLaws → CheckedAreTaken → DoLaws → (r : Result (String Global) FreeRefusal)
+          → ComesOfWriting request.chains p classes request.folder.now between new r → ComesTo (job_of request) old new r
+      ends_written again taken laws (Ok lines) now =
+          is_done (job_of request) old between new reads.all keeps now.made reads.faultless (freed now.made now.rewritten again taken laws) reads.calls (string_bytes lines)
+          now.lines_are now.written
+      ends_written again taken laws (Err r) (inl now) =
+          subst (λ (disk : Disk). ComesTo (job_of request) old disk (Err r)) (sym now.1) (ends_not_freed r now.0)
+      ends_written again taken laws (Err r) (inr now) =
+          subst (λ (x : FreeRefusal). ComesTo (job_of request) old new (Err x)) (sym now.refused)
+          (write_ended (job_of request) old between new reads.all keeps now.made reads.faultless (freed now.made now.rewritten again taken laws) reads.calls now.cause now.comes)

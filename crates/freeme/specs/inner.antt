@@ -1,3 +1,4 @@
 pub mod Writing
 pub mod Freeing
 pub mod Auditing
+pub mod Parts

@@ -1,27 +1,56 @@
-// The classes of a program with what frees their dead objects, and the lines that report them.
+// The classes of a program with what frees their dead objects, how they are written, and the lines that
+// report them.
 
 ghost use Rattle.std.specs.Prelude.{◌≡◌, ◌<◌, IfOk, length, string_bytes};
 ghost use Rattle.std.specs.List.{AllByRecursion};
+ghost use Rattle.fm_law_spelled.specs.Changed.{IsShort};
 ghost use Rattle.fm_rewrite.specs.Rewritten.{AreJudged};
 ghost use Rattle.fm_world.specs.Programs.{class_info};
 ghost use Rattle.freeme.specs.Rewriting.{ComesOfRewritingBy};
 ghost use Rattle.freeme.specs.Writing.{HasName, class_line, class_lines};
 ghost use Rattle.freeme.specs.inner.Freeing.{ComesOfFreeing, IsNamed, IsThere};
+ghost use Rattle.freeme.specs.inner.Parts.{ComesOfWriting};
+ghost use Rattle.freeme.specs.inner.Writing.{KeepsReads};
 
 use crate::refusal::FreeRefusal;
-use crate::writing::class_text;
+use crate::writing::{class_text, write_classes};
 use fm_base::{ClassId, Name, NoMemory};
 use fm_code::ClassDef;
+use fm_files::Files;
 use fm_load::method_text;
 use fm_rewrite::{Count, RewriteFail, Rewritten, rewrite, rewrite_chains};
 use fm_world::Program;
 use std::alloc::Global;
 
-/// The classes of a program, each held site with a holder that is freed at all its places, where it
-/// may hold something and its class isn't busy, and what is reported of each; with `chains` the holder of a
-/// site in a loop holds all that the site gave. Where there is a cause against it, they are refused for the
-/// first one.
-pub fn freed_classes<'a>(
+/// Writes the classes of a program into a folder with what frees their dead objects, and returns the lines
+/// that report them.
+pub fn write_freed<'a, F: Files>(
+    alloc: Global,
+    folder: &str,
+    program: &Program,
+    classes: &[ClassDef],
+    chains: bool,
+    files: &mut F,
+) -> Result<String, FreeRefusal<'a>>
+    requires judged { AreJudged classes.now program.now }
+    requires short { AllByRecursion IsShort classes.now }
+    ensures keeps { KeepsReads (F.disk files.old) (F.disk files.new) }
+    ensures comes { ComesOfWriting chains program.now classes.now folder.now
+        (F.disk files.old) (F.disk files.new) result }
+{
+    let made = freed_classes(alloc, program, classes, chains)?;
+    let written: &[ClassDef] = &made.classes;
+    let counts: &[Count] = &made.counts;
+    let lines = class_lines(alloc, written, counts)?;
+    write_classes(alloc, folder, written, files)?;
+    Ok(lines)
+}
+
+// The classes of a program, each held site with a holder that is freed at all its places, where it
+// may hold something and its class isn't busy, and what is reported of each; with `chains` the holder of a
+// site in a loop holds all that the site gave. Where there is a cause against it, they are refused for the
+// first one.
+fn freed_classes<'a>(
     alloc: Global,
     program: &Program,
     classes: &[ClassDef],
@@ -79,12 +108,8 @@ pub fn class_name(alloc: Global, program: &Program, class: ClassId) -> Result<Na
     Ok(Name::new(Vec::from_slice(alloc, info.name.as_slice())?))
 }
 
-/// The lines of classes that are written, each with its line end.
-pub fn class_lines(
-    alloc: Global,
-    classes: &[ClassDef],
-    counts: &[Count],
-) -> Result<String, NoMemory>
+// The lines of classes that are written, each with its line end.
+fn class_lines(alloc: Global, classes: &[ClassDef], counts: &[Count]) -> Result<String, NoMemory>
     requires named { AllByRecursion HasName classes.now }
     requires one_each { length counts.now ≡ length classes.now }
     ensures { IfOk result (λ lines. string_bytes lines ≡ class_lines classes.now counts.now) }

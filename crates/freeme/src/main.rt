@@ -10,6 +10,7 @@
 mod auditing;
 mod freeing;
 mod judging;
+mod laws;
 mod program_text;
 mod refusal;
 mod reporting;

@@ -13,12 +13,12 @@ ghost use Rattle.freeme.specs.TopCall.{ComesTo, IsCallForNoText, IsTopCall, Stay
 ghost use Rattle.freeme.specs.declared.status.TheConstants.{CALLS_FREE, METHOD_TOO_LONG, POOL_FULL};
 
 use crate::auditing::audit_files;
-use crate::freeing::{class_lines, freed_classes};
-use crate::judging::analysed;
+use crate::freeing::write_freed;
+use crate::judging::judged_program;
+use crate::laws::law_written_classes;
 use crate::program_text::put_text;
 use crate::refusal::FreeRefusal;
 use crate::reporting::report_outcome;
-use crate::writing::write_classes;
 use fm_base::NoMemory;
 use fm_base::limits::MAX_CLASS_FILES;
 use fm_cli::CommandRefusal;
@@ -26,13 +26,9 @@ use fm_cli_requests::freeme_request::request_of;
 use fm_cli_requests::{FreemeRequest, ProgramText, WriteRequest};
 use fm_code::ClassDef;
 use fm_files::{Files, Sink};
-use fm_law_beside_freeme::{law_exact, law_lengths, law_written};
-use fm_law_chains::{law_chains, law_chains_exact};
-use fm_law_headline::{law_headline, law_rapid, law_taken};
-use fm_law_relinked::law_links;
-use fm_law_retyped::{law_chained_typed, law_typed};
-use fm_load::{JobRefusal, given_classes, judge_program};
-use fm_rewrite::Count;
+use fm_law_beside_freeme::law_exact;
+use fm_law_chains::law_chains_exact;
+use fm_load::{JobRefusal, given_classes};
 use std::alloc::Global;
 
 /// Does what the words of the command line ask for, puts the lines of what is written into the output,
@@ -190,23 +186,16 @@ fn do_job<'a, F: Files>(
     }
     let read = given_classes(alloc, names, request.made, files)?;
     let classes: &[ClassDef] = &read;
-    let judged = judge_program(alloc, classes, request.main)?;
-    let program = analysed(alloc, judged, request.rapid)?;
-    let made = freed_classes(alloc, &program, classes, request.chains)?;
-    // For their clauses: the classes written link, their methods are typed, files that hold them are taken, and they
+    let program = judged_program(alloc, classes, request.main, request.rapid)?;
+    // For its clauses: the classes written link, their methods are typed, files that hold them are taken, and they
     // do what those read do.
-    law_links();
-    law_typed();
-    law_chained_typed();
-    law_written();
-    law_lengths();
-    law_taken();
-    law_headline();
-    law_rapid();
-    law_chains();
-    let written: &[ClassDef] = &made.classes;
-    let counts: &[Count] = &made.counts;
-    let lines = class_lines(alloc, written, counts)?;
-    write_classes(alloc, request.folder, written, files)?;
-    Ok(lines)
+    law_written_classes();
+    write_freed(
+        alloc,
+        request.folder,
+        &program,
+        classes,
+        request.chains,
+        files,
+    )
 }
