@@ -15,7 +15,7 @@ use Rattle.fm_law_beside_freeme.specs.Exact.{AreLeastFacts, LeastFactsServeAlike
 use Rattle.fm_world.specs.Programs.{Program}
 
 -- plans that differ only in the numbers of their holders' classes serve alike
-plain_serve_alike : (given : List ClassDef) (plans others : Plans) → ((method : ℕ) → plains plans method ≡ plains others method) → ServeAlike given plans others
+pub plain_serve_alike : (given : List ClassDef) (plans others : Plans) → ((method : ℕ) → plains plans method ≡ plains others method) → ServeAlike given plans others
 plain_serve_alike given plans others same = record {
   written = sym (classes_plain plans first_given given) ∙ ap (λ (p : Plans). rewritten p given) all ∙ classes_plain others first_given given;
   marks = marks_are plans ∙ ap (λ (p : Plans). marks_with p given) all ∙ sym (marks_are others);

@@ -256,7 +256,7 @@ module _ (p : Program) (f g : Facts) (first : AreLeastFacts p f) (second : AreLe
   site_same : (j : ℕ) → site_kind f x j ≡ site_kind g y j
   site_same j = λ k. cond (reached_same j k) (option_and_then (λ i. kind_same j i k) (insn_of code j)) None
 
-  node_same : (j : ℕ) → site_node x j ≡ site_node y j
+  pub node_same : (j : ℕ) → site_node x j ≡ site_node y j
   node_same j = ap (λ d. Slot (j + 1) (d - 1)) (depths (j + 1))
 
   captured_same : (n : Node) → is_captured f x (f.class m n) ≡ is_captured g y (g.class m n)
@@ -264,7 +264,7 @@ module _ (p : Program) (f g : Facts) (first : AreLeastFacts p f) (second : AreLe
       λ k. (not (class_same Global n k) && not (class_same Return n k))
       && not (list_any (λ local. class_same (Local local) n k) (reference_parameters p.outline m))
 
-  captured_site_same : (j : ℕ) → is_captured_site f x j ≡ is_captured_site g y j
+  pub captured_site_same : (j : ℕ) → is_captured_site f x j ≡ is_captured_site g y j
   captured_site_same j =
       let class : is_captured f x (site_class f x j) ≡ is_captured g y (site_class g y j) =
       captured_same (site_node x j) ∙ ap (λ n. is_captured g y (g.class m n)) (node_same j) in
@@ -283,7 +283,7 @@ module _ (p : Program) (f g : Facts) (first : AreLeastFacts p f) (second : AreLe
       (λ is. node-word (word_at y j depth) (node_kept p m code (f.typing m) (g.typing m) there (Slot j depth) (word-node (word_at x j depth) is)))
       (λ is. node-word (word_at x j depth) (node_kept p m code (g.typing m) (f.typing m) back (Slot j depth) (word-node (word_at y j depth) is)))
 
-  busy_same : (n : Node) (j : ℕ) → is_busy f x (f.class m n) j ≡ is_busy g y (g.class m n) j
+  pub busy_same : (n : Node) (j : ℕ) → is_busy f x (f.class m n) j ≡ is_busy g y (g.class m n) j
   busy_same n j =
       λ k. reached_same j k
       && (list_any (λ depth. reference_same j depth k && class_same (Slot j depth) n k) (range_with_len 0 (depths j k))

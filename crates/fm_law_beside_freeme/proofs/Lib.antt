@@ -5,4 +5,5 @@ pub mod Causes
 pub mod PlainPlans
 pub mod PlainChains
 pub mod LeastFacts
+pub mod SafeAgain
 pub mod Exact

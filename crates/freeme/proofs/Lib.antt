@@ -17,3 +17,4 @@ pub mod MeaningLemmas
 pub mod AuditLemmas
 pub mod AuditJobLemmas
 pub mod AuditCompleteLemmas
+pub mod DecideLemmas

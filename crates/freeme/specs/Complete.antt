@@ -1,5 +1,6 @@
 -- That a job is done where nothing is against it and nothing fails, as long as there is memory.
 use Rattle.std.specs.Prelude.{◌≡◌, ℕ, ◌≤◌, ◌⊎◌, List, [], ◌∷◌, Contains, None, IsSome}
+use Rattle.fm_audit_classes.specs.Audited.{AreSafelyWritten}
 use Rattle.fm_cli.specs.declared.status.TheConstants.{DONE, OUT_OF_MEMORY}
 use Rattle.fm_cli_requests.specs.AuditRequest.{Audit}
 use Rattle.fm_cli_requests.specs.FreemeRequest.{AskToAudit, Asks, FreemeJob}
@@ -69,3 +70,15 @@ abbrev pub AuditsComplete : List Bytes → Disk → Disk → Output → Output �
 AuditsComplete words old new before after report report' result =
     (audit : Audit) (classes others : List ClassDef) → AskToAudit words audit → CanBeAudited audit old.contents classes others
     → NoAuditFails audit old new before after report report' → Contains (DONE ∷ NOT_SAFE ∷ OUT_OF_MEMORY ∷ []) result
+
+-- where the files of an audit hold these classes, it is done only if those that are audited are the given ones with safe insertions, and finds
+-- them not safe only if they aren't
+pub record Decides (given : List ClassDef) (main : List ℕ) (written : List ClassDef) (result : ℕ) : Type 0 where
+  pub safe : result ≡ DONE → AreSafelyWritten given main written
+  pub not_safe : result ≡ NOT_SAFE → ¬ AreSafelyWritten given main written
+
+-- so does any audit that words ask for, whatever fails besides
+abbrev pub AuditsDecide : List Bytes → Disk → Disk → ℕ → Type 0
+AuditsDecide words old new result =
+    (audit : Audit) (classes others : List ClassDef) → AskToAudit words audit → CanBeAudited audit old.contents classes others
+    → Decides classes (given_in audit).main others result

@@ -3,7 +3,7 @@
 ghost use Rattle.fm_cli.specs.Words.{texts};
 ghost use Rattle.fm_cli.specs.declared.status.TheConstants.{MALFORMED, UNSUPPORTED, VERSION};
 ghost use Rattle.freeme.specs.Causes.{ChangesOnly, IsFaultless, IsForBytes, IsForCheck, IsForDone, IsForLimit, IsForLink, IsForMemory, IsForNotSafe, IsForRead, IsForReturned, IsForRewrite, IsForSafe, IsForText, IsForWords, IsForWrite, IsSilent, IsStatus, IsUnwrittenByAudits, KeepsContents, OfJobs, PutsOnce};
-ghost use Rattle.freeme.specs.Complete.{AuditsComplete, IsComplete};
+ghost use Rattle.freeme.specs.Complete.{AuditsComplete, AuditsDecide, IsComplete};
 ghost use Rattle.fm_cli_requests.specs.FreemeRequest.{job_of};
 ghost use Rattle.fm_cli_requests.specs.ProgramText.{AskForNoText};
 ghost use Rattle.fm_load.specs.Given.{IsMadeAlone};
@@ -127,6 +127,7 @@ pub fn freeme_run<F: Files, O: Sink, R: Sink>(
     ensures audited { AuditsComplete (texts words.now)
         (F.disk files.old) (F.disk files.new) (O.output out.old) (O.output out.new)
         (R.output report.old) (R.output report.new) result }
+    ensures decided { AuditsDecide (texts words.now) (F.disk files.old) (F.disk files.new) result }
     ensures unwritten { IsUnwrittenByAudits (texts words.now)
         (F.disk files.old) (F.disk files.new) }
     ensures alike { AuditsAlike (texts words.now) (F.disk files.old) (F.disk files.new) result }

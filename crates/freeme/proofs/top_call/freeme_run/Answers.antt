@@ -6,6 +6,7 @@ use Rattle.freeme.proofs.AuditCompleteLemmas.{audits_complete}
 use Rattle.freeme.proofs.AuditLemmas.{audit_changes, audit_complete, audit_faultless, audit_kept, audit_not_safe, audit_of_jobs, audit_once, audit_pool_full, audit_returned, audit_runs, audit_safe, audit_silent, audit_text, audit_too_long, audit_unwritten, audit_words, job_audited, job_not_safe, job_only_reads, job_safe, job_unwritten}
 use Rattle.freeme.proofs.CauseLemmas.{is_for_words, is_for_read, is_for_bytes, is_for_limit, is_for_link, is_for_check, is_for_returned, is_for_rewrite, is_for_done, is_for_text, is_for_write, is_for_memory, is_faultless, is_silent, keeps_contents, changes_only}
 use Rattle.freeme.proofs.CompleteLemmas.{is_complete}
+use Rattle.freeme.proofs.DecideLemmas.{audits_decide}
 use Rattle.freeme.proofs.PutLemmas.{puts_once}
 use Rattle.freeme.proofs.RewritingLemmas.{causes_agree}
 use Rattle.freeme.proofs.StatusLemmas.{is_status}
@@ -57,6 +58,9 @@ returns-in-Some g c =
       safe = text_safe words files before after report result asked asks reports;
       not_safe = text_not_safe words files before after report result asked asks reports;
       audited = text_audited words files before after report result asked asks reports;
+      decided =
+          audits_decide words files files before after report report result c.law_exact.ensures.safe (text_safe words files before after report result asked asks reports)
+          (text_not_safe words files before after report result asked asks reports);
       unwritten = text_unwritten words files before after report result asked asks reports;
       alike = text_alike words files before after report result asked asks reports;
     }
@@ -112,6 +116,9 @@ returns-in-None g c =
       safe = job_safe before after report report' result o comes reports;
       not_safe = job_not_safe before after report report' result o comes reports;
       audited = job_audited before after report report' result o comes reports;
+      decided =
+          audits_decide words old new before after report report' result c.law_exact.ensures.safe
+          (job_safe before after report report' result o comes reports) (job_not_safe before after report report' result o comes reports);
       unwritten = job_unwritten before after report report' result o comes reports;
       alike = audits_alike words old new before after report report' result (job_safe before after report report' result o comes reports);
     })
@@ -145,6 +152,9 @@ returns-in-None g c =
       safe = audit_safe before after report report' result call;
       not_safe = audit_not_safe before after report report' result call;
       audited = audits_complete before after report report' result call;
+      decided =
+          audits_decide words old new before after report report' result c.law_exact.ensures.safe (audit_safe before after report report' result call)
+          (audit_not_safe before after report report' result call);
       unwritten = audit_unwritten before after report report' result call;
       alike = audits_alike words old new before after report report' result (audit_safe before after report report' result call);
     })
