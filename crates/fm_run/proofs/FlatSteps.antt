@@ -52,6 +52,13 @@ flat-inside p budget x method item code keeps on place_is code_is =
     let s = flat-standing p budget x keeps on in
     item-inside p x s (method, item) code (place-of p x s method item place_is) code_is
 
+-- its method has code
+pub flat-coded : (p : Program) (budget : ℕ) (x : State) (method item : ℕ) → Keeps p budget x → x.ended ≡ None
+    → Some (method, item) ≡ option_map place_of (topmost x.frames) → (code : Code) × (code_at p method ≡ Some code)
+flat-coded p budget x method item keeps on place_is =
+    let s = flat-standing p budget x keeps on in
+    (s.code, ap (λ (q : ℕ × ℕ). code_at p q.0) (place-of p x s method item place_is) ∙ s.code_is)
+
 -- the item where it is has an instruction
 pub flat-found : (p : Program) (budget : ℕ) (x : State) (method item : ℕ) (code : Code) → Keeps p budget x → x.ended ≡ None
     → Some (method, item) ≡ option_map place_of (topmost x.frames) → code_at p method ≡ Some code → (i : Insn) × (insn_of code item ≡ Some i)

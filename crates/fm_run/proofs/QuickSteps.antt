@@ -1,9 +1,9 @@
 -- Which instruction has a quick code, and where quick codes are.
-use Rattle.std.proofs.Common.{◌≡◌, ℕ, ◌<◌, List, [], length, Some, option_and_then, option_map, refl, sym, ap, ◌∙◌, subst, slice_get, arith, zero-add}
+use Rattle.std.proofs.Common.{◌≡◌, ℕ, ◌<◌, List, [], ◌∷◌, length, Option, None, Some, option_and_then, option_map, refl, sym, ap, ◌∙◌, subst, slice_get, arith, zero-add}
 use Rattle.std.proofs.lemmas.List.{length-map}
 use Rattle.std.proofs.lemmas.List.FromFn.{get_or-map-range_with_len, length-map-range_with_len}
-use Rattle.std.proofs.lemmas.Option.{get_or_from_slice_get, same_Some, slice_get-map, slice_get_within}
-use Rattle.fm_base.proofs.OptionFacts.{option_map-some}
+use Rattle.std.proofs.lemmas.Option.{get_or_from_slice_get, none-some, same_Some, slice_get-map, slice_get_within}
+use Rattle.fm_base.proofs.OptionFacts.{option_and_then-some, option_map-some}
 use Rattle.fm_code.specs.Edges.{insn_of}
 use Rattle.fm_code.specs.declared.code_array.Code.{Code}
 use Rattle.fm_code.specs.declared.code_array.Item.{Item}
@@ -17,21 +17,21 @@ use Rattle.fm_code.specs.declared.operations.Reg.{Reg}
 use Rattle.fm_code.specs.declared.operations.Reg.TheVariants as reg
 use Rattle.fm_code.specs.declared.operations.Test.{Test}
 use Rattle.fm_code.specs.declared.operations.Test.TheVariants as test
-use Rattle.fm_frames.specs.States.{State}
+use Rattle.fm_frames.specs.States.{Frame, State}
+use Rattle.fm_frames.specs.inner.Frames.{place_of, topmost}
 use Rattle.fm_run.specs.declared.quick.Quick.{Quick}
 use Rattle.fm_run.specs.declared.quick.Quick.TheVariants as quick
-use Rattle.fm_run.specs.inner.Flats.{IsFlatNext, item_in}
-use Rattle.fm_run.specs.inner.Nexts.{StandsIn}
-use Rattle.fm_run.specs.inner.Quicks.{codes_of, IsQuickNext, quick_array_load, quick_array_store, quick_if_int, quick_if_pair, quick_int_op, quick_load, quick_of, quick_store, quicks_for, quicks_in}
+use Rattle.fm_run.specs.inner.Flats.{IsFlatNext, item_in, method_in}
+use Rattle.fm_run.specs.inner.Nexts.{HasCode, StandsIn}
+use Rattle.fm_run.specs.inner.Quicks.{AreNextQuicks, codes_of, IsQuickNext, quick_array_load, quick_array_store, quick_if_int, quick_if_pair, quick_int_op, quick_load, quick_of, quick_return, quick_store, quicks_for, quicks_in}
 use Rattle.fm_world.specs.Members.{methods_of}
 use Rattle.fm_world.specs.Programs.{code_at, Program}
 
 -- ---- the instruction of a quick code
 
--- the instruction that has this quick code; of another one and of a call, which several have, the one given
+-- the instruction that has this quick code; of another one, which several have, the one given
 abbrev pub insn_for : Quick → Insn → Insn
 insn_for quick.Other i = i
-insn_for quick.Call i = i
 insn_for (quick.Iconst n) i = insn.Const n
 insn_for (quick.Iload place) i = insn.Load reg.Int place
 insn_for (quick.Lload place) i = insn.Load reg.Long place
@@ -77,6 +77,14 @@ insn_for quick.Arraylength i = insn.Length
 insn_for (quick.Getfield index) i = insn.GetField index
 insn_for (quick.Putfield index) i = insn.PutField index
 insn_for (quick.Getstatic index) i = insn.GetStatic index
+insn_for (quick.Invokevirtual index) i = insn.Virtual index
+insn_for (quick.Invokespecial index) i = insn.Special index
+insn_for (quick.Invokestatic index) i = insn.Static index
+insn_for (quick.Invokeinterface index) i = insn.Interface index
+insn_for quick.Return i = insn.Return None
+insn_for quick.Ireturn i = insn.Return (Some reg.Int)
+insn_for quick.Lreturn i = insn.Return (Some reg.Long)
+insn_for quick.Areturn i = insn.Return (Some reg.Ref)
 
 load-back : (k : Reg) (place : ℕ) → insn_for (quick_load k place) (insn.Load k place) ≡ insn.Load k place
 load-back reg.Int place = refl
@@ -132,6 +140,12 @@ array_store-back elem.Int = refl
 array_store-back elem.Long = refl
 array_store-back elem.Ref = refl
 
+return-back : (value : Option Reg) → insn_for (quick_return value) (insn.Return value) ≡ insn.Return value
+return-back None = refl
+return-back (Some reg.Int) = refl
+return-back (Some reg.Long) = refl
+return-back (Some reg.Ref) = refl
+
 -- each instruction is that of its quick code
 insn-back : (i : Insn) → insn_for (quick_of i) i ≡ i
 insn-back (insn.Const n) = refl
@@ -149,6 +163,11 @@ insn-back insn.Length = refl
 insn-back (insn.GetField index) = refl
 insn-back (insn.PutField index) = refl
 insn-back (insn.GetStatic index) = refl
+insn-back (insn.Virtual index) = refl
+insn-back (insn.Special index) = refl
+insn-back (insn.Static index) = refl
+insn-back (insn.Interface index) = refl
+insn-back (insn.Return value) = return-back value
 insn-back i = refl
 
 pub insn-is : (i : Insn) (q : Quick) → quick_of i ≡ q → i ≡ insn_for q i
@@ -170,10 +189,10 @@ quick-at items quicks item i q are here there =
 pub quicks-long : (items : List Item) (quicks : List Quick) → quicks ≡ quicks_for items → length quicks ≡ length items
 quicks-long items quicks are = ap length are ∙ length-map items (λ (x : Item). quick_of x.insn)
 
--- those of a method that has code
-pub quicks-found : (p : Program) (codes : List (List Quick)) (m : ℕ) (quicks : List Quick) (code : Code) → codes ≡ codes_of p
-    → slice_get codes m ≡ Some quicks → code_at p m ≡ Some code → quicks ≡ quicks_for code.items
-quicks-found p codes m quicks code are there is =
+-- those of a method
+quicks-of : (p : Program) (codes : List (List Quick)) (m : ℕ) (quicks : List Quick) → codes ≡ codes_of p → slice_get codes m ≡ Some quicks
+    → quicks ≡ quicks_in (code_at p m)
+quicks-of p codes m quicks are there =
     let n = length (methods_of p.outline.classes) in
     let g : ℕ → List Quick = λ m. quicks_in (code_at p m) in
     let at : slice_get (codes_of p) m ≡ Some quicks = subst (λ codes. slice_get codes m ≡ Some quicks) are there in
@@ -181,7 +200,29 @@ quicks-found p codes m quicks code are there is =
     let long = length-map-range_with_len g 0 n in
     sym (get_or_from_slice_get (codes_of p) m quicks [] at)
     ∙ get_or-map-range_with_len g 0 n m m [] (omega (arith, inside, long)) (zero-add m)
-    ∙ ap quicks_in is
+
+-- ---- those of the method that the topmost frame is in
+
+pub method-there : (frames : List Frame) (place : ℕ × ℕ) → Some place ≡ option_map place_of (topmost frames) → method_in frames ≡ Some place.0
+method-there [] place is = absurd (none-some place (sym is))
+method-there (f ∷ callers) place is = ap (λ (q : ℕ × ℕ). Some q.0) (sym (same_Some _ _ is))
+
+pub next-quicks : (p : Program) (codes : List (List Quick)) (frames : List Frame) (place : ℕ × ℕ) (quicks : List Quick) → codes ≡ codes_of p
+    → Some place ≡ option_map place_of (topmost frames) → slice_get codes place.0 ≡ Some quicks → AreNextQuicks p frames quicks
+next-quicks p codes frames place quicks are there found =
+    λ m is.
+    let same : place.0 ≡ m = same_Some _ _ (sym (method-there frames place there) ∙ is) in
+    quicks-of p codes place.0 quicks are found ∙ ap (λ n. quicks_in (code_at p n)) same
+
+-- one for each item of its code
+pub quicks-here : (p : Program) (frames : List Frame) (place : ℕ × ℕ) (quicks : List Quick) (code : Code) → AreNextQuicks p frames quicks
+    → Some place ≡ option_map place_of (topmost frames) → code_at p place.0 ≡ Some code → quicks ≡ quicks_for code.items
+quicks-here p frames place quicks code are there is = are place.0 (method-there frames place there) ∙ ap quicks_in is
+
+-- they stay the same as long as it is in that method
+pub quicks-stay : (p : Program) (old new : List Frame) (method : ℕ) (quicks : List Quick) → AreNextQuicks p old quicks → method_in old ≡ Some method
+    → method_in new ≡ Some method → AreNextQuicks p new quicks
+quicks-stay p old new method quicks are before after = λ m is. are m (before ∙ sym after ∙ is)
 
 -- ---- the instruction that is next
 
@@ -194,6 +235,12 @@ insn-there p x method code i code_is stands =
     ap (insn_of code) (ap item_in stands.at.frames_is)
     ∙ sym (ap (λ found. option_and_then (λ (code : Code). insn_of code frame.item) found) here)
     ∙ stands.at.insn_is
+
+pub next-coded : (p : Program) (budget : ℕ) (x : State) (method : ℕ) (q : Quick) → IsQuickNext p budget x method q → HasCode p method
+next-coded p budget x method q next =
+    let frame = next.2.at.at.frame in
+    let found = option_and_then-some (λ (code : Code). insn_of code frame.item) (code_at p frame.method) next.0 next.2.at.at.insn_is in
+    (found.0, sym (ap (code_at p) next.2.at.method_is) ∙ found.1)
 
 pub next-inside : (p : Program) (budget : ℕ) (x : State) (method : ℕ) (code : Code) (q : Quick) → code_at p method ≡ Some code
     → IsQuickNext p budget x method q → item_in x.frames < length code.items

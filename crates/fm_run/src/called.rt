@@ -1,5 +1,5 @@
 // Calls, returns, casts and writes of static fields over frames that are taken out of the machine (JVMS 2.6.4,
-// 6.5): the instructions whose rows are too large to be in line.
+// 6.5). Calls and returns are in line in the loop; casts and writes of static fields aren't.
 
 ghost use Rattle.std.specs.Prelude.{◌≡◌, ◌+◌, true, false};
 ghost use Rattle.fm_code.specs.declared.instructions.Insn.TheVariants as insn;
@@ -8,8 +8,10 @@ ghost use Rattle.fm_frames.specs.inner.Doings.{NextFits};
 ghost use Rattle.fm_law_can_step.specs.Ready.{CanRun};
 ghost use Rattle.fm_run.specs.inner.Flats.{DoesAlone, IsFlatNext};
 ghost use Rattle.fm_run.specs.inner.Nexts.{DoesNext};
+ghost use Rattle.fm_run.specs.inner.Quicks.{IsQuickNext, QuickDoes};
 
 use crate::names::{field_named, method_named, type_named};
+use crate::quick::Quick;
 use fm_base::MethodId;
 use fm_cells::Memory;
 use fm_code::{Insn, Reg};
@@ -177,10 +179,49 @@ fn static_written<M: Memory>(
     rows::put_static(machine, frames, program, f, named)
 }
 
-// Does the instruction, if it is a call, a return, a checkcast or a putstatic; returns whether it
-// was done.
-#[inline(never)]
+// invokevirtual and its like, and return and its like; returns whether it was done.
+#[inline(always)]
 pub(crate) fn do_call<M: Memory>(
+    machine: &Machine<M>,
+    frames: &mut Frames,
+    counted: u64,
+    program: &Program,
+    method: MethodId,
+    quick: &Quick,
+    steps: u64,
+) -> bool
+    requires run { CanRun program.now }
+    requires fits { NextFits frames.old }
+    requires next { IsQuickNext program.now steps (resumed machine.now frames.old counted) method.0
+        quick.now }
+    ensures did { result ≡ true → QuickDoes program.now M.choose quick.now
+        (resumed machine.now frames.old counted) (resumed machine.now frames.new (counted + 1)) }
+    ensures same { result ≡ false → frames.new ≡ frames.old }
+{
+    match quick {
+        Quick::Invokevirtual(index) => {
+            virtual_called(machine, frames, counted, program, method, *index, steps)
+        }
+        Quick::Invokespecial(index) => {
+            special_called(machine, frames, counted, program, method, *index, steps)
+        }
+        Quick::Invokestatic(index) => {
+            static_called(machine, frames, counted, program, method, *index, steps)
+        }
+        Quick::Invokeinterface(index) => {
+            interface_called(machine, frames, counted, program, method, *index, steps)
+        }
+        Quick::Return => left(machine, frames, counted, program, method, None, steps),
+        Quick::Ireturn => left(machine, frames, counted, program, method, Some(Reg::Int), steps),
+        Quick::Lreturn => left(machine, frames, counted, program, method, Some(Reg::Long), steps),
+        Quick::Areturn => left(machine, frames, counted, program, method, Some(Reg::Ref), steps),
+        _ => false,
+    }
+}
+
+// Does the instruction, if it is a checkcast or a putstatic; returns whether it was done.
+#[inline(never)]
+pub(crate) fn do_out_of_line<M: Memory>(
     machine: &mut Machine<M>,
     frames: &mut Frames,
     counted: u64,
@@ -200,25 +241,12 @@ pub(crate) fn do_call<M: Memory>(
     ensures ended { machine.new.ended ≡ machine.old.ended }
 {
     match insn {
-        Insn::Virtual(index) => {
-            virtual_called(machine, frames, counted, program, method, *index, steps)
-        }
-        Insn::Interface(index) => {
-            interface_called(machine, frames, counted, program, method, *index, steps)
-        }
-        Insn::Special(index) => {
-            special_called(machine, frames, counted, program, method, *index, steps)
-        }
-        Insn::Static(index) => {
-            static_called(machine, frames, counted, program, method, *index, steps)
-        }
         Insn::Cast(index) => {
             cast_passed(machine, frames, counted, program, method, *index, steps)
         }
         Insn::PutStatic(index) => {
             static_written(machine, frames, counted, program, method, *index, steps)
         }
-        Insn::Return(value) => left(machine, frames, counted, program, method, *value, steps),
         _ => false,
     }
 }

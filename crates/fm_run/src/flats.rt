@@ -8,15 +8,14 @@ ghost use Rattle.fm_fast.specs.Flows.{resumed};
 ghost use Rattle.fm_fast.specs.Operands.{AsksOf};
 ghost use Rattle.fm_frames.specs.inner.Doings.{NextFits};
 ghost use Rattle.fm_law_can_step.specs.Ready.{CanRun};
-ghost use Rattle.fm_run.specs.inner.Flats.{FlowsNext, WentOn};
+ghost use Rattle.fm_run.specs.inner.Flats.{FlowsNext, method_in, WentOn};
 ghost use Rattle.fm_run.specs.inner.Going.{Keeps, LeadsQuietly};
-ghost use Rattle.fm_run.specs.inner.Quicks.{IsQuickNext, codes_of, quicks_for};
+ghost use Rattle.fm_run.specs.inner.Quicks.{AreNextQuicks, IsQuickNext, codes_of};
 ghost use Rattle.fm_world.specs.Members.{methods_of};
-ghost use Rattle.fm_world.specs.Programs.{code_at};
 
-use crate::called::do_call;
+use crate::called::{do_call, do_out_of_line};
 use crate::indexed::number;
-use crate::names::insn_in;
+use crate::names::{code_in, insn_in};
 use crate::quick::Quick;
 use crate::quick_codes::QuickCodes;
 use crate::quick_rows::{
@@ -26,9 +25,9 @@ use crate::quick_rows::{
 use crate::straight::{done, next_item, reach_after, straight_reach};
 use fm_base::MethodId;
 use fm_cells::Memory;
-use fm_code::{Code, Insn};
+use fm_code::Insn;
 use fm_fast as rows;
-use fm_frames::{Frames, Machine, code_of};
+use fm_frames::{Frames, Machine};
 use fm_world::Program;
 use std::alloc::Global;
 
@@ -41,36 +40,62 @@ fn quick_among(quicks: &[Quick], item: usize) -> &Quick
     &quicks[item]
 }
 
-// The quick code of the next instruction of frames that are taken out of a machine, if it is one of this method.
+// The method of the topmost frame of frames that are taken out of a machine, and the quick code of its next
+// instruction; none where there are no frames.
 #[inline(always)]
 fn next_in<'a, M: Memory>(
     machine: &Machine<M>,
     frames: &Frames,
     counted: u64,
     program: &Program,
-    method: MethodId,
-    code: &Code,
     quicks: &'a [Quick],
     steps: u64,
-) -> Option<&'a Quick>
+) -> Option<(MethodId, &'a Quick)>
     requires run { CanRun program.now }
-    requires code { code_at program.now method.0 ≡ Some code.now }
     requires few { steps < 2 ^ 64 }
     requires keeps { Keeps program.now steps (resumed machine.now frames.now counted) }
     requires on { machine.now.ended ≡ None }
     requires within { counted < steps }
-    requires quicks { quicks.now ≡ quicks_for code.now.items }
-    ensures fits { IfSome result (λ quick. NextFits frames.now) }
-    ensures next { IfSome result (λ quick. IsQuickNext program.now steps
-        (resumed machine.now frames.now counted) method.0 quick.now) }
+    requires quicks { AreNextQuicks program.now frames.now quicks.now }
+    ensures fits { IfSome result (λ next. NextFits frames.now) }
+    ensures method { IfSome result (λ next. method_in frames.now ≡ Some next.0.0) }
+    ensures next { IfSome result (λ next. IsQuickNext program.now steps
+        (resumed machine.now frames.now counted) next.0.0 next.1.now) }
 {
     let Some(place) = frames.topmost() else {
         return None;
     };
-    if place.method != method {
+    Some((place.method, quick_among(quicks, place.item)))
+}
+
+// The quick code of the method that the topmost frame is in; none where there are no frames.
+#[inline(always)]
+fn quicks_next<'a>(
+    program: &Program,
+    codes: &'a QuickCodes,
+    frames: &Frames,
+) -> Option<&'a [Quick]>
+    requires codes { codes.now ≡ codes_of program.now }
+    ensures { IfSome result (λ quicks. AreNextQuicks program.now frames.now quicks.now) }
+{
+    let Some(place) = frames.topmost() else {
         return None;
+    };
+    let Some(quicks) = codes.quicks(place.method) else {
+        return None;
+    };
+    Some(quicks)
+}
+
+// Whether the topmost frame is in this method.
+#[inline(always)]
+fn is_in(frames: &Frames, method: MethodId) -> bool
+    ensures { result ≡ true → method_in frames.now ≡ Some method.0 }
+{
+    match frames.topmost() {
+        Some(place) => place.method == method,
+        None => false,
     }
-    Some(quick_among(quicks, place.item))
 }
 
 // Does the instruction, if it is one of the other simple ones over only frames; returns whether it
@@ -124,21 +149,20 @@ fn jumps(did: bool, frames: &Frames, after: usize) -> bool
     did && next_item(frames) != after
 }
 
-// Does the simple instructions that come next in this method's code over frames that are taken out, as far as
-// the budget of steps allows; gives the frames again, with how many steps are done then.
+// Does the simple instructions, calls and returns that come next over frames that are taken out, as far as the
+// budget of steps allows; gives the frames again, with how many steps are done then.
 fn flow<M: Memory>(
     machine: &mut Machine<M>,
     taken: Frames,
     before: u64,
     program: &Program,
-    method: MethodId,
-    code: &Code,
-    quicks: &[Quick],
+    codes: &QuickCodes,
+    first: &[Quick],
     steps: u64,
 ) -> (Frames, u64)
     requires run { CanRun program.now }
-    requires code { code_at program.now method.0 ≡ Some code.now }
-    requires quicks { quicks.now ≡ quicks_for code.now.items }
+    requires codes { codes.now ≡ codes_of program.now }
+    requires quicks { AreNextQuicks program.now taken first.now }
     requires few { steps < 2 ^ 32 }
     requires keeps { Keeps program.now steps (resumed machine.old taken before) }
     requires on { machine.old.ended ≡ None }
@@ -147,6 +171,7 @@ fn flow<M: Memory>(
         (resumed machine.new result.0 result.1) }
     ensures more { before ≤ result.1 }
 {
+    let mut quicks = first;
     let mut frames = taken;
     let mut reach = straight_reach(before, &frames);
     if reach > steps {
@@ -154,10 +179,8 @@ fn flow<M: Memory>(
     }
     'straight: loop {
         let counted = done(reach, &frames);
-        let next = next_in(
-            machine, &frames, counted, program, method, code, quicks, steps,
-        );
-        let Some(quick) = next else {
+        let next = next_in(machine, &frames, counted, program, quicks, steps);
+        let Some((method, quick)) = next else {
             return (frames, counted);
         };
         let item = next_item(&frames);
@@ -228,8 +251,36 @@ fn flow<M: Memory>(
                         steps,
                     );
                 }
-                Quick::Call => {
-                    break 'done false;
+                Quick::Invokevirtual(_)
+                | Quick::Invokespecial(_)
+                | Quick::Invokestatic(_)
+                | Quick::Invokeinterface(_)
+                | Quick::Return
+                | Quick::Ireturn
+                | Quick::Lreturn
+                | Quick::Areturn => {
+                    let called = do_call(
+                        machine,
+                        &mut frames,
+                        counted,
+                        program,
+                        method,
+                        quick,
+                        steps,
+                    );
+                    if !called {
+                        return (frames, counted);
+                    }
+                    let Some(coming) = quicks_next(program, codes, &frames) else {
+                        return (frames, counted + 1);
+                    };
+                    let reached = reach_after(reach, item, counted, &frames);
+                    if reached > steps {
+                        return (frames, counted + 1);
+                    }
+                    quicks = coming;
+                    reach = reached;
+                    continue 'straight;
                 }
                 Quick::Ifeq(_)
                 | Quick::Ifne(_)
@@ -244,9 +295,16 @@ fn flow<M: Memory>(
                 | Quick::IfIcmpgt(_)
                 | Quick::IfIcmple(_) => do_if_pair(&mut frames, quick),
                 Quick::Goto(_) => do_goto(&mut frames, quick),
-                Quick::Other => do_other(&mut frames, program, method, insn_in(code, item)),
+                Quick::Other => {
+                    let insn = insn_in(code_in(program, method), item);
+                    do_other(&mut frames, program, method, insn)
+                }
             };
             if jumps(jumping, &frames, after) {
+                let stays = is_in(&frames, method);
+                if !stays {
+                    return (frames, counted + 1);
+                }
                 reach = reach_after(reach, item, counted, &frames);
                 if reach > steps {
                     return (frames, counted + 1);
@@ -259,7 +317,12 @@ fn flow<M: Memory>(
         if !did {
             return (frames, counted);
         }
-        // Each that jumps has gone on from its arm, which LLVM sees: so nothing is left of this test.
+        // Each of them stays in its method, and each that jumps has gone on from its arm, which LLVM sees: so
+        // nothing is left of these tests.
+        let stayed = is_in(&frames, method);
+        if !stayed {
+            return (frames, counted + 1);
+        }
         let place = next_item(&frames);
         if place != after {
             return (frames, counted + 1);
@@ -267,22 +330,18 @@ fn flow<M: Memory>(
     }
 }
 
-// Does the next instruction, if it is one of this method that is done out of line; returns whether
-// it was done.
+// Does the next instruction, if it is one that is done out of line; returns whether it was done.
 #[inline(never)]
-fn do_next_call<M: Memory>(
+fn do_next_out_of_line<M: Memory>(
     machine: &mut Machine<M>,
     frames: &mut Frames,
     counted: u64,
     program: &Program,
-    method: MethodId,
-    code: &Code,
-    quicks: &[Quick],
+    codes: &QuickCodes,
     steps: u64,
 ) -> bool
     requires run { CanRun program.now }
-    requires code { code_at program.now method.0 ≡ Some code.now }
-    requires quicks { quicks.now ≡ quicks_for code.now.items }
+    requires codes { codes.now ≡ codes_of program.now }
     requires few { steps < 2 ^ 64 }
     requires keeps { Keeps program.now steps (resumed machine.old frames.old counted) }
     requires on { machine.old.ended ≡ None }
@@ -292,14 +351,15 @@ fn do_next_call<M: Memory>(
     ensures same { result ≡ false → frames.new ≡ frames.old }
     ensures kept { result ≡ false → machine.new ≡ machine.old }
 {
-    let next = next_in(
-        machine, frames, counted, program, method, code, quicks, steps,
-    );
-    let Some(_) = next else {
+    let Some(quicks) = quicks_next(program, codes, frames) else {
         return false;
     };
-    let insn = insn_in(code, next_item(frames));
-    let did = do_call(machine, frames, counted, program, method, insn, steps);
+    let next = next_in(machine, frames, counted, program, quicks, steps);
+    let Some((method, _)) = next else {
+        return false;
+    };
+    let insn = insn_in(code_in(program, method), next_item(frames));
+    let did = do_out_of_line(machine, frames, counted, program, method, insn, steps);
     // For its clauses: the store is sound, and the memory's choices are lawful.
     let _births = machine.births();
     did
@@ -326,34 +386,16 @@ pub(crate) fn do_flat_ones<M: Memory>(
     let mut counted = machine.steps();
     let mut frames = machine.take_frames(alloc);
     while counted < steps {
-        let Some(place) = frames.topmost() else {
+        let Some(quicks) = quicks_next(program, codes, &frames) else {
             break;
         };
-        let method = place.method;
-        let Some(code) = code_of(program, method) else {
-            break;
-        };
-        let Some(quicks) = codes.quicks(method) else {
-            break;
-        };
-        let flowed = flow(
-            machine, frames, counted, program, method, code, quicks, steps,
-        );
+        let flowed = flow(machine, frames, counted, program, codes, quicks, steps);
         frames = flowed.0;
         counted = flowed.1;
         if counted >= steps {
             break;
         }
-        let did = do_next_call(
-            machine,
-            &mut frames,
-            counted,
-            program,
-            method,
-            code,
-            quicks,
-            steps,
-        );
+        let did = do_next_out_of_line(machine, &mut frames, counted, program, codes, steps);
         if !did {
             break;
         }

@@ -1,7 +1,7 @@
 // Instructions in eight bytes, with a variant for each operation and kind: one dispatch finds what is done.
 
 ghost use Rattle.std.specs.Prelude.{◌≡◌};
-ghost use Rattle.fm_run.specs.inner.Quicks.{quick_array_load, quick_array_store, quick_if_int, quick_if_pair, quick_int_op, quick_load, quick_of, quick_store};
+ghost use Rattle.fm_run.specs.inner.Quicks.{quick_array_load, quick_array_store, quick_if_int, quick_if_pair, quick_int_op, quick_load, quick_of, quick_return, quick_store};
 
 use fm_code::{Elem, Insn, Op, Reg, Test};
 
@@ -11,8 +11,6 @@ use fm_code::{Elem, Insn, Op, Reg, Test};
 pub(crate) enum Quick {
     // One that has no variant here.
     Other,
-    // A call or a return.
-    Call,
     // Those that go on to the next item.
     Iconst(i32),
     Iinc(u16, i16),
@@ -60,6 +58,15 @@ pub(crate) enum Quick {
     IfIcmpgt(u32),
     IfIcmple(u32),
     Goto(u32),
+    // Those that enter a method or leave one.
+    Invokevirtual(u16),
+    Invokespecial(u16),
+    Invokestatic(u16),
+    Invokeinterface(u16),
+    Return,
+    Ireturn,
+    Lreturn,
+    Areturn,
 }
 
 const _: () = prove!(size_of::<Quick>() <= 8);
@@ -84,11 +91,11 @@ pub(crate) fn quick_of(insn: &Insn) -> Quick
         Insn::GetField(index) => Quick::Getfield(*index),
         Insn::PutField(index) => Quick::Putfield(*index),
         Insn::GetStatic(index) => Quick::Getstatic(*index),
-        Insn::Virtual(_) => Quick::Call,
-        Insn::Interface(_) => Quick::Call,
-        Insn::Special(_) => Quick::Call,
-        Insn::Static(_) => Quick::Call,
-        Insn::Return(_) => Quick::Call,
+        Insn::Virtual(index) => Quick::Invokevirtual(*index),
+        Insn::Interface(index) => Quick::Invokeinterface(*index),
+        Insn::Special(index) => Quick::Invokespecial(*index),
+        Insn::Static(index) => Quick::Invokestatic(*index),
+        Insn::Return(value) => quick_return(*value),
         _ => Quick::Other,
     }
 }
@@ -156,6 +163,18 @@ fn quick_if_pair(test: Test, target: u32) -> Quick
         Test::Ge => Quick::IfIcmpge(target),
         Test::Gt => Quick::IfIcmpgt(target),
         Test::Le => Quick::IfIcmple(target),
+    }
+}
+
+// return, ireturn, lreturn and areturn.
+fn quick_return(value: Option<Reg>) -> Quick
+    ensures { result ≡ quick_return value }
+{
+    match value {
+        None => Quick::Return,
+        Some(Reg::Int) => Quick::Ireturn,
+        Some(Reg::Long) => Quick::Lreturn,
+        Some(Reg::Ref) => Quick::Areturn,
     }
 }
 

@@ -1,5 +1,5 @@
 -- Steps over frames that are taken out of the machine.
-use Rattle.std.specs.Prelude.{◌≡◌, ℕ, ◌+◌, ◌-◌, ◌≤◌, None, List, [], ◌∷◌}
+use Rattle.std.specs.Prelude.{◌≡◌, ℕ, ◌+◌, ◌-◌, ◌≤◌, Option, None, Some, List, [], ◌∷◌}
 use Rattle.fm_code.specs.declared.instructions.Insn.{Insn}
 use Rattle.fm_fast.specs.Flows.{on, resumed, stepped_on}
 use Rattle.fm_fast.specs.Operands.{AsksOf}
@@ -36,6 +36,11 @@ pub record WentOn (p : Program) (choose : Choose) (budget : ℕ) (x y : State) :
 abbrev pub item_in : List Frame → ℕ
 item_in [] = 0
 item_in (f ∷ callers) = f.item
+
+-- the method of the topmost frame
+abbrev pub method_in : List Frame → Option ℕ
+method_in [] = None
+method_in (f ∷ callers) = Some f.method
 
 -- how many steps are done where this is the reach: the count at the item 65,536, if no jump comes before it
 abbrev pub done_by : (reach : ℕ) → List Frame → ℕ

@@ -18,7 +18,7 @@ use Rattle.fm_frames.specs.Acts.{Choose}
 use Rattle.fm_frames.specs.States.{Frame, State}
 use Rattle.fm_run.specs.declared.quick.Quick.{Quick}
 use Rattle.fm_run.specs.declared.quick.Quick.TheVariants as quick
-use Rattle.fm_run.specs.inner.Flats.{DoesAlone, FlowsNext, IsFlatNext}
+use Rattle.fm_run.specs.inner.Flats.{DoesAlone, FlowsNext, IsFlatNext, method_in}
 use Rattle.fm_world.specs.Members.{methods_of}
 use Rattle.fm_world.specs.Programs.{code_at, Program}
 
@@ -65,6 +65,13 @@ quick_if_pair test.Ge target = quick.IfIcmpge target
 quick_if_pair test.Gt target = quick.IfIcmpgt target
 quick_if_pair test.Le target = quick.IfIcmple target
 
+-- that of return, ireturn, lreturn and areturn
+abbrev pub quick_return : Option Reg → Quick
+quick_return None = quick.Return
+quick_return (Some reg.Int) = quick.Ireturn
+quick_return (Some reg.Long) = quick.Lreturn
+quick_return (Some reg.Ref) = quick.Areturn
+
 -- that of baload and its like
 abbrev pub quick_array_load : Elem → Quick
 quick_array_load elem.Boolean = quick.Other
@@ -102,11 +109,11 @@ quick_of insn.Length = quick.Arraylength
 quick_of (insn.GetField index) = quick.Getfield index
 quick_of (insn.PutField index) = quick.Putfield index
 quick_of (insn.GetStatic index) = quick.Getstatic index
-quick_of (insn.Virtual index) = quick.Call
-quick_of (insn.Interface index) = quick.Call
-quick_of (insn.Special index) = quick.Call
-quick_of (insn.Static index) = quick.Call
-quick_of (insn.Return value) = quick.Call
+quick_of (insn.Virtual index) = quick.Invokevirtual index
+quick_of (insn.Interface index) = quick.Invokeinterface index
+quick_of (insn.Special index) = quick.Invokespecial index
+quick_of (insn.Static index) = quick.Invokestatic index
+quick_of (insn.Return value) = quick_return value
 quick_of i = quick.Other
 
 -- ---- steps by the quick code alone: what is said of each instruction that has it
@@ -137,6 +144,10 @@ quicks_for items = map (λ (i : Item). quick_of i.insn) items
 abbrev pub quicks_in : Option Code → List Quick
 quicks_in None = []
 quicks_in (Some code) = quicks_for code.items
+
+-- those of the method that the topmost frame is in
+abbrev pub AreNextQuicks : Program → List Frame → List Quick → Type 0
+AreNextQuicks p frames quicks = (method : ℕ) → method_in frames ≡ Some method → quicks ≡ quicks_in (code_at p method)
 
 -- those of each method, by its number
 abbrev pub codes_of : Program → List (List Quick)

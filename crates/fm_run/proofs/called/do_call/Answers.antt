@@ -1,63 +1,100 @@
-use Rattle.std.proofs.Common.{ap, subst}
-use Rattle.fm_fast.specs.Flows.{resumed}
+use Rattle.std.proofs.Common.{◌≡◌, None, Some, ap, subst}
+use Rattle.fm_code.specs.declared.instructions.Insn.TheVariants as insn
+use Rattle.fm_code.specs.declared.operations.Reg.TheVariants as reg
 use Rattle.fm_exec_nests.specs.inner.Costs.{nest_of}
+use Rattle.fm_fast.specs.Flows.{resumed}
+use Rattle.fm_run.proofs.QuickSteps.{insn-is, insn_for}
 use Rattle.fm_run.proofs.called.do_call.Goals as goal
 use Rattle.fm_run.specs.inner.Flats.{IsFlatNext}
 
 pub virtual_called-requires-clause-next : goal.virtual_called-requires-clause-next
 virtual_called-requires-clause-next g c =
-    subst (IsFlatNext c.args.program.now c.args.steps (resumed c.args.machine.now c.args.frames.now c.args.counted) c.args.method.0) c.in-Virtual.is
-    c.requires.next
+    let i = c.requires.next.0 in
+    let is : i ≡ insn.Virtual c.in-Invokevirtual.index = subst (λ q. i ≡ insn_for q i) c.in-Invokevirtual.is (insn-is i c.args.quick.now c.requires.next.1) in
+    subst (IsFlatNext c.args.program.now c.args.steps (resumed c.args.machine.now c.args.frames.now c.args.counted) c.args.method.0) is c.requires.next.2
 
-pub returns-in-Virtual-clause-did : goal.returns-in-Virtual-clause-did
-returns-in-Virtual-clause-did g c told = (ap nest_of c.in-Virtual.is, c.virtual_called.ensures.did told)
-
-pub interface_called-requires-clause-next : goal.interface_called-requires-clause-next
-interface_called-requires-clause-next g c =
-    subst (IsFlatNext c.args.program.now c.args.steps (resumed c.args.machine.now c.args.frames.now c.args.counted) c.args.method.0) c.in-Interface.is
-    c.requires.next
-
-pub returns-in-Interface-clause-did : goal.returns-in-Interface-clause-did
-returns-in-Interface-clause-did g c told = (ap nest_of c.in-Interface.is, c.interface_called.ensures.did told)
+pub returns-in-Invokevirtual-clause-did : goal.returns-in-Invokevirtual-clause-did
+returns-in-Invokevirtual-clause-did g c told i has =
+    let is : i ≡ insn.Virtual c.in-Invokevirtual.index = subst (λ q. i ≡ insn_for q i) c.in-Invokevirtual.is (insn-is i c.args.quick.now has) in
+    (ap nest_of is, c.virtual_called.ensures.did told)
 
 pub special_called-requires-clause-next : goal.special_called-requires-clause-next
 special_called-requires-clause-next g c =
-    subst (IsFlatNext c.args.program.now c.args.steps (resumed c.args.machine.now c.args.frames.now c.args.counted) c.args.method.0) c.in-Special.is
-    c.requires.next
+    let i = c.requires.next.0 in
+    let is : i ≡ insn.Special c.in-Invokespecial.index = subst (λ q. i ≡ insn_for q i) c.in-Invokespecial.is (insn-is i c.args.quick.now c.requires.next.1) in
+    subst (IsFlatNext c.args.program.now c.args.steps (resumed c.args.machine.now c.args.frames.now c.args.counted) c.args.method.0) is c.requires.next.2
 
-pub returns-in-Special-clause-did : goal.returns-in-Special-clause-did
-returns-in-Special-clause-did g c told = (ap nest_of c.in-Special.is, c.special_called.ensures.did told)
+pub returns-in-Invokespecial-clause-did : goal.returns-in-Invokespecial-clause-did
+returns-in-Invokespecial-clause-did g c told i has =
+    let is : i ≡ insn.Special c.in-Invokespecial.index = subst (λ q. i ≡ insn_for q i) c.in-Invokespecial.is (insn-is i c.args.quick.now has) in
+    (ap nest_of is, c.special_called.ensures.did told)
 
 pub static_called-requires-clause-next : goal.static_called-requires-clause-next
 static_called-requires-clause-next g c =
-    subst (IsFlatNext c.args.program.now c.args.steps (resumed c.args.machine.now c.args.frames.now c.args.counted) c.args.method.0) c.in-Static.is
-    c.requires.next
+    let i = c.requires.next.0 in
+    let is : i ≡ insn.Static c.in-Invokestatic.index = subst (λ q. i ≡ insn_for q i) c.in-Invokestatic.is (insn-is i c.args.quick.now c.requires.next.1) in
+    subst (IsFlatNext c.args.program.now c.args.steps (resumed c.args.machine.now c.args.frames.now c.args.counted) c.args.method.0) is c.requires.next.2
 
-pub returns-in-Static-clause-did : goal.returns-in-Static-clause-did
-returns-in-Static-clause-did g c told = (ap nest_of c.in-Static.is, c.static_called.ensures.did told)
+pub returns-in-Invokestatic-clause-did : goal.returns-in-Invokestatic-clause-did
+returns-in-Invokestatic-clause-did g c told i has =
+    let is : i ≡ insn.Static c.in-Invokestatic.index = subst (λ q. i ≡ insn_for q i) c.in-Invokestatic.is (insn-is i c.args.quick.now has) in
+    (ap nest_of is, c.static_called.ensures.did told)
 
-pub cast_passed-requires-clause-next : goal.cast_passed-requires-clause-next
-cast_passed-requires-clause-next g c =
-    subst (IsFlatNext c.args.program.now c.args.steps (resumed c.args.machine.now c.args.frames.now c.args.counted) c.args.method.0) c.in-Cast.is
-    c.requires.next
+pub interface_called-requires-clause-next : goal.interface_called-requires-clause-next
+interface_called-requires-clause-next g c =
+    let i = c.requires.next.0 in
+    let is : i ≡ insn.Interface c.in-Invokeinterface.index = subst (λ q. i ≡ insn_for q i) c.in-Invokeinterface.is (insn-is i c.args.quick.now c.requires.next.1) in
+    subst (IsFlatNext c.args.program.now c.args.steps (resumed c.args.machine.now c.args.frames.now c.args.counted) c.args.method.0) is c.requires.next.2
 
-pub returns-in-Cast-clause-did : goal.returns-in-Cast-clause-did
-returns-in-Cast-clause-did g c told = (ap nest_of c.in-Cast.is, c.cast_passed.ensures.did told)
-
-pub static_written-requires-clause-next : goal.static_written-requires-clause-next
-static_written-requires-clause-next g c =
-    subst (IsFlatNext c.args.program.now c.args.steps (resumed c.args.machine.now c.args.frames.now c.args.counted) c.args.method.0) c.in-PutStatic.is
-    c.requires.next
-
-pub returns-in-PutStatic-clause-did : goal.returns-in-PutStatic-clause-did
-returns-in-PutStatic-clause-did g c told = (ap nest_of c.in-PutStatic.is, c.static_written.ensures.did told)
+pub returns-in-Invokeinterface-clause-did : goal.returns-in-Invokeinterface-clause-did
+returns-in-Invokeinterface-clause-did g c told i has =
+    let is : i ≡ insn.Interface c.in-Invokeinterface.index = subst (λ q. i ≡ insn_for q i) c.in-Invokeinterface.is (insn-is i c.args.quick.now has) in
+    (ap nest_of is, c.interface_called.ensures.did told)
 
 pub left-requires : goal.left-requires
-left-requires g c = record {
-  next =
-      subst (IsFlatNext c.args.program.now c.args.steps (resumed c.args.machine.now c.args.frames.now c.args.counted) c.args.method.0) c.in-Return.is
-      c.requires.next;
-}
+left-requires g c =
+    let i = c.requires.next.0 in
+    let is : i ≡ insn.Return None = subst (λ q. i ≡ insn_for q i) c.in-Return.is (insn-is i c.args.quick.now c.requires.next.1) in record {
+      next = subst (IsFlatNext c.args.program.now c.args.steps (resumed c.args.machine.now c.args.frames.now c.args.counted) c.args.method.0) is c.requires.next.2;
+    }
 
 pub returns-in-Return-clause-did : goal.returns-in-Return-clause-did
-returns-in-Return-clause-did g c told = (ap nest_of c.in-Return.is, c.left.ensures.did told)
+returns-in-Return-clause-did g c told i has =
+    let is : i ≡ insn.Return None = subst (λ q. i ≡ insn_for q i) c.in-Return.is (insn-is i c.args.quick.now has) in
+    (ap nest_of is, c.left.ensures.did told)
+
+pub left-requires-in-Ireturn : goal.left-requires-in-Ireturn
+left-requires-in-Ireturn g c =
+    let i = c.requires.next.0 in
+    let is : i ≡ insn.Return (Some reg.Int) = subst (λ q. i ≡ insn_for q i) c.in-Ireturn.is (insn-is i c.args.quick.now c.requires.next.1) in record {
+      next = subst (IsFlatNext c.args.program.now c.args.steps (resumed c.args.machine.now c.args.frames.now c.args.counted) c.args.method.0) is c.requires.next.2;
+    }
+
+pub returns-in-Ireturn-clause-did : goal.returns-in-Ireturn-clause-did
+returns-in-Ireturn-clause-did g c told i has =
+    let is : i ≡ insn.Return (Some reg.Int) = subst (λ q. i ≡ insn_for q i) c.in-Ireturn.is (insn-is i c.args.quick.now has) in
+    (ap nest_of is, c.left-in-Ireturn.ensures.did told)
+
+pub left-requires-in-Lreturn : goal.left-requires-in-Lreturn
+left-requires-in-Lreturn g c =
+    let i = c.requires.next.0 in
+    let is : i ≡ insn.Return (Some reg.Long) = subst (λ q. i ≡ insn_for q i) c.in-Lreturn.is (insn-is i c.args.quick.now c.requires.next.1) in record {
+      next = subst (IsFlatNext c.args.program.now c.args.steps (resumed c.args.machine.now c.args.frames.now c.args.counted) c.args.method.0) is c.requires.next.2;
+    }
+
+pub returns-in-Lreturn-clause-did : goal.returns-in-Lreturn-clause-did
+returns-in-Lreturn-clause-did g c told i has =
+    let is : i ≡ insn.Return (Some reg.Long) = subst (λ q. i ≡ insn_for q i) c.in-Lreturn.is (insn-is i c.args.quick.now has) in
+    (ap nest_of is, c.left-in-Lreturn.ensures.did told)
+
+pub left-requires-in-Areturn : goal.left-requires-in-Areturn
+left-requires-in-Areturn g c =
+    let i = c.requires.next.0 in
+    let is : i ≡ insn.Return (Some reg.Ref) = subst (λ q. i ≡ insn_for q i) c.in-Areturn.is (insn-is i c.args.quick.now c.requires.next.1) in record {
+      next = subst (IsFlatNext c.args.program.now c.args.steps (resumed c.args.machine.now c.args.frames.now c.args.counted) c.args.method.0) is c.requires.next.2;
+    }
+
+pub returns-in-Areturn-clause-did : goal.returns-in-Areturn-clause-did
+returns-in-Areturn-clause-did g c told i has =
+    let is : i ≡ insn.Return (Some reg.Ref) = subst (λ q. i ≡ insn_for q i) c.in-Areturn.is (insn-is i c.args.quick.now has) in
+    (ap nest_of is, c.left-in-Areturn.ensures.did told)

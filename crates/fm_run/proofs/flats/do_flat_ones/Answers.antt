@@ -1,13 +1,11 @@
-use Rattle.std.proofs.Common.{◌≡◌, ◌+◌, None, Some, option_copied, slice_get, true, false, ap, ◌∙◌, sym, subst, rules}
+use Rattle.std.proofs.Common.{◌≡◌, ◌+◌, None, true, false, ap, ◌∙◌, sym, subst, rules}
 use Rattle.fm_fast.specs.Flows.{resumed}
 use Rattle.fm_run.proofs.FlatSteps.{taken-out, then-went, went-joined}
-use Rattle.fm_run.proofs.QuickSteps.{quicks-found}
 use Rattle.fm_run.proofs.Ranging.{leads-none}
 use Rattle.fm_run.proofs.flats.do_flat_ones.Goals as goal
-use Rattle.fm_run.proofs.flats.do_flat_ones.Goals.{else-loop-counted-test, then-loop-counted-test+in_default, then-loop-counted-test+in-Some+in_default-code_of, then-loop-counted-test+in-Some+in-Some-code_of+in_default-quicks, then-loop-counted-test+in-Some+in-Some-code_of+in-Some-quicks+then-counted-steps, then-loop-counted-test+in-Some+in-Some-code_of+in-Some-quicks+else-counted-steps+then-not-did}
+use Rattle.fm_run.proofs.flats.do_flat_ones.Goals.{else-loop-counted-test, then-loop-counted-test+in_default, then-loop-counted-test+in-Some+then-counted-steps, then-loop-counted-test+in-Some+else-counted-steps+then-not-did}
 use Rattle.fm_run.specs.inner.Flats.{WentOn}
 use Rattle.fm_run.specs.inner.Going.{Keeps, LeadsQuietly}
-use Rattle.fm_world.specs.Programs.{code_at}
 
 pub loop-counted-init : goal.loop-counted-init
 loop-counted-init g c =
@@ -27,28 +25,15 @@ pub loop-counted-preserved : goal.loop-counted-preserved
 loop-counted-preserved g c =
     let p = c.args.program.now in
     let choose = g.M.Memory.choose in
-    let did : c.do_next_call-did.result ≡ true = search rules in
+    let did : c.do_next_out_of_line-did.result ≡ true = search rules in
     then-went p choose c.args.steps c.args.machine.now (resumed c.flow-flowed.new.machine c.flow-flowed.result.0 c.flow-flowed.result.1)
-    (resumed c.do_next_call-did.new.machine c.do_next_call-did.new.frames (c.flow-flowed.result.1 + 1))
+    (resumed c.do_next_out_of_line-did.new.machine c.do_next_out_of_line-did.new.frames (c.flow-flowed.result.1 + 1))
     (then-went p choose c.args.steps c.args.machine.now (resumed c.loop-counted.machine c.loop-counted.frames c.loop-counted.counted)
     (resumed c.flow-flowed.new.machine c.flow-flowed.result.0 c.flow-flowed.result.1) c.loop-counted.invariant c.flow-flowed.ensures.went)
-    (c.do_next_call-did.ensures.did did)
+    (c.do_next_out_of_line-did.ensures.did did)
 
 pub flow-flowed-requires-clause-quicks : goal.flow-flowed-requires-clause-quicks
-flow-flowed-requires-clause-quicks g c =
-    let at = c.in-Some.place in
-    let code_is : code_at c.args.program.now at.method.0 ≡ Some c.in-Some-code_of.code.now = search rules in
-    let quicks_are : slice_get c.args.codes.now at.method.0 ≡ Some c.in-Some-quicks.quicks.now =
-    sym c.quicks.ensures ∙ ap option_copied c.in-Some-quicks.is in
-    quicks-found c.args.program.now c.args.codes.now at.method.0 c.in-Some-quicks.quicks.now c.in-Some-code_of.code.now c.requires.codes quicks_are code_is
-
-pub do_next_call-did-requires-clause-quicks : goal.do_next_call-did-requires-clause-quicks
-do_next_call-did-requires-clause-quicks g c =
-    let at = c.in-Some.place in
-    let code_is : code_at c.args.program.now at.method.0 ≡ Some c.in-Some-code_of.code.now = search rules in
-    let quicks_are : slice_get c.args.codes.now at.method.0 ≡ Some c.in-Some-quicks.quicks.now =
-    sym c.quicks.ensures ∙ ap option_copied c.in-Some-quicks.is in
-    quicks-found c.args.program.now c.args.codes.now at.method.0 c.in-Some-quicks.quicks.now c.in-Some-code_of.code.now c.requires.codes quicks_are code_is
+flow-flowed-requires-clause-quicks g c = c.in-Some.ensures
 
 pub returns-then-is_some : goal.returns-then-is_some
 returns-then-is_some g c out = leads-none c.args.program.now g.M.Memory.choose c.args.steps c.args.machine.now out
@@ -68,19 +53,15 @@ returns g c =
     elim last.branch [
       | else-loop-counted-test w ↦ went-joined p choose b x m last.machine f last.frames n last.counted w.machine-is w.frames-is w.counted-is here
       | then-loop-counted-test+in_default w ↦ went-joined p choose b x m last.machine f last.frames n last.counted w.machine-is w.frames-is w.counted-is here
-      | then-loop-counted-test+in-Some+in_default-code_of w ↦
-          went-joined p choose b x m last.machine f last.frames n last.counted w.machine-is w.frames-is w.counted-is here
-      | then-loop-counted-test+in-Some+in-Some-code_of+in_default-quicks w ↦
-          went-joined p choose b x m last.machine f last.frames n last.counted w.machine-is w.frames-is w.counted-is here
-      | then-loop-counted-test+in-Some+in-Some-code_of+in-Some-quicks+then-counted-steps w ↦
+      | then-loop-counted-test+in-Some+then-counted-steps w ↦
           went-joined p choose b x w.flow-flowed.new.machine last.machine w.flow-flowed.result.0 last.frames w.flow-flowed.result.1 last.counted
           w.machine-is w.frames-is w.counted-is
           (then-went p choose b x (resumed m f n) (resumed w.flow-flowed.new.machine w.flow-flowed.result.0 w.flow-flowed.result.1) here
           w.flow-flowed.ensures.went)
-      | then-loop-counted-test+in-Some+in-Some-code_of+in-Some-quicks+else-counted-steps+then-not-did w ↦
-          let didnt : w.do_next_call-did.result ≡ false = search rules in
+      | then-loop-counted-test+in-Some+else-counted-steps+then-not-did w ↦
+          let didnt : w.do_next_out_of_line-did.result ≡ false = search rules in
           went-joined p choose b x w.flow-flowed.new.machine last.machine w.flow-flowed.result.0 last.frames w.flow-flowed.result.1 last.counted
-          (w.machine-is ∙ w.do_next_call-did.ensures.kept didnt) (w.frames-is ∙ w.do_next_call-did.ensures.same didnt) w.counted-is
+          (w.machine-is ∙ w.do_next_out_of_line-did.ensures.kept didnt) (w.frames-is ∙ w.do_next_out_of_line-did.ensures.same didnt) w.counted-is
           (then-went p choose b x (resumed m f n) (resumed w.flow-flowed.new.machine w.flow-flowed.result.0 w.flow-flowed.result.1) here
           w.flow-flowed.ensures.went)
     ] in
