@@ -1,5 +1,6 @@
 pub mod Flows
 pub mod Operands
 pub mod FlowsOver
+pub mod FieldPlaces
 pub mod Packed
 pub mod inner

@@ -3,6 +3,7 @@
 ghost use Rattle.std.specs.Prelude.{◌≡◌, ◌-◌, ◌<◌, true, false, Some, length, slice_get};
 ghost use Rattle.fm_exec.specs.Holding.{HoldsField, TakesField};
 ghost use Rattle.fm_exec.specs.Steps.{seen};
+ghost use Rattle.fm_fast.specs.FieldPlaces.{HoldsFieldAt, IsFieldAt, TakesFieldAt};
 ghost use Rattle.fm_fast.specs.Flows.{on};
 ghost use Rattle.fm_fast.specs.Operands.{AsksOfPut, HasReference};
 ghost use Rattle.fm_fast.specs.FlowsOver.{FlowsOver};
@@ -55,6 +56,40 @@ fn fits_named(program: &Program, class: u32, named: TypeId) -> bool
     fits_by_table(program, class, named)
 }
 
+/// getfield of a field by its place in objects; returns whether it was done. Takes no memory.
+#[inline(always)]
+pub fn get_field_at<M: Memory>(
+    machine: &Machine<M>,
+    frames: &mut Frames,
+    program: &Program,
+    kind: Kind,
+    place: u32,
+    named: TypeId,
+) -> bool
+    requires runnable { IsRunnable program.now }
+    requires fits { NextFits frames.old }
+    requires named { named.0 < length program.now.outline.types }
+    requires object { HasReference frames.old 0 }
+    requires holds { HoldsFieldAt program.now (on machine.now frames.old) kind place named.0 }
+    ensures did { result ≡ true → (f : FieldId) → IsFieldAt program.now.outline f.0 kind place
+        → FlowsOver program.now M.choose machine.now frames.old machine.now frames.new
+        (λ x. get_field_effect program.now.outline (used.OfField f named) (seen program.now x)) }
+    ensures same { result ≡ false → frames.new ≡ frames.old }
+{
+    let Some((cell, head)) = object_there(machine, frames, 0) else {
+        return false;
+    };
+    if head.pack != FIELD_PACK {
+        return false;
+    }
+    let fits = fits_named(program, head.class, named);
+    if !fits {
+        return false;
+    }
+    let value = machine.place(cell, place, kind);
+    give_kind(frames, 1, kind, value)
+}
+
 /// getfield; returns whether it was done. Takes no memory.
 #[inline(always)]
 pub fn get_field<M: Memory>(
@@ -75,44 +110,31 @@ pub fn get_field<M: Memory>(
         (λ x. get_field_effect program.now.outline (used.OfField f named) (seen program.now x)) }
     ensures same { result ≡ false → frames.new ≡ frames.old }
 {
-    let Some((cell, head)) = object_there(machine, frames, 0) else {
-        return false;
-    };
-    if head.pack != FIELD_PACK {
-        return false;
-    }
-    let fits = fits_named(program, head.class, named);
-    if !fits {
-        return false;
-    }
     let kind = program.field(f).kind;
-    let value = machine.place(cell, program.slot_of(f), kind);
-    give_kind(frames, 1, kind, value)
+    get_field_at(machine, frames, program, kind, program.slot_of(f), named)
 }
 
-// Puts the value on top, which is one of the field's kind and has `words` words, into a field.
+// Puts the value on top, which is one of the kind and has `words` words, into the field at a place.
 #[inline(always)]
 fn put_value<M: Memory>(
     machine: &mut Machine<M>,
     frames: &mut Frames,
     program: &Program,
-    f: FieldId,
-    named: TypeId,
     kind: Kind,
+    place: u32,
+    named: TypeId,
     words: usize,
     value: Value,
 ) -> bool
     requires runnable { IsRunnable program.now }
     requires fits { NextFits frames.old }
-    requires field { f.0 < length (fields_of program.now.outline.classes) }
     requires named { named.0 < length program.now.outline.types }
-    requires takes { TakesField program.now (on machine.old frames.old) f.0 named.0 }
+    requires takes { TakesFieldAt program.now (on machine.old frames.old) kind place named.0 }
     requires object { HasReference frames.old words }
-    requires kind { kind ≡ kind_of_field program.now.outline f.0 }
     requires words { words ≡ kind_words kind }
     requires value { slice_get (stack_in frames.old) (words - 1) ≡ Some value }
-    ensures did { result ≡ true → FlowsOver program.now M.choose machine.old frames.old
-        machine.new frames.new
+    ensures did { result ≡ true → (f : FieldId) → IsFieldAt program.now.outline f.0 kind place
+        → FlowsOver program.now M.choose machine.old frames.old machine.new frames.new
         (λ x. put_field_effect program.now.outline (used.OfField f named) (seen program.now x)) }
     ensures same { result ≡ false → frames.new ≡ frames.old }
     ensures kept { result ≡ false → machine.new ≡ machine.old }
@@ -128,9 +150,74 @@ fn put_value<M: Memory>(
     if !fits {
         return false;
     }
-    machine.put_place(cell, program.slot_of(f), kind, value);
+    machine.put_place(cell, place, kind, value);
     take(frames, words + 1);
     true
+}
+
+/// putfield of a field by its place in objects; returns whether it was done. Takes no memory.
+#[inline(always)]
+pub fn put_field_at<M: Memory>(
+    machine: &mut Machine<M>,
+    frames: &mut Frames,
+    program: &Program,
+    kind: Kind,
+    place: u32,
+    named: TypeId,
+) -> bool
+    requires runnable { IsRunnable program.now }
+    requires fits { NextFits frames.old }
+    requires named { named.0 < length program.now.outline.types }
+    requires asks { AsksOfPut kind frames.old }
+    requires takes { TakesFieldAt program.now (on machine.old frames.old) kind place named.0 }
+    ensures did { result ≡ true → (f : FieldId) → IsFieldAt program.now.outline f.0 kind place
+        → FlowsOver program.now M.choose machine.old frames.old machine.new frames.new
+        (λ x. put_field_effect program.now.outline (used.OfField f named) (seen program.now x)) }
+    ensures same { result ≡ false → frames.new ≡ frames.old }
+    ensures kept { result ≡ false → machine.new ≡ machine.old }
+    ensures ended { machine.new.ended ≡ machine.old.ended }
+{
+    match kind {
+        Kind::Long => {
+            let n = long_there(frames, 1);
+            put_value(
+                machine,
+                frames,
+                program,
+                kind,
+                place,
+                named,
+                2,
+                Value::Long(n),
+            )
+        }
+        Kind::Ref(_) => {
+            let cell = cell_there(frames, 0);
+            put_value(
+                machine,
+                frames,
+                program,
+                kind,
+                place,
+                named,
+                1,
+                Value::Ref(cell),
+            )
+        }
+        _ => {
+            let n = int_there(frames, 0);
+            put_value(
+                machine,
+                frames,
+                program,
+                kind,
+                place,
+                named,
+                1,
+                Value::Int(n),
+            )
+        }
+    }
 }
 
 /// putfield; returns whether it was done. Takes no memory.
@@ -156,31 +243,5 @@ pub fn put_field<M: Memory>(
     ensures ended { machine.new.ended ≡ machine.old.ended }
 {
     let kind = program.field(f).kind;
-    match kind {
-        Kind::Long => {
-            let n = long_there(frames, 1);
-            put_value(machine, frames, program, f, named, kind, 2, Value::Long(n))
-        }
-        Kind::Ref(_) => {
-            let cell = cell_there(frames, 0);
-            put_value(
-                machine,
-                frames,
-                program,
-                f,
-                named,
-                kind,
-                1,
-                Value::Ref(cell),
-            )
-        }
-        Kind::Int => {
-            let n = int_there(frames, 0);
-            put_value(machine, frames, program, f, named, kind, 1, Value::Int(n))
-        }
-        _ => {
-            let n = int_there(frames, 0);
-            put_value(machine, frames, program, f, named, kind, 1, Value::Int(n))
-        }
-    }
+    put_field_at(machine, frames, program, kind, program.slot_of(f), named)
 }

@@ -30,7 +30,7 @@ pub use calls::{interface_call, special_call, static_call, virtual_call};
 pub use casts::cast;
 pub use constants::{int_constant, long_constant, null};
 pub use facts::known;
-pub use fields::{get_field, put_field};
+pub use fields::{get_field, get_field_at, put_field, put_field_at};
 pub use jumps::{go_to, if_int, if_null, if_pair, if_same, lookup_switch, table_switch};
 pub use locals::{increment, load, store};
 pub use numbers::{
@@ -43,4 +43,4 @@ pub use operands::{
 pub use pool_constants::constant;
 pub use returns::leave;
 pub use shuffles::{dup, dup2, pop, pop2};
-pub use statics::{get_static, put_static};
+pub use statics::{get_static, get_static_at, put_static};

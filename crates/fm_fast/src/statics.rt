@@ -2,6 +2,7 @@
 
 ghost use Rattle.std.specs.Prelude.{◌≡◌, ◌-◌, ◌<◌, length, true, false};
 ghost use Rattle.fm_fast.specs.Flows.{on};
+ghost use Rattle.fm_fast.specs.FieldPlaces.{IsStaticAt};
 ghost use Rattle.fm_fast.specs.FlowsOver.{FlowsOver};
 ghost use Rattle.fm_fast.specs.inner.Gives.{Gives};
 ghost use Rattle.fm_frames.specs.Elements.{kept};
@@ -16,7 +17,7 @@ ghost use Rattle.fm_world.specs.declared.uses.Use.TheVariants as used;
 
 use crate::entries::are_started;
 use crate::operands::{give_wide, push};
-use fm_base::{FieldId, Kind, TypeId};
+use fm_base::{ClassId, FieldId, Kind, TypeId};
 use fm_cells::Memory;
 use fm_frames::{Frames, Machine, Value};
 use fm_world::Program;
@@ -33,6 +34,32 @@ fn push_kind(frames: &mut Frames, kind: Kind, value: Value) -> bool
         Kind::Long => give_wide(frames, 0, value),
         _ => push(frames, value),
     }
+}
+
+/// getstatic of a field by its class and its place, where the class has started; returns whether it was
+/// done. Takes no memory.
+#[inline(always)]
+pub fn get_static_at<M: Memory>(
+    machine: &Machine<M>,
+    frames: &mut Frames,
+    program: &Program,
+    kind: Kind,
+    place: u32,
+    class: ClassId,
+) -> bool
+    requires fits { NextFits frames.old }
+    requires class { class.0 < length program.now.outline.classes }
+    ensures did { result ≡ true → (f : FieldId) (named : TypeId) → named.0 < length program.now.outline.types
+        → IsStaticAt program.now.outline f.0 kind place class.0
+        → FlowsOver program.now M.choose machine.now frames.old machine.now frames.new
+        (λ x. get_static_effect program.now.outline (used.OfField f named)) }
+    ensures same { result ≡ false → frames.new ≡ frames.old }
+{
+    if !are_started(machine, program, program.display(class)) {
+        return false;
+    }
+    let value = machine.static_at(place as usize);
+    push_kind(frames, kind, value)
 }
 
 /// getstatic of a field whose class has started; returns whether it was done. Takes no memory.
@@ -52,11 +79,14 @@ pub fn get_static<M: Memory>(
     ensures same { result ≡ false → frames.new ≡ frames.old }
 {
     let field = program.field(f);
-    if !are_started(machine, program, program.display(field.class)) {
-        return false;
-    }
-    let value = machine.static_at(program.slot_of(f) as usize);
-    push_kind(frames, field.kind, value)
+    get_static_at(
+        machine,
+        frames,
+        program,
+        field.kind,
+        program.slot_of(f),
+        field.class,
+    )
 }
 
 /// putstatic of a field whose class has started; returns whether it was done. Takes no memory.
