@@ -1,15 +1,16 @@
 -- Kinds that are the same but for the types of references.
-use Rattle.std.proofs.Common.{◌≡◌, ℕ, refl, sym, ap, ◌∙◌}
+use Rattle.std.proofs.Common.{◌≡◌, ℕ, List, refl, sym, ap, ◌∙◌, subst}
 use Rattle.fm_base.specs.Kinds.{kind_words}
 use Rattle.fm_base.specs.declared.kinds.Kind.{Kind}
 use Rattle.fm_base.specs.declared.kinds.Kind.TheVariants as kind
 use Rattle.fm_base.specs.declared.kinds.TypeRef.{TypeRef}
 use Rattle.fm_cells.specs.Changes.{put_by}
 use Rattle.fm_fast.specs.FieldPlaces.{IsLike}
+use Rattle.fm_fast.specs.Operands.{AsksOfPut}
 use Rattle.fm_frames.specs.Acts.{put_value}
 use Rattle.fm_frames.specs.Effects.{loaded, Source}
 use Rattle.fm_frames.specs.Elements.{int_bits, kept, read}
-use Rattle.fm_frames.specs.States.{ref, State}
+use Rattle.fm_frames.specs.States.{Frame, ref, State}
 use Rattle.fm_frames.specs.declared.values.Value.{Value}
 use Rattle.fm_frames.specs.declared.values.Value.TheVariants as value
 
@@ -63,3 +64,13 @@ pub like-put : (x : State) (cell place slot : ℕ) (k own : Kind) (v : Value) �
 like-put x cell place slot k own v at like =
     let areas = x.areas in
     λ i. record x { areas = record areas { store = put_by areas.store cell (sym at i) (like-kept v k own like i) } }
+
+-- what putfield asks
+pub like-asks : (frames : List Frame) (k own : Kind) → IsLike k own → AsksOfPut own frames → AsksOfPut k frames
+like-asks frames (kind.Ref t) own like asks = subst (λ k. AsksOfPut k frames) like.1 asks
+like-asks frames kind.Boolean own is asks = subst (λ k. AsksOfPut k frames) is asks
+like-asks frames kind.Byte own is asks = subst (λ k. AsksOfPut k frames) is asks
+like-asks frames kind.Char own is asks = subst (λ k. AsksOfPut k frames) is asks
+like-asks frames kind.Short own is asks = subst (λ k. AsksOfPut k frames) is asks
+like-asks frames kind.Int own is asks = subst (λ k. AsksOfPut k frames) is asks
+like-asks frames kind.Long own is asks = subst (λ k. AsksOfPut k frames) is asks

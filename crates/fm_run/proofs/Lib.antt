@@ -9,4 +9,6 @@ pub mod Steadying
 pub mod CheapSteps
 pub mod FlatSteps
 pub mod Keeping
+pub mod OperandSteps
 pub mod QuickSteps
+pub mod Naming

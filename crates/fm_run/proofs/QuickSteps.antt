@@ -1,5 +1,5 @@
 -- Which instruction has a quick code, and where quick codes are.
-use Rattle.std.proofs.Common.{◌≡◌, ℕ, ◌<◌, List, [], ◌∷◌, length, Option, None, Some, option_and_then, option_map, refl, sym, ap, ◌∙◌, subst, slice_get, arith, zero-add}
+use Rattle.std.proofs.Common.{◌≡◌, ℕ, ◌+◌, ◌<◌, List, [], ◌∷◌, length, Option, None, Some, option_and_then, option_map, refl, sym, ap, ◌∙◌, subst, slice_get, arith, zero-add}
 use Rattle.std.proofs.lemmas.List.{length-map}
 use Rattle.std.proofs.lemmas.List.FromFn.{get_or-map-range_with_len, length-map-range_with_len}
 use Rattle.std.proofs.lemmas.Option.{get_or_from_slice_get, none-some, same_Some, slice_get-map, slice_get_within}
@@ -17,19 +17,26 @@ use Rattle.fm_code.specs.declared.operations.Reg.{Reg}
 use Rattle.fm_code.specs.declared.operations.Reg.TheVariants as reg
 use Rattle.fm_code.specs.declared.operations.Test.{Test}
 use Rattle.fm_code.specs.declared.operations.Test.TheVariants as test
+use Rattle.fm_frames.specs.CallRows.{words_of_arguments}
+use Rattle.fm_frames.specs.ObjectRows.{class_of_field, kind_of_field}
 use Rattle.fm_frames.specs.States.{Frame, State}
 use Rattle.fm_frames.specs.inner.Frames.{place_of, topmost}
+use Rattle.fm_run.proofs.OperandSteps.{by_getfield, by_getstatic, by_putfield, by_special, by_static, by_virtual}
 use Rattle.fm_run.specs.declared.quick.Quick.{Quick}
 use Rattle.fm_run.specs.declared.quick.Quick.TheVariants as quick
 use Rattle.fm_run.specs.inner.Flats.{IsFlatNext, item_in, method_in}
 use Rattle.fm_run.specs.inner.Nexts.{HasCode, StandsIn}
+use Rattle.fm_run.specs.inner.Operands.{as_byte, as_short, quick_checkcast, quick_getfield, quick_getstatic, quick_putfield, quick_special, quick_static, quick_virtual, target_of}
 use Rattle.fm_run.specs.inner.Quicks.{AreNextQuicks, codes_of, IsQuickNext, quick_array_load, quick_array_store, quick_if_int, quick_if_pair, quick_int_op, quick_load, quick_of, quick_return, quick_store, quicks_for, quicks_in}
-use Rattle.fm_world.specs.Members.{methods_of}
-use Rattle.fm_world.specs.Programs.{code_at, Program}
+use Rattle.fm_types.specs.Typed.{use_in}
+use Rattle.fm_world.specs.Members.{methods_of, slot_of}
+use Rattle.fm_world.specs.Programs.{code_at, Outline, Program}
+use Rattle.fm_world.specs.declared.uses.Use.{Use}
+use Rattle.fm_world.specs.declared.uses.Use.TheVariants as used
 
 -- ---- the instruction of a quick code
 
--- the instruction that has this quick code; of another one, which several have, the one given
+-- the instruction that has this quick code; where several have it, the one given
 abbrev pub insn_for : Quick → Insn → Insn
 insn_for quick.Other i = i
 insn_for (quick.Iconst n) i = insn.Const n
@@ -77,9 +84,16 @@ insn_for quick.Arraylength i = insn.Length
 insn_for (quick.Getfield index) i = insn.GetField index
 insn_for (quick.Putfield index) i = insn.PutField index
 insn_for (quick.Getstatic index) i = insn.GetStatic index
-insn_for (quick.Invokevirtual index) i = insn.Virtual index
-insn_for (quick.Invokespecial index) i = insn.Special index
-insn_for (quick.Invokestatic index) i = insn.Static index
+insn_for (quick.GetfieldInt place named) i = i
+insn_for (quick.GetfieldRef place named) i = i
+insn_for (quick.PutfieldInt place named) i = i
+insn_for (quick.PutfieldRef place named) i = i
+insn_for (quick.GetstaticInt place class) i = i
+insn_for (quick.GetstaticRef place class) i = i
+insn_for (quick.Checkcast t) i = i
+insn_for (quick.Invokevirtual words named m) i = i
+insn_for (quick.Invokespecial words target) i = i
+insn_for (quick.Invokestatic words m) i = i
 insn_for (quick.Invokeinterface index) i = insn.Interface index
 insn_for quick.Return i = insn.Return None
 insn_for quick.Ireturn i = insn.Return (Some reg.Int)
@@ -146,55 +160,95 @@ return-back (Some reg.Int) = refl
 return-back (Some reg.Long) = refl
 return-back (Some reg.Ref) = refl
 
--- each instruction is that of its quick code
-insn-back : (i : Insn) → insn_for (quick_of i) i ≡ i
-insn-back (insn.Const n) = refl
-insn-back (insn.Load kind place) = load-back kind place
-insn-back (insn.Store kind place) = store-back kind place
-insn-back (insn.Inc place by) = refl
-insn-back insn.Dup = refl
-insn-back (insn.IntOp o) = int_op-back o
-insn-back (insn.IfInt t target) = if_int-back t target
-insn-back (insn.IfPair t target) = if_pair-back t target
-insn-back (insn.Goto target) = refl
-insn-back (insn.ArrayLoad e) = array_load-back e
-insn-back (insn.ArrayStore e) = array_store-back e
-insn-back insn.Length = refl
-insn-back (insn.GetField index) = refl
-insn-back (insn.PutField index) = refl
-insn-back (insn.GetStatic index) = refl
-insn-back (insn.Virtual index) = refl
-insn-back (insn.Special index) = refl
-insn-back (insn.Static index) = refl
-insn-back (insn.Interface index) = refl
-insn-back (insn.Return value) = return-back value
-insn-back i = refl
+getfield-back : (o : Outline) (index : ℕ) (u : Use) → insn_for (quick_getfield o u index) (insn.GetField index) ≡ insn.GetField index
+getfield-back o index (used.OfField f named) =
+    by_getfield (λ q. insn_for q (insn.GetField index) ≡ insn.GetField index) (kind_of_field o f.0) named index (as_short (slot_of o.classes f.0)) refl
+    (λ place at is. refl) (λ place at t is. refl)
+getfield-back o index u = refl
 
-pub insn-is : (i : Insn) (q : Quick) → quick_of i ≡ q → i ≡ insn_for q i
-insn-is i q has = sym (insn-back i) ∙ ap (λ q. insn_for q i) has
+putfield-back : (o : Outline) (index : ℕ) (u : Use) → insn_for (quick_putfield o u index) (insn.PutField index) ≡ insn.PutField index
+putfield-back o index (used.OfField f named) =
+    by_putfield (λ q. insn_for q (insn.PutField index) ≡ insn.PutField index) (kind_of_field o f.0) named index (as_short (slot_of o.classes f.0)) refl
+    (λ place at is. refl) (λ place at t is. refl)
+putfield-back o index u = refl
+
+getstatic-back : (o : Outline) (index : ℕ) (u : Use) → insn_for (quick_getstatic o u index) (insn.GetStatic index) ≡ insn.GetStatic index
+getstatic-back o index (used.OfField f named) =
+    by_getstatic (λ q. insn_for q (insn.GetStatic index) ≡ insn.GetStatic index) (kind_of_field o f.0) (class_of_field o f.0) index
+    (as_short (slot_of o.classes f.0)) refl (λ place at is. refl) (λ place at t is. refl)
+getstatic-back o index u = refl
+
+checkcast-back : (index : ℕ) (u : Use) → insn_for (quick_checkcast u) (insn.Cast index) ≡ insn.Cast index
+checkcast-back index (used.OfType t) = refl
+checkcast-back index u = refl
+
+static-back : (o : Outline) (index : ℕ) (u : Use) → insn_for (quick_static o u) (insn.Static index) ≡ insn.Static index
+static-back o index (used.OfMethod m named) =
+    by_static (λ q. insn_for q (insn.Static index) ≡ insn.Static index) m (as_short (words_of_arguments o m.0)) refl (λ words are. refl)
+static-back o index u = refl
+
+virtual-back : (o : Outline) (index : ℕ) (u : Use) → insn_for (quick_virtual o u) (insn.Virtual index) ≡ insn.Virtual index
+virtual-back o index (used.OfMethod m named) =
+    by_virtual (λ q. insn_for q (insn.Virtual index) ≡ insn.Virtual index) m (as_short named.0) (as_byte (words_of_arguments o m.0 + 1)) refl
+    (λ n words is are. refl)
+virtual-back o index u = refl
+
+special-back : (o : Outline) (caller index : ℕ) (u : Use) → insn_for (quick_special o caller u) (insn.Special index) ≡ insn.Special index
+special-back o caller index (used.OfMethod m named) =
+    by_special (λ q. insn_for q (insn.Special index) ≡ insn.Special index) (target_of o caller m named) (as_short (words_of_arguments o m.0 + 1)) refl
+    (λ words are. refl)
+special-back o caller index u = refl
+
+-- each instruction is that of its quick code
+insn-back : (p : Program) (method : ℕ) (i : Insn) → insn_for (quick_of p method i) i ≡ i
+insn-back p method (insn.Const n) = refl
+insn-back p method (insn.Load kind place) = load-back kind place
+insn-back p method (insn.Store kind place) = store-back kind place
+insn-back p method (insn.Inc place by) = refl
+insn-back p method insn.Dup = refl
+insn-back p method (insn.IntOp o) = int_op-back o
+insn-back p method (insn.IfInt t target) = if_int-back t target
+insn-back p method (insn.IfPair t target) = if_pair-back t target
+insn-back p method (insn.Goto target) = refl
+insn-back p method (insn.ArrayLoad e) = array_load-back e
+insn-back p method (insn.ArrayStore e) = array_store-back e
+insn-back p method insn.Length = refl
+insn-back p method (insn.GetField index) = getfield-back p.outline index (use_in p method index)
+insn-back p method (insn.PutField index) = putfield-back p.outline index (use_in p method index)
+insn-back p method (insn.GetStatic index) = getstatic-back p.outline index (use_in p method index)
+insn-back p method (insn.Cast index) = checkcast-back index (use_in p method index)
+insn-back p method (insn.Virtual index) = virtual-back p.outline index (use_in p method index)
+insn-back p method (insn.Special index) = special-back p.outline method index (use_in p method index)
+insn-back p method (insn.Static index) = static-back p.outline index (use_in p method index)
+insn-back p method (insn.Interface index) = refl
+insn-back p method (insn.Return value) = return-back value
+insn-back p method i = refl
+
+pub insn-is : (p : Program) (method : ℕ) (i : Insn) (q : Quick) → quick_of p method i ≡ q → i ≡ insn_for q i
+insn-is p method i q has = sym (insn-back p method i) ∙ ap (λ q. insn_for q i) has
 
 -- ---- by item
 
 -- that of an item is that of its instruction
-pub quick-at : (items : List Item) (quicks : List Quick) (item : ℕ) (i : Insn) (q : Quick) → quicks ≡ quicks_for items
-    → option_map (λ (x : Item). x.insn) (slice_get items item) ≡ Some i → slice_get quicks item ≡ Some q → quick_of i ≡ q
-quick-at items quicks item i q are here there =
-    let f : Item → Quick = λ x. quick_of x.insn in
+pub quick-at : (p : Program) (method : ℕ) (items : List Item) (quicks : List Quick) (item : ℕ) (i : Insn) (q : Quick) → quicks ≡ quicks_for p method items
+    → option_map (λ (x : Item). x.insn) (slice_get items item) ≡ Some i → slice_get quicks item ≡ Some q → quick_of p method i ≡ q
+quick-at p method items quicks item i q are here there =
+    let f : Item → Quick = λ x. quick_of p method x.insn in
     let found = option_map-some (λ (x : Item). x.insn) (slice_get items item) i here in
-    let of : Some (quick_of found.0.insn) ≡ Some q =
+    let of : Some (quick_of p method found.0.insn) ≡ Some q =
     sym (ap (option_map f) found.1) ∙ sym (slice_get-map f items item) ∙ ap (λ qs. slice_get qs item) (sym are) ∙ there in
-    sym (ap quick_of found.2) ∙ same_Some _ _ of
+    sym (ap (quick_of p method) found.2) ∙ same_Some _ _ of
 
 -- as many as items
-pub quicks-long : (items : List Item) (quicks : List Quick) → quicks ≡ quicks_for items → length quicks ≡ length items
-quicks-long items quicks are = ap length are ∙ length-map items (λ (x : Item). quick_of x.insn)
+pub quicks-long : (p : Program) (method : ℕ) (items : List Item) (quicks : List Quick) → quicks ≡ quicks_for p method items → length quicks ≡ length items
+quicks-long p method items quicks are = ap length are ∙ length-map items (λ (x : Item). quick_of p method x.insn)
 
 -- those of a method
 quicks-of : (p : Program) (codes : List (List Quick)) (m : ℕ) (quicks : List Quick) → codes ≡ codes_of p → slice_get codes m ≡ Some quicks
-    → quicks ≡ quicks_in (code_at p m)
+    → quicks ≡ quicks_in p m (code_at p m)
 quicks-of p codes m quicks are there =
     let n = length (methods_of p.outline.classes) in
-    let g : ℕ → List Quick = λ m. quicks_in (code_at p m) in
+    let g : ℕ → List Quick = λ m. quicks_in p m (code_at p m) in
     let at : slice_get (codes_of p) m ≡ Some quicks = subst (λ codes. slice_get codes m ≡ Some quicks) are there in
     let inside = slice_get_within (codes_of p) m quicks at in
     let long = length-map-range_with_len g 0 n in
@@ -212,12 +266,12 @@ pub next-quicks : (p : Program) (codes : List (List Quick)) (frames : List Frame
 next-quicks p codes frames place quicks are there found =
     λ m is.
     let same : place.0 ≡ m = same_Some _ _ (sym (method-there frames place there) ∙ is) in
-    quicks-of p codes place.0 quicks are found ∙ ap (λ n. quicks_in (code_at p n)) same
+    quicks-of p codes place.0 quicks are found ∙ ap (λ n. quicks_in p n (code_at p n)) same
 
 -- one for each item of its code
 pub quicks-here : (p : Program) (frames : List Frame) (place : ℕ × ℕ) (quicks : List Quick) (code : Code) → AreNextQuicks p frames quicks
-    → Some place ≡ option_map place_of (topmost frames) → code_at p place.0 ≡ Some code → quicks ≡ quicks_for code.items
-quicks-here p frames place quicks code are there is = are place.0 (method-there frames place there) ∙ ap quicks_in is
+    → Some place ≡ option_map place_of (topmost frames) → code_at p place.0 ≡ Some code → quicks ≡ quicks_for p place.0 code.items
+quicks-here p frames place quicks code are there is = are place.0 (method-there frames place there) ∙ ap (quicks_in p place.0) is
 
 -- they stay the same as long as it is in that method
 pub quicks-stay : (p : Program) (old new : List Frame) (method : ℕ) (quicks : List Quick) → AreNextQuicks p old quicks → method_in old ≡ Some method

@@ -1,4 +1,5 @@
 pub mod Nexts
 pub mod Going
 pub mod Flats
+pub mod Operands
 pub mod Quicks

@@ -19,7 +19,7 @@ use crate::names::{code_in, insn_in};
 use crate::quick::Quick;
 use crate::quick_codes::QuickCodes;
 use crate::quick_rows::{
-    do_array_load, do_array_store, do_field, do_goto, do_if_int, do_if_pair, do_int_op, do_load,
+    do_array_load, do_array_store, do_cast, do_field, do_goto, do_if_int, do_if_pair, do_int_op, do_load,
     do_simple, do_store,
 };
 use crate::straight::{done, next_item, reach_after, straight_reach};
@@ -70,11 +70,7 @@ fn next_in<'a, M: Memory>(
 
 // The quick code of the method that the topmost frame is in; none where there are no frames.
 #[inline(always)]
-fn quicks_next<'a>(
-    program: &Program,
-    codes: &'a QuickCodes,
-    frames: &Frames,
-) -> Option<&'a [Quick]>
+fn quicks_next<'a>(program: &Program, codes: &'a QuickCodes, frames: &Frames) -> Option<&'a [Quick]>
     requires codes { codes.now ≡ codes_of program.now }
     ensures { IfSome result (λ quicks. AreNextQuicks program.now frames.now quicks.now) }
 {
@@ -240,7 +236,15 @@ fn flow<M: Memory>(
                         steps,
                     );
                 }
-                Quick::Getfield(_) | Quick::Putfield(_) | Quick::Getstatic(_) => {
+                Quick::Getfield(_)
+                | Quick::Putfield(_)
+                | Quick::Getstatic(_)
+                | Quick::GetfieldInt(_, _)
+                | Quick::GetfieldRef(_, _)
+                | Quick::PutfieldInt(_, _)
+                | Quick::PutfieldRef(_, _)
+                | Quick::GetstaticInt(_, _)
+                | Quick::GetstaticRef(_, _) => {
                     break 'done do_field(
                         machine,
                         &mut frames,
@@ -251,9 +255,20 @@ fn flow<M: Memory>(
                         steps,
                     );
                 }
-                Quick::Invokevirtual(_)
-                | Quick::Invokespecial(_)
-                | Quick::Invokestatic(_)
+                Quick::Checkcast(_) => {
+                    break 'done do_cast(
+                        machine,
+                        &mut frames,
+                        counted,
+                        program,
+                        method,
+                        quick,
+                        steps,
+                    );
+                }
+                Quick::Invokevirtual(_, _, _)
+                | Quick::Invokespecial(_, _)
+                | Quick::Invokestatic(_, _)
                 | Quick::Invokeinterface(_)
                 | Quick::Return
                 | Quick::Ireturn

@@ -1,12 +1,21 @@
 // Instructions in eight bytes, with a variant for each operation and kind: one dispatch finds what is done.
 
-ghost use Rattle.std.specs.Prelude.{◌≡◌};
+ghost use Rattle.std.specs.Prelude.{◌≡◌, ◌<◌, length, Option};
+ghost use Rattle.fm_frames.specs.Runnable.{IsRunnable};
 ghost use Rattle.fm_run.specs.inner.Quicks.{quick_array_load, quick_array_store, quick_if_int, quick_if_pair, quick_int_op, quick_load, quick_of, quick_return, quick_store};
+ghost use Rattle.fm_world.specs.Members.{methods_of};
 
+use crate::names::used;
+use crate::quick_operands::{
+    quick_checkcast, quick_getfield, quick_getstatic, quick_putfield, quick_special, quick_static,
+    quick_virtual,
+};
+use fm_base::{MethodId, TypeId};
 use fm_code::{Elem, Insn, Op, Reg, Test};
+use fm_world::Program;
 
-// What an item does, by the name of its instruction (JVMS 6.5). A `u16` is a pool index or a local
-// variable, and a `u32` the number of the item that is jumped to.
+// What an item does, by the name of its instruction (JVMS 6.5). A `u16` alone is a pool index or a local
+// variable, and a `u32` alone the number of the item that is jumped to.
 #[derive(Clone, Copy)]
 pub(crate) enum Quick {
     // One that has no variant here.
@@ -44,6 +53,16 @@ pub(crate) enum Quick {
     Getfield(u16),
     Putfield(u16),
     Getstatic(u16),
+    // The place of a field of ints or references, and the named type.
+    GetfieldInt(u16, TypeId),
+    GetfieldRef(u16, TypeId),
+    PutfieldInt(u16, TypeId),
+    PutfieldRef(u16, TypeId),
+    // The place of a static field of ints or references, and the number of its class.
+    GetstaticInt(u16, u32),
+    GetstaticRef(u16, u32),
+    // The named type.
+    Checkcast(TypeId),
     // Those that may jump.
     Ifeq(u32),
     Ifne(u32),
@@ -58,10 +77,11 @@ pub(crate) enum Quick {
     IfIcmpgt(u32),
     IfIcmple(u32),
     Goto(u32),
-    // Those that enter a method or leave one.
-    Invokevirtual(u16),
-    Invokespecial(u16),
-    Invokestatic(u16),
+    // Those that enter a method or leave one. First how many words the arguments have with the receiver; of
+    // invokevirtual then the number of the named type.
+    Invokevirtual(u8, u16, MethodId),
+    Invokespecial(u16, u32),
+    Invokestatic(u16, MethodId),
     Invokeinterface(u16),
     Return,
     Ireturn,
@@ -71,9 +91,11 @@ pub(crate) enum Quick {
 
 const _: () = prove!(size_of::<Quick>() <= 8);
 
-// The quick code of an instruction.
-pub(crate) fn quick_of(insn: &Insn) -> Quick
-    ensures { result ≡ quick_of insn.now }
+// The quick code of an instruction of a method.
+pub(crate) fn quick_of(program: &Program, method: MethodId, insn: &Insn) -> Quick
+    requires runnable { IsRunnable program.now }
+    requires method { method.0 < length (methods_of program.now.outline.classes) }
+    ensures { result ≡ quick_of program.now method.0 insn.now }
 {
     match insn {
         Insn::Const(n) => Quick::Iconst(*n),
@@ -88,13 +110,14 @@ pub(crate) fn quick_of(insn: &Insn) -> Quick
         Insn::ArrayLoad(e) => quick_array_load(*e),
         Insn::ArrayStore(e) => quick_array_store(*e),
         Insn::Length => Quick::Arraylength,
-        Insn::GetField(index) => Quick::Getfield(*index),
-        Insn::PutField(index) => Quick::Putfield(*index),
-        Insn::GetStatic(index) => Quick::Getstatic(*index),
-        Insn::Virtual(index) => Quick::Invokevirtual(*index),
+        Insn::GetField(index) => quick_getfield(program, used(program, method, *index), *index),
+        Insn::PutField(index) => quick_putfield(program, used(program, method, *index), *index),
+        Insn::GetStatic(index) => quick_getstatic(program, used(program, method, *index), *index),
+        Insn::Cast(index) => quick_checkcast(used(program, method, *index)),
+        Insn::Virtual(index) => quick_virtual(program, used(program, method, *index)),
         Insn::Interface(index) => Quick::Invokeinterface(*index),
-        Insn::Special(index) => Quick::Invokespecial(*index),
-        Insn::Static(index) => Quick::Invokestatic(*index),
+        Insn::Special(index) => quick_special(program, method, used(program, method, *index)),
+        Insn::Static(index) => quick_static(program, used(program, method, *index)),
         Insn::Return(value) => quick_return(*value),
         _ => Quick::Other,
     }

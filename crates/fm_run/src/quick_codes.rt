@@ -1,8 +1,9 @@
 // The quick code of each method of a program: one for each item.
 
-ghost use Rattle.std.specs.Prelude.{◌≡◌, IfOk, option_copied, slice_get};
+ghost use Rattle.std.specs.Prelude.{◌≡◌, ◌<◌, IfOk, length, option_copied, slice_get};
 ghost use Rattle.fm_frames.specs.Runnable.{IsRunnable};
 ghost use Rattle.fm_run.specs.inner.Quicks.{codes_of, quicks_for, quicks_in};
+ghost use Rattle.fm_world.specs.Members.{methods_of};
 ghost use Rattle.fm_world.specs.Programs.{code_at};
 
 use crate::quick::{Quick, quick_of};
@@ -57,21 +58,30 @@ impl QuickCodes {
 // The quick code of a method.
 fn quicks_of(alloc: Global, program: &Program, method: MethodId) -> Result<Seq<Quick>, NoMemory>
     requires runnable { IsRunnable program.now }
-    ensures { IfOk result (λ quicks. quicks ≡ quicks_in (code_at program.now method.0)) }
+    requires method { method.0 < length (methods_of program.now.outline.classes) }
+    ensures { IfOk result (λ quicks. quicks ≡ quicks_in program.now method.0
+        (code_at program.now method.0)) }
 {
     match code_of(program, method) {
-        Some(code) => quicks_in(alloc, code.items.as_slice()),
+        Some(code) => quicks_in(alloc, program, method, code.items.as_slice()),
         None => Ok(Seq::empty(alloc)),
     }
 }
 
 // One for each item.
-fn quicks_in(alloc: Global, items: &[Item]) -> Result<Seq<Quick>, NoMemory>
-    ensures { IfOk result (λ quicks. quicks ≡ quicks_for items.now) }
+fn quicks_in(
+    alloc: Global,
+    program: &Program,
+    method: MethodId,
+    items: &[Item],
+) -> Result<Seq<Quick>, NoMemory>
+    requires runnable { IsRunnable program.now }
+    requires method { method.0 < length (methods_of program.now.outline.classes) }
+    ensures { IfOk result (λ quicks. quicks ≡ quicks_for program.now method.0 items.now) }
 {
     let mut quicks = Vec::new(alloc);
     for item in items {
-        quicks.push(quick_of(&item.insn))?;
+        quicks.push(quick_of(program, method, &item.insn))?;
     }
     Ok(Seq::new(quicks))
 }

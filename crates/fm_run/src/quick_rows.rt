@@ -9,9 +9,11 @@ ghost use Rattle.fm_law_can_step.specs.Ready.{CanRun};
 ghost use Rattle.fm_run.specs.inner.Quicks.{AsksOfQuick, IsQuickNext, QuickDoes, QuickFlows};
 ghost use Rattle.fm_world.specs.Programs.{Program};
 
+use crate::called::cast_passed;
 use crate::indexed::{field_read, field_written, static_read};
+use crate::placed::{field_read_at, field_written_at, reference_kind, static_read_at};
 use crate::quick::Quick;
-use fm_base::MethodId;
+use fm_base::{ClassId, Kind, MethodId};
 use fm_cells::Memory;
 use fm_code::{Elem, Op, Reg, Test};
 use fm_fast as rows;
@@ -164,7 +166,7 @@ pub(crate) fn do_array_load<M: Memory>(
     requires packed { ArePacked program.now machine.now }
     requires next { IsQuickNext program.now steps (resumed machine.now frames.old counted) method.0
         quick.now }
-    ensures did { result ≡ true → QuickDoes program.now M.choose quick.now
+    ensures did { result ≡ true → QuickDoes program.now M.choose method.0 quick.now
         (resumed machine.now frames.old counted) (resumed machine.now frames.new (counted + 1)) }
     ensures same { result ≡ false → frames.new ≡ frames.old }
 {
@@ -196,7 +198,7 @@ pub(crate) fn do_array_store<M: Memory>(
     requires packed { ArePacked program.now machine.old }
     requires next { IsQuickNext program.now steps (resumed machine.old frames.old counted) method.0
         quick.now }
-    ensures did { result ≡ true → QuickDoes program.now M.choose quick.now
+    ensures did { result ≡ true → QuickDoes program.now M.choose method.0 quick.now
         (resumed machine.old frames.old counted) (resumed machine.new frames.new (counted + 1)) }
     ensures same { result ≡ false → frames.new ≡ frames.old }
     ensures kept { result ≡ false → machine.new ≡ machine.old }
@@ -228,7 +230,7 @@ pub(crate) fn do_field<M: Memory>(
     requires packed { ArePacked program.now machine.old }
     requires next { IsQuickNext program.now steps (resumed machine.old frames.old counted) method.0
         quick.now }
-    ensures did { result ≡ true → QuickDoes program.now M.choose quick.now
+    ensures did { result ≡ true → QuickDoes program.now M.choose method.0 quick.now
         (resumed machine.old frames.old counted) (resumed machine.new frames.new (counted + 1)) }
     ensures same { result ≡ false → frames.new ≡ frames.old }
     ensures kept { result ≡ false → machine.new ≡ machine.old }
@@ -244,6 +246,97 @@ pub(crate) fn do_field<M: Memory>(
         Quick::Putfield(index) => {
             field_written(machine, frames, counted, program, method, *index, steps)
         }
+        Quick::GetfieldInt(place, named) => field_read_at(
+            machine,
+            frames,
+            counted,
+            program,
+            method,
+            Kind::Int,
+            *place,
+            *named,
+            steps,
+        ),
+        Quick::GetfieldRef(place, named) => field_read_at(
+            machine,
+            frames,
+            counted,
+            program,
+            method,
+            reference_kind(),
+            *place,
+            *named,
+            steps,
+        ),
+        Quick::PutfieldInt(place, named) => field_written_at(
+            machine,
+            frames,
+            counted,
+            program,
+            method,
+            Kind::Int,
+            *place,
+            *named,
+            steps,
+        ),
+        Quick::PutfieldRef(place, named) => field_written_at(
+            machine,
+            frames,
+            counted,
+            program,
+            method,
+            reference_kind(),
+            *place,
+            *named,
+            steps,
+        ),
+        Quick::GetstaticInt(place, class) => static_read_at(
+            machine,
+            frames,
+            counted,
+            program,
+            method,
+            Kind::Int,
+            *place,
+            ClassId(*class),
+            steps,
+        ),
+        Quick::GetstaticRef(place, class) => static_read_at(
+            machine,
+            frames,
+            counted,
+            program,
+            method,
+            reference_kind(),
+            *place,
+            ClassId(*class),
+            steps,
+        ),
+        _ => false,
+    }
+}
+
+// checkcast; returns whether it was done.
+#[inline(always)]
+pub(crate) fn do_cast<M: Memory>(
+    machine: &Machine<M>,
+    frames: &mut Frames,
+    counted: u64,
+    program: &Program,
+    method: MethodId,
+    quick: &Quick,
+    steps: u64,
+) -> bool
+    requires run { CanRun program.now }
+    requires fits { NextFits frames.old }
+    requires next { IsQuickNext program.now steps (resumed machine.now frames.old counted) method.0
+        quick.now }
+    ensures did { result ≡ true → QuickDoes program.now M.choose method.0 quick.now
+        (resumed machine.now frames.old counted) (resumed machine.now frames.new (counted + 1)) }
+    ensures same { result ≡ false → frames.new ≡ frames.old }
+{
+    match quick {
+        Quick::Checkcast(t) => cast_passed(machine, frames, counted, program, method, *t, steps),
         _ => false,
     }
 }

@@ -19,6 +19,8 @@ use Rattle.fm_frames.specs.States.{Frame, State}
 use Rattle.fm_run.specs.declared.quick.Quick.{Quick}
 use Rattle.fm_run.specs.declared.quick.Quick.TheVariants as quick
 use Rattle.fm_run.specs.inner.Flats.{DoesAlone, FlowsNext, IsFlatNext, method_in}
+use Rattle.fm_run.specs.inner.Operands.{quick_checkcast, quick_getfield, quick_getstatic, quick_putfield, quick_special, quick_static, quick_virtual}
+use Rattle.fm_types.specs.Typed.{use_in}
 use Rattle.fm_world.specs.Members.{methods_of}
 use Rattle.fm_world.specs.Programs.{code_at, Program}
 
@@ -92,63 +94,64 @@ quick_array_store elem.Int = quick.Iastore
 quick_array_store elem.Long = quick.Lastore
 quick_array_store elem.Ref = quick.Other
 
--- that of an instruction: another one, where it has no variant of its own
-abbrev pub quick_of : Insn → Quick
-quick_of (insn.Const n) = quick.Iconst n
-quick_of (insn.Load kind place) = quick_load kind place
-quick_of (insn.Store kind place) = quick_store kind place
-quick_of (insn.Inc place by) = quick.Iinc place by
-quick_of insn.Dup = quick.Dup
-quick_of (insn.IntOp o) = quick_int_op o
-quick_of (insn.IfInt t target) = quick_if_int t target
-quick_of (insn.IfPair t target) = quick_if_pair t target
-quick_of (insn.Goto target) = quick.Goto target
-quick_of (insn.ArrayLoad e) = quick_array_load e
-quick_of (insn.ArrayStore e) = quick_array_store e
-quick_of insn.Length = quick.Arraylength
-quick_of (insn.GetField index) = quick.Getfield index
-quick_of (insn.PutField index) = quick.Putfield index
-quick_of (insn.GetStatic index) = quick.Getstatic index
-quick_of (insn.Virtual index) = quick.Invokevirtual index
-quick_of (insn.Interface index) = quick.Invokeinterface index
-quick_of (insn.Special index) = quick.Invokespecial index
-quick_of (insn.Static index) = quick.Invokestatic index
-quick_of (insn.Return value) = quick_return value
-quick_of i = quick.Other
+-- that of an instruction of a method: another one, where it has no variant of its own
+abbrev pub quick_of : Program → (method : ℕ) → Insn → Quick
+quick_of p method (insn.Const n) = quick.Iconst n
+quick_of p method (insn.Load kind place) = quick_load kind place
+quick_of p method (insn.Store kind place) = quick_store kind place
+quick_of p method (insn.Inc place by) = quick.Iinc place by
+quick_of p method insn.Dup = quick.Dup
+quick_of p method (insn.IntOp o) = quick_int_op o
+quick_of p method (insn.IfInt t target) = quick_if_int t target
+quick_of p method (insn.IfPair t target) = quick_if_pair t target
+quick_of p method (insn.Goto target) = quick.Goto target
+quick_of p method (insn.ArrayLoad e) = quick_array_load e
+quick_of p method (insn.ArrayStore e) = quick_array_store e
+quick_of p method insn.Length = quick.Arraylength
+quick_of p method (insn.GetField index) = quick_getfield p.outline (use_in p method index) index
+quick_of p method (insn.PutField index) = quick_putfield p.outline (use_in p method index) index
+quick_of p method (insn.GetStatic index) = quick_getstatic p.outline (use_in p method index) index
+quick_of p method (insn.Cast index) = quick_checkcast (use_in p method index)
+quick_of p method (insn.Virtual index) = quick_virtual p.outline (use_in p method index)
+quick_of p method (insn.Interface index) = quick.Invokeinterface index
+quick_of p method (insn.Special index) = quick_special p.outline method (use_in p method index)
+quick_of p method (insn.Static index) = quick_static p.outline (use_in p method index)
+quick_of p method (insn.Return value) = quick_return value
+quick_of p method i = quick.Other
 
 -- ---- steps by the quick code alone: what is said of each instruction that has it
 
 -- an instruction of this quick code is next, as `IsFlatNext` says
 abbrev pub IsQuickNext : Program → (budget : ℕ) → State → (method : ℕ) → Quick → Type 0
-IsQuickNext p budget x method q = (i : Insn) × (quick_of i ≡ q) × IsFlatNext p budget x method i
+IsQuickNext p budget x method q = (i : Insn) × (quick_of p method i ≡ q) × IsFlatNext p budget x method i
 
 -- the frames have what the row of an instruction of this quick code asks
 abbrev pub AsksOfQuick : Quick → List Frame → Type 0
-AsksOfQuick q frames = (i : Insn) × (quick_of i ≡ q) × AsksOf i frames
+AsksOfQuick q frames = (p : Program) × (method : ℕ) × (i : Insn) × (quick_of p method i ≡ q) × AsksOf i frames
 
 -- the step of each instruction of this quick code leads from the one frames to the others, as `FlowsNext` says
 abbrev pub QuickFlows : Program → (method : ℕ) → (old new : List Frame) → Quick → Type 0
-QuickFlows p method old new q = (i : Insn) → quick_of i ≡ q → FlowsNext p method old new i
+QuickFlows p method old new q = (i : Insn) → quick_of p method i ≡ q → FlowsNext p method old new i
 
 -- the step of each instruction of this quick code leads from one state to the other, as `DoesAlone` says
-abbrev pub QuickDoes : Program → Choose → Quick → (x y : State) → Type 0
-QuickDoes p choose q x y = (i : Insn) → quick_of i ≡ q → DoesAlone p choose i x y
+abbrev pub QuickDoes : Program → Choose → (method : ℕ) → Quick → (x y : State) → Type 0
+QuickDoes p choose method q x y = (i : Insn) → quick_of p method i ≡ q → DoesAlone p choose i x y
 
 -- ---- the quick codes of a program
 
--- those of items, one for each
-abbrev pub quicks_for : List Item → List Quick
-quicks_for items = map (λ (i : Item). quick_of i.insn) items
+-- those of items of a method, one for each
+abbrev pub quicks_for : Program → (method : ℕ) → List Item → List Quick
+quicks_for p method items = map (λ (i : Item). quick_of p method i.insn) items
 
 -- those of the code of a method, if it has code
-abbrev pub quicks_in : Option Code → List Quick
-quicks_in None = []
-quicks_in (Some code) = quicks_for code.items
+abbrev pub quicks_in : Program → (method : ℕ) → Option Code → List Quick
+quicks_in p method None = []
+quicks_in p method (Some code) = quicks_for p method code.items
 
 -- those of the method that the topmost frame is in
 abbrev pub AreNextQuicks : Program → List Frame → List Quick → Type 0
-AreNextQuicks p frames quicks = (method : ℕ) → method_in frames ≡ Some method → quicks ≡ quicks_in (code_at p method)
+AreNextQuicks p frames quicks = (method : ℕ) → method_in frames ≡ Some method → quicks ≡ quicks_in p method (code_at p method)
 
 -- those of each method, by its number
 abbrev pub codes_of : Program → List (List Quick)
-codes_of p = map (λ m. quicks_in (code_at p m)) (range_with_len 0 (length (methods_of p.outline.classes)))
+codes_of p = map (λ m. quicks_in p m (code_at p m)) (range_with_len 0 (length (methods_of p.outline.classes)))

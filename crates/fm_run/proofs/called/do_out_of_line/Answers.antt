@@ -4,14 +4,6 @@ use Rattle.fm_exec_nests.specs.inner.Costs.{nest_of}
 use Rattle.fm_run.proofs.called.do_out_of_line.Goals as goal
 use Rattle.fm_run.specs.inner.Flats.{IsFlatNext}
 
-pub cast_passed-requires-clause-next : goal.cast_passed-requires-clause-next
-cast_passed-requires-clause-next g c =
-    subst (IsFlatNext c.args.program.now c.args.steps (resumed c.args.machine.now c.args.frames.now c.args.counted) c.args.method.0) c.in-Cast.is
-    c.requires.next
-
-pub returns-in-Cast-clause-did : goal.returns-in-Cast-clause-did
-returns-in-Cast-clause-did g c told = (ap nest_of c.in-Cast.is, c.cast_passed.ensures.did told)
-
 pub static_written-requires-clause-next : goal.static_written-requires-clause-next
 static_written-requires-clause-next g c =
     subst (IsFlatNext c.args.program.now c.args.steps (resumed c.args.machine.now c.args.frames.now c.args.counted) c.args.method.0) c.in-PutStatic.is

@@ -8,7 +8,7 @@ use Rattle.fm_run.proofs.Resolving.{is-method}
 use Rattle.fm_run.proofs.flats.flow.Given.{Over}
 use Rattle.fm_run.proofs.flats.flow.Goals as goal
 use Rattle.fm_run.proofs.flats.flow.Goals.{After-births-births, After-do_call-called, After-jumps}
-use Rattle.fm_run.proofs.flats.flow.Goals.{else-jumps, in-Baload, in-Bastore, in-Getfield, in-Goto, in-Iadd, in-Iconst, in-IfIcmpeq, in-Ifeq, in-Iload, in-Istore, in-Other}
+use Rattle.fm_run.proofs.flats.flow.Goals.{else-jumps, in-Baload, in-Bastore, in-Checkcast, in-Getfield, in-Goto, in-Iadd, in-Iconst, in-IfIcmpeq, in-Ifeq, in-Iload, in-Istore, in-Other}
 use Rattle.fm_run.specs.inner.Flats.{item_in}
 
 -- what the arms that may jump leave
@@ -88,6 +88,10 @@ arms g c =
           flowed-joined p choose budget method n x m c.match-done.machine w.do_array_load-did.new.frames c.match-done.frames w.do_array_load-did.result c.match-done.did w.machine-is w.frames-is w.did-is
           (call-flowed p choose budget method m old n m w.do_array_load-did.new.frames it w.do_array_load-did.result next (λ told. w.do_array_load-did.ensures.did told it has)
           w.do_array_load-did.ensures.same (λ told. refl) refl)
+      | in-Checkcast w ↦
+          flowed-joined p choose budget method n x m c.match-done.machine w.do_cast-did.new.frames c.match-done.frames w.do_cast-did.result c.match-done.did w.machine-is w.frames-is w.did-is
+          (call-flowed p choose budget method m old n m w.do_cast-did.new.frames it w.do_cast-did.result next (λ told. w.do_cast-did.ensures.did told it has)
+          w.do_cast-did.ensures.same (λ told. refl) refl)
       | in-Bastore w ↦
           flowed-joined p choose budget method n x w.do_array_store-did.new.machine c.match-done.machine w.do_array_store-did.new.frames c.match-done.frames w.do_array_store-did.result c.match-done.did w.machine-is w.frames-is w.did-is
           (call-flowed p choose budget method m old n w.do_array_store-did.new.machine w.do_array_store-did.new.frames it w.do_array_store-did.result next
@@ -175,22 +179,22 @@ returns-in_default-clause-more g c =
     c.requires.run c.done-counted.ensures c.straight.invariant.0).2
 
 pub do_load-did-requires-clause-asks : goal.do_load-did-requires-clause-asks
-do_load-did-requires-clause-asks g c = (c.in-Some.ensures.next.0, c.in-Some.ensures.next.1, c.in-Some.ensures.next.2.asks)
+do_load-did-requires-clause-asks g c = (c.args.program.now, c.in-Some.method.0, c.in-Some.ensures.next.0, c.in-Some.ensures.next.1, c.in-Some.ensures.next.2.asks)
 
 pub do_store-did-requires-clause-asks : goal.do_store-did-requires-clause-asks
-do_store-did-requires-clause-asks g c = (c.in-Some.ensures.next.0, c.in-Some.ensures.next.1, c.in-Some.ensures.next.2.asks)
+do_store-did-requires-clause-asks g c = (c.args.program.now, c.in-Some.method.0, c.in-Some.ensures.next.0, c.in-Some.ensures.next.1, c.in-Some.ensures.next.2.asks)
 
 pub do_simple-did-requires-clause-asks : goal.do_simple-did-requires-clause-asks
-do_simple-did-requires-clause-asks g c = (c.in-Some.ensures.next.0, c.in-Some.ensures.next.1, c.in-Some.ensures.next.2.asks)
+do_simple-did-requires-clause-asks g c = (c.args.program.now, c.in-Some.method.0, c.in-Some.ensures.next.0, c.in-Some.ensures.next.1, c.in-Some.ensures.next.2.asks)
 
 pub do_int_op-did-requires-clause-asks : goal.do_int_op-did-requires-clause-asks
-do_int_op-did-requires-clause-asks g c = (c.in-Some.ensures.next.0, c.in-Some.ensures.next.1, c.in-Some.ensures.next.2.asks)
+do_int_op-did-requires-clause-asks g c = (c.args.program.now, c.in-Some.method.0, c.in-Some.ensures.next.0, c.in-Some.ensures.next.1, c.in-Some.ensures.next.2.asks)
 
 pub do_if_pair-jumping-requires-clause-asks : goal.do_if_pair-jumping-requires-clause-asks
-do_if_pair-jumping-requires-clause-asks g c = (c.in-Some.ensures.next.0, c.in-Some.ensures.next.1, c.in-Some.ensures.next.2.asks)
+do_if_pair-jumping-requires-clause-asks g c = (c.args.program.now, c.in-Some.method.0, c.in-Some.ensures.next.0, c.in-Some.ensures.next.1, c.in-Some.ensures.next.2.asks)
 
 pub do_if_int-jumping-requires-clause-asks : goal.do_if_int-jumping-requires-clause-asks
-do_if_int-jumping-requires-clause-asks g c = (c.in-Some.ensures.next.0, c.in-Some.ensures.next.1, c.in-Some.ensures.next.2.asks)
+do_if_int-jumping-requires-clause-asks g c = (c.args.program.now, c.in-Some.method.0, c.in-Some.ensures.next.0, c.in-Some.ensures.next.1, c.in-Some.ensures.next.2.asks)
 
 pub code_in-requires-clause-runnable : goal.code_in-requires-clause-runnable
 code_in-requires-clause-runnable g c = c.requires.run.steps.calls.runnable
@@ -298,8 +302,8 @@ returns-then-reached-steps-clause-more g c =
     c.requires.run c.done-counted.ensures c.straight.invariant.0).2 in
     omega (arith, more)
 
-pub straight-preserved-in-Some : goal.straight-preserved-in-Some
-straight-preserved-in-Some g c =
+pub straight-preserved-in-Invokevirtual : goal.straight-preserved-in-Invokevirtual
+straight-preserved-in-Invokevirtual g c =
     let told : c.do_call-called.result ≡ true = search rules in
     let went = straight-jumped c.args.program.now g.M.Memory.choose c.args.steps c.args.before (resumed c.args.machine.now c.args.taken c.args.before)
     c.straight.machine c.do_call-called.new.frames c.reach_after-reached.result c.done-counted.result
@@ -307,12 +311,12 @@ straight-preserved-in-Some g c =
     c.requires.run c.done-counted.ensures c.straight.invariant.0).2
     (straight-over c.args.program.now g.M.Memory.choose c.args.steps c.args.before (resumed c.args.machine.now c.args.taken c.args.before) c.straight.machine c.straight.frames c.straight.reach c.done-counted.result
     c.in-Some.method.0 c.straight.machine c.do_call-called.new.frames c.do_call-called.result c.requires.run c.births-lawful.ensures.lawful c.births-lawful.ensures.sound
-    c.done-counted.ensures c.straight.invariant.0 (calling g (goal.at.straight-preserved-in-Some g c).After-do_call-called) told)
+    c.done-counted.ensures c.straight.invariant.0 (calling g (goal.at.straight-preserved-in-Invokevirtual g c).After-do_call-called) told)
     c.reach_after-reached.ensures.exact c.reach_after-reached.ensures.there (omega (arith, c.if-reached-steps.false)) in
     (went, c.in-Some-quicks_next.ensures)
 
-pub straight-smaller-in-Some : goal.straight-smaller-in-Some
-straight-smaller-in-Some g c =
+pub straight-smaller-in-Invokevirtual : goal.straight-smaller-in-Invokevirtual
+straight-smaller-in-Invokevirtual g c =
     let less = (straight-within c.args.program.now g.M.Memory.choose c.args.steps c.args.before (resumed c.args.machine.now c.args.taken c.args.before) c.straight.machine c.straight.frames c.straight.reach c.done-counted.result
     c.requires.run c.done-counted.ensures c.straight.invariant.0).0 in
     let was = c.done-counted.ensures in
@@ -385,9 +389,11 @@ straight-preserved-then-jumps g c =
     c.in-Some.method.0 c.straight.machine c.match-done.frames c.match-done.jumping c.requires.run c.births-lawful.ensures.lawful c.births-lawful.ensures.sound
     c.done-counted.ensures c.straight.invariant.0 (jumping g (goal.at.straight-preserved-then-jumps g c).After-jumps)
     (c.jumps.ensures told))
-    c.reach_after-reach.ensures.exact c.reach_after-reach.ensures.there (omega (arith, c.if-reach-steps-2.false)) in
-    (went, quicks-stay c.args.program.now c.straight.frames c.match-done.frames c.in-Some.method.0 c.straight.quicks.now c.straight.invariant.1
-    c.in-Some.ensures.method (c.is_in-stays.ensures stays))
+    c.reach_after-reach.ensures.exact c.reach_after-reach.ensures.there (omega (arith, c.if-reach-steps-2.false)) in (
+      went,
+      quicks-stay c.args.program.now c.straight.frames c.match-done.frames c.in-Some.method.0 c.straight.quicks.now c.straight.invariant.1
+          c.in-Some.ensures.method (c.is_in-stays.ensures stays),
+    )
 
 pub straight-smaller-then-jumps : goal.straight-smaller-then-jumps
 straight-smaller-then-jumps g c =
@@ -455,9 +461,11 @@ straight-preserved g c =
     (straight-over c.args.program.now g.M.Memory.choose c.args.steps c.args.before (resumed c.args.machine.now c.args.taken c.args.before) c.straight.machine c.straight.frames c.straight.reach c.done-counted.result
     c.in-Some.method.0 c.match-done.machine c.match-done.frames c.match-done.did c.requires.run c.births-births.ensures.lawful c.births-births.ensures.sound
     c.done-counted.ensures c.straight.invariant.0 (arms g (goal.at.straight-preserved g c).After-births-births) did)
-    (omega (arith, before, after, same)) in
-    (went, quicks-stay c.args.program.now c.straight.frames c.match-done.frames c.in-Some.method.0 c.straight.quicks.now c.straight.invariant.1
-    c.in-Some.ensures.method (c.is_in-stayed.ensures stays))
+    (omega (arith, before, after, same)) in (
+      went,
+      quicks-stay c.args.program.now c.straight.frames c.match-done.frames c.in-Some.method.0 c.straight.quicks.now c.straight.invariant.1
+          c.in-Some.ensures.method (c.is_in-stayed.ensures stays),
+    )
 
 pub straight-smaller : goal.straight-smaller
 straight-smaller g c =

@@ -13,7 +13,7 @@ quick_among-requires g c =
     let there : Some at ≡ option_map place_of (topmost c.args.frames.now) = sym (ap (option_map place) c.in-Some.is) ∙ c.topmost.ensures in
     let coded = flat-coded p c.args.steps x at.0 at.1 c.requires.keeps c.requires.on there in
     let are = quicks-here p c.args.frames.now at c.args.quicks.now coded.0 c.requires.quicks there coded.1 in
-    subst (λ n. at.1 < n) (sym (quicks-long coded.0.items c.args.quicks.now are))
+    subst (λ n. at.1 < n) (sym (quicks-long p at.0 coded.0.items c.args.quicks.now are))
     (flat-inside p c.args.steps x at.0 at.1 coded.0 c.requires.keeps c.requires.on there coded.1)
 
 pub returns-clause-fits : goal.returns-clause-fits
@@ -34,6 +34,6 @@ returns-clause-next g c =
     let are = quicks-here p c.args.frames.now at c.args.quicks.now coded.0 c.requires.quicks there coded.1 in
     let found = flat-found p c.args.steps x at.0 at.1 coded.0 c.requires.keeps c.requires.on there coded.1 in (
       found.0,
-      quick-at coded.0.items c.args.quicks.now at.1 found.0 c.quick_among.result.now are found.1 c.quick_among.ensures,
+      quick-at p at.0 coded.0.items c.args.quicks.now at.1 found.0 c.quick_among.result.now are found.1 c.quick_among.ensures,
       flat-next p c.args.steps x at.0 at.1 coded.0 found.0 c.requires.run c.requires.few c.requires.keeps c.requires.on c.requires.within there coded.1 found.1,
     )

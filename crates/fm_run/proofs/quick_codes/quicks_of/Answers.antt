@@ -9,11 +9,11 @@ pub returns-in-Some : goal.returns-in-Some
 returns-in-Some c =
     let some : Some c.in-Some.code.now ≡ code_at c.args.program.now c.args.method.0 =
     sym (ap option_copied c.in-Some.is) ∙ c.code_of.ensures c.requires.runnable in
-    subst (λ (code : Option Code). IfOk c.quicks_in.result (λ quicks. quicks ≡ quicks_in code)) some
-    (subst (λ (items : List Item). IfOk c.quicks_in.result (λ quicks. quicks ≡ quicks_for items)) c.as_slice.ensures
+    subst (λ (code : Option Code). IfOk c.quicks_in.result (λ quicks. quicks ≡ quicks_in c.args.program.now c.args.method.0 code)) some
+    (subst (λ (items : List Item). IfOk c.quicks_in.result (λ quicks. quicks ≡ quicks_for c.args.program.now c.args.method.0 items)) c.as_slice.ensures
     c.quicks_in.ensures)
 
 pub returns-in-None : goal.returns-in-None
 returns-in-None c =
     let none : None ≡ code_at c.args.program.now c.args.method.0 = sym (ap option_copied c.in-None.is) ∙ c.code_of.ensures c.requires.runnable in
-    c.empty.ensures ∙ ap quicks_in none
+    c.empty.ensures ∙ ap (quicks_in c.args.program.now c.args.method.0) none

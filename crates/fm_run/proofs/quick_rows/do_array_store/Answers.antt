@@ -15,13 +15,13 @@ use Rattle.fm_types.specs.Typed.{use_by}
 pub array_store-requires-clause-asks : goal.array_store-requires-clause-asks
 array_store-requires-clause-asks g c =
     let i = c.requires.next.0 in
-    let is : i ≡ insn.ArrayStore elem.Byte = subst (λ q. i ≡ insn_for q i) c.in-Bastore.is (insn-is i c.args.quick.now c.requires.next.1) in
+    let is : i ≡ insn.ArrayStore elem.Byte = subst (λ q. i ≡ insn_for q i) c.in-Bastore.is (insn-is c.args.program.now c.args.method.0 i c.args.quick.now c.requires.next.1) in
     subst (λ i. AsksOf i c.args.frames.now) is c.requires.next.2.asks
 
 pub array_store-requires-clause-takes : goal.array_store-requires-clause-takes
 array_store-requires-clause-takes g c =
     let i = c.requires.next.0 in
-    let is : i ≡ insn.ArrayStore elem.Byte = subst (λ q. i ≡ insn_for q i) c.in-Bastore.is (insn-is i c.args.quick.now c.requires.next.1) in
+    let is : i ≡ insn.ArrayStore elem.Byte = subst (λ q. i ≡ insn_for q i) c.in-Bastore.is (insn-is c.args.program.now c.args.method.0 i c.args.quick.now c.requires.next.1) in
     let p = c.args.program.now in
     let x = resumed c.args.machine.now c.args.frames.now c.args.counted in
     let at = here p x i (insn.ArrayStore elem.Byte) c.requires.next.2.at.at is in
@@ -32,8 +32,8 @@ pub returns-in-Bastore-clause-did : goal.returns-in-Bastore-clause-did
 unfolding effect_of
 returns-in-Bastore-clause-did g c told i has =
     let it = c.requires.next.0 in
-    let it_is : it ≡ insn.ArrayStore elem.Byte = subst (λ q. it ≡ insn_for q it) c.in-Bastore.is (insn-is it c.args.quick.now c.requires.next.1) in
-    let is : i ≡ insn.ArrayStore elem.Byte = subst (λ q. i ≡ insn_for q i) c.in-Bastore.is (insn-is i c.args.quick.now has) in (
+    let it_is : it ≡ insn.ArrayStore elem.Byte = subst (λ q. it ≡ insn_for q it) c.in-Bastore.is (insn-is c.args.program.now c.args.method.0 it c.args.quick.now c.requires.next.1) in
+    let is : i ≡ insn.ArrayStore elem.Byte = subst (λ q. i ≡ insn_for q i) c.in-Bastore.is (insn-is c.args.program.now c.args.method.0 i c.args.quick.now has) in (
       ap nest_of is,
       row-does c.args.program.now g.M.Memory.choose (resumed c.args.machine.now c.args.frames.now c.args.counted)
           (resumed c.array_store.new.machine c.array_store.new.frames (c.args.counted + 1)) it (insn.ArrayStore elem.Byte) c.requires.next.2.at.at it_is (c.array_store.ensures.did told c.args.counted),
@@ -42,13 +42,13 @@ returns-in-Bastore-clause-did g c told i has =
 pub array_store-requires-in-Castore-clause-asks : goal.array_store-requires-in-Castore-clause-asks
 array_store-requires-in-Castore-clause-asks g c =
     let i = c.requires.next.0 in
-    let is : i ≡ insn.ArrayStore elem.Char = subst (λ q. i ≡ insn_for q i) c.in-Castore.is (insn-is i c.args.quick.now c.requires.next.1) in
+    let is : i ≡ insn.ArrayStore elem.Char = subst (λ q. i ≡ insn_for q i) c.in-Castore.is (insn-is c.args.program.now c.args.method.0 i c.args.quick.now c.requires.next.1) in
     subst (λ i. AsksOf i c.args.frames.now) is c.requires.next.2.asks
 
 pub array_store-requires-in-Castore-clause-takes : goal.array_store-requires-in-Castore-clause-takes
 array_store-requires-in-Castore-clause-takes g c =
     let i = c.requires.next.0 in
-    let is : i ≡ insn.ArrayStore elem.Char = subst (λ q. i ≡ insn_for q i) c.in-Castore.is (insn-is i c.args.quick.now c.requires.next.1) in
+    let is : i ≡ insn.ArrayStore elem.Char = subst (λ q. i ≡ insn_for q i) c.in-Castore.is (insn-is c.args.program.now c.args.method.0 i c.args.quick.now c.requires.next.1) in
     let p = c.args.program.now in
     let x = resumed c.args.machine.now c.args.frames.now c.args.counted in
     let at = here p x i (insn.ArrayStore elem.Char) c.requires.next.2.at.at is in
@@ -59,8 +59,8 @@ pub returns-in-Castore-clause-did : goal.returns-in-Castore-clause-did
 unfolding effect_of
 returns-in-Castore-clause-did g c told i has =
     let it = c.requires.next.0 in
-    let it_is : it ≡ insn.ArrayStore elem.Char = subst (λ q. it ≡ insn_for q it) c.in-Castore.is (insn-is it c.args.quick.now c.requires.next.1) in
-    let is : i ≡ insn.ArrayStore elem.Char = subst (λ q. i ≡ insn_for q i) c.in-Castore.is (insn-is i c.args.quick.now has) in (
+    let it_is : it ≡ insn.ArrayStore elem.Char = subst (λ q. it ≡ insn_for q it) c.in-Castore.is (insn-is c.args.program.now c.args.method.0 it c.args.quick.now c.requires.next.1) in
+    let is : i ≡ insn.ArrayStore elem.Char = subst (λ q. i ≡ insn_for q i) c.in-Castore.is (insn-is c.args.program.now c.args.method.0 i c.args.quick.now has) in (
       ap nest_of is,
       row-does c.args.program.now g.M.Memory.choose (resumed c.args.machine.now c.args.frames.now c.args.counted)
           (resumed c.array_store-in-Castore.new.machine c.array_store-in-Castore.new.frames (c.args.counted + 1)) it (insn.ArrayStore elem.Char) c.requires.next.2.at.at it_is (c.array_store-in-Castore.ensures.did told c.args.counted),
@@ -69,13 +69,13 @@ returns-in-Castore-clause-did g c told i has =
 pub array_store-requires-in-Sastore-clause-asks : goal.array_store-requires-in-Sastore-clause-asks
 array_store-requires-in-Sastore-clause-asks g c =
     let i = c.requires.next.0 in
-    let is : i ≡ insn.ArrayStore elem.Short = subst (λ q. i ≡ insn_for q i) c.in-Sastore.is (insn-is i c.args.quick.now c.requires.next.1) in
+    let is : i ≡ insn.ArrayStore elem.Short = subst (λ q. i ≡ insn_for q i) c.in-Sastore.is (insn-is c.args.program.now c.args.method.0 i c.args.quick.now c.requires.next.1) in
     subst (λ i. AsksOf i c.args.frames.now) is c.requires.next.2.asks
 
 pub array_store-requires-in-Sastore-clause-takes : goal.array_store-requires-in-Sastore-clause-takes
 array_store-requires-in-Sastore-clause-takes g c =
     let i = c.requires.next.0 in
-    let is : i ≡ insn.ArrayStore elem.Short = subst (λ q. i ≡ insn_for q i) c.in-Sastore.is (insn-is i c.args.quick.now c.requires.next.1) in
+    let is : i ≡ insn.ArrayStore elem.Short = subst (λ q. i ≡ insn_for q i) c.in-Sastore.is (insn-is c.args.program.now c.args.method.0 i c.args.quick.now c.requires.next.1) in
     let p = c.args.program.now in
     let x = resumed c.args.machine.now c.args.frames.now c.args.counted in
     let at = here p x i (insn.ArrayStore elem.Short) c.requires.next.2.at.at is in
@@ -86,8 +86,8 @@ pub returns-in-Sastore-clause-did : goal.returns-in-Sastore-clause-did
 unfolding effect_of
 returns-in-Sastore-clause-did g c told i has =
     let it = c.requires.next.0 in
-    let it_is : it ≡ insn.ArrayStore elem.Short = subst (λ q. it ≡ insn_for q it) c.in-Sastore.is (insn-is it c.args.quick.now c.requires.next.1) in
-    let is : i ≡ insn.ArrayStore elem.Short = subst (λ q. i ≡ insn_for q i) c.in-Sastore.is (insn-is i c.args.quick.now has) in (
+    let it_is : it ≡ insn.ArrayStore elem.Short = subst (λ q. it ≡ insn_for q it) c.in-Sastore.is (insn-is c.args.program.now c.args.method.0 it c.args.quick.now c.requires.next.1) in
+    let is : i ≡ insn.ArrayStore elem.Short = subst (λ q. i ≡ insn_for q i) c.in-Sastore.is (insn-is c.args.program.now c.args.method.0 i c.args.quick.now has) in (
       ap nest_of is,
       row-does c.args.program.now g.M.Memory.choose (resumed c.args.machine.now c.args.frames.now c.args.counted)
           (resumed c.array_store-in-Sastore.new.machine c.array_store-in-Sastore.new.frames (c.args.counted + 1)) it (insn.ArrayStore elem.Short) c.requires.next.2.at.at it_is (c.array_store-in-Sastore.ensures.did told c.args.counted),
@@ -96,13 +96,13 @@ returns-in-Sastore-clause-did g c told i has =
 pub array_store-requires-in-Iastore-clause-asks : goal.array_store-requires-in-Iastore-clause-asks
 array_store-requires-in-Iastore-clause-asks g c =
     let i = c.requires.next.0 in
-    let is : i ≡ insn.ArrayStore elem.Int = subst (λ q. i ≡ insn_for q i) c.in-Iastore.is (insn-is i c.args.quick.now c.requires.next.1) in
+    let is : i ≡ insn.ArrayStore elem.Int = subst (λ q. i ≡ insn_for q i) c.in-Iastore.is (insn-is c.args.program.now c.args.method.0 i c.args.quick.now c.requires.next.1) in
     subst (λ i. AsksOf i c.args.frames.now) is c.requires.next.2.asks
 
 pub array_store-requires-in-Iastore-clause-takes : goal.array_store-requires-in-Iastore-clause-takes
 array_store-requires-in-Iastore-clause-takes g c =
     let i = c.requires.next.0 in
-    let is : i ≡ insn.ArrayStore elem.Int = subst (λ q. i ≡ insn_for q i) c.in-Iastore.is (insn-is i c.args.quick.now c.requires.next.1) in
+    let is : i ≡ insn.ArrayStore elem.Int = subst (λ q. i ≡ insn_for q i) c.in-Iastore.is (insn-is c.args.program.now c.args.method.0 i c.args.quick.now c.requires.next.1) in
     let p = c.args.program.now in
     let x = resumed c.args.machine.now c.args.frames.now c.args.counted in
     let at = here p x i (insn.ArrayStore elem.Int) c.requires.next.2.at.at is in
@@ -113,8 +113,8 @@ pub returns-in-Iastore-clause-did : goal.returns-in-Iastore-clause-did
 unfolding effect_of
 returns-in-Iastore-clause-did g c told i has =
     let it = c.requires.next.0 in
-    let it_is : it ≡ insn.ArrayStore elem.Int = subst (λ q. it ≡ insn_for q it) c.in-Iastore.is (insn-is it c.args.quick.now c.requires.next.1) in
-    let is : i ≡ insn.ArrayStore elem.Int = subst (λ q. i ≡ insn_for q i) c.in-Iastore.is (insn-is i c.args.quick.now has) in (
+    let it_is : it ≡ insn.ArrayStore elem.Int = subst (λ q. it ≡ insn_for q it) c.in-Iastore.is (insn-is c.args.program.now c.args.method.0 it c.args.quick.now c.requires.next.1) in
+    let is : i ≡ insn.ArrayStore elem.Int = subst (λ q. i ≡ insn_for q i) c.in-Iastore.is (insn-is c.args.program.now c.args.method.0 i c.args.quick.now has) in (
       ap nest_of is,
       row-does c.args.program.now g.M.Memory.choose (resumed c.args.machine.now c.args.frames.now c.args.counted)
           (resumed c.array_store-in-Iastore.new.machine c.array_store-in-Iastore.new.frames (c.args.counted + 1)) it (insn.ArrayStore elem.Int) c.requires.next.2.at.at it_is (c.array_store-in-Iastore.ensures.did told c.args.counted),
@@ -123,13 +123,13 @@ returns-in-Iastore-clause-did g c told i has =
 pub array_store-requires-in-Lastore-clause-asks : goal.array_store-requires-in-Lastore-clause-asks
 array_store-requires-in-Lastore-clause-asks g c =
     let i = c.requires.next.0 in
-    let is : i ≡ insn.ArrayStore elem.Long = subst (λ q. i ≡ insn_for q i) c.in-Lastore.is (insn-is i c.args.quick.now c.requires.next.1) in
+    let is : i ≡ insn.ArrayStore elem.Long = subst (λ q. i ≡ insn_for q i) c.in-Lastore.is (insn-is c.args.program.now c.args.method.0 i c.args.quick.now c.requires.next.1) in
     subst (λ i. AsksOf i c.args.frames.now) is c.requires.next.2.asks
 
 pub array_store-requires-in-Lastore-clause-takes : goal.array_store-requires-in-Lastore-clause-takes
 array_store-requires-in-Lastore-clause-takes g c =
     let i = c.requires.next.0 in
-    let is : i ≡ insn.ArrayStore elem.Long = subst (λ q. i ≡ insn_for q i) c.in-Lastore.is (insn-is i c.args.quick.now c.requires.next.1) in
+    let is : i ≡ insn.ArrayStore elem.Long = subst (λ q. i ≡ insn_for q i) c.in-Lastore.is (insn-is c.args.program.now c.args.method.0 i c.args.quick.now c.requires.next.1) in
     let p = c.args.program.now in
     let x = resumed c.args.machine.now c.args.frames.now c.args.counted in
     let at = here p x i (insn.ArrayStore elem.Long) c.requires.next.2.at.at is in
@@ -140,8 +140,8 @@ pub returns-in-Lastore-clause-did : goal.returns-in-Lastore-clause-did
 unfolding effect_of
 returns-in-Lastore-clause-did g c told i has =
     let it = c.requires.next.0 in
-    let it_is : it ≡ insn.ArrayStore elem.Long = subst (λ q. it ≡ insn_for q it) c.in-Lastore.is (insn-is it c.args.quick.now c.requires.next.1) in
-    let is : i ≡ insn.ArrayStore elem.Long = subst (λ q. i ≡ insn_for q i) c.in-Lastore.is (insn-is i c.args.quick.now has) in (
+    let it_is : it ≡ insn.ArrayStore elem.Long = subst (λ q. it ≡ insn_for q it) c.in-Lastore.is (insn-is c.args.program.now c.args.method.0 it c.args.quick.now c.requires.next.1) in
+    let is : i ≡ insn.ArrayStore elem.Long = subst (λ q. i ≡ insn_for q i) c.in-Lastore.is (insn-is c.args.program.now c.args.method.0 i c.args.quick.now has) in (
       ap nest_of is,
       row-does c.args.program.now g.M.Memory.choose (resumed c.args.machine.now c.args.frames.now c.args.counted)
           (resumed c.array_store-in-Lastore.new.machine c.array_store-in-Lastore.new.frames (c.args.counted + 1)) it (insn.ArrayStore elem.Long) c.requires.next.2.at.at it_is (c.array_store-in-Lastore.ensures.did told c.args.counted),

@@ -11,5 +11,5 @@ loop-number-preserved c =
     let n = c.loop-number.number in
     c.in_ok-push.ensures.items
     ∙ ap (λ codes. codes ++ c.in_ok-quicks.quicks ∷ []) c.loop-number.invariant
-    ∙ ap (λ q. map (λ m. quicks_in (code_at p m)) (range_with_len 0 n) ++ q ∷ []) c.in_ok-quicks.ensures
-    ∙ sym (map-range_with_len_more (λ m. quicks_in (code_at p m)) 0 n n (zero-add n))
+    ∙ ap (λ q. map (λ m. quicks_in p m (code_at p m)) (range_with_len 0 n) ++ q ∷ []) c.in_ok-quicks.ensures
+    ∙ sym (map-range_with_len_more (λ m. quicks_in p m (code_at p m)) 0 n n (zero-add n))

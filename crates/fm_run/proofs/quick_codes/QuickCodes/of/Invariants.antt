@@ -5,4 +5,4 @@ use Rattle.fm_run.specs.inner.Quicks.{quicks_in}
 use Rattle.fm_world.specs.Programs.{code_at}
 
 abbrev pub invariant-loop-number : goal.invariant-loop-number
-invariant-loop-number l = l.codes.items ≡ map (λ m. quicks_in (code_at l.program m)) (range_with_len 0 l.number)
+invariant-loop-number l = l.codes.items ≡ map (λ m. quicks_in l.program m (code_at l.program m)) (range_with_len 0 l.number)
