@@ -179,11 +179,6 @@ call-flowed p choose budget method m old counted m2 new insn did next does same 
   ended = ended;
 }
 
--- none was done
-pub not-flowed : (p : Program) (choose : Choose) (budget method : ℕ) (m : State) (old : List Frame) (counted : ℕ)
-    → Flowed p choose budget method (resumed m old counted) (resumed m old (counted + 1)) (resumed m old counted) false
-not-flowed p choose budget method m old counted = record { done = λ told. absurd (cc); kept = λ told. refl; ended = refl }
-
 -- the same for what the branches leave
 pub flowed-joined : (p : Program) (choose : Choose) (budget method counted : ℕ) (x m m2 : State) (f f2 : List Frame) (d d2 : Bool) → m2 ≡ m → f2 ≡ f → d2 ≡ d
     → Flowed p choose budget method x (resumed m f (counted + 1)) (resumed m f counted) d

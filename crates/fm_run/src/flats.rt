@@ -19,8 +19,8 @@ use crate::names::{code_in, insn_in};
 use crate::quick::Quick;
 use crate::quick_codes::QuickCodes;
 use crate::quick_rows::{
-    do_array_load, do_array_store, do_cast, do_field, do_goto, do_if_int, do_if_pair, do_int_op, do_load,
-    do_simple, do_store,
+    do_array_load, do_array_store, do_cast, do_field, do_goto, do_if_int, do_if_pair, do_int_op,
+    do_load, do_simple, do_store,
 };
 use crate::straight::{done, next_item, reach_after, straight_reach};
 use fm_base::MethodId;
@@ -71,7 +71,7 @@ fn next_in<'a, M: Memory>(
 // The quick code of the method that the topmost frame is in; none where there are no frames.
 #[inline(always)]
 fn quicks_next<'a>(program: &Program, codes: &'a QuickCodes, frames: &Frames) -> Option<&'a [Quick]>
-    requires codes { codes.now ≡ codes_of program.now }
+    requires { codes.now ≡ codes_of program.now }
     ensures { IfSome result (λ quicks. AreNextQuicks program.now frames.now quicks.now) }
 {
     let Some(place) = frames.topmost() else {

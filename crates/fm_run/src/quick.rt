@@ -1,6 +1,6 @@
 // Instructions in eight bytes, with a variant for each operation and kind: one dispatch finds what is done.
 
-ghost use Rattle.std.specs.Prelude.{◌≡◌, ◌<◌, length, Option};
+ghost use Rattle.std.specs.Prelude.{◌≡◌, ◌<◌, length};
 ghost use Rattle.fm_frames.specs.Runnable.{IsRunnable};
 ghost use Rattle.fm_run.specs.inner.Quicks.{quick_array_load, quick_array_store, quick_if_int, quick_if_pair, quick_int_op, quick_load, quick_of, quick_return, quick_store};
 ghost use Rattle.fm_world.specs.Members.{methods_of};

@@ -1,7 +1,7 @@
 use Rattle.std.proofs.Common.{◌≡◌, ◌+◌, ◌<◌, length, Some, true, false, refl, sym, subst, rules, arith}
 use Rattle.fm_code.specs.Edges.{insn_of}
 use Rattle.fm_fast.specs.Flows.{resumed}
-use Rattle.fm_run.proofs.FlatSteps.{call-flowed, flat-below, Flowed, flowed-joined, group-flowed, not-flowed, packed-in, straight, straight-below, straight-here, straight-jumped, straight-keeps, straight-next, straight-over, straight-stays, straight-within}
+use Rattle.fm_run.proofs.FlatSteps.{call-flowed, flat-below, Flowed, flowed-joined, group-flowed, packed-in, straight, straight-below, straight-here, straight-jumped, straight-keeps, straight-next, straight-over, straight-stays, straight-within}
 use Rattle.fm_run.proofs.QuickSteps.{next-coded, next-found, next-inside, quicks-stay}
 use Rattle.fm_run.proofs.Ranging.{leads-none}
 use Rattle.fm_run.proofs.Resolving.{is-method}
