@@ -18,7 +18,8 @@ use Rattle.fm_place.specs.Sites.{site_class, site_node}
 use Rattle.fm_law_beside_freeme.proofs.Exact.{plain_serve_alike}
 use Rattle.fm_law_beside_freeme.proofs.LeastFacts.{busy_same, captured_site_same, node_same}
 use Rattle.fm_law_beside_freeme.proofs.PlainPlans.{plain, plains, unnumbered}
-use Rattle.fm_law_beside_freeme.specs.Exact.{AreLeastFacts, AreSafeAgain, AreSafeBy, LeastFactsFindAlikeSafe}
+use Rattle.fm_audit_classes.specs.Audited.{AreSafePlans}
+use Rattle.fm_law_beside_freeme.specs.Exact.{AreLeastFacts, AreSafeAgain, LeastFactsFindAlikeSafe}
 use Rattle.fm_world.specs.Programs.{code_at, Program}
 
 -- ---- holders with the numbers of the facts
@@ -73,78 +74,76 @@ numbered_there facts x (h ∷ holders) (suc number) made is =
 -- ---- a method
 
 module _ (p : Program) (f g : Facts) (first : AreLeastFacts p f) (second : AreLeastFacts p g) (m : ℕ) (code : Code) (coded : code_at p m ≡ Some code) where
-  abbrev x : TypedMethod
-  x = typed_method p f.typing m code
+  -- the method, typed as these facts have it
+  abbrev typed : Facts → TypedMethod
+  typed facts = typed_method p facts.typing m code
 
-  abbrev y : TypedMethod
-  y = typed_method p g.typing m code
-
-  busy_at : (site j : ℕ) → is_busy f x (site_class f x site) j ≡ is_busy g y (site_class g y site) j
+  busy_at : (site j : ℕ) → is_busy f (typed f) (site_class f (typed f) site) j ≡ is_busy g (typed g) (site_class g (typed g) site) j
   busy_at site j =
-      busy_same p f g first second m code coded (site_node x site) j
-      ∙ ap (λ (n : Node). is_busy g y (g.class m n) j) (node_same p f g first second m code coded site)
+      busy_same p f g first second m code coded (site_node (typed f) site) j
+      ∙ ap (λ (n : Node). is_busy g (typed g) (g.class m n) j) (node_same p f g first second m code coded site)
 
-  path_again : (site j : ℕ) (path : List ℕ) (last : ℕ) → IsBusyPath g y (site_class g y site) j path last → IsBusyPath f x (site_class f x site) j path last
+  path_again : (site j : ℕ) (path : List ℕ) (last : ℕ) → IsBusyPath g (typed g) (site_class g (typed g) site) j path last → IsBusyPath f (typed f) (site_class f (typed f) site) j path last
   path_again site j [] last is = is
   path_again site j (next ∷ rest) last is = (busy_at site j ∙ is.0, (is.1.0, path_again site next rest last is.1.1))
 
-  holders_again : (holders : List Holder) → AllByRecursion (IsSafeHolder f x) holders → AllByRecursion (IsSafeHolder g y) (map (numbered g y) holders)
+  holders_again : (holders : List Holder) → AllByRecursion (IsSafeHolder f (typed f)) holders → AllByRecursion (IsSafeHolder g (typed g)) (map (numbered g (typed g)) holders)
   holders_again [] all = tt
   holders_again (h ∷ holders) all = (
     record { captured = sym (captured_site_same p f g first second m code coded h.site) ∙ all.0.captured; class = refl },
     holders_again holders all.1,
   )
 
-  module _ (plan : Insertions) (safe : AreSafe f x plan) where
-    class_of : (number : ℕ) (h : Holder) → slice_get plan.holders number ≡ Some h → h.class ≡ site_class f x h.site
-    class_of = class_there f x plan.holders safe.holders
+  module _ (plan : Insertions) (safe : AreSafe f (typed f) plan) where
+    class_of : (number : ℕ) (h : Holder) → slice_get plan.holders number ≡ Some h → h.class ≡ site_class f (typed f) h.site
+    class_of = class_there f (typed f) plan.holders safe.holders
 
     -- the class of a holder is busy there by both or by none
-    busy_of : (number : ℕ) (h : Holder) → slice_get plan.holders number ≡ Some h → (j : ℕ) → is_busy f x h.class j ≡ is_busy g y (site_class g y h.site) j
-    busy_of number h is j = ap (λ (class : ℕ). is_busy f x class j) (class_of number h is) ∙ busy_at h.site j
+    busy_of : (number : ℕ) (h : Holder) → slice_get plan.holders number ≡ Some h → (j : ℕ) → is_busy f (typed f) h.class j ≡ is_busy g (typed g) (site_class g (typed g) h.site) j
+    busy_of number h is j = ap (λ (class : ℕ). is_busy f (typed f) class j) (class_of number h is) ∙ busy_at h.site j
 
-    may_again : (j number : ℕ) → MayFree f x plan j number → MayFree g y (numbered_in g y plan) j number
+    may_again : (j number : ℕ) → MayFree f (typed f) plan j number → MayFree g (typed g) (numbered_in g (typed g) plan) j number
     may_again j number may = record {
-      holder = numbered g y may.holder;
-      is = there g y plan.holders number may.holder may.is;
+      holder = numbered g (typed g) may.holder;
+      is = there g (typed g) plan.holders number may.holder may.is;
       quiet = sym (busy_of number may.holder may.is j) ∙ may.quiet;
     }
 
-    must_again : (j : ℕ) → j < length code.items → (number : ℕ) (h : Holder) → slice_get (map (numbered g y) plan.holders) number ≡ Some h
-        → is_busy g y h.class j ≡ false → MayHold g y h.site h.class j → Contains (before_at plan j) number
+    must_again : (j : ℕ) → j < length code.items → (number : ℕ) (h : Holder) → slice_get (map (numbered g (typed g)) plan.holders) number ≡ Some h
+        → is_busy g (typed g) h.class j ≡ false → MayHold g (typed g) h.site h.class j → Contains (before_at plan j) number
     must_again j inside number h is quiet holds =
-        let found = numbered_there g y plan.holders number h is in
+        let found = numbered_there g (typed g) plan.holders number h is in
         let old = found.old in
-        let own_quiet : is_busy f x old.class j ≡ false =
-        busy_of number old found.is j ∙ ap (λ (o : Holder). is_busy g y o.class j) found.made_is ∙ quiet in
-        let held : MayHold g y old.site (site_class g y old.site) j = subst (λ (o : Holder). MayHold g y o.site o.class j) (sym found.made_is) holds in
-        let own_holds : MayHold f x old.site old.class j =
-        subst (λ (class : ℕ). MayHold f x old.site class j) (sym (class_of number old found.is))
+        let own_quiet : is_busy f (typed f) old.class j ≡ false =
+        busy_of number old found.is j ∙ ap (λ (o : Holder). is_busy g (typed g) o.class j) found.made_is ∙ quiet in
+        let held : MayHold g (typed g) old.site (site_class g (typed g) old.site) j = subst (λ (o : Holder). MayHold g (typed g) o.site o.class j) (sym found.made_is) holds in
+        let own_holds : MayHold f (typed f) old.site old.class j =
+        subst (λ (class : ℕ). MayHold f (typed f) old.site class j) (sym (class_of number old found.is))
         (held.0, path_again old.site (old.site + 1) held.0 j held.1) in
         (safe.items j inside).must number old found.is own_quiet own_holds
 
-    at_again : (j : ℕ) → j < length code.items → IsSafeAt g y (numbered_in g y plan) j
+    at_again : (j : ℕ) → j < length code.items → IsSafeAt g (typed g) (numbered_in g (typed g) plan) j
     at_again j inside = record {
       once = (safe.items j inside).once;
       may = λ number found. may_again j number ((safe.items j inside).may number found);
       must = must_again j inside;
     }
 
-    method_again : AreSafe g y (numbered_in g y plan)
+    method_again : AreSafe g (typed g) (numbered_in g (typed g) plan)
     method_again =
-        let count = length-map plan.holders (numbered g y) in
+        let count = length-map plan.holders (numbered g (typed g)) in
         record {
           some = let some = safe.some in omega (arith, count, some);
           room = let room = safe.room in omega (arith, count, room);
           holders = holders_again plan.holders safe.holders;
-          own_sites = subst (IsDistinct nat_eq) (sym (same_sites g y plan.holders)) safe.own_sites;
+          own_sites = subst (IsDistinct nat_eq) (sym (same_sites g (typed g) plan.holders)) safe.own_sites;
           one_each = safe.one_each;
           items = at_again;
         }
 
 -- ---- a program
 
-module _ (given : List ClassDef) (p : Program) (f g : Facts) (first : AreLeastFacts p f) (second : AreLeastFacts p g) (plans : Plans) (safe : AreSafeBy p f plans) where
+module _ (given : List ClassDef) (p : Program) (f g : Facts) (first : AreLeastFacts p f) (second : AreLeastFacts p g) (plans : Plans) (safe : AreSafePlans p f plans) where
   -- by the code of the method
   abbrev with_code : ℕ → Insertions → Option Code → Insertions
   with_code method plan None = plan
@@ -170,7 +169,7 @@ module _ (given : List ClassDef) (p : Program) (f g : Facts) (first : AreLeastFa
         plain = unchained g (typed_method p g.typing method code) plan.holders own.plain;
       }
 
-  all_safe : AreSafeBy p g again
+  all_safe : AreSafePlans p g again
   all_safe method made is = by_plan (plans method) refl is where
     by_plan : (o : Option Insertions) → plans method ≡ o → again_in method o ≡ Some made → IsSafeMethod p g method made
     by_plan None planned none = absurd (none-some made none)

@@ -1,12 +1,12 @@
 -- Exact facts over least typings serve alike: the result for class files doesn't depend on which of
 -- these are taken.
-use Rattle.std.specs.Prelude.{◌≡◌, ℕ, false, List, Some, is_some}
+use Rattle.std.specs.Prelude.{◌≡◌, ℕ, false, List, is_some}
+use Rattle.fm_audit_classes.specs.Audited.{AreSafePlans}
 use Rattle.fm_summ_shapes.specs.Analysed.{AreLeastTypings}
 use Rattle.fm_code.specs.declared.class_file.ClassDef.{ClassDef}
 use Rattle.fm_conn.specs.Facts.{AreFacts, Facts}
-use Rattle.fm_place.specs.Insertions.{Insertions}
 use Rattle.fm_place.specs.Rewriting.{marks_with, Plans, rewritten}
-use Rattle.fm_place.specs.Safe.{full_plans, IsSafeMethod}
+use Rattle.fm_place.specs.Safe.{full_plans}
 use Rattle.fm_rewrite.specs.Causes.{AreNotWoven, first_cause}
 use Rattle.fm_rewrite.specs.Rewritten.{AreRewrittenOf, counts_of}
 use Rattle.fm_rewrite.specs.declared.error.RewriteFail.{RewriteFail}
@@ -32,14 +32,10 @@ LeastFactsServeAlike =
     (given : List ClassDef) (p : Program) (facts others : Facts) → AreLeastFacts p facts → AreLeastFacts p others
     → ServeAlike given (full_plans p facts) (full_plans p others)
 
--- what is inserted into each method is safe by these facts
-abbrev pub AreSafeBy : Program → Facts → Plans → Type 0
-AreSafeBy p facts plans = (method : ℕ) (plan : Insertions) → plans method ≡ Some plan → IsSafeMethod p facts method plan
-
 -- insertions into the same methods that are safe by these facts, and by which the given classes are written alike
 pub record AreSafeAgain (given : List ClassDef) (p : Program) (facts : Facts) (plans : Plans) : Type 0 where
   pub again : Plans
-  pub safe : AreSafeBy p facts again
+  pub safe : AreSafePlans p facts again
   pub alike : ServeAlike given plans again
   pub methods : (method : ℕ) → is_some (again method) ≡ is_some (plans method)
 
@@ -47,7 +43,7 @@ pub record AreSafeAgain (given : List ClassDef) (p : Program) (facts : Facts) (p
 abbrev pub LeastFactsFindAlikeSafe : Type 0
 LeastFactsFindAlikeSafe =
     (given : List ClassDef) (p : Program) (facts others : Facts) → AreLeastFacts p facts → AreLeastFacts p others
-    → (plans : Plans) → AreSafeBy p facts plans → AreSafeAgain given p others plans
+    → (plans : Plans) → AreSafePlans p facts plans → AreSafeAgain given p others plans
 
 -- classes are written in one way, with one set of counts
 abbrev pub WrittenInOneWay : Type 0

@@ -37,12 +37,6 @@ use Rattle.freeme.specs.Complete.{AuditsDecide, CanBeAudited}
 
 -- ---- files hold one list of classes
 
-one_class : (held : Bytes → Option Bytes) (file : Bytes) (c d : ClassDef) → IsTaken (Some held) file c → IsTaken (Some held) file d → c ≡ d
-one_class held file c d first second =
-    let same : class_bytes d ≡ class_bytes c = same_Some (class_bytes d) (class_bytes c) (sym second.holds ∙ first.holds) in
-    let Spelled : Bytes → Type 0 = λ bytes. Spells bytes d in
-    one_record (class_bytes c) c d first.spelled (subst Spelled same second.spelled)
-
 taken_once : (held : Bytes → Option Bytes) (files : List Bytes) (cs ds : List ClassDef) → AreTaken (Some held) files cs → AreTaken (Some held) files ds → cs ≡ ds
 taken_once held [] [] [] first second = refl
 taken_once held [] [] (d ∷ ds) first second = absurd second
@@ -50,7 +44,10 @@ taken_once held [] (c ∷ cs) ds first second = absurd first
 taken_once held (file ∷ files) [] ds first second = absurd first
 taken_once held (file ∷ files) (c ∷ cs) [] first second = absurd second
 taken_once held (file ∷ files) (c ∷ cs) (d ∷ ds) first second =
-    λ k. one_class held file c d first.0 second.0 k ∷ taken_once held files cs ds first.1 second.1 k
+    let same : class_bytes d ≡ class_bytes c = same_Some (class_bytes d) (class_bytes c) (sym second.0.holds ∙ first.0.holds) in
+    let Spelled : Bytes → Type 0 = λ bytes. Spells bytes d in
+    let one : c ≡ d = one_record (class_bytes c) c d first.0.spelled (subst Spelled same second.0.spelled) in
+    λ k. one k ∷ taken_once held files cs ds first.1 second.1 k
 
 module _ (contents : Contents) (known : IsSome contents) where
   all_once : (files : List Bytes) (cs ds : List ClassDef) → AreTaken contents files cs → AreTaken contents files ds → cs ≡ ds

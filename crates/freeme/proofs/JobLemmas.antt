@@ -13,7 +13,7 @@ use Rattle.fm_base.proofs.TestFacts.{same_or_other}
 use Rattle.fm_files.specs.Files.{Bytes, Call, Contents, Disk}
 use Rattle.fm_code.specs.ClassBytes.{class_bytes}
 use Rattle.fm_code.specs.ConstantPool.{class_name_at}
-use Rattle.fm_code.specs.Profile.{IsSupported, IsWithinLimits, Profile}
+use Rattle.fm_code.specs.Profile.{IsSupported, Profile}
 use Rattle.fm_code.specs.Spells.{HasSpelling, Spells}
 use Rattle.fm_code.specs.declared.class_file.ClassDef.{ClassDef}
 use Rattle.fm_cli.specs.Outside.{HasNoFileFault, HasWriteFault}
@@ -101,9 +101,6 @@ apart_of classes new place = at (slice_get classes place) refl where
 -- ---- their program, which is judged
 
 module _ (classes : List ClassDef) (profiles : AllByRecursion Profile classes) where
-  pub are_within : AllByRecursion IsWithinLimits classes
-  are_within = AllByRecursion-weaker Profile IsWithinLimits (λ c profile. profile.limits) classes profiles
-
   module _ (spelled : AllByRecursion ClassIsSpelled classes) (main : List ℕ) {whole : Program} (linked : IsLinked classes main (Ok whole) × AreTyped (program_of classes main)) where
     -- the walk over what it reaches may begin
     pub may_be_analysed : AreAnalysable whole

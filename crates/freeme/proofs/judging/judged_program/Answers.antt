@@ -1,9 +1,12 @@
+use Rattle.fm_base.proofs.ListFacts.{AllByRecursion-weaker}
+use Rattle.fm_code.specs.Profile.{IsWithinLimits, Profile}
 use Rattle.std.proofs.lemmas.Result.{err_from_is_err_and}
-use Rattle.freeme.proofs.JobLemmas.{are_within, judged_as, may_be_analysed, may_open}
+use Rattle.freeme.proofs.JobLemmas.{judged_as, may_be_analysed, may_open}
 use Rattle.freeme.proofs.judging.judged_program.Goals as goal
 
 pub judge_program-requires-clause-within : goal.judge_program-requires-clause-within
-judge_program-requires-clause-within c = are_within c.args.classes.now c.requires.accepted
+judge_program-requires-clause-within c =
+    AllByRecursion-weaker Profile IsWithinLimits (λ given accepted. accepted.limits) c.args.classes.now c.requires.accepted
 
 pub returns-in_err-judged : goal.returns-in_err-judged
 returns-in_err-judged c =
