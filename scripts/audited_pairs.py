@@ -1,10 +1,12 @@
-"""Pairs of an original class file and a written one, each changed in one place, with what an audit has to answer of each.
+"""Pairs of an original class file and a written one, each changed in one place, some with what an audit has to answer of each.
 
 The written class files are those of freeme, which frees each holder at all its places. So what is inserted, as it is read off them here, tells
-where a holder may hold something and its class isn't in use: where it is freed. Each change fails one part of what makes an insertion safe, by an
-argument that is given with it. Code is laid out again after each change, so that its branches and tables follow.
+where a holder may hold something and its class isn't in use: where it is freed. A change of the first sort fails one part of what makes an insertion safe, by an
+argument that is given with it; one of the second sort is made anywhere, and what an audit has to answer of it is for audited_parts.py to tell. Code is laid
+out again after each change, so that its branches and tables follow.
 """
 
+import random
 import struct
 from contextlib import suppress
 from dataclasses import dataclass, field, replace
@@ -29,6 +31,7 @@ class Item:
     operands: bytes = b""
     targets: list = field(default_factory=list)
     at: int = 0
+    padding: bytes = b""
 
     def size(self, at):
         if self.opcode in (TABLESWITCH, LOOKUPSWITCH):
@@ -40,16 +43,21 @@ class Item:
     def bytes(self):
         distances = [target.at - self.at for target in self.targets]
         if self.opcode == TABLESWITCH:
-            padding = bytes(-(self.at + 1) % 4)
+            padding = self.padded()
             return bytes([self.opcode]) + padding + struct.pack(">i", distances[0]) + self.operands + b"".join(struct.pack(">i", d) for d in distances[1:])
         if self.opcode == LOOKUPSWITCH:
-            padding = bytes(-(self.at + 1) % 4)
+            padding = self.padded()
             keys = [self.operands[4 + 4 * k : 8 + 4 * k] for k in range(len(distances) - 1)]
             pairs = b"".join(key + struct.pack(">i", d) for key, d in zip(keys, distances[1:]))
             return bytes([self.opcode]) + padding + struct.pack(">i", distances[0]) + self.operands[:4] + pairs
         if self.targets:
             return bytes([self.opcode]) + struct.pack(">i" if self.opcode in (GOTO_W, 201) else ">h", distances[0])
         return bytes([self.opcode]) + self.operands
+
+    def padded(self):
+        """The padding of a switch where it is laid out: as much of its own as there is room for, and then zeros."""
+        size = -(self.at + 1) % 4
+        return (self.padding + bytes(size))[:size]
 
     def local(self, short, wide):
         """The local that an instruction loads or stores, if it is one of this kind: `short` is the opcode with the local in it, from 0 on."""
@@ -73,6 +81,13 @@ def stores(local):
     if local < 4:
         return Item(75 + local)
     return Item(ASTORE, bytes([local])) if local < 256 else Item(WIDE, struct.pack(">BH", ASTORE, local))
+
+
+def loads(local):
+    """An aload as it is laid out: the shortest one (JVMS 6.5.aload)."""
+    if local < 4:
+        return Item(42 + local)
+    return Item(ALOAD, bytes([local])) if local < 256 else Item(WIDE, struct.pack(">BH", ALOAD, local))
 
 
 class Reader:
@@ -166,9 +181,9 @@ def items_of(code):
     read, items, ends = Reader(code), [], []
     while read.at < len(code):
         start, opcode = read.at, read.number(1)
-        targets = []
+        targets, padding = [], b""
         if opcode in (TABLESWITCH, LOOKUPSWITCH):
-            read.take(-read.at % 4)
+            padding = read.take(-read.at % 4)
             targets = [struct.unpack(">i", read.take(4))[0]]
             if opcode == TABLESWITCH:
                 operands = read.take(8)
@@ -187,7 +202,7 @@ def items_of(code):
             operands, targets = b"", [int.from_bytes(read.take(size), "big", signed=True)]
         else:
             operands = read.take(SIZES.get(opcode, 0))
-        items.append(Item(opcode, operands, [start + target for target in targets], start))
+        items.append(Item(opcode, operands, [start + target for target in targets], start, padding))
     end = End()
     end.at = len(code)
     places = {item.at: item for item in items}
@@ -246,6 +261,16 @@ class ClassFile:
 
     def text(self, index):
         return self.texts[index].decode("latin-1")
+
+    def class_at(self, index):
+        """The name of a class by its index, and None of 0."""
+        return self.text(struct.unpack(">H", self.entries[index][1])[0]) if index else None
+
+    def member_at(self, index):
+        """The class, the name and the descriptor of a member by its index."""
+        owner, named = struct.unpack(">HH", self.entries[index][1])
+        name, descriptor = struct.unpack(">HH", self.entries[named][1])
+        return self.class_at(owner), self.text(name), self.text(descriptor)
 
     def name(self):
         index = struct.unpack(">H", self.middle[2:4])[0]
@@ -464,6 +489,114 @@ def shift(code, row):
     row[0] = code.items[place + 1 if place + 1 < len(code.items) else place - 1]
 
 
+# ---- one change anywhere in a method: it may fail any part, or none
+
+
+def freed_anywhere(file, old, new, found, chance):
+    """A free comes before another item, chosen by chance."""
+    for _, place in some(found.frees, chance):
+        to = chance.choice(own_items(new, found))
+        if not place <= to <= place + FREE_ITEMS:
+            yield lambda code, place=place, to=to: move(code, place, to if to < place else to - FREE_ITEMS)
+
+
+def freed_more(file, old, new, found, chance):
+    """A holder is freed before one item more."""
+    for _, place in some(found.frees, chance):
+        to = chance.choice(own_items(new, found))
+        yield lambda code, place=place, to=to: code.put(to, copies(code.items[place : place + FREE_ITEMS]))
+
+
+def exchanged(file, old, new, found, chance):
+    """Two frees before one item are exchanged."""
+    places = [place for _, place in found.frees]
+    for place in places:
+        if place + FREE_ITEMS in places:
+            yield lambda code, place=place: exchange(code, place)
+
+
+def taken_anywhere(file, old, new, found, chance):
+    """A holder takes what is on top of the stack behind another item."""
+    own = own_items(new, found)
+    for _, place in some(found.takes, chance):
+        to = chance.choice(own[1:] or own)
+        if not place <= to <= place + TAKE_ITEMS:
+            yield lambda code, place=place, to=to: take(code, place, to if to < place else to - TAKE_ITEMS)
+
+
+def renumbered(file, old, new, found, chance):
+    """Two holders are exchanged wherever they take an object or are freed."""
+    if found.holders > 1:
+        yield lambda code: renumber(code, found, old.max_locals, old.max_locals + 1)
+
+
+def held_more(file, old, new, found, chance):
+    """A holder more, which takes no object."""
+    more = old.max_locals + found.holders
+    yield lambda code: hold_more(code, NULL_ITEMS * found.holders, more)
+
+
+def undone(file, old, new, found, chance):
+    """The method is as it was."""
+    yield lambda code: code.__dict__.update(old.__dict__)
+
+
+def other_way(file, old, new, found, chance):
+    """A branch leads to the item behind its target."""
+    for place, item in enumerate(new.items):
+        at = new.items.index(item.targets[0]) if item.targets and item.opcode in BRANCHES else len(new.items)
+        if at + 1 < len(new.items):
+            yield lambda code, place=place, at=at: setattr(code.items[place], "targets", [code.items[at + 1]])
+            return
+
+
+def other_handler(file, old, new, found, chance):
+    """A handler begins at the item behind its own."""
+    for row, (_, _, handler, _) in enumerate(new.handlers[:3]):
+        at = new.items.index(handler)
+        if at + 1 < len(new.items):
+            yield lambda code, row=row, at=at: code.handlers[row].__setitem__(2, code.items[at + 1])
+
+
+def row_less(file, old, new, found, chance):
+    """A row of a table less."""
+    for row in range(min(3, len(new.handlers))):
+        yield lambda code, row=row: code.handlers.pop(row)
+    for number, (_, text, own) in enumerate(new.attributes):
+        if text and own:
+            yield lambda code, number=number: code.attributes[number][2].pop()
+
+
+ANYWHERE = (freed_anywhere, freed_more, exchanged, taken_anywhere, renumbered, held_more, undone, other_way, other_handler, row_less)
+SOME = 4
+
+
+def some(places, chance):
+    return chance.sample(places, min(SOME, len(places)))
+
+
+def exchange(code, place):
+    own = copies(code.items[place : place + 2 * FREE_ITEMS])
+    code.drop(place, 2 * FREE_ITEMS)
+    code.put(place, own[FREE_ITEMS:] + own[:FREE_ITEMS])
+
+
+def renumber(code, found, one, other):
+    other_of = {one: other, other: one}
+    for place in [k for _, at in found.takes for k in (at + 1,)] + [k for _, at in found.frees for k in (at, at + 3)]:
+        item = code.items[place]
+        if item.loaded() in other_of:
+            replaced(code, place, loads(other_of[item.loaded()]))
+        elif item.stored() in other_of:
+            replaced(code, place, stores(other_of[item.stored()]))
+
+
+def hold_more(code, place, local):
+    own = [Item(ACONST_NULL), stores(local)]
+    code.items[place:place] = own
+    code.max_locals += 1
+
+
 # ---- one change in a class
 
 
@@ -495,9 +628,21 @@ CLASS_CHANGES = (one_entry_more, other_version, final_method, strict_method)
 # ---- pairs
 
 
-def pairs_of(original, written):
+def edited(written, place, edit):
+    """A written class file with one of its codes changed, or None where a branch would have to be widened or a range of a handler gets empty."""
+    file = ClassFile(written)
+    code = next(code for number, _, code in file.codes() if number == place)
+    edit(code)
+    with suppress(struct.error):
+        changed = file.bytes()
+        if all(start.at < end.at for start, end, *_ in code.handlers):
+            return changed
+    return None
+
+
+def pairs_of(original, written, seed=1):
     """Of the bytes of an original class file and those that freeme wrote of it: what is changed, the changed bytes, and the name and the part that an audit
-    has to refuse."""
+    has to refuse, or None where that isn't argued."""
     old, new = ClassFile(original), ClassFile(written)
     if original == written:
         return
@@ -509,11 +654,10 @@ def pairs_of(original, written):
     for (place, name, before), (_, _, after) in zip(old.codes(), new.codes()):
         if before.max_locals == after.max_locals:
             continue
-        for change in CHANGES:
-            for edit, part in change(new, before, after, inserted(new, before, after)):
-                file = ClassFile(written)
-                code = next(code for number, _, code in file.codes() if number == place)
-                edit(code)
-                # A branch that would have to be widened is left as it is.
-                with suppress(struct.error):
-                    yield change.__name__, file.bytes(), (name, part)
+        found, chance = inserted(new, before, after), random.Random(seed)
+        edits = [(change, edit, (name, part)) for change in CHANGES for edit, part in change(new, before, after, found)]
+        edits += [(change, edit, None) for change in ANYWHERE for edit in change(new, before, after, found, chance)]
+        for change, edit, due in edits:
+            changed = edited(written, place, edit)
+            if changed and changed != written:
+                yield change.__name__, changed, due

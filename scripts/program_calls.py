@@ -18,6 +18,9 @@ from pathlib import Path
 from class_library import needed
 
 NO_WORDS = "none"
+NOT_SAFE = 78
+# The entry of a pool that only a class with chains needs: the name of the method that frees one (JVMS 4.4.7).
+CHAIN_ENTRY = b"\x01\x00\x09freeChain"
 
 
 class Unended(Exception):
@@ -129,11 +132,34 @@ def written_run(programs, folder, flags):
         return lines, *programs.run(words, main, files_of(Path(written)))
 
 
+def names_of(lines):
+    """The classes of which lines of freeme report what is freed, in the order of the files."""
+    return [re.sub(r": \d+ sites, \d+ frees$", "", line) for line in lines]
+
+
+def is_chained(read, written, name):
+    """Whether what is written of a class links objects in chains, which its pool then has an entry for."""
+    return CHAIN_ENTRY in (written / f"{name}.class").read_bytes() and CHAIN_ENTRY not in read.read_bytes()
+
+
+def wrong_audit(audited, files, written, names, flags):
+    """What is wrong with an audit of class files as freeme wrote them with these flags, or None. Each is safe, but for two things that an audit knows
+    nothing of: chains, for which the pool has entries that part 1 doesn't allow, and the narrower targets of calls with --rapid, without which an object may be
+    out of reach (part 3) or in use (part 4) that isn't with them."""
+    due = 0, [f"{name}: safe" for name in names]
+    chained = [name for read, name in zip(files, names) if "--chains" in flags and is_chained(read, written, name)]
+    if chained:
+        due = NOT_SAFE, [f"refused: not-safe {chained[0]} 1"]
+    elif "--rapid" in flags and audited[0] == NOT_SAFE and re.fullmatch(r"refused: not-safe .*\(.*\).* [34]", audited[1][0]):
+        return None
+    return None if audited == due else f"the audit: {audited!r} where {due!r} is due"
+
+
 def differences(programs, folder, kind="classes", flags=()):
     """What differs of one program, a text for each thing, and its two report lines.
 
     It is run as it was read, then freed, with these flags, then run as it was written. It agrees where all that expect.txt gives is so, but
-    for numbers that a flag may change, where an audit finds the files written safe, if there is no flag, and where they print the same and end
+    for numbers that a flag may change, where an audit finds the files written safe, as far as the flags allow, and where they print the same and end
     alike, with no more words at their peak."""
     due = sections((folder / "expect.txt").read_text())
     main = due["main class"][0]
@@ -159,9 +185,9 @@ def differences(programs, folder, kind="classes", flags=()):
         compare("freeme's status", freed[0], 0)
         if "freeme" in due and "--rapid" not in flags:
             compare("freeme's lines", freed[1], due["freeme"][1])
-        if not flags:
-            audited = programs.audit(written, main, files)
-            compare("the audit", audited, (0, [re.sub(r": \d+ sites, \d+ frees$", ": safe", line) for line in freed[1]]))
+        if freed[0] == 0:
+            text = wrong_audit(programs.audit(written, main, files), files, Path(written), names_of(freed[1]), flags)
+            wrong += [text] if text else []
         after = programs.run(words, main, files_of(Path(written)))
     compare("status of the files written", after[0], status_of(status))
     compare("output of the files written", after[1], printed)
