@@ -1,9 +1,10 @@
 -- What is known of the class files where contents are known, and so decides how a call comes out.
-use Rattle.std.specs.Prelude.{◌≡◌, ℕ, ◌<◌, List, [], length, IsSome}
+use Rattle.std.specs.Prelude.{◌≡◌, ℕ, ◌<◌, ◌⊎◌, List, [], length, IsSome}
 use Rattle.fm_base.specs.declared.limits.TheConstants.{MAX_CLASS_FILES}
 use Rattle.fm_files.specs.Files.{Bytes, Disk}
 use Rattle.fm_code.specs.declared.class_file.ClassDef.{ClassDef}
 use Rattle.fm_cli.specs.Outside.{IsKnownSuch, IsKnownMissing}
+use Rattle.fm_cli.specs.declared.status.TheConstants.{CHECK, LIMIT, LINK}
 use Rattle.fm_check_program.specs.Untyped.{AreTyped}
 use Rattle.fm_world.specs.Linking.{refusals}
 use Rattle.fm_load.specs.ClassRefusal.{class_refusal_status}
@@ -59,3 +60,10 @@ pub record IsKnownUntyped (old : Disk) (given : Given) : Type 0 where
   pub classes : List ClassDef
   pub linked : AreLinked given old.contents classes
   pub untyped : ¬ AreTyped (given_program given classes)
+
+-- contents are known, and this is the status of what is given: a file is too long, or refused by its bytes, or they make no program, or one of which
+-- a method isn't typed
+abbrev pub IsKnownRefusal : ℕ → Disk → Given → Type 0
+IsKnownRefusal status old given =
+    ((status ≡ LIMIT) × IsKnownLong old given)
+    ⊎ (IsKnownRefused status old given ⊎ (((status ≡ LINK) × IsKnownUnlinked old given) ⊎ ((status ≡ CHECK) × IsKnownUntyped old given)))

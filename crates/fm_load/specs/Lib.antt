@@ -9,3 +9,4 @@ pub mod Given
 pub mod Reading
 pub mod Judging
 pub mod Causes
+pub mod ProgramCalls

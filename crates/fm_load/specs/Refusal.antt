@@ -1,9 +1,8 @@
 -- How a job that isn't done is reported.
-use Rattle.std.specs.Prelude.{◌≡◌, ℕ, List, [], ◌∷◌, ◌++◌, codes, string_bytes}
+use Rattle.std.specs.Prelude.{ℕ, List, [], ◌∷◌, ◌++◌, codes, string_bytes}
 use Rattle.std.specs.Fmt.{decimal}
 use Rattle.fm_cli.specs.Printed.{printed}
 use Rattle.fm_cli.specs.CommandRefusal.{refusal_line as shared_line, refusal_status as shared_status}
-use Rattle.fm_files.specs.Sink.{Output, with_piece}
 use Rattle.fm_cli.specs.declared.status.TheConstants.{CHECK, LIMIT, LINK, WRITE}
 use Rattle.fm_load.specs.ClassRefusal.{class_refusal_line, class_refusal_status}
 use Rattle.fm_load.specs.LinkRefusal.{link_fail_line}
@@ -51,8 +50,3 @@ refusal_status (job_refusal.Class file refusal) = class_refusal_status refusal
 refusal_status (job_refusal.Link fail) = LINK
 refusal_status (job_refusal.Check method) = CHECK
 refusal_status (job_refusal.Write name) = WRITE
-
--- the output is as it was, and the line of a refusal is the one piece that the report got
-pub record IsRefusedBy (line : List ℕ) (before after report report' : Output) : Type 0 where
-  pub silent : after ≡ before
-  pub reported : report' ≡ with_piece line report

@@ -11,7 +11,8 @@ use Rattle.fm_load.proofs.KnownLemmas.{bytes_stop, long_stops, missing_stops}
 use Rattle.fm_load.proofs.RefusalLemmas.{class_status}
 use Rattle.fm_load.proofs.VerdictLemmas.{Links}
 use Rattle.fm_load.specs.Causes.{FailsARead, HasTooMany, IsMissing, IsKnownLong, IsKnownRefused, IsKnownUnlinked, IsKnownUntyped}
-use Rattle.fm_load.specs.Given.{AreMany, AreNotLinked, IsNotLinked}
+use Rattle.fm_load.specs.Given.{AreMany, AreNotLinked, IsLong, IsNotLinked, IsUnread}
+use Rattle.fm_load.specs.ProgramCalls.{ProgramCall, SaysCheck, SaysLink, SaysLong, SaysRefused, SaysWords}
 use Rattle.fm_load.specs.LinkRefusal.{cause_line}
 use Rattle.fm_load.specs.Refusal.{many_arguments_line, many_line, refusal_status}
 use Rattle.fm_load.specs.Taking.{total_bytes, IsTooLong, IsRefused}
@@ -30,44 +31,36 @@ use Rattle.fm_world.specs.Causes.{Refusal}
 use Rattle.fmrun.proofs.EndStatuses.{among_refusals, job_of_reported, kind_of, not_for_words, own_among, refusal_among, run_apart}
 use Rattle.fmrun.proofs.ReportedLemmas.{FailsSo, IsLinePut, fails_so, is_among, is_line_put, reported_of_file, reported_of_words}
 use Rattle.fmrun.proofs.Verdicts.{JobVerdict, Runs, input_long, input_missing, one_end, passes, passes_input, ready_passes, status_of}
-use Rattle.fmrun.specs.Causes.{AskFor, AskToRead, HasLongInput, HasManyArguments, IsForBytes, IsForCheck, IsForLimit, IsForLink, IsForRead, IsForRun, IsForWords, IsKnownReady, IsKnownRun, LacksInput, MissesFile, SaysCheck, SaysLimit, SaysLink, SaysRead, SaysRefused, SaysRun, SaysWords, refusal_statuses}
+use Rattle.fmrun.specs.Causes.{AskFor, AskForGiven, AskToRead, AskWithInput, HasLongInput, HasManyArguments, IsForBytes, IsForCheck, IsForLimit, IsForLink, IsForRead, IsForRun, IsForWords, IsKnownReady, IsKnownRun, LacksInput, MissesFile, SaysInputLong, SaysLimit, SaysRun, SaysUnread, refusal_statuses}
 use Rattle.fmrun.specs.Jobs.{given_of, job_arguments}
-use Rattle.fmrun.specs.TopCall.{AreManyArguments, ComesOf, ComesOfJob, ComesTo, HasInput, HasRun, IsReported, Outcome, outcome_status}
+use Rattle.fmrun.specs.TopCall.{AreManyArguments, ComesOf, ComesOfJob, ComesTo, HasInput, HasRun, IsInputLong, IsInputUnread, IsReported, Outcome, outcome_status}
 use Rattle.fmrun.specs.declared.outcome.JobFail.TheVariants as fail
 
 -- ---- what a status says
 
-module _ (words : List Bytes) (old new : Disk) (before after report report' : Output) where
+module _ (call : ProgramCall) where
   -- a job that comes out so
   abbrev OfJob : Outcome → Type 0
-  OfJob o = ComesOfJob words old new before after o
+  OfJob o = ComesOfJob call.words call.old call.new call.before call.after o
 
   -- 65
-  read_said : (o : Outcome) → OfJob o → outcome_status o ≡ READ → IsLinePut o report report' → SaysRead words old new before after report report'
+  read_said : (o : Outcome) → OfJob o → outcome_status o ≡ READ → IsLinePut o call.report call.reported → AskFor call.words (SaysUnread call)
   read_said (Ok reported) j is line = absurd (run_apart j.comes READ (omega arith) (omega arith) is)
-  read_said (Err (fail.Refused (job_refusal.Shared (refusal.Read file)))) j is line = record {
-    job = j.job;
-    asked = j.asked;
-    file = file.now;
-    unread = j.comes.0.1;
-    refused = record { silent = j.comes.1; reported = line };
-  }
+  read_said (Err (fail.Refused (job_refusal.Shared (refusal.Read file)))) j is line = (j.job, (j.asked, by j.comes.0.1)) where
+    by : IsUnread j.job.files file.now call.old call.new ⊎ IsInputUnread j.job file.now call.old call.new → SaysUnread call j.job
+    by (inl unread) = inl (record { file = file.now; unread = unread; refused = record { silent = j.comes.1; reported = line } })
+    by (inr unread) = inr (record { file = file.now; unread = unread; refused = record { silent = j.comes.1; reported = line } })
   read_said (Err (fail.Refused (job_refusal.Class file r))) j is line = absurd (let c = class_status r in let low = c.low in let high = c.high in omega arith)
   read_said o j is line = absurd (omega arith)
 
   -- 70
-  cause_said : (job : FmrunJob) (cause : Option Refusal) → Asks words job → HasInput job old.contents → IsNotLinked (given_of job) cause old new → after ≡ before → report' ≡ with_piece (cause_line cause) report → SaysLink words old new before after report report'
+  cause_said : (job : FmrunJob) (cause : Option Refusal) → Asks call.words job → HasInput job call.old.contents → IsNotLinked (given_of job) cause call.old call.new → call.after ≡ call.before → call.reported ≡ with_piece (cause_line cause) call.report
+      → AskWithInput call (λ job. SaysLink call (given_of job))
   cause_said job None asked input unlinked silent line = absurd unlinked.refused
-  cause_said job (Some cause) asked input unlinked silent line = record {
-    job = job;
-    asked = asked;
-    cause = cause;
-    input = input;
-    unlinked = unlinked;
-    refused = record { silent = silent; reported = line };
-  }
+  cause_said job (Some cause) asked input unlinked silent line =
+      (job, (asked, (input, record { cause = cause; unlinked = unlinked; refused = record { silent = silent; reported = line } })))
 
-  link_said : (o : Outcome) → OfJob o → outcome_status o ≡ LINK → IsLinePut o report report' → SaysLink words old new before after report report'
+  link_said : (o : Outcome) → OfJob o → outcome_status o ≡ LINK → IsLinePut o call.report call.reported → AskWithInput call (λ job. SaysLink call (given_of job))
   link_said (Ok reported) j is line = absurd (run_apart j.comes LINK (omega arith) (omega arith) is)
   link_said (Err (fail.Refused (job_refusal.Link link))) j is line = cause_said j.job (refusal_of link) j.asked j.comes.0.1.0 j.comes.0.1.1 j.comes.1 line
   link_said (Err (fail.Refused (job_refusal.Class file r))) j is line = absurd (let c = class_status r in let low = c.low in let high = c.high in omega arith)
@@ -75,65 +68,65 @@ module _ (words : List Bytes) (old new : Disk) (before after report report' : Ou
   link_said o j is line = absurd (omega arith)
 
   -- 71
-  check_said : (o : Outcome) → OfJob o → outcome_status o ≡ CHECK → IsLinePut o report report' → SaysCheck words old new before after report report'
+  check_said : (o : Outcome) → OfJob o → outcome_status o ≡ CHECK → IsLinePut o call.report call.reported → AskWithInput call (λ job. SaysCheck call (given_of job))
   check_said (Ok reported) j is line = absurd (run_apart j.comes CHECK (omega arith) (omega arith) is)
-  check_said (Err (fail.Refused (job_refusal.Check name))) j is line = record {
-    job = j.job;
-    asked = j.asked;
-    name = name;
-    input = j.comes.0.1.0;
-    untyped = j.comes.0.1.1;
-    refused = record { silent = j.comes.1; reported = line };
-  }
+  check_said (Err (fail.Refused (job_refusal.Check name))) j is line =
+      (j.job, (j.asked, (j.comes.0.1.0, record { name = name; untyped = j.comes.0.1.1; refused = record { silent = j.comes.1; reported = line } })))
   check_said (Err (fail.Refused (job_refusal.Class file r))) j is line = absurd (let c = class_status r in let low = c.low in let high = c.high in omega arith)
   check_said (Err (fail.Refused (job_refusal.Shared refusal.Words))) j is line = absurd (omega arith)
   check_said o j is line = absurd (omega arith)
 
   -- 66, 67 and 69
-  bytes_said : (status : ℕ) → 66 ≤ status → status ≤ 69 → status ≢ LIMIT → (o : Outcome) → OfJob o → outcome_status o ≡ status → IsLinePut o report report' → SaysRefused status words old new before after report report'
+  bytes_said : (status : ℕ) → 66 ≤ status → status ≤ 69 → status ≢ LIMIT → (o : Outcome) → OfJob o → outcome_status o ≡ status → IsLinePut o call.report call.reported → AskForGiven call.words (SaysRefused status call)
   bytes_said status low high other (Ok reported) j is line = absurd (run_apart j.comes status (omega arith) (omega arith) is)
   bytes_said status low high other (Err (fail.Refused (job_refusal.TooManyFiles count))) j is line = absurd (other (sym is))
   bytes_said status low high other (Err (fail.Refused (job_refusal.TooManyArguments count))) j is line = absurd (other (sym is))
   bytes_said status low high other (Err (fail.Refused (job_refusal.TooLong file))) j is line = absurd (other (sym is))
-  bytes_said status low high other (Err (fail.Refused (job_refusal.Class file r))) j is line = record {
-    job = j.job;
-    asked = j.asked;
-    file = file.now;
-    refusal = r;
-    status_is = is;
-    unaccepted = j.comes.0.1;
-    refused = record { silent = j.comes.1; reported = line };
-  }
+  bytes_said status low high other (Err (fail.Refused (job_refusal.Class file r))) j is line = (
+    j.job,
+    (
+      j.asked,
+      record {
+        file = file.now;
+        refusal = r;
+        status_is = is;
+        unaccepted = j.comes.0.1;
+        refused = record { silent = j.comes.1; reported = line };
+      },
+    ),
+  )
   bytes_said status low high other (Err (fail.Refused (job_refusal.Shared refusal.Words))) j is line = absurd (omega arith)
   bytes_said status low high other o j is line = absurd (omega arith)
 
   -- 68
-  limit_said : (o : Outcome) → OfJob o → outcome_status o ≡ LIMIT → IsLinePut o report report' → SaysLimit words old new before after report report'
+  limit_said : (o : Outcome) → OfJob o → outcome_status o ≡ LIMIT → IsLinePut o call.report call.reported → AskFor call.words (SaysLimit call)
   limit_said (Ok reported) j is line = absurd (run_apart j.comes LIMIT (omega arith) (omega arith) is)
   limit_said (Err (fail.Refused (job_refusal.TooManyFiles count))) j is line =
-      let Many : ℕ → Type 0 = λ n. AreMany j.job.files n old new × (report' ≡ with_piece (many_line n) report) in
+      let Many : ℕ → Type 0 = λ n. AreMany j.job.files n call.old call.new × (call.reported ≡ with_piece (many_line n) call.report) in
       let own = subst Many j.comes.0.count_is (j.comes.0, line) in
-      inl (record { job = j.job; asked = j.asked; many = own.0; refused = record { silent = j.comes.1; reported = own.1 } })
+      (j.job, (j.asked, inl (record { many = own.0; refused = record { silent = j.comes.1; reported = own.1 } })))
   limit_said (Err (fail.Refused (job_refusal.TooManyArguments count))) j is line =
-      let Many : ℕ → Type 0 = λ n. AreManyArguments j.job n old new × (report' ≡ with_piece (many_arguments_line n) report) in
+      let Many : ℕ → Type 0 = λ n. AreManyArguments j.job n call.old call.new × (call.reported ≡ with_piece (many_arguments_line n) call.report) in
       let own = subst Many j.comes.0.count_is (j.comes.0, line) in
-      inr (inl (record { job = j.job; asked = j.asked; many = own.0; refused = record { silent = j.comes.1; reported = own.1 } }))
-  limit_said (Err (fail.Refused (job_refusal.TooLong file))) j is line = inr (inr (inl (record {
-    job = j.job;
-    asked = j.asked;
-    file = file.now;
-    long = j.comes.0.1;
-    refused = record { silent = j.comes.1; reported = line };
-  })))
-  limit_said (Err (fail.Refused (job_refusal.Class file r))) j is line = inr (inr (inr (record {
-    job = j.job;
-    asked = j.asked;
-    file = file.now;
-    refusal = r;
-    status_is = is;
-    unaccepted = j.comes.0.1;
-    refused = record { silent = j.comes.1; reported = line };
-  })))
+      (j.job, (j.asked, inr (inl (record { many = own.0; refused = record { silent = j.comes.1; reported = own.1 } }))))
+  limit_said (Err (fail.Refused (job_refusal.TooLong file))) j is line = (j.job, (j.asked, inr (inr (by j.comes.0.1)))) where
+    by : IsLong j.job.files file.now call.old call.new ⊎ IsInputLong j.job file.now call.old call.new
+        → SaysLong call (given_of j.job) ⊎ (SaysInputLong call j.job ⊎ SaysRefused LIMIT call (given_of j.job))
+    by (inl long) = inl (record { file = file.now; long = long; refused = record { silent = j.comes.1; reported = line } })
+    by (inr long) = inr (inl (record { file = file.now; long = long; refused = record { silent = j.comes.1; reported = line } }))
+  limit_said (Err (fail.Refused (job_refusal.Class file r))) j is line = (
+    j.job,
+    (
+      j.asked,
+      inr (inr (inr (inr (record {
+        file = file.now;
+        refusal = r;
+        status_is = is;
+        unaccepted = j.comes.0.1;
+        refused = record { silent = j.comes.1; reported = line };
+      })))),
+    ),
+  )
   limit_said (Err (fail.Refused (job_refusal.Shared refusal.Words))) j is line = absurd (omega arith)
   limit_said o j is line = absurd (omega arith)
 
@@ -257,92 +250,94 @@ not_done r comes is = let bounds = among_refusals (refusal_status r) (refusal_am
 
 -- ---- the clauses
 
-module _ {words : List Bytes} {old new : Disk} {before after : Output} (report report' : Output) (result : ℕ) (o : Outcome) (comes : ComesOf words old new before after o) (reports : IsReported o report report' result) where
+module _ (call : ProgramCall) (o : Outcome) (comes : ComesOf call.words call.old call.new call.before call.after o) (reports : IsReported o call.report call.reported call.status) where
   -- the words asked for a job, where the status is neither that of words nor that of memory
-  of_job_alone : {Said : Type 0} (status : ℕ) → status ≢ WORDS → status ≢ WRITE → status ≢ OUT_OF_MEMORY → (ComesOfJob words old new before after o → outcome_status o ≡ status → IsLinePut o report report' → Said) → result ≡ status → Said
-  of_job_alone {Said} status unlike_words write memory said is = go comes (is_line_put report report' result o reports status write memory is) where
-    go : ComesOf words old new before after o → (outcome_status o ≡ status) × IsLinePut o report report' → Said
+  of_job_alone : {Said : Type 0} (status : ℕ) → status ≢ WORDS → status ≢ WRITE → status ≢ OUT_OF_MEMORY → (ComesOfJob call.words call.old call.new call.before call.after o → outcome_status o ≡ status → IsLinePut o call.report call.reported → Said) → call.status ≡ status → Said
+  of_job_alone {Said} status unlike_words write memory said is = go comes (is_line_put call.report call.reported call.status o reports status write memory is) where
+    go : ComesOf call.words call.old call.new call.before call.after o → (outcome_status o ≡ status) × IsLinePut o call.report call.reported → Said
     go (inl j) put = said j put.0 put.1
     go (inr (inl nothing)) put = absurd (unlike_words (sym put.0 ∙ ap outcome_status nothing.refused))
     go (inr (inr lacking)) put = absurd (memory (sym put.0 ∙ ap outcome_status lacking.refused))
 
   -- a status of the job's files comes exactly with what it says
-  of_files : {Said Cause : Type 0} (status : ℕ) → status ≢ WORDS → status ≢ WRITE → status ≢ OUT_OF_MEMORY → (ComesOfJob words old new before after o → outcome_status o ≡ status → IsLinePut o report report' → Said)
-      → (Cause → Contains (status ∷ instead_for_file) (outcome_status o)) → ComesExactly status instead_for_file result Said Cause
+  of_files : {Said Cause : Type 0} (status : ℕ) → status ≢ WORDS → status ≢ WRITE → status ≢ OUT_OF_MEMORY → (ComesOfJob call.words call.old call.new call.before call.after o → outcome_status o ≡ status → IsLinePut o call.report call.reported → Said)
+      → (Cause → Contains (status ∷ instead_for_file) (outcome_status o)) → ComesExactly status instead_for_file call.status Said Cause
   of_files status unlike_words write memory said decides = record {
     only = of_job_alone status unlike_words write memory said;
-    there = λ cause. reported_of_file report report' result o reports status (decides cause);
+    there = λ cause. reported_of_file call.report call.reported call.status o reports status (decides cause);
   }
 
-  pub is_for_words : AskForNoText words → IsForWords words old new before after report report' result
+  pub is_for_words : AskForNoText call.words → IsForWords call
   is_for_words no_text = record {
-    only = λ is. let put = is_line_put report report' result o reports WORDS (λ e. omega arith) (λ e. omega arith) is in words_said comes put.0 put.1;
-    there = λ unasked. reported_of_words report report' result o reports WORDS (nothing_decides unasked comes);
+    only = λ is. let put = is_line_put call.report call.reported call.status o reports WORDS (λ e. omega arith) (λ e. omega arith) is in words_said comes put.0 put.1;
+    there = λ unasked. reported_of_words call.report call.reported call.status o reports WORDS (nothing_decides unasked comes);
   } where
-    words_said : ComesOf words old new before after o → outcome_status o ≡ WORDS → IsLinePut o report report' → SaysWords words old new before after report report'
-    words_said (inl j) is line = absurd (not_for_words j.job old new before after o j.comes is)
-    words_said (inr (inl nothing)) is line = record {
-      unasked = record { no_text = no_text; no_job = nothing.unasked };
-      kept = nothing.kept;
-      refused = record { silent = nothing.silent; reported = let P : Outcome → Type 0 = λ x. IsLinePut x report report' in subst P nothing.refused line };
-    }
+    words_said : ComesOf call.words call.old call.new call.before call.after o → outcome_status o ≡ WORDS → IsLinePut o call.report call.reported → AskNothing call.words × SaysWords call
+    words_said (inl j) is line = absurd (not_for_words j.job call.old call.new call.before call.after o j.comes is)
+    words_said (inr (inl nothing)) is line = (
+      record { no_text = no_text; no_job = nothing.unasked },
+      record {
+        kept = nothing.kept;
+        refused = record { silent = nothing.silent; reported = let P : Outcome → Type 0 = λ x. IsLinePut x call.report call.reported in subst P nothing.refused line };
+      },
+    )
     words_said (inr (inr lacking)) is line = absurd (let other = sym is ∙ ap outcome_status lacking.refused in omega arith)
 
-    nothing_decides : AskNothing words → ComesOf words old new before after o → Contains (WORDS ∷ instead_for_words) (outcome_status o)
+    nothing_decides : AskNothing call.words → ComesOf call.words call.old call.new call.before call.after o → Contains (WORDS ∷ instead_for_words) (outcome_status o)
     nothing_decides unasked (inl j) = absurd (unasked.no_job j.job j.asked)
     nothing_decides unasked (inr (inl nothing)) = (0, omega arith, sym (ap outcome_status nothing.refused))
     nothing_decides unasked (inr (inr lacking)) = (2, omega arith, sym (ap outcome_status lacking.refused))
 
-  pub is_for_read : IsForRead words old new before after report report' result
+  pub is_for_read : IsForRead call
   is_for_read = record {
-    only = of_job_alone READ (λ e. omega arith) (λ e. omega arith) (λ e. omega arith) (read_said words old new before after report report' o);
-    there = λ cause. is_among report report' result o reports instead_for_file (decides cause) (1, omega arith, refl) (2, omega arith, refl);
+    only = of_job_alone READ (λ e. omega arith) (λ e. omega arith) (λ e. omega arith) (read_said call o);
+    there = λ cause. is_among call.report call.reported call.status o reports instead_for_file (decides cause) (1, omega arith, refl) (2, omega arith, refl);
   } where
-    decides : MissesFile words old new → Contains instead_for_file (outcome_status o)
+    decides : MissesFile call.words call.old call.new → Contains instead_for_file (outcome_status o)
     decides (inl fault) = fault_decides o comes fault
     decides (inr missing) = missing_decides o comes missing
 
-  pub is_for_bytes : (status : ℕ) → 66 ≤ status → status ≤ 69 → status ≢ LIMIT → IsForBytes status words old new before after report report' result
+  pub is_for_bytes : (status : ℕ) → 66 ≤ status → status ≤ 69 → status ≢ LIMIT → IsForBytes status call
   is_for_bytes status low high other =
-      of_files status (λ e. omega arith) (λ e. omega arith) (λ e. omega arith) (bytes_said words old new before after report report' status low high other o) (bytes_decide o comes status (λ e. omega arith))
+      of_files status (λ e. omega arith) (λ e. omega arith) (λ e. omega arith) (bytes_said call status low high other o) (bytes_decide o comes status (λ e. omega arith))
 
-  pub is_for_limit : IsForLimit words old new before after report report' result
+  pub is_for_limit : IsForLimit call
   is_for_limit = record {
-    only = of_job_alone LIMIT (λ e. omega arith) (λ e. omega arith) (λ e. omega arith) (limit_said words old new before after report report' o);
-    many = λ cause. reported_of_words report report' result o reports LIMIT (many_decide o comes cause);
-    long = λ cause. reported_of_file report report' result o reports LIMIT (long_decides o comes cause);
-    bytes = λ cause. reported_of_file report report' result o reports LIMIT (bytes_decide o comes LIMIT (λ e. omega arith) cause);
+    only = of_job_alone LIMIT (λ e. omega arith) (λ e. omega arith) (λ e. omega arith) (limit_said call o);
+    many = λ cause. reported_of_words call.report call.reported call.status o reports LIMIT (many_decide o comes cause);
+    long = λ cause. reported_of_file call.report call.reported call.status o reports LIMIT (long_decides o comes cause);
+    bytes = λ cause. reported_of_file call.report call.reported call.status o reports LIMIT (bytes_decide o comes LIMIT (λ e. omega arith) cause);
   }
 
-  pub is_for_link : IsForLink words old new before after report report' result
-  is_for_link = of_files LINK (λ e. omega arith) (λ e. omega arith) (λ e. omega arith) (link_said words old new before after report report' o) (unlinked_decides o comes)
+  pub is_for_link : IsForLink call
+  is_for_link = of_files LINK (λ e. omega arith) (λ e. omega arith) (λ e. omega arith) (link_said call o) (unlinked_decides o comes)
 
-  pub is_for_check : IsForCheck words old new before after report report' result
-  is_for_check = of_files CHECK (λ e. omega arith) (λ e. omega arith) (λ e. omega arith) (check_said words old new before after report report' o) (untyped_decides o comes)
+  pub is_for_check : IsForCheck call
+  is_for_check = of_files CHECK (λ e. omega arith) (λ e. omega arith) (λ e. omega arith) (check_said call o) (untyped_decides o comes)
 
 -- ---- the run
 
-module _ {words : List Bytes} {old new : Disk} {before after : Output} (report report' : Output) (result : ℕ) where
+module _ (call : ProgramCall) where
   -- the line of the run is put
-  run_put : (o : Outcome) (comes : ComesOf words old new before after o) → ¬ Contains refusal_statuses (outcome_status o) → IsLinePut o report report' → result ≡ outcome_status o → SaysRun words old new before after report report' result
+  run_put : (o : Outcome) (comes : ComesOf call.words call.old call.new call.before call.after o) → ¬ Contains refusal_statuses (outcome_status o) → IsLinePut o call.report call.reported → call.status ≡ outcome_status o → SaysRun call
   run_put (Ok reported) comes none line is =
       let j = job_of_reported reported comes in
-      let P : ℕ → Type 0 = λ s. HasRun j.job (string_bytes reported.line) s old new before after in
+      let P : ℕ → Type 0 = λ s. HasRun j.job (string_bytes reported.line) s call.old call.new call.before call.after in
       record { job = j.job; asked = j.asked; line = string_bytes reported.line; ran = subst P (sym is) j.comes; reported = line }
   run_put (Err (fail.Refused r)) comes none line is = absurd (none (refusal_among r comes))
   run_put (Err fail.Output) comes none line is = absurd (none (8, omega arith, refl))
 
-  pub run_only : (o : Outcome) → ComesOf words old new before after o → IsReported o report report' result → ¬ Contains refusal_statuses result → SaysRun words old new before after report report' result
+  pub run_only : (o : Outcome) → ComesOf call.words call.old call.new call.before call.after o → IsReported o call.report call.reported call.status → ¬ Contains refusal_statuses call.status → SaysRun call
   run_only o comes reports none =
-      let put = is_line_put report report' result o reports result (λ e. none (8, omega arith, sym e)) (λ e. none (9, omega arith, sym e)) refl in
+      let put = is_line_put call.report call.reported call.status o reports call.status (λ e. none (8, omega arith, sym e)) (λ e. none (9, omega arith, sym e)) refl in
       let P : ℕ → Type 0 = λ s. ¬ Contains refusal_statuses s in
       run_put o comes (subst P (sym put.0) none) put.1 (sym put.0)
 
   -- a run that is reported, or isn't
-  run_reported : (o : Outcome) → ComesOf words old new before after o → IsReported o report report' result → kind_of o ≡ DONE → SaysRun words old new before after report report' result ⊎ Contains instead_for_file result
+  run_reported : (o : Outcome) → ComesOf call.words call.old call.new call.before call.after o → IsReported o call.report call.reported call.status → kind_of o ≡ DONE → SaysRun call ⊎ Contains instead_for_file call.status
   run_reported (Ok reported) comes (inl put) is =
       let j = job_of_reported reported comes in
-      let P : ℕ → Type 0 = λ s. HasRun j.job (string_bytes reported.line) s old new before after in
+      let P : ℕ → Type 0 = λ s. HasRun j.job (string_bytes reported.line) s call.old call.new call.before call.after in
       inl (record { job = j.job; asked = j.asked; line = string_bytes reported.line; ran = subst P (sym put.0) j.comes; reported = put.1 })
   run_reported (Ok reported) comes (inr (inl failed)) is = inr (1, omega arith, sym failed.0)
   run_reported (Ok reported) comes (inr (inr lacking)) is = inr (2, omega arith, sym lacking.0)
@@ -350,29 +345,29 @@ module _ {words : List Bytes} {old new : Disk} {before after : Output} (report r
   run_reported (Err fail.Output) comes reports is = absurd (omega arith)
 
   -- it has the status of the definitions' run
-  end_reported : (o : Outcome) → ComesOf words old new before after o → (status : ℕ) (job : FmrunJob) → Asks words job → IsKnownRun status old job → kind_of o ≡ DONE → outcome_status o ≡ status
+  end_reported : (o : Outcome) → ComesOf call.words call.old call.new call.before call.after o → (status : ℕ) (job : FmrunJob) → Asks call.words job → IsKnownRun status call.old job → kind_of o ≡ DONE → outcome_status o ≡ status
   end_reported (Ok reported) comes status job asked known is =
       let j = job_of_reported reported comes in
-      let found = Some-from_is_some old.contents known.known in
-      let P : FmrunJob → Type 0 = λ k. HasRun k (string_bytes reported.line) reported.status old new before after in
-      one_end job old new before after found.0 found.1 (string_bytes reported.line) reported.status status (subst P (asks_one words j.job job j.asked asked) j.comes)
+      let found = Some-from_is_some call.old.contents known.known in
+      let P : FmrunJob → Type 0 = λ k. HasRun k (string_bytes reported.line) reported.status call.old call.new call.before call.after in
+      one_end job call.old call.new call.before call.after found.0 found.1 (string_bytes reported.line) reported.status status (subst P (asks_one call.words j.job job j.asked asked) j.comes)
       known.classes known.input known.ready known.last known.printed known.run known.status_is
   end_reported (Err (fail.Refused r)) comes status job asked known is = absurd (not_done r comes is)
   end_reported (Err fail.Output) comes status job asked known is = absurd (omega arith)
 
-  pub is_for_run : (o : Outcome) → ComesOf words old new before after o → IsReported o report report' result → IsForRun words old new before after report report' result
+  pub is_for_run : (o : Outcome) → ComesOf call.words call.old call.new call.before call.after o → IsReported o call.report call.reported call.status → IsForRun call
   is_for_run o comes reports = record { only = λ none. inl (run_only o comes reports none); ready = λ asks. is_ready (ready_decides o comes asks); ends = is_end } where
-    late : Contains instead_for_file (outcome_status o) → Contains instead_for_file result
-    late own = is_among report report' result o reports instead_for_file own (1, omega arith, refl) (2, omega arith, refl)
+    late : Contains instead_for_file (outcome_status o) → Contains instead_for_file call.status
+    late own = is_among call.report call.reported call.status o reports instead_for_file own (1, omega arith, refl) (2, omega arith, refl)
 
-    is_ready : (kind_of o ≡ DONE) ⊎ Contains instead_for_file (outcome_status o) → SaysRun words old new before after report report' result ⊎ Contains instead_for_file result
+    is_ready : (kind_of o ≡ DONE) ⊎ Contains instead_for_file (outcome_status o) → SaysRun call ⊎ Contains instead_for_file call.status
     is_ready (inl is) = run_reported o comes reports is
     is_ready (inr own) = inr (late own)
 
-    is_end : (status : ℕ) → AskFor words (IsKnownRun status old) → Contains (status ∷ instead_for_file) result
+    is_end : (status : ℕ) → AskFor call.words (IsKnownRun status call.old) → Contains (status ∷ instead_for_file) call.status
     is_end status (job, (asked, known)) =
         let own : Contains (status ∷ instead_for_file) (outcome_status o) = ⊎_elim
         (λ (is : kind_of o ≡ DONE). (0, omega arith, sym (end_reported o comes status job asked known is)))
         (λ (later : Contains instead_for_file (outcome_status o)). Contains-append_right (status ∷ []) instead_for_file (outcome_status o) later)
         (ready_decides o comes (job, (asked, record { known = known.known; classes = known.classes; input = known.input; ready = known.ready }))) in
-        reported_of_file report report' result o reports status own
+        reported_of_file call.report call.reported call.status o reports status own

@@ -13,6 +13,7 @@ use Rattle.fm_frames.specs.Reports.{report_of}
 use Rattle.fm_frames.specs.States.{State}
 use Rattle.fm_frames.specs.declared.report.Report.{Report}
 use Rattle.fm_load.proofs.RefusalLemmas.{refusal_some}
+use Rattle.fm_load.specs.ProgramCalls.{ProgramCall}
 use Rattle.fm_load.specs.Refusal.{refusal_line, refusal_status}
 use Rattle.fm_load.specs.declared.refusal.JobRefusal.TheVariants as job_refusal
 use Rattle.fm_run.specs.Running.{BreaksRun, FailsRun, RunsTo, piece_of, pieces_of, printed_at}
@@ -86,7 +87,7 @@ report_gets report report' result (Err (fail.Refused r)) comes reports =
     line_once (refusal_line r) (refusal_status r) report report' result reports (refusal_some r)
 report_gets report report' result (Err fail.Output) comes reports = inl reports.1
 
-pub puts_pieces : {words : List Bytes} {old new : Disk} {before after : Output} (report report' : Output) (result : ℕ) (o : Outcome) → ComesOf words old new before after o
-    → IsReported o report report' result → PutsPieces before after report report'
-puts_pieces {words} {old} {new} {before} {after} report report' result o comes reports =
-    (words_get words old new before after o comes, report_gets report report' result o comes reports)
+pub puts_pieces : (call : ProgramCall) (o : Outcome) → ComesOf call.words call.old call.new call.before call.after o
+    → IsReported o call.report call.reported call.status → PutsPieces call
+puts_pieces call o comes reports =
+    (words_get call.words call.old call.new call.before call.after o comes, report_gets call.report call.reported call.status o comes reports)

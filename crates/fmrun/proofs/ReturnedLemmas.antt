@@ -17,6 +17,7 @@ use Rattle.fm_load.proofs.KnownLemmas.{bytes_stop, long_stops, not_empty, not_ty
 use Rattle.fm_load.proofs.ReturnedLemmas.{IsSeen, last_held, not_unread, returned_seen}
 use Rattle.fm_load.proofs.VerdictLemmas.{Ends, EndsOnce, Links, Verdict, links_once, one_verdict}
 use Rattle.fm_load.specs.Given.{AreGiven, AreNotLinked, given_program}
+use Rattle.fm_load.specs.ProgramCalls.{ProgramCall}
 use Rattle.fm_load.specs.Returned.{ReadsFirst, ReadsFrom, returned, with_contents}
 use Rattle.fm_load.specs.declared.refusal.JobRefusal.TheVariants as job_refusal
 use Rattle.fm_run_job.specs.Reading.{IsInputOf, and_input}
@@ -60,14 +61,14 @@ module _ (job : FmrunJob) (old new : Disk) (held : Bytes → Option Bytes) (from
 
   -- the status of each cause over contents that hold what was returned
   known_ends : (status : ℕ) → IsKnownStatus status (with_contents held old) job → JobEnds status
-  known_ends status (inl (is, cause)) =
+  known_ends status (inl (inl (is, cause))) =
       subst JobEnds (sym is) (inr (inl (long_stops job.files (Some held) held refl cause.file cause.before cause.reaches cause.long)))
-  known_ends status (inr (inl cause)) =
+  known_ends status (inl (inr (inl cause))) =
       inr (inl (bytes_stop job.files (Some held) held refl status cause.file cause.before cause.refusal cause.status_is cause.reaches cause.refused))
-  known_ends status (inr (inr (inl (is, cause)))) = subst JobEnds (sym is) (inr (inr (given_passes Last held refl cause.source LINK (inl (cause.refused, refl)))))
-  known_ends status (inr (inr (inr (inl (is, cause))))) =
+  known_ends status (inl (inr (inr (inl (is, cause))))) = subst JobEnds (sym is) (inr (inr (given_passes Last held refl cause.source LINK (inl (cause.refused, refl)))))
+  known_ends status (inl (inr (inr (inr (is, cause))))) =
       subst JobEnds (sym is) (inr (inr (given_passes Last held refl cause.linked.source CHECK (inr (cause.linked.linked, inl (cause.untyped, refl))))))
-  known_ends status (inr (inr (inr (inr cause)))) =
+  known_ends status (inr cause) =
       let checked = cause.ready.checked in
       inr (inr (given_passes Last held refl checked.linked.source status (inr (
         checked.linked.linked,
@@ -138,13 +139,12 @@ module _ (job : FmrunJob) (old new : Disk) (held : Bytes → Option Bytes) (from
       go (inr (inl e)) = (1, omega arith, sym e)
       go (inr (inr e)) = (2, omega arith, sym e)
 
-pub is_for_returned : {words : List Bytes} {old new : Disk} {before after : Output} (report report' : Output) (result : ℕ) (o : Outcome) → ComesOf words old new before after o
-    → IsReported o report report' result → IsForReturned words old new result
-is_for_returned {words} {old} {new} {before} {after} report report' result o comes reports held status from (job, (asked, (few, cause))) =
-    reported_of_words report report' result o reports status (go comes) where
-      go : ComesOf words old new before after o → Contains (status ∷ instead_for_words) (outcome_status o)
+pub is_for_returned : (call : ProgramCall) (o : Outcome) → ComesOf call.words call.old call.new call.before call.after o → IsReported o call.report call.reported call.status → IsForReturned call
+is_for_returned call o comes reports held status from (job, (asked, (few, cause))) =
+    reported_of_words call.report call.reported call.status o reports status (go comes) where
+      go : ComesOf call.words call.old call.new call.before call.after o → Contains (status ∷ instead_for_words) (outcome_status o)
       go (inl j) =
-          let P : FmrunJob → Type 0 = λ k. ComesTo k old new before after o in
-          ends_so job old new held from before after few status o (known_ends job old new held from status cause) (subst P (asks_one words j.job job j.asked asked) j.comes)
+          let P : FmrunJob → Type 0 = λ k. ComesTo k call.old call.new call.before call.after o in
+          ends_so job call.old call.new held from call.before call.after few status o (known_ends job call.old call.new held from status cause) (subst P (asks_one call.words j.job job j.asked asked) j.comes)
       go (inr (inl nothing)) = absurd (nothing.unasked job asked)
       go (inr (inr lacking)) = (2, omega arith, sym (ap outcome_status lacking.refused))

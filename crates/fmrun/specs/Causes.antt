@@ -4,18 +4,16 @@ use Rattle.std.specs.List.{sum}
 use Rattle.fm_base.specs.declared.limits.TheConstants.{MAX_ARGUMENTS, MAX_CLASS_FILES, MAX_FILE_BYTES}
 use Rattle.fm_code.specs.declared.class_file.ClassDef.{ClassDef}
 use Rattle.fm_files.specs.Files.{Bytes, Disk}
-use Rattle.fm_files.specs.Sink.{FailsPut, GetsAtMostOne, GetsPieces, Output, with_piece}
+use Rattle.fm_files.specs.Sink.{FailsPut, GetsAtMostOne, GetsPieces, with_piece}
 use Rattle.fm_frames.specs.Reports.{report_of}
 use Rattle.fm_frames.specs.Runs.{IsRun}
 use Rattle.fm_frames.specs.States.{silent, State}
 use Rattle.fm_frames.specs.declared.ends.Ended.{Ended}
-use Rattle.fm_load.specs.Causes.{FailsARead, HasTooMany, IsMissing, IsKnownLong, IsKnownRefused, IsKnownUnlinked, IsKnownUntyped}
-use Rattle.fm_load.specs.ClassRefusal.{class_refusal_line, class_refusal_status}
-use Rattle.fm_load.specs.Given.{AreChecked, AreMany, IsLong, IsNotLinked, IsNotTyped, IsRefusedFile, IsUnread, IsUntouched}
-use Rattle.fm_load.specs.LinkRefusal.{link_line}
-use Rattle.fm_load.specs.Refusal.{IsRefusedBy, check_line, long_line, many_arguments_line, many_line}
+use Rattle.fm_load.specs.Causes.{FailsARead, HasTooMany, IsMissing, IsKnownLong, IsKnownRefusal, IsKnownRefused, IsKnownUnlinked, IsKnownUntyped}
+use Rattle.fm_load.specs.Given.{AreChecked, Given, IsUntouched}
+use Rattle.fm_load.specs.ProgramCalls.{IsRefusedBy, ProgramCall, PutsText, SaysCheck, SaysLink, SaysLong, SaysMany, SaysRead, SaysRefused, SaysWords}
+use Rattle.fm_load.specs.Refusal.{long_line, many_arguments_line}
 use Rattle.fm_load.specs.Taking.{AllTaken}
-use Rattle.fm_load.specs.declared.class_refusal.ClassRefusal.{ClassRefusal}
 use Rattle.fm_load.specs.Returned.{ReadsFrom, with_contents}
 use Rattle.fm_law_cells_made.specs.MostHeld.{all_most_held}
 use Rattle.fm_run_job.specs.Reports.{end_status}
@@ -26,12 +24,11 @@ use Rattle.fm_cli_requests.specs.declared.program_text.ProgramText.{ProgramText}
 use Rattle.fm_run_job.specs.Runs.{choice}
 use Rattle.fm_same.specs.Resolved.{CallsNoFreeMe}
 use Rattle.fm_cli.specs.Outside.{HasNoFileFault, IsKnownMissing, IsKnownSuch}
-use Rattle.fm_cli.specs.CommandRefusal.{memory_line, read_line, words_line}
+use Rattle.fm_cli.specs.CommandRefusal.{memory_line, read_line}
 use Rattle.fm_cli.specs.Status.{ComesExactly}
 use Rattle.fm_cli.specs.declared.status.TheConstants.{WORDS, READ, MALFORMED, VERSION, LIMIT, UNSUPPORTED, LINK, CHECK, WRITE, OUT_OF_MEMORY}
-use Rattle.fm_world.specs.Causes.{Refusal}
 use Rattle.fmrun.specs.Jobs.{given_of, job_arguments, job_program, opened_job, IsReady}
-use Rattle.fmrun.specs.TopCall.{AreManyArguments, ComesOf, HasBroken, HasFailed, HasInput, HasRun, IsInputLong, IsInputUnread, IsTextPut, Outcome, StaysWithin, outcome_line}
+use Rattle.fmrun.specs.TopCall.{AreManyArguments, ComesOf, HasBroken, HasFailed, HasInput, HasRun, IsInputLong, IsInputUnread, Outcome, StaysWithin, outcome_line, text_bytes}
 
 -- ---- all statuses
 
@@ -53,32 +50,35 @@ IsStatus result = Contains refusal_statuses result ⊎ ((e : Ended) × (result �
 abbrev pub AskFor : List Bytes → (FmrunJob → Type 0) → Type 0
 AskFor words P = (job : FmrunJob) × (Asks words job × P job)
 
+-- the words ask for a job with class files and a main class such as these
+abbrev pub AskForGiven : List Bytes → (Given → Type 0) → Type 0
+AskForGiven words P = AskFor words (λ job. P (given_of job))
+
 -- the words ask for a job such as this with no more arguments than may be, so that its files are read
 abbrev pub AskToRead : List Bytes → (FmrunJob → Type 0) → Type 0
 AskToRead words P = AskFor words (λ job. (length (job_arguments job) ≤ MAX_ARGUMENTS) × P job)
 
+-- the words ask for a job such as this, whose input is read
+abbrev pub AskWithInput : ProgramCall → (FmrunJob → Type 0) → Type 0
+AskWithInput call P = AskFor call.words (λ job. HasInput job call.old.contents × P job)
+
 -- ---- 64
 
--- the words ask for nothing, and the files are as they were
-pub record SaysWords (words : List Bytes) (old new : Disk) (before after report report' : Output) : Type 0 where
-  pub unasked : AskNothing words
-  pub kept : new ≡ old
-  pub refused : IsRefusedBy words_line before after report report'
-
 -- this status comes exactly where the words ask for nothing, unless the put fails or memory can't be had
-abbrev pub IsForWords : List Bytes → Disk → Disk → Output → Output → Output → Output → ℕ → Type 0
-IsForWords words old new before after report report' result =
-    ComesExactly WORDS (WRITE ∷ OUT_OF_MEMORY ∷ []) result (SaysWords words old new before after report report') (AskNothing words)
+abbrev pub IsForWords : ProgramCall → Type 0
+IsForWords call = ComesExactly WORDS (WRITE ∷ OUT_OF_MEMORY ∷ []) call.status (AskNothing call.words × SaysWords call) (AskNothing call.words)
 
 -- ---- 65
 
--- the read of a class file failed, and those before it are taken; or that of the file of the input, and all class files are taken
-pub record SaysRead (words : List Bytes) (old new : Disk) (before after report report' : Output) : Type 0 where
-  pub job : FmrunJob
-  pub asked : Asks words job
+-- the read of the file of the input failed, and all class files are taken
+pub record SaysInputUnread (call : ProgramCall) (job : FmrunJob) : Type 0 where
   pub file : Bytes
-  pub unread : IsUnread job.files file old new ⊎ IsInputUnread job file old new
-  pub refused : IsRefusedBy (read_line file) before after report report'
+  pub unread : IsInputUnread job file call.old call.new
+  pub refused : IsRefusedBy (read_line file) call
+
+-- the read of a class file failed, and those before it are taken; or that of the file of the input
+abbrev pub SaysUnread : ProgramCall → FmrunJob → Type 0
+SaysUnread call job = SaysRead call (given_of job) ⊎ SaysInputUnread call job
 
 -- all class files are taken, and the file of the input is known not to be there
 pub record LacksInput (old : Disk) (job : FmrunJob) : Type 0 where
@@ -93,59 +93,36 @@ abbrev pub MissesFile : List Bytes → Disk → Disk → Type 0
 MissesFile words old new = FailsARead old new ⊎ AskToRead words (λ job. IsMissing old (given_of job) ⊎ LacksInput old job)
 
 -- this status comes exactly there, unless the put fails or memory can't be had
-abbrev pub IsForRead : List Bytes → Disk → Disk → Output → Output → Output → Output → ℕ → Type 0
-IsForRead words old new before after report report' result =
-    ComesExactly READ (WRITE ∷ OUT_OF_MEMORY ∷ []) result (SaysRead words old new before after report report') (MissesFile words old new)
+abbrev pub IsForRead : ProgramCall → Type 0
+IsForRead call =
+    ComesExactly READ (WRITE ∷ OUT_OF_MEMORY ∷ []) call.status (AskFor call.words (SaysUnread call)) (MissesFile call.words call.old call.new)
 
 -- ---- 66, 67 and 69
 
--- a class file is refused by its bytes with this status, where contents are known, and those before it are taken
-pub record SaysRefused (status : ℕ) (words : List Bytes) (old new : Disk) (before after report report' : Output) : Type 0 where
-  pub job : FmrunJob
-  pub asked : Asks words job
-  pub file : Bytes
-  pub refusal : ClassRefusal
-  pub status_is : class_refusal_status refusal ≡ status
-  pub unaccepted : IsRefusedFile job.files file refusal old new
-  pub refused : IsRefusedBy (class_refusal_line file refusal) before after report report'
-
--- this status comes exactly where one is known to be so, unless a read or the put fails or memory can't be had
-abbrev pub IsForBytes : ℕ → List Bytes → Disk → Disk → Output → Output → Output → Output → ℕ → Type 0
-IsForBytes status words old new before after report report' result =
-    ComesExactly status (READ ∷ WRITE ∷ OUT_OF_MEMORY ∷ []) result (SaysRefused status words old new before after report report')
-    (AskToRead words (λ job. IsKnownRefused status old (given_of job)))
+-- this status comes exactly where a class file is refused by its bytes with it, unless a read or the put fails or memory can't be had
+abbrev pub IsForBytes : ℕ → ProgramCall → Type 0
+IsForBytes status call =
+    ComesExactly status (READ ∷ WRITE ∷ OUT_OF_MEMORY ∷ []) call.status (AskForGiven call.words (SaysRefused status call))
+    (AskToRead call.words (λ job. IsKnownRefused status call.old (given_of job)))
 
 -- ---- 68
 
--- there are too many class files, and all files are as they were
-pub record SaysMany (words : List Bytes) (old new : Disk) (before after report report' : Output) : Type 0 where
-  pub job : FmrunJob
-  pub asked : Asks words job
-  pub many : AreMany job.files (length job.files) old new
-  pub refused : IsRefusedBy (many_line (length job.files)) before after report report'
-
 -- there are too many arguments, and all files are as they were
-pub record SaysManyArguments (words : List Bytes) (old new : Disk) (before after report report' : Output) : Type 0 where
-  pub job : FmrunJob
-  pub asked : Asks words job
-  pub many : AreManyArguments job (length (job_arguments job)) old new
-  pub refused : IsRefusedBy (many_arguments_line (length (job_arguments job))) before after report report'
+pub record SaysManyArguments (call : ProgramCall) (job : FmrunJob) : Type 0 where
+  pub many : AreManyArguments job (length (job_arguments job)) call.old call.new
+  pub refused : IsRefusedBy (many_arguments_line (length (job_arguments job))) call
 
--- a file is too long, or the class files up to it are, where contents are known; and enough bytes
--- were read to show it
-pub record SaysLong (words : List Bytes) (old new : Disk) (before after report report' : Output) : Type 0 where
-  pub job : FmrunJob
-  pub asked : Asks words job
+-- the file of the input is too long, and enough bytes were read to show it
+pub record SaysInputLong (call : ProgramCall) (job : FmrunJob) : Type 0 where
   pub file : Bytes
-  pub long : IsLong job.files file old new ⊎ IsInputLong job file old new
-  pub refused : IsRefusedBy (long_line file) before after report report'
+  pub long : IsInputLong job file call.old call.new
+  pub refused : IsRefusedBy (long_line file) call
 
 -- there are too many class files or arguments, or a file is too long, or a count of a method is above its limit
-abbrev pub SaysLimit : List Bytes → Disk → Disk → Output → Output → Output → Output → Type 0
-SaysLimit words old new before after report report' =
-    SaysMany words old new before after report report'
-    ⊎ (SaysManyArguments words old new before after report report'
-    ⊎ (SaysLong words old new before after report report' ⊎ SaysRefused LIMIT words old new before after report report'))
+abbrev pub SaysLimit : ProgramCall → FmrunJob → Type 0
+SaysLimit call job =
+    SaysMany call (given_of job)
+    ⊎ (SaysManyArguments call job ⊎ (SaysLong call (given_of job) ⊎ (SaysInputLong call job ⊎ SaysRefused LIMIT call (given_of job))))
 
 -- there are too many arguments, though not too many class files
 abbrev pub HasManyArguments : FmrunJob → Type 0
@@ -160,63 +137,46 @@ pub record HasLongInput (old : Disk) (job : FmrunJob) : Type 0 where
   pub long : IsKnownSuch old.contents file (λ bytes. MAX_FILE_BYTES < length bytes)
 
 -- this status comes exactly there, unless a read or the put fails or memory can't be had; of too many files or arguments no file is read
-pub record IsForLimit (words : List Bytes) (old new : Disk) (before after report report' : Output) (result : ℕ) : Type 0 where
-  pub only : result ≡ LIMIT → SaysLimit words old new before after report report'
-  pub many : AskFor words (λ job. HasTooMany (given_of job) ⊎ HasManyArguments job) → Contains (LIMIT ∷ WRITE ∷ OUT_OF_MEMORY ∷ []) result
-  pub long : AskToRead words (λ job. IsKnownLong old (given_of job) ⊎ HasLongInput old job) → Contains (LIMIT ∷ READ ∷ WRITE ∷ OUT_OF_MEMORY ∷ []) result
-  pub bytes : AskToRead words (λ job. IsKnownRefused LIMIT old (given_of job)) → Contains (LIMIT ∷ READ ∷ WRITE ∷ OUT_OF_MEMORY ∷ []) result
+pub record IsForLimit (call : ProgramCall) : Type 0 where
+  pub only : call.status ≡ LIMIT → AskFor call.words (SaysLimit call)
+  pub many : AskFor call.words (λ job. HasTooMany (given_of job) ⊎ HasManyArguments job) → Contains (LIMIT ∷ WRITE ∷ OUT_OF_MEMORY ∷ []) call.status
+  pub long : AskToRead call.words (λ job. IsKnownLong call.old (given_of job) ⊎ HasLongInput call.old job)
+      → Contains (LIMIT ∷ READ ∷ WRITE ∷ OUT_OF_MEMORY ∷ []) call.status
+  pub bytes : AskToRead call.words (λ job. IsKnownRefused LIMIT call.old (given_of job))
+      → Contains (LIMIT ∷ READ ∷ WRITE ∷ OUT_OF_MEMORY ∷ []) call.status
 
 -- ---- 70
 
--- all files are taken, and the classes make no program; the line names the first cause
-pub record SaysLink (words : List Bytes) (old new : Disk) (before after report report' : Output) : Type 0 where
-  pub job : FmrunJob
-  pub asked : Asks words job
-  pub cause : Refusal
-  pub input : HasInput job old.contents
-  pub unlinked : IsNotLinked (given_of job) (Some cause) old new
-  pub refused : IsRefusedBy (link_line cause) before after report report'
-
--- this status comes exactly where this is known, unless a read or the put fails or memory can't be had
-abbrev pub IsForLink : List Bytes → Disk → Disk → Output → Output → Output → Output → ℕ → Type 0
-IsForLink words old new before after report report' result =
-    ComesExactly LINK (READ ∷ WRITE ∷ OUT_OF_MEMORY ∷ []) result (SaysLink words old new before after report report')
-    (AskToRead words (λ job. IsKnownUnlinked old (given_of job) × HasInput job old.contents))
+-- this status comes exactly where the classes make no program, unless a read or the put fails or memory can't be had
+abbrev pub IsForLink : ProgramCall → Type 0
+IsForLink call =
+    ComesExactly LINK (READ ∷ WRITE ∷ OUT_OF_MEMORY ∷ []) call.status (AskWithInput call (λ job. SaysLink call (given_of job)))
+    (AskToRead call.words (λ job. IsKnownUnlinked call.old (given_of job) × HasInput job call.old.contents))
 
 -- ---- 71
 
--- all files are taken, the classes make a program, and a method of it isn't typed; the line names the first such method
-pub record SaysCheck (words : List Bytes) (old new : Disk) (before after report report' : Output) : Type 0 where
-  pub job : FmrunJob
-  pub asked : Asks words job
-  pub name : Bytes
-  pub input : HasInput job old.contents
-  pub untyped : IsNotTyped (given_of job) name old new
-  pub refused : IsRefusedBy (check_line name) before after report report'
-
--- this status comes exactly where this is known, unless a read or the put fails or memory can't be had
-abbrev pub IsForCheck : List Bytes → Disk → Disk → Output → Output → Output → Output → ℕ → Type 0
-IsForCheck words old new before after report report' result =
-    ComesExactly CHECK (READ ∷ WRITE ∷ OUT_OF_MEMORY ∷ []) result (SaysCheck words old new before after report report')
-    (AskToRead words (λ job. IsKnownUntyped old (given_of job) × HasInput job old.contents))
+-- this status comes exactly where a method of the program isn't typed, unless a read or the put fails or memory can't be had
+abbrev pub IsForCheck : ProgramCall → Type 0
+IsForCheck call =
+    ComesExactly CHECK (READ ∷ WRITE ∷ OUT_OF_MEMORY ∷ []) call.status (AskWithInput call (λ job. SaysCheck call (given_of job)))
+    (AskToRead call.words (λ job. IsKnownUntyped call.old (given_of job) × HasInput job call.old.contents))
 
 -- ---- 0, for a text
 
 -- where the words ask for a text, it is put, or the put fails, or memory can't be had, and nothing else happens
-abbrev pub IsForText : List Bytes → Disk → Disk → Output → Output → Output → Output → ℕ → Type 0
-IsForText words old new before after report report' result =
-    (asked : ProgramText) → AskForText words asked → IsTextPut asked old new before after report report' result
+abbrev pub IsForText : ProgramCall → Type 0
+IsForText call = (asked : ProgramText) → AskForText call.words asked → PutsText (text_bytes asked) call
 
 -- ---- the ends of runs
 
 -- the run reached its end: the status, what the output got and the one line of the report are those
 -- of it
-pub record SaysRun (words : List Bytes) (old new : Disk) (before after report report' : Output) (result : ℕ) : Type 0 where
+pub record SaysRun (call : ProgramCall) : Type 0 where
   pub job : FmrunJob
-  pub asked : Asks words job
+  pub asked : Asks call.words job
   pub line : List ℕ
-  pub ran : HasRun job line result old new before after
-  pub reported : report' ≡ with_piece line report
+  pub ran : HasRun job line call.status call.old call.new call.before call.after
+  pub reported : call.reported ≡ with_piece line call.report
 
 -- contents are known, all class files are taken, their classes make a program of typed methods, and the input is read
 pub record IsKnownReady (old : Disk) (job : FmrunJob) : Type 0 where
@@ -238,16 +198,16 @@ pub record IsKnownRun (status : ℕ) (old : Disk) (job : FmrunJob) : Type 0 wher
 
 -- each status that isn't of a refusal comes only of the run, or where the words ask for a text; where a job is ready, only that of its
 -- run is returned, unless a read or a put fails or memory can't be had
-pub record IsForRun (words : List Bytes) (old new : Disk) (before after report report' : Output) (result : ℕ) : Type 0 where
-  pub only : ¬ Contains refusal_statuses result → SaysRun words old new before after report report' result ⊎ AskOnlyForText words
-  pub ready : AskFor words (IsKnownReady old) → SaysRun words old new before after report report' result ⊎ Contains (READ ∷ WRITE ∷ OUT_OF_MEMORY ∷ []) result
-  pub ends : (status : ℕ) → AskFor words (IsKnownRun status old) → Contains (status ∷ READ ∷ WRITE ∷ OUT_OF_MEMORY ∷ []) result
+pub record IsForRun (call : ProgramCall) : Type 0 where
+  pub only : ¬ Contains refusal_statuses call.status → SaysRun call ⊎ AskOnlyForText call.words
+  pub ready : AskFor call.words (IsKnownReady call.old) → SaysRun call ⊎ Contains (READ ∷ WRITE ∷ OUT_OF_MEMORY ∷ []) call.status
+  pub ends : (status : ℕ) → AskFor call.words (IsKnownRun status call.old) → Contains (status ∷ READ ∷ WRITE ∷ OUT_OF_MEMORY ∷ []) call.status
 
 -- ---- 83
 
--- the run ended in a fault, and a method of its program calls FreeMe
-pub record SaysFault (words : List Bytes) (old new : Disk) (before after report report' : Output) : Type 0 where
-  pub run : SaysRun words old new before after report report' FAULT
+-- the run reached its end of this status, and a method of its program calls FreeMe
+pub record SaysFault (call : ProgramCall) : Type 0 where
+  pub run : SaysRun call
   pub frees : ¬ CallsNoFreeMe (job_program run.job run.ran.classes)
 
 -- contents are known, all class files are taken, and their classes make a program of typed methods, none of which calls FreeMe
@@ -258,96 +218,92 @@ pub record IsKnownFreeless (old : Disk) (job : FmrunJob) : Type 0 where
   pub frees_none : CallsNoFreeMe (job_program job classes)
 
 -- only there: a program that calls no method of FreeMe never ends in a fault
-pub record IsForFault (words : List Bytes) (old new : Disk) (before after report report' : Output) (result : ℕ) : Type 0 where
-  pub only : result ≡ FAULT → SaysFault words old new before after report report'
-  pub never : AskFor words (IsKnownFreeless old) → result ≢ FAULT
+pub record IsForFault (call : ProgramCall) : Type 0 where
+  pub only : call.status ≡ FAULT → SaysFault call
+  pub never : AskFor call.words (IsKnownFreeless call.old) → call.status ≢ FAULT
 
 -- ---- what reads returned
 
--- contents are known, and this is the status of a job: a class file is too long, or refused by its bytes, or they make no program, or
--- one of which a method isn't typed, or its run ends so
+-- contents are known, and this is the status of a job: its class files are refused, or its run ends so
 abbrev pub IsKnownStatus : ℕ → Disk → FmrunJob → Type 0
-IsKnownStatus status old job =
-    ((status ≡ LIMIT) × IsKnownLong old (given_of job))
-    ⊎ (IsKnownRefused status old (given_of job)
-    ⊎ (((status ≡ LINK) × IsKnownUnlinked old (given_of job))
-    ⊎ (((status ≡ CHECK) × IsKnownUntyped old (given_of job)) ⊎ IsKnownRun status old job)))
+IsKnownStatus status old job = IsKnownRefusal status old (given_of job) ⊎ IsKnownRun status old job
 
 -- Where each read of the call returned bytes, known contents that hold these bytes decide the status, unless the put fails or memory
 -- can't be had. So what is said above of known contents holds of what the reads returned, of files of the system too.
-abbrev pub IsForReturned : List Bytes → Disk → Disk → ℕ → Type 0
-IsForReturned words old new result =
-    (held : Bytes → Option Bytes) (status : ℕ) → ReadsFrom held old new → AskToRead words (IsKnownStatus status (with_contents held old))
-    → Contains (status ∷ WRITE ∷ OUT_OF_MEMORY ∷ []) result
+abbrev pub IsForReturned : ProgramCall → Type 0
+IsForReturned call =
+    (held : Bytes → Option Bytes) (status : ℕ) → ReadsFrom held call.old call.new
+    → AskToRead call.words (IsKnownStatus status (with_contents held call.old)) → Contains (status ∷ WRITE ∷ OUT_OF_MEMORY ∷ []) call.status
 
 -- ---- the cells of a run
 
 -- the cells made that the line of a run reports are those of each size class that were held at once at most, in all its states from its opening on
-abbrev pub ReportsMostHeld : List Bytes → Disk → Disk → Output → Output → Output → Output → ℕ → Type 0
-ReportsMostHeld words old new before after report report' result =
-    (said : SaysRun words old new before after report report' result)
+abbrev pub ReportsMostHeld : ProgramCall → Type 0
+ReportsMostHeld call =
+    (said : SaysRun call)
     → (report_of said.ran.last).cells_made
     ≡ sum (all_most_held (job_program said.job said.ran.classes) (silent (opened_job said.job said.ran.classes said.ran.input)) said.ran.runs.run.count)
 
 -- ---- 75
 
 -- the put of what the run prints failed, and the report got nothing
-pub record SaysUnprinted (words : List Bytes) (old new : Disk) (before after report report' : Output) : Type 0 where
-  pub job : FmrunJob
-  pub asked : Asks words job
-  pub failed : HasFailed job old new before after
-  pub silent : report' ≡ report
+pub record SaysUnprinted (call : ProgramCall) (job : FmrunJob) : Type 0 where
+  pub failed : HasFailed job call.old call.new call.before call.after
+  pub silent : call.reported ≡ call.report
 
 -- what the words ask for came out in some way, and the put of its line failed
-pub record SaysUnreported (words : List Bytes) (old new : Disk) (before after report report' : Output) : Type 0 where
+pub record SaysUnreported (call : ProgramCall) : Type 0 where
   pub outcome : Outcome
-  pub comes : ComesOf words old new before after outcome
+  pub comes : ComesOf call.words call.old call.new call.before call.after outcome
   pub line : List ℕ
   pub line_is : outcome_line outcome ≡ Some line
-  pub fails : FailsPut line report report'
+  pub fails : FailsPut line call.report call.reported
 
--- this status comes only there, or where the words ask for a text, and exactly where a sink's faults rose
-pub record IsForWrite (words : List Bytes) (old new : Disk) (before after report report' : Output) (result : ℕ) : Type 0 where
-  pub only : result ≡ WRITE
-      → SaysUnprinted words old new before after report report' ⊎ (SaysUnreported words old new before after report report' ⊎ AskOnlyForText words)
-  pub there : (before.faults < after.faults) ⊎ (report.faults < report'.faults) → result ≡ WRITE
+-- one of the two, or the words ask for a text
+abbrev pub SaysWrite : ProgramCall → Type 0
+SaysWrite call = AskFor call.words (SaysUnprinted call) ⊎ (SaysUnreported call ⊎ AskOnlyForText call.words)
+
+-- this status comes only there, and exactly where a sink's faults rose
+pub record IsForWrite (call : ProgramCall) : Type 0 where
+  pub only : call.status ≡ WRITE → SaysWrite call
+  pub there : (call.before.faults < call.after.faults) ⊎ (call.report.faults < call.reported.faults) → call.status ≡ WRITE
 
 -- ---- 76
 
 -- the line of memory is put, before anything was printed or after some of what the run prints was
-pub record SaysMemory (words : List Bytes) (old new : Disk) (before after report report' : Output) : Type 0 where
-  pub stopped : (IsUntouched old new × (after ≡ before)) ⊎ AskFor words (λ job. HasBroken job old new before after)
-  pub reported : report' ≡ with_piece memory_line report
+pub record SaysMemory (call : ProgramCall) : Type 0 where
+  pub stopped : (IsUntouched call.old call.new × (call.after ≡ call.before))
+      ⊎ AskFor call.words (λ job. HasBroken job call.old call.new call.before call.after)
+  pub reported : call.reported ≡ with_piece memory_line call.report
 
 -- memory couldn't be had for the line of what the words ask for, and the report is as it was
-pub record LacksLine (words : List Bytes) (old new : Disk) (before after report report' : Output) : Type 0 where
+pub record LacksLine (call : ProgramCall) : Type 0 where
   pub outcome : Outcome
-  pub comes : ComesOf words old new before after outcome
-  pub silent : report' ≡ report
+  pub comes : ComesOf call.words call.old call.new call.before call.after outcome
+  pub silent : call.reported ≡ call.report
 
 -- this status comes only there, or where the words ask for a text
-abbrev pub IsForMemory : List Bytes → Disk → Disk → Output → Output → Output → Output → ℕ → Type 0
-IsForMemory words old new before after report report' result =
-    result ≡ OUT_OF_MEMORY
-    → SaysMemory words old new before after report report' ⊎ (LacksLine words old new before after report report' ⊎ AskOnlyForText words)
+abbrev pub IsForMemory : ProgramCall → Type 0
+IsForMemory call = call.status ≡ OUT_OF_MEMORY → SaysMemory call ⊎ (LacksLine call ⊎ AskOnlyForText call.words)
 
 -- ---- what fails and what changes
 
 -- at a status that isn't for a read, a put or memory no count of faults rose in this call
-abbrev pub IsFaultless : Disk → Disk → Output → Output → Output → Output → ℕ → Type 0
-IsFaultless old new before after report report' result =
-    ¬ Contains (READ ∷ WRITE ∷ OUT_OF_MEMORY ∷ []) result → HasNoFileFault old new × (after.faults ≡ before.faults) × (report'.faults ≡ report.faults)
+abbrev pub IsFaultless : ProgramCall → Type 0
+IsFaultless call =
+    ¬ Contains (READ ∷ WRITE ∷ OUT_OF_MEMORY ∷ []) call.status
+    → HasNoFileFault call.old call.new × (call.after.faults ≡ call.before.faults) × (call.reported.faults ≡ call.report.faults)
 
 -- nothing is printed before the run: a refusal leaves the output as it was
-abbrev pub IsSilent : Output → Output → ℕ → Type 0
-IsSilent before after result = Contains before_run result → after ≡ before
+abbrev pub IsSilent : ProgramCall → Type 0
+IsSilent call = Contains before_run call.status → call.after ≡ call.before
 
 -- the output gets pieces that have bytes, and the report at most one; a put that failed isn't tried again
-abbrev pub PutsPieces : Output → Output → Output → Output → Type 0
-PutsPieces before after report report' = GetsPieces before after × GetsAtMostOne report report'
+abbrev pub PutsPieces : ProgramCall → Type 0
+PutsPieces call = GetsPieces call.before call.after × GetsAtMostOne call.report call.reported
 
 -- a job reads only its files, and words that ask for no job leave the files as they were; no
 -- contents change and no write fails
-pub record OnlyReads (words : List Bytes) (old new : Disk) : Type 0 where
-  pub asked : (job : FmrunJob) → Asks words job → StaysWithin job old new
-  pub unasked : AskNoJob words → new ≡ old
+pub record OnlyReads (call : ProgramCall) : Type 0 where
+  pub asked : (job : FmrunJob) → Asks call.words job → StaysWithin job call.old call.new
+  pub unasked : AskNoJob call.words → call.new ≡ call.old

@@ -3,3 +3,4 @@ pub mod Jobs
 pub mod TopCall
 pub mod Causes
 pub mod Complete
+pub mod Clauses

@@ -7,6 +7,7 @@ use Rattle.fm_files.specs.Sink.{Output}
 use Rattle.fm_frames.specs.Reports.{report_of}
 use Rattle.fm_frames.specs.States.{State}
 use Rattle.fm_load.specs.Given.{AreMany, IsUntouched, IsUnread, IsLong, IsRefusedFile, IsNotLinked, IsNotTyped}
+use Rattle.fm_load.specs.ProgramCalls.{ProgramCall, PutsText}
 use Rattle.fm_load.specs.Reading.{ReadsAll}
 use Rattle.fm_load.specs.Refusal.{refusal_line, refusal_status}
 use Rattle.fm_load.specs.Returned.{ReadsUpTo, returned}
@@ -27,7 +28,7 @@ use Rattle.fm_run_job.specs.declared.runs.RunReport.{RunReport}
 use Rattle.fm_cli.specs.Line.{Tells}
 use Rattle.fm_cli.specs.Outside.{HasReadFault, HoldsSuch}
 use Rattle.fm_cli.specs.declared.command_refusal.CommandRefusal.TheVariants as refusal
-use Rattle.fm_cli.specs.declared.status.TheConstants.{DONE, WRITE}
+use Rattle.fm_cli.specs.declared.status.TheConstants.{WRITE}
 use Rattle.fm_law_no_fault.specs.Whole.{HasNoFault}
 use Rattle.fmrun.specs.Jobs.{given_of, job_arguments, job_files, job_program, opened_job, IsReady}
 use Rattle.fmrun.specs.declared.outcome.JobFail.{JobFail}
@@ -188,30 +189,23 @@ IsReported outcome old new result =
     MatchOption (outcome_line outcome) ((result ≡ outcome_status outcome) × (new ≡ old)) (λ line. Tells line (outcome_status outcome) old new result)
 
 -- a call for no text: what the words ask for comes out in some way, and that is reported
-pub record IsJobCall (words : List Bytes) (old new : Disk) (before after report report' : Output) (result : ℕ) : Type 0 where
-  pub no_text : AskForNoText words
+pub record IsJobCall (call : ProgramCall) : Type 0 where
+  pub no_text : AskForNoText call.words
   pub outcome : Outcome
-  pub comes : ComesOf words old new before after outcome
-  pub reports : IsReported outcome report report' result
+  pub comes : ComesOf call.words call.old call.new call.before call.after outcome
+  pub reports : IsReported outcome call.report call.reported call.status
 
 -- the bytes of a text of the program
 abbrev pub text_bytes : ProgramText → List ℕ
 text_bytes text.Help = HELP.now
 text_bytes text.Version = VERSION_LINE.now
 
--- the text is put into the output as one piece, or the put fails, or memory for it can't be had; the files and the report are as they were
-pub record IsTextPut (asked : ProgramText) (old new : Disk) (before after report report' : Output) (result : ℕ) : Type 0 where
-  pub kept : new ≡ old
-  pub unreported : report' ≡ report
-  pub reports : Tells (text_bytes asked) DONE before after result
-
 -- a call for a text
-pub record IsTextCall (words : List Bytes) (old new : Disk) (before after report report' : Output) (result : ℕ) : Type 0 where
+pub record IsTextCall (call : ProgramCall) : Type 0 where
   pub asked : ProgramText
-  pub asks : AskForText words asked
-  pub put : IsTextPut asked old new before after report report' result
+  pub asks : AskForText call.words asked
+  pub put : PutsText (text_bytes asked) call
 
 -- what a call does, by what the words ask for
-abbrev pub IsTopCall : List Bytes → Disk → Disk → Output → Output → Output → Output → ℕ → Type 0
-IsTopCall words old new before after report report' result =
-    IsTextCall words old new before after report report' result ⊎ IsJobCall words old new before after report report' result
+abbrev pub IsTopCall : ProgramCall → Type 0
+IsTopCall call = IsTextCall call ⊎ IsJobCall call

@@ -6,11 +6,10 @@ ghost use Rattle.fm_base.specs.declared.limits.TheConstants.{MAX_COMMAND_LINE_VA
 ghost use Rattle.fm_cli_requests.specs.FmrunRequest.{job_of};
 ghost use Rattle.fm_law_sound.specs.Making.{AreUnits};
 ghost use Rattle.fm_cli.specs.Words.{texts};
-ghost use Rattle.fm_cli.specs.declared.status.TheConstants.{MALFORMED, UNSUPPORTED, VERSION};
-ghost use Rattle.fmrun.specs.Causes.{IsFaultless, IsForBytes, IsForCheck, IsForFault, IsForLimit, IsForLink, IsForMemory, IsForRead, IsForReturned, IsForRun, IsForText, IsForWords, IsForWrite, IsSilent, IsStatus, OnlyReads, PutsPieces, ReportsMostHeld};
-ghost use Rattle.fmrun.specs.Complete.{IsComplete};
+ghost use Rattle.fm_load.specs.ProgramCalls.{call_of};
+ghost use Rattle.fmrun.specs.Clauses.{IsFmrunCall};
 ghost use Rattle.fmrun.specs.Jobs.{IsWithinLimits, text_arguments};
-ghost use Rattle.fmrun.specs.TopCall.{ComesOf, ComesTo, IsReported, IsTopCall, StaysWithin};
+ghost use Rattle.fmrun.specs.TopCall.{ComesOf, ComesTo, IsReported, StaysWithin};
 
 use crate::outcome::JobFail;
 use crate::program_text::put_text;
@@ -36,74 +35,9 @@ pub fn fmrun_run<F: Files, O: Sink, R: Sink>(
     out: &mut O,
     report: &mut R,
 ) -> u8
-    // The whole: what the words ask for, what becomes of it, and the line that is put.
-    ensures whole { IsTopCall (texts words.now)
-        (F.disk files.old) (F.disk files.new) (O.output out.old) (O.output out.new)
-        (R.output report.old) (R.output report.new) result }
-
-    // Each status: when it comes, and what it says. There is no other.
-    ensures status { IsStatus result }
-    ensures run { IsForRun (texts words.now)
-        (F.disk files.old) (F.disk files.new) (O.output out.old) (O.output out.new)
-        (R.output report.old) (R.output report.new) result }
-    ensures text { IsForText (texts words.now)
-        (F.disk files.old) (F.disk files.new) (O.output out.old) (O.output out.new)
-        (R.output report.old) (R.output report.new) result }
-    ensures words { IsForWords (texts words.now)
-        (F.disk files.old) (F.disk files.new) (O.output out.old) (O.output out.new)
-        (R.output report.old) (R.output report.new) result }
-    ensures read { IsForRead (texts words.now)
-        (F.disk files.old) (F.disk files.new) (O.output out.old) (O.output out.new)
-        (R.output report.old) (R.output report.new) result }
-    ensures malformed { IsForBytes MALFORMED (texts words.now)
-        (F.disk files.old) (F.disk files.new) (O.output out.old) (O.output out.new)
-        (R.output report.old) (R.output report.new) result }
-    ensures version { IsForBytes VERSION (texts words.now)
-        (F.disk files.old) (F.disk files.new) (O.output out.old) (O.output out.new)
-        (R.output report.old) (R.output report.new) result }
-    ensures limit { IsForLimit (texts words.now)
-        (F.disk files.old) (F.disk files.new) (O.output out.old) (O.output out.new)
-        (R.output report.old) (R.output report.new) result }
-    ensures unsupported { IsForBytes UNSUPPORTED (texts words.now)
-        (F.disk files.old) (F.disk files.new) (O.output out.old) (O.output out.new)
-        (R.output report.old) (R.output report.new) result }
-    ensures link { IsForLink (texts words.now)
-        (F.disk files.old) (F.disk files.new) (O.output out.old) (O.output out.new)
-        (R.output report.old) (R.output report.new) result }
-    ensures check { IsForCheck (texts words.now)
-        (F.disk files.old) (F.disk files.new) (O.output out.old) (O.output out.new)
-        (R.output report.old) (R.output report.new) result }
-    ensures fault { IsForFault (texts words.now)
-        (F.disk files.old) (F.disk files.new) (O.output out.old) (O.output out.new)
-        (R.output report.old) (R.output report.new) result }
-    ensures write { IsForWrite (texts words.now)
-        (F.disk files.old) (F.disk files.new) (O.output out.old) (O.output out.new)
-        (R.output report.old) (R.output report.new) result }
-    ensures memory { IsForMemory (texts words.now)
-        (F.disk files.old) (F.disk files.new) (O.output out.old) (O.output out.new)
-        (R.output report.old) (R.output report.new) result }
-
-    // Where nothing is against a job and nothing fails, its run ends, or memory can't be had.
-    ensures complete { IsComplete (texts words.now)
-        (F.disk files.old) (F.disk files.new) (O.output out.old) (O.output out.new)
-        (R.output report.old) (R.output report.new) result }
-
-    // What the reads returned decides the status as known contents do.
-    ensures returned { IsForReturned (texts words.now)
-        (F.disk files.old) (F.disk files.new) result }
-
-    // Of each size class as many cells are made as were held at once.
-    ensures most_held { ReportsMostHeld (texts words.now)
-        (F.disk files.old) (F.disk files.new) (O.output out.old) (O.output out.new)
-        (R.output report.old) (R.output report.new) result }
-
-    // What fails and what changes.
-    ensures faultless { IsFaultless (F.disk files.old) (F.disk files.new)
-        (O.output out.old) (O.output out.new) (R.output report.old) (R.output report.new) result }
-    ensures silent { IsSilent (O.output out.old) (O.output out.new) result }
-    ensures pieces { PutsPieces (O.output out.old) (O.output out.new)
-        (R.output report.old) (R.output report.new) }
-    ensures reads { OnlyReads (texts words.now) (F.disk files.old) (F.disk files.new) }
+    // Each fact by its name: see `specs/Clauses`.
+    ensures { IsFmrunCall (call_of (texts words.now) (F.disk files.old) (F.disk files.new)
+        (O.output out.old) (O.output out.new) (R.output report.old) (R.output report.new) result) }
 {
     // For their clauses: a run can go on, and no more cells are made than were held at once.
     law_can_run();

@@ -9,7 +9,6 @@ use Rattle.fm_cli_requests.proofs.FreemeRequestLemmas.{audits_one}
 use Rattle.fm_cli_requests.specs.AuditRequest.{Audit}
 use Rattle.fm_code.specs.declared.class_file.ClassDef.{ClassDef}
 use Rattle.fm_files.specs.Files.{Bytes, Contents, Disk}
-use Rattle.fm_files.specs.Sink.{Output}
 use Rattle.fm_link_refusals.specs.Refused.{refusal_of}
 use Rattle.fm_load.proofs.KnownLemmas.{not_empty, not_typed}
 use Rattle.fm_load.proofs.RefusalLemmas.{class_status}
@@ -17,6 +16,7 @@ use Rattle.fm_load.proofs.ReturnedLemmas.{known_seen}
 use Rattle.fm_load.proofs.VerdictLemmas.{Ends, EndsOnce, Stops, one_verdict}
 use Rattle.fm_load.specs.ClassRefusal.{class_refusal_status}
 use Rattle.fm_load.specs.Given.{AreGiven, AreNotLinked, Given, IsLong, IsRefusedFile, IsUnread, given_program}
+use Rattle.fm_load.specs.ProgramCalls.{ProgramCall}
 use Rattle.fm_load.specs.Taking.{AllTaken}
 use Rattle.fm_load.specs.declared.class_refusal.ClassRefusal.{ClassRefusal}
 use Rattle.fm_load.specs.declared.refusal.JobRefusal.TheVariants as job_refusal
@@ -28,7 +28,7 @@ use Rattle.freeme.proofs.JobLemmas.{in_folder}
 use Rattle.freeme.proofs.ReportedLemmas.{outcome_line, outcome_status}
 use Rattle.freeme.specs.Audits.{AuditsTo, OfAudited, audited_files, given_in}
 use Rattle.freeme.specs.Complete.{AuditsComplete, CanBeAudited, NoAuditFails}
-use Rattle.freeme.specs.TopCall.{IsAuditCall, IsReported, Outcome}
+use Rattle.freeme.specs.TopCall.{IsAuditCall, Outcome, Reports}
 use Rattle.freeme.specs.declared.refusal.FreeRefusal.TheVariants as free_refusal
 use Rattle.freeme.specs.declared.status.TheConstants.{NOT_SAFE}
 
@@ -68,26 +68,26 @@ not_unread files file old new none unread =
 
 -- ---- an audit that nothing is against
 
-module _ {old new : Disk} {before after report report' : Output} (audit : Audit) (classes others : List ClassDef) (can : CanBeAudited audit old.contents classes others) (none : NoAuditFails audit old new before after report report') where
+module _ (call : ProgramCall) (audit : Audit) (classes others : List ClassDef) (can : CanBeAudited audit call.old.contents classes others) (none : NoAuditFails audit call) where
   abbrev main : List ℕ
   main = (given_in audit).main
 
-  source : AreGiven (given_in audit) old.contents classes
+  source : AreGiven (given_in audit) call.old.contents classes
   source = can.checked.linked.source
 
   -- no other classes are given that are of another sort
-  sort : (P : List ClassDef → Type 0) (these : List ClassDef) → AreGiven (given_in audit) old.contents these → P classes → ¬ ¬ P these
-  sort P these are holds fails = one_sort P (given_in audit) old.contents can.known classes these source are holds fails
+  sort : (P : List ClassDef → Type 0) (these : List ClassDef) → AreGiven (given_in audit) call.old.contents these → P classes → ¬ ¬ P these
+  sort P these are holds fails = one_sort P (given_in audit) call.old.contents can.known classes these source are holds fails
 
   -- the files of classes that are given are taken
   abbrev Taken : List ClassDef → Type 0
-  Taken cs = (ds : List ClassDef) × AllTaken old.contents (audited_files audit cs) ds
+  Taken cs = (ds : List ClassDef) × AllTaken call.old.contents (audited_files audit cs) ds
 
-  module _ (P : List Bytes → Disk → Disk → Type 0) (of : OfAudited audit P old new) where
+  module _ (P : List Bytes → Disk → Disk → Type 0) (of : OfAudited audit P call.old call.new) where
     abbrev names : List Bytes
     names = audited_files audit of.classes
 
-    same : of.between.contents ≡ old.contents
+    same : of.between.contents ≡ call.old.contents
     same = of.judged.untouched.kept
 
     known_between : IsSome of.between.contents
@@ -99,7 +99,7 @@ module _ {old new : Disk} {before after report report' : Output} (audit : Audit)
         sort Taken of.classes of.judged.checked.linked.source (others, can.taken)
         (λ taken. let Q : Contents → Type 0 = λ c. AllTaken c names taken.0 in bad taken.0 (subst Q (sym same) taken.1))
 
-  not_unread_after : (file : Bytes) → ¬ OfAudited audit (λ files. IsUnread files file) old new
+  not_unread_after : (file : Bytes) → ¬ OfAudited audit (λ files. IsUnread files file) call.old call.new
   not_unread_after file of =
       let rose = of.becomes.fault.rose in
       let first = of.judged.untouched.faultless.reads file in
@@ -110,7 +110,7 @@ module _ {old new : Disk} {before after report report' : Output} (audit : Audit)
   abbrev Ends3 : ℕ → Type 0
   Ends3 status = Contains (DONE ∷ NOT_SAFE ∷ OUT_OF_MEMORY ∷ []) status
 
-  ends_so : (o : Outcome) → AuditsTo audit old new o → Ends3 (outcome_status o)
+  ends_so : (o : Outcome) → AuditsTo audit call.old call.new o → Ends3 (outcome_status o)
   ends_so (Ok lines) comes = (0, omega arith, refl)
   ends_so (Err (free_refusal.NotSafe name part)) comes = (1, omega arith, refl)
   ends_so (Err (free_refusal.Rewrite (fail.CallsFree method offset) name)) comes =
@@ -121,21 +121,21 @@ module _ {old new : Disk} {before after report report' : Output} (audit : Audit)
   ends_so (Err (free_refusal.Rewrite fail.NoMemory name)) comes = absurd comes
   ends_so (Err (free_refusal.Job (job_refusal.TooManyFiles count))) comes = absurd (let few = source.taken.few in let many = comes.many in omega arith)
   ends_so (Err (free_refusal.Job (job_refusal.TooManyArguments count))) comes = absurd comes
-  ends_so (Err (free_refusal.Job (job_refusal.TooLong file))) (inl long) = absurd (not_long audit.files source.read old new can.known source.taken file.now long)
+  ends_so (Err (free_refusal.Job (job_refusal.TooLong file))) (inl long) = absurd (not_long audit.files source.read call.old call.new can.known source.taken file.now long)
   ends_so (Err (free_refusal.Job (job_refusal.TooLong file))) (inr of) =
       absurd (never_after (λ files. IsLong files file.now) of
-      (λ ds taken. not_long (audited_files audit of.classes) ds of.between new (known_between (λ files. IsLong files file.now) of) taken file.now of.becomes))
-  ends_so (Err (free_refusal.Job (job_refusal.Class file r))) (inl refused) = absurd (not_refused audit.files source.read old new can.known source.taken file.now r refused)
+      (λ ds taken. not_long (audited_files audit of.classes) ds of.between call.new (known_between (λ files. IsLong files file.now) of) taken file.now of.becomes))
+  ends_so (Err (free_refusal.Job (job_refusal.Class file r))) (inl refused) = absurd (not_refused audit.files source.read call.old call.new can.known source.taken file.now r refused)
   ends_so (Err (free_refusal.Job (job_refusal.Class file r))) (inr of) =
       absurd (never_after (λ files. IsRefusedFile files file.now r) of
-      (λ ds taken. not_refused (audited_files audit of.classes) ds of.between new (known_between (λ files. IsRefusedFile files file.now r) of) taken file.now r of.becomes))
+      (λ ds taken. not_refused (audited_files audit of.classes) ds of.between call.new (known_between (λ files. IsRefusedFile files file.now r) of) taken file.now r of.becomes))
   ends_so (Err (free_refusal.Job (job_refusal.Shared (refusal.Read file)))) (inl unread) =
-      absurd (not_unread audit.files file.now old new (λ f among. none.reads f (inl among)) unread)
+      absurd (not_unread audit.files file.now call.old call.new (λ f among. none.reads f (inl among)) unread)
   ends_so (Err (free_refusal.Job (job_refusal.Shared (refusal.Read file)))) (inr of) = absurd (not_unread_after file.now of)
   ends_so (Err (free_refusal.Job (job_refusal.Shared refusal.OutOfMemory))) comes = (2, omega arith, refl)
   ends_so (Err (free_refusal.Job (job_refusal.Shared refusal.Words))) comes = absurd comes
   ends_so (Err (free_refusal.Job (job_refusal.Link link))) comes =
-      let found = Some-from_some_and (refusal_of link) (AreNotLinked (given_in audit) old new) comes.refused in
+      let found = Some-from_some_and (refusal_of link) (AreNotLinked (given_in audit) call.old call.new) comes.refused in
       let P : List ClassDef → Type 0 = λ cs. refusals cs main ≡ [] in
       absurd (sort P found.2.classes found.2.source can.checked.linked.linked (not_empty (refusals found.2.classes main) found.0 found.2.first))
   ends_so (Err (free_refusal.Job (job_refusal.Check name))) comes =
@@ -144,23 +144,22 @@ module _ {old new : Disk} {before after report report' : Output} (audit : Audit)
   ends_so (Err (free_refusal.Job (job_refusal.Write name))) comes = absurd comes
 
   -- no put failed
-  pub ends_reported : (o : Outcome) (result : ℕ) → Ends3 (outcome_status o) → IsReported o before after report report' result → Ends3 result
-  ends_reported (Ok lines) result ends reports = go reports.0 where
-    go : Tells (outcome_line (Ok lines)) (outcome_status (Ok lines)) before after result → Ends3 result
+  pub ends_reported : (o : Outcome) → Ends3 (outcome_status o) → Reports o call → Ends3 call.status
+  ends_reported (Ok lines) ends reports = go reports.0 where
+    go : Tells (outcome_line (Ok lines)) (outcome_status (Ok lines)) call.before call.after call.status → Ends3 call.status
     go (inl put) = subst Ends3 (sym put.0) ends
     go (inr (inl failed)) = absurd (let rose = failed.1.fault in let kept = none.puts in omega arith)
     go (inr (inr lacking)) = (2, omega arith, sym lacking.0)
-  ends_reported (Err r) result ends reports = go reports.0 where
-    go : Tells (outcome_line (Err r)) (outcome_status (Err r)) report report' result → Ends3 result
+  ends_reported (Err r) ends reports = go reports.0 where
+    go : Tells (outcome_line (Err r)) (outcome_status (Err r)) call.report call.reported call.status → Ends3 call.status
     go (inl put) = subst Ends3 (sym put.0) ends
     go (inr (inl failed)) = absurd (let rose = failed.1.fault in let kept = none.reports in omega arith)
     go (inr (inr lacking)) = (2, omega arith, sym lacking.0)
 
 -- ---- the clause
 
-pub audits_complete : {words : List Bytes} {old new : Disk} (before after report report' : Output) (result : ℕ) → IsAuditCall words old new before after report report' result
-    → AuditsComplete words old new before after report report' result
-audits_complete {words} {old} {new} before after report report' result call audit classes others asked can none =
-    let P : Audit → Type 0 = λ a. AuditsTo a old new call.outcome in
-    let comes = subst P (audits_one words call.audit audit call.asked asked) call.comes in
-    ends_reported audit classes others can none call.outcome result (ends_so audit classes others can none call.outcome comes) call.reports
+pub audits_complete : (call : ProgramCall) → IsAuditCall call → AuditsComplete call
+audits_complete call made audit classes others asked can none =
+    let P : Audit → Type 0 = λ a. AuditsTo a call.old call.new made.outcome in
+    let comes = subst P (audits_one call.words made.audit audit made.asked asked) made.comes in
+    ends_reported call audit classes others can none made.outcome (ends_so call audit classes others can none made.outcome comes) made.reports

@@ -20,7 +20,7 @@ use Rattle.fm_rewrite.specs.declared.error.RewriteFail.TheVariants as fail
 use Rattle.fm_world.specs.Causes.{Refusal}
 use Rattle.fm_world.specs.Linking.{refusals}
 use Rattle.fm_load.specs.Given.{AreGiven, AreMany, IsUntouched, AreNotLinked, IsNotLinked, given_program}
-use Rattle.freeme.specs.Causes.{AskFor, AskForGiven, IsKnownAs, IsKnownStatus, SaysWords, SaysRead, SaysRefused, SaysLimit, SaysLink, SaysCheck, SaysNotFreed, SaysDone, SaysUnwritten, SaysWrite, SaysMemory, LacksLine, IsForWords, IsForRead, IsForBytes, IsForLimit, IsForLink, IsForCheck, IsForReturned, IsForRewrite, IsForDone, IsForText, IsForWrite, IsForMemory, IsFaultless, IsSilent, KeepsContents, ChangesOnly, before_writes}
+use Rattle.freeme.specs.Causes.{AskFor, AskForGiven, IsKnownAs, IsKnownStatus, SaysLimit, SaysNotFreed, SaysDone, SaysUnwritten, SaysWrite, SaysMemory, LacksLine, IsForWords, IsForRead, IsForBytes, IsForLimit, IsForLink, IsForCheck, IsForReturned, IsForRewrite, IsForDone, IsForText, IsForWrite, IsForMemory, IsFaultless, IsSilent, KeepsContents, ChangesOnly, before_writes}
 use Rattle.fm_load.specs.Causes.{FailsARead, FailsAWrite, IsMissing, HasTooMany, IsKnownLong, IsKnownRefused, IsKnownUnlinked, IsKnownUntyped}
 use Rattle.fm_load.specs.LinkRefusal.{cause_line}
 use Rattle.fm_load.specs.Returned.{ReadsFirst, ReadsFrom, with_contents}
@@ -30,17 +30,18 @@ use Rattle.fm_cli_requests.specs.AuditRequest.{Audit}
 use Rattle.freeme.specs.Audits.{OnlyReads}
 use Rattle.freeme.specs.Jobs.{given_of, main_name}
 use Rattle.fm_load.specs.Taking.{total_bytes, IsTooLong, IsRefused}
-use Rattle.freeme.specs.TopCall.{StaysWithin, IsBroken, ComesTo, ComesOfJob, ComesOf, IsReported, Outcome}
+use Rattle.freeme.specs.TopCall.{StaysWithin, IsBroken, ComesTo, ComesOfJob, ComesOf, Outcome, Reports}
 use Rattle.freeme.specs.Refusal.{rewrite_status}
 use Rattle.freeme.specs.declared.refusal.FreeRefusal.TheVariants as free_refusal
 use Rattle.freeme.specs.declared.status.TheConstants.{CALLS_FREE, POOL_FULL, METHOD_TOO_LONG, NOT_SAFE}
 use Rattle.fm_load.specs.declared.refusal.JobRefusal.TheVariants as job_refusal
-use Rattle.fm_load.specs.Refusal.{IsRefusedBy, many_line}
+use Rattle.fm_load.specs.ProgramCalls.{IsRefusedBy, ProgramCall, SaysCheck, SaysLink, SaysRead, SaysRefused, SaysWords}
+use Rattle.fm_load.specs.Refusal.{many_line}
 use Rattle.fm_cli.specs.CommandRefusal.{memory_line}
 use Rattle.freeme.proofs.AnalysedLemmas.{cause_becomes, done_becomes, Rewrites, rewrites_once}
 use Rattle.freeme.proofs.JobLemmas.{reads_within}
 use Rattle.freeme.proofs.RewritingLemmas.{CausesAgree}
-use Rattle.freeme.proofs.ReportedLemmas.{IsLinePut, both_kept, line_faultless, line_put, outcome_line, outcome_status, own_sink, own_reports, put_failed, reported_silent, is_unreported}
+use Rattle.freeme.proofs.ReportedLemmas.{IsLinePut, both_kept, line_faultless, line_put, outcome_line, outcome_status, own_after, own_before, own_reports, put_failed, reported_silent, is_unreported}
 use Rattle.fm_load.proofs.ReadLemmas.{reads_none}
 use Rattle.fm_cli_requests.proofs.FreemeRequestLemmas.{asks_one}
 use Rattle.fm_load.proofs.GivenLemmas.{Behind, behind_once, given_passes}
@@ -70,28 +71,33 @@ not_write (fail.PoolFull class indices) is = omega arith
 not_write (fail.MethodTooLong method bytes) is = omega arith
 not_write fail.NoMemory is = omega arith
 
-module _ (words : List Bytes) (old new : Disk) (before after report report' : Output) where
+module _ (call : ProgramCall) where
+  -- a job that comes out so
+  abbrev OfJob : Outcome → Type 0
+  OfJob o = ComesOfJob call.words call.old call.new o
+
   -- 0
-  done_said : (o : Outcome) → ComesOfJob words old new o → outcome_status o ≡ DONE → IsLinePut o before after report report' → SaysDone words old new before after report report'
-  done_said (Ok lines) j is line = record { job = j.job; asked = j.asked; lines = string_bytes lines; done = j.comes; line = line.0; unreported = line.1 }
+  done_said : (o : Outcome) → OfJob o → outcome_status o ≡ DONE → IsLinePut o call → AskFor call.words (SaysDone call)
+  done_said (Ok lines) j is line = (j.job, (j.asked, record { lines = string_bytes lines; done = j.comes; line = line.0; unreported = line.1 }))
   done_said (Err (free_refusal.Job (job_refusal.Class file r))) j is line = absurd (let c = class_status r in let low = c.low in let high = c.high in omega arith)
   done_said (Err (free_refusal.Job (job_refusal.Shared refusal.Words))) j is line = absurd (omega arith)
   done_said (Err (free_refusal.Rewrite cause name)) j is line = absurd (let r = rewrite_bounds cause in let low = r.0 in let high = r.1 in omega arith)
   done_said o j is line = absurd (omega arith)
 
   -- 65
-  read_said : (o : Outcome) → ComesOfJob words old new o → outcome_status o ≡ READ → IsLinePut o before after report report' → SaysRead words old new before after report report'
-  read_said (Err (free_refusal.Job (job_refusal.Shared (refusal.Read file)))) j is line = record { job = j.job; asked = j.asked; file = file.now; unread = j.comes; refused = line }
+  read_said : (o : Outcome) → OfJob o → outcome_status o ≡ READ → IsLinePut o call → AskForGiven call.words (SaysRead call)
+  read_said (Err (free_refusal.Job (job_refusal.Shared (refusal.Read file)))) j is line = (j.job, (j.asked, record { file = file.now; unread = j.comes; refused = line }))
   read_said (Err (free_refusal.Job (job_refusal.Class file r))) j is line = absurd (let c = class_status r in let low = c.low in let high = c.high in omega arith)
   read_said (Err (free_refusal.Rewrite cause name)) j is line = absurd (let r = rewrite_bounds cause in let low = r.0 in let high = r.1 in omega arith)
   read_said o j is line = absurd (omega arith)
 
   -- 70
-  cause_said : (o : Outcome) (j : ComesOfJob words old new o) (cause : Option Refusal) → IsNotLinked (given_of j.job) cause old new → IsRefusedBy (cause_line cause) before after report report' → SaysLink words old new before after report report'
+  cause_said : (o : Outcome) (j : OfJob o) (cause : Option Refusal) → IsNotLinked (given_of j.job) cause call.old call.new → IsRefusedBy (cause_line cause) call
+      → AskForGiven call.words (SaysLink call)
   cause_said o j None unlinked line = absurd unlinked.refused
-  cause_said o j (Some cause) unlinked line = record { job = j.job; asked = j.asked; cause = cause; unlinked = unlinked; refused = line }
+  cause_said o j (Some cause) unlinked line = (j.job, (j.asked, record { cause = cause; unlinked = unlinked; refused = line }))
 
-  link_said : (o : Outcome) → ComesOfJob words old new o → outcome_status o ≡ LINK → IsLinePut o before after report report' → SaysLink words old new before after report report'
+  link_said : (o : Outcome) → OfJob o → outcome_status o ≡ LINK → IsLinePut o call → AskForGiven call.words (SaysLink call)
   link_said (Err (free_refusal.Job (job_refusal.Link fail))) j is line = cause_said (Err (free_refusal.Job (job_refusal.Link fail))) j (refusal_of fail) j.comes line
   link_said (Err (free_refusal.Job (job_refusal.Class file r))) j is line = absurd (let c = class_status r in let low = c.low in let high = c.high in omega arith)
   link_said (Err (free_refusal.Job (job_refusal.Shared refusal.Words))) j is line = absurd (omega arith)
@@ -99,57 +105,60 @@ module _ (words : List Bytes) (old new : Disk) (before after report report' : Ou
   link_said o j is line = absurd (omega arith)
 
   -- 71
-  check_said : (o : Outcome) → ComesOfJob words old new o → outcome_status o ≡ CHECK → IsLinePut o before after report report' → SaysCheck words old new before after report report'
-  check_said (Err (free_refusal.Job (job_refusal.Check name))) j is line = record { job = j.job; asked = j.asked; name = name; untyped = j.comes; refused = line }
+  check_said : (o : Outcome) → OfJob o → outcome_status o ≡ CHECK → IsLinePut o call → AskForGiven call.words (SaysCheck call)
+  check_said (Err (free_refusal.Job (job_refusal.Check name))) j is line = (j.job, (j.asked, record { name = name; untyped = j.comes; refused = line }))
   check_said (Err (free_refusal.Job (job_refusal.Class file r))) j is line = absurd (let c = class_status r in let low = c.low in let high = c.high in omega arith)
   check_said (Err (free_refusal.Job (job_refusal.Shared refusal.Words))) j is line = absurd (omega arith)
   check_said (Err (free_refusal.Rewrite cause name)) j is line = absurd (let r = rewrite_bounds cause in let low = r.0 in let high = r.1 in omega arith)
   check_said o j is line = absurd (omega arith)
 
   -- 72, 73 and 74
-  not_freed_said : (status : ℕ) → 72 ≤ status → status ≤ 74 → (o : Outcome) → ComesOfJob words old new o → outcome_status o ≡ status → IsLinePut o before after report report' → SaysNotFreed status words old new before after report report'
-  not_freed_said status low high (Err (free_refusal.Rewrite cause name)) j is line = record { job = j.job; asked = j.asked; cause = cause; status_is = is; name = name; not_freed = j.comes; refused = line }
+  not_freed_said : (status : ℕ) → 72 ≤ status → status ≤ 74 → (o : Outcome) → OfJob o → outcome_status o ≡ status → IsLinePut o call → AskFor call.words (SaysNotFreed status call)
+  not_freed_said status low high (Err (free_refusal.Rewrite cause name)) j is line = (j.job, (j.asked, record { cause = cause; status_is = is; name = name; not_freed = j.comes; refused = line }))
   not_freed_said status low high (Err (free_refusal.Job (job_refusal.Class file r))) j is line = absurd (let c = class_status r in let most = c.high in omega arith)
   not_freed_said status low high (Err (free_refusal.Job (job_refusal.Shared refusal.Words))) j is line = absurd (omega arith)
   not_freed_said status low high o j is line = absurd (omega arith)
 
   -- 66, 67 and 69
-  bytes_said : (status : ℕ) → 66 ≤ status → status ≤ 69 → status ≢ LIMIT → (o : Outcome) → ComesOfJob words old new o → outcome_status o ≡ status → IsLinePut o before after report report' → SaysRefused status words old new before after report report'
+  bytes_said : (status : ℕ) → 66 ≤ status → status ≤ 69 → status ≢ LIMIT → (o : Outcome) → OfJob o → outcome_status o ≡ status → IsLinePut o call → AskForGiven call.words (SaysRefused status call)
   bytes_said status low high other (Err (free_refusal.Job (job_refusal.TooManyFiles count))) j is line = absurd (other (sym is))
   bytes_said status low high other (Err (free_refusal.Job (job_refusal.TooLong file))) j is line = absurd (other (sym is))
   bytes_said status low high other (Err (free_refusal.Job (job_refusal.TooManyArguments count))) j is line = absurd j.comes
-  bytes_said status low high other (Err (free_refusal.Job (job_refusal.Class file r))) j is line = record { job = j.job; asked = j.asked; file = file.now; refusal = r; status_is = is; unaccepted = j.comes; refused = line }
+  bytes_said status low high other (Err (free_refusal.Job (job_refusal.Class file r))) j is line = (j.job, (j.asked, record { file = file.now; refusal = r; status_is = is; unaccepted = j.comes; refused = line }))
   bytes_said status low high other (Err (free_refusal.Job (job_refusal.Shared refusal.Words))) j is line = absurd (omega arith)
   bytes_said status low high other (Err (free_refusal.Rewrite cause name)) j is line = absurd (let r = rewrite_bounds cause in let from = r.0 in omega arith)
   bytes_said status low high other o j is line = absurd (omega arith)
 
   -- 68
-  limit_said : (o : Outcome) → ComesOfJob words old new o → outcome_status o ≡ LIMIT → IsLinePut o before after report report' → SaysLimit words old new before after report report'
-  limit_said (Err (free_refusal.Job (job_refusal.TooManyFiles count))) j is line = let Many : ℕ → Type 0 = λ n. AreMany j.job.files n old new × IsRefusedBy (many_line n) before after report report' in let own = subst Many j.comes.count_is (j.comes, line) in inl (record { job = j.job; asked = j.asked; many = own.0; refused = own.1 })
+  limit_said : (o : Outcome) → OfJob o → outcome_status o ≡ LIMIT → IsLinePut o call → AskForGiven call.words (SaysLimit call)
+  limit_said (Err (free_refusal.Job (job_refusal.TooManyFiles count))) j is line =
+      let Many : ℕ → Type 0 = λ n. AreMany j.job.files n call.old call.new × IsRefusedBy (many_line n) call in
+      let own = subst Many j.comes.count_is (j.comes, line) in
+      (j.job, (j.asked, inl (record { many = own.0; refused = own.1 })))
   limit_said (Err (free_refusal.Job (job_refusal.TooManyArguments count))) j is line = absurd j.comes
-  limit_said (Err (free_refusal.Job (job_refusal.TooLong file))) j is line = inr (inl (record { job = j.job; asked = j.asked; file = file.now; long = j.comes; refused = line }))
-  limit_said (Err (free_refusal.Job (job_refusal.Class file r))) j is line = inr (inr (record { job = j.job; asked = j.asked; file = file.now; refusal = r; status_is = is; unaccepted = j.comes; refused = line }))
+  limit_said (Err (free_refusal.Job (job_refusal.TooLong file))) j is line = (j.job, (j.asked, inr (inl (record { file = file.now; long = j.comes; refused = line }))))
+  limit_said (Err (free_refusal.Job (job_refusal.Class file r))) j is line = (j.job, (j.asked, inr (inr (record { file = file.now; refusal = r; status_is = is; unaccepted = j.comes; refused = line }))))
   limit_said (Err (free_refusal.Job (job_refusal.Shared refusal.Words))) j is line = absurd (omega arith)
   limit_said (Err (free_refusal.Rewrite cause name)) j is line = absurd (let r = rewrite_bounds cause in let low = r.0 in let high = r.1 in omega arith)
   limit_said o j is line = absurd (omega arith)
 
   -- 75, where the line is put
-  unwritten_said : (o : Outcome) → ComesOfJob words old new o → outcome_status o ≡ WRITE → IsLinePut o before after report report' → SaysUnwritten words old new before after report report'
-  unwritten_said (Err (free_refusal.Job (job_refusal.Write name))) j is line = record { job = j.job; asked = j.asked; name = string_bytes name; unwritten = j.comes; refused = line }
+  unwritten_said : (o : Outcome) → OfJob o → outcome_status o ≡ WRITE → IsLinePut o call → AskFor call.words (SaysUnwritten call)
+  unwritten_said (Err (free_refusal.Job (job_refusal.Write name))) j is line = (j.job, (j.asked, record { name = string_bytes name; unwritten = j.comes; refused = line }))
   unwritten_said (Err (free_refusal.Job (job_refusal.Class file r))) j is line = absurd (let c = class_status r in let low = c.low in let high = c.high in omega arith)
   unwritten_said (Err (free_refusal.Job (job_refusal.Shared refusal.Words))) j is line = absurd (omega arith)
   unwritten_said (Err (free_refusal.Rewrite cause name)) j is line = absurd (not_write cause is)
   unwritten_said o j is line = absurd (omega arith)
 
   -- 76, where the line is put
-  stopped : (o : Outcome) → ComesOfJob words old new o → outcome_status o ≡ OUT_OF_MEMORY → IsUntouched old new ⊎ AskFor words (λ job. IsBroken job old new)
+  stopped : (o : Outcome) → OfJob o → outcome_status o ≡ OUT_OF_MEMORY → IsUntouched call.old call.new ⊎ AskFor call.words (λ job. IsBroken job call.old call.new)
   stopped (Err (free_refusal.Job (job_refusal.Shared refusal.OutOfMemory))) j is = ⊎_elim (λ untouched. inl untouched) (λ broken. inr (j.job, (j.asked, broken))) j.comes
   stopped (Err (free_refusal.Job (job_refusal.Class file r))) j is = absurd (let c = class_status r in let low = c.low in let high = c.high in omega arith)
   stopped (Err (free_refusal.Rewrite cause name)) j is = inl j.comes.untouched
   stopped o j is = absurd (omega arith)
 
   -- the line of memory
-  memory_said : (o : Outcome) → outcome_status o ≡ OUT_OF_MEMORY → IsLinePut o before after report report' → IsRefusedBy memory_line before after report report'
+  memory_said : (o : Outcome) → outcome_status o ≡ OUT_OF_MEMORY → IsLinePut o call → IsRefusedBy memory_line call
   memory_said (Err (free_refusal.Job (job_refusal.Shared refusal.OutOfMemory))) is line = line
   memory_said (Err (free_refusal.Job (job_refusal.Class file r))) is line = absurd (let c = class_status r in let low = c.low in let high = c.high in omega arith)
   memory_said (Err (free_refusal.Rewrite fail.NoMemory name)) is line = line
@@ -299,11 +308,11 @@ module _ (job : FreemeJob) (disk : Disk) (held : Bytes → Option Bytes) (known 
       (inr (cause.checked.linked.linked, inr (cause.checked.typed, cause.becomes)))))
 
   known_verdict : (status : ℕ) → IsKnownStatus status disk job → JobVerdict held job status
-  known_verdict status (inl (is, cause)) = let P : ℕ → Type 0 = λ s. JobVerdict held job s in subst P (sym is) (long_verdict cause)
-  known_verdict status (inr (inl cause)) = bytes_verdict status cause
-  known_verdict status (inr (inr (inl (is, cause)))) = let P : ℕ → Type 0 = λ s. JobVerdict held job s in subst P (sym is) (unlinked_verdict cause)
-  known_verdict status (inr (inr (inr (inl (is, cause))))) = let P : ℕ → Type 0 = λ s. JobVerdict held job s in subst P (sym is) (untyped_verdict cause)
-  known_verdict status (inr (inr (inr (inr cause)))) = rewriting_verdict status cause
+  known_verdict status (inl (inl (is, cause))) = let P : ℕ → Type 0 = λ s. JobVerdict held job s in subst P (sym is) (long_verdict cause)
+  known_verdict status (inl (inr (inl cause))) = bytes_verdict status cause
+  known_verdict status (inl (inr (inr (inl (is, cause))))) = let P : ℕ → Type 0 = λ s. JobVerdict held job s in subst P (sym is) (unlinked_verdict cause)
+  known_verdict status (inl (inr (inr (inr (is, cause))))) = let P : ℕ → Type 0 = λ s. JobVerdict held job s in subst P (sym is) (untyped_verdict cause)
+  known_verdict status (inr cause) = rewriting_verdict status cause
 
 -- ---- the cause of each status
 
@@ -429,153 +438,155 @@ without_read status result unread among = by (Contains-cons_cases status instead
 
 -- ---- the clauses
 
-pub is_for_text : (words : List Bytes) (old new : Disk) (before after report report' : Output) (result : ℕ) → AskForNoText words
-    → IsForText words old new before after report report' result
-is_for_text words old new before after report report' result none asked asks = absurd (none asked asks)
+pub is_for_text : (call : ProgramCall) → AskForNoText call.words → IsForText call
+is_for_text call none asked asks = absurd (none asked asks)
 
-module _ {words : List Bytes} {old new : Disk} (before after report report' : Output) (result : ℕ) (o : Outcome) (comes : ComesOf words old new o) (reports : IsReported o before after report report' result) (alike : CausesAgree) where
+module _ (call : ProgramCall) (o : Outcome) (comes : ComesOf call.words call.old call.new o) (reports : Reports o call) (alike : CausesAgree) where
   -- the sink of the lines, before and after
   abbrev from : Output
-  from = own_sink o before report
+  from = own_before call o
 
   abbrev to : Output
-  to = own_sink o after report'
+  to = own_after call o
 
-  own : Tells (outcome_line o) (outcome_status o) from to result
-  own = own_reports before after report report' result o reports
+  own : Tells (outcome_line o) (outcome_status o) from to call.status
+  own = own_reports call o reports
 
-  put_so : to ≡ with_piece (outcome_line o) from → IsLinePut o before after report report'
-  put_so = line_put before after report report' result o reports
+  put_so : to ≡ with_piece (outcome_line o) from → IsLinePut o call
+  put_so = line_put call o reports
 
   -- what the line of a job says, at a status that isn't for words
-  of_job_alone : {Said : Type 0} (status : ℕ) → status ≢ WORDS → status ≢ OUT_OF_MEMORY → (ComesOfJob words old new o → outcome_status o ≡ status → IsLinePut o before after report report' → Said)
+  of_job_alone : {Said : Type 0} (status : ℕ) → status ≢ WORDS → status ≢ OUT_OF_MEMORY → (ComesOfJob call.words call.old call.new o → outcome_status o ≡ status → IsLinePut o call → Said)
       → outcome_status o ≡ status → to ≡ with_piece (outcome_line o) from → Said
-  of_job_alone status unlike_words memory said is put = said (job_of_status words old new o status comes is unlike_words memory) is (put_so put)
+  of_job_alone status unlike_words memory said is put = said (job_of_status call.words call.old call.new o status comes is unlike_words memory) is (put_so put)
 
   -- a status of the job's files comes exactly with what it says
-  of_files : {Said Cause : Type 0} (status : ℕ) → status ≢ WORDS → status ≢ WRITE → status ≢ OUT_OF_MEMORY → (ComesOfJob words old new o → outcome_status o ≡ status → IsLinePut o before after report report' → Said)
-      → (Cause → Contains (status ∷ instead_for_file) (outcome_status o)) → ComesExactly status instead_for_file result Said Cause
+  of_files : {Said Cause : Type 0} (status : ℕ) → status ≢ WORDS → status ≢ WRITE → status ≢ OUT_OF_MEMORY → (ComesOfJob call.words call.old call.new o → outcome_status o ≡ status → IsLinePut o call → Said)
+      → (Cause → Contains (status ∷ instead_for_file) (outcome_status o)) → ComesExactly status instead_for_file call.status Said Cause
   of_files status unlike_words write memory said decides =
-      comes_of_file (outcome_line o) (outcome_status o) from to result own status write memory (of_job_alone status unlike_words memory said) decides
+      comes_of_file (outcome_line o) (outcome_status o) from to call.status own status write memory (of_job_alone status unlike_words memory said) decides
 
-  pub is_for_words : AskForNoText words → IsForWords words old new before after report report' result
-  is_for_words no_text = comes_of_words (outcome_line o) (outcome_status o) from to result own WORDS (λ e. omega arith) (λ e. omega arith) (λ is put. words_said comes is (put_so put)) (λ unasked. nothing_decides unasked comes) where
-    words_said : ComesOf words old new o → outcome_status o ≡ WORDS → IsLinePut o before after report report' → SaysWords words old new before after report report'
-    words_said (inl j) is line = absurd (not_for_words j.job old new o j.comes is)
-    words_said (inr (inl nothing)) is line = record { unasked = record { no_text = no_text; no_job = nothing.unasked.no_job; no_audit = nothing.unasked.no_audit }; kept = nothing.kept; refused = let P : Outcome → Type 0 = λ x. IsLinePut x before after report report' in subst P nothing.refused line }
+  pub is_for_words : AskForNoText call.words → IsForWords call
+  is_for_words no_text = comes_of_words (outcome_line o) (outcome_status o) from to call.status own WORDS (λ e. omega arith) (λ e. omega arith) (λ is put. words_said comes is (put_so put)) (λ unasked. nothing_decides unasked comes) where
+    words_said : ComesOf call.words call.old call.new o → outcome_status o ≡ WORDS → IsLinePut o call → AskNothing call.words × SaysWords call
+    words_said (inl j) is line = absurd (not_for_words j.job call.old call.new o j.comes is)
+    words_said (inr (inl nothing)) is line = (
+      record { no_text = no_text; no_job = nothing.unasked.no_job; no_audit = nothing.unasked.no_audit },
+      record { kept = nothing.kept; refused = let P : Outcome → Type 0 = λ x. IsLinePut x call in subst P nothing.refused line },
+    )
     words_said (inr (inr lacking)) is line = absurd (let other = sym is ∙ ap outcome_status lacking.refused in omega arith)
 
-    nothing_decides : AskNothing words → ComesOf words old new o → Contains (WORDS ∷ instead_for_words) (outcome_status o)
+    nothing_decides : AskNothing call.words → ComesOf call.words call.old call.new o → Contains (WORDS ∷ instead_for_words) (outcome_status o)
     nothing_decides unasked (inl j) = absurd (unasked.no_job j.job j.asked)
     nothing_decides unasked (inr (inl nothing)) = (0, omega arith, sym (ap outcome_status nothing.refused))
     nothing_decides unasked (inr (inr lacking)) = (2, omega arith, sym (ap outcome_status lacking.refused))
 
-  pub is_for_read : IsForRead words old new before after report report' result
-  is_for_read = comes_of_words (outcome_line o) (outcome_status o) from to result own READ (λ e. omega arith) (λ e. omega arith)
-      (of_job_alone READ (λ e. omega arith) (λ e. omega arith) (read_said words old new before after report report' o))
-      (λ cause. ⊎_elim (λ (fault : FailsARead old new). fault_decides words old new o comes alike fault) (λ (missing : AskForGiven words (IsMissing old)). missing_decides words old new o comes alike missing) cause)
+  pub is_for_read : IsForRead call
+  is_for_read = comes_of_words (outcome_line o) (outcome_status o) from to call.status own READ (λ e. omega arith) (λ e. omega arith)
+      (of_job_alone READ (λ e. omega arith) (λ e. omega arith) (read_said call o))
+      (λ cause. ⊎_elim (λ (fault : FailsARead call.old call.new). fault_decides call.words call.old call.new o comes alike fault) (λ (missing : AskForGiven call.words (IsMissing call.old)). missing_decides call.words call.old call.new o comes alike missing) cause)
 
-  pub is_for_bytes : (status : ℕ) → 66 ≤ status → status ≤ 69 → status ≢ LIMIT → IsForBytes status words old new before after report report' result
+  pub is_for_bytes : (status : ℕ) → 66 ≤ status → status ≤ 69 → status ≢ LIMIT → IsForBytes status call
   is_for_bytes status low high other =
-      of_files status (λ e. omega arith) (λ e. omega arith) (λ e. omega arith) (bytes_said words old new before after report report' status low high other o) (bytes_decide words old new o comes alike status)
+      of_files status (λ e. omega arith) (λ e. omega arith) (λ e. omega arith) (bytes_said call status low high other o) (bytes_decide call.words call.old call.new o comes alike status)
 
-  pub is_for_limit : IsForLimit words old new before after report report' result
+  pub is_for_limit : IsForLimit call
   is_for_limit = record {
     only = λ is.
-        let put = is_put (outcome_line o) (outcome_status o) from to result own LIMIT (λ e. omega arith) (λ e. omega arith) is in
-        of_job_alone LIMIT (λ e. omega arith) (λ e. omega arith) (limit_said words old new before after report report' o) put.0 put.1;
-    many = λ cause. told_of_words (outcome_line o) (outcome_status o) from to result own LIMIT (many_decide words old new o comes alike cause);
-    long = λ cause. told_of_file (outcome_line o) (outcome_status o) from to result own LIMIT (long_decides words old new o comes alike cause);
-    bytes = λ cause. told_of_file (outcome_line o) (outcome_status o) from to result own LIMIT (bytes_decide words old new o comes alike LIMIT cause);
+        let put = is_put (outcome_line o) (outcome_status o) from to call.status own LIMIT (λ e. omega arith) (λ e. omega arith) is in
+        of_job_alone LIMIT (λ e. omega arith) (λ e. omega arith) (limit_said call o) put.0 put.1;
+    many = λ cause. told_of_words (outcome_line o) (outcome_status o) from to call.status own LIMIT (many_decide call.words call.old call.new o comes alike cause);
+    long = λ cause. told_of_file (outcome_line o) (outcome_status o) from to call.status own LIMIT (long_decides call.words call.old call.new o comes alike cause);
+    bytes = λ cause. told_of_file (outcome_line o) (outcome_status o) from to call.status own LIMIT (bytes_decide call.words call.old call.new o comes alike LIMIT cause);
   }
 
-  pub is_for_link : IsForLink words old new before after report report' result
-  is_for_link = of_files LINK (λ e. omega arith) (λ e. omega arith) (λ e. omega arith) (link_said words old new before after report report' o) (unlinked_decides words old new o comes alike)
+  pub is_for_link : IsForLink call
+  is_for_link = of_files LINK (λ e. omega arith) (λ e. omega arith) (λ e. omega arith) (link_said call o) (unlinked_decides call.words call.old call.new o comes alike)
 
-  pub is_for_check : IsForCheck words old new before after report report' result
-  is_for_check = of_files CHECK (λ e. omega arith) (λ e. omega arith) (λ e. omega arith) (check_said words old new before after report report' o) (untyped_decides words old new o comes alike)
+  pub is_for_check : IsForCheck call
+  is_for_check = of_files CHECK (λ e. omega arith) (λ e. omega arith) (λ e. omega arith) (check_said call o) (untyped_decides call.words call.old call.new o comes alike)
 
-  pub is_for_rewrite : (status : ℕ) → 72 ≤ status → status ≤ 74 → IsForRewrite status words old new before after report report' result
+  pub is_for_rewrite : (status : ℕ) → 72 ≤ status → status ≤ 74 → IsForRewrite status call
   is_for_rewrite status low high =
-      of_files status (λ e. omega arith) (λ e. omega arith) (λ e. omega arith) (not_freed_said words old new before after report report' status low high o) (rewriting_decides words old new o comes alike status)
+      of_files status (λ e. omega arith) (λ e. omega arith) (λ e. omega arith) (not_freed_said call status low high o) (rewriting_decides call.words call.old call.new o comes alike status)
 
-  pub is_for_done : IsForDone words old new before after report report' result
+  pub is_for_done : IsForDone call
   is_for_done =
-      of_files DONE (λ e. omega arith) (λ e. omega arith) (λ e. omega arith) (λ j is line. inl (done_said words old new before after report report' o j is line)) (rewriting_decides words old new o comes alike DONE)
+      of_files DONE (λ e. omega arith) (λ e. omega arith) (λ e. omega arith) (λ j is line. inl (done_said call o j is line)) (rewriting_decides call.words call.old call.new o comes alike DONE)
 
-  pub is_for_returned : IsForReturned words old new result
+  pub is_for_returned : IsForReturned call
   is_for_returned held status reads asks =
-      without_read status result unread (told_of_file (outcome_line o) (outcome_status o) from to result own status (returned_decides words old new o comes alike held status reads asks)) where
-        unread : result ≢ READ
-        unread is = let said = is_for_read.only is in not_unread held old new reads said.job.files said.file said.unread
+      without_read status call.status unread (told_of_file (outcome_line o) (outcome_status o) from to call.status own status (returned_decides call.words call.old call.new o comes alike held status reads asks)) where
+        unread : call.status ≢ READ
+        unread is = let said = is_for_read.only is in not_unread held call.old call.new reads said.0.files said.1.1.file said.1.1.unread
 
-  pub is_for_write : IsForWrite words old new before after report report' result
+  pub is_for_write : IsForWrite call
   is_for_write = record {
     only = only own;
-    put = put_failed before after report report' result o reports;
-    write = λ cause. told_among (outcome_line o) (outcome_status o) from to result own instead_for_words (write_decides words old new o comes alike cause) (0, omega arith, refl) (1, omega arith, refl);
+    put = put_failed call o reports;
+    write = λ cause. told_among (outcome_line o) (outcome_status o) from to call.status own instead_for_words (write_decides call.words call.old call.new o comes alike cause) (0, omega arith, refl) (1, omega arith, refl);
   } where
-    only : Tells (outcome_line o) (outcome_status o) from to result → result ≡ WRITE → SaysWrite words old new before after report report'
+    only : Tells (outcome_line o) (outcome_status o) from to call.status → call.status ≡ WRITE → SaysWrite call
     only (inl put) is =
         let same : outcome_status o ≡ WRITE = sym put.0 ∙ is in
-        inr (inl (unwritten_said words old new before after report report' o (job_of_status words old new o WRITE comes same (λ e. omega arith) (λ e. omega arith)) same (put_so put.1)))
-    only (inr (inl failed)) is = inl (record { outcome = o; comes = comes; fails = is_unreported before after report report' result o reports failed.1 })
+        inr (inl (unwritten_said call o (job_of_status call.words call.old call.new o WRITE comes same (λ e. omega arith) (λ e. omega arith)) same (put_so put.1)))
+    only (inr (inl failed)) is = inl (record { outcome = o; comes = comes; fails = is_unreported call o reports failed.1 })
     only (inr (inr lacking)) is = absurd (let e = lacking.0 in omega arith)
 
-  pub is_for_memory : IsForMemory words old new before after report report' result
+  pub is_for_memory : IsForMemory call
   is_for_memory is = go own where
-    own_line : ComesOf words old new o → outcome_status o ≡ OUT_OF_MEMORY → IsUntouched old new ⊎ AskFor words (λ job. IsBroken job old new)
-    own_line (inl j) same = stopped words old new before after report report' o j same
+    own_line : ComesOf call.words call.old call.new o → outcome_status o ≡ OUT_OF_MEMORY → IsUntouched call.old call.new ⊎ AskFor call.words (λ job. IsBroken job call.old call.new)
+    own_line (inl j) same = stopped call o j same
     own_line (inr (inl nothing)) same = absurd (let other = sym same ∙ ap outcome_status nothing.refused in omega arith)
-    own_line (inr (inr lacking)) same = inl (record { faultless = no_fault_where_same old new lacking.kept; kept = ap (λ (d : Disk). d.contents) lacking.kept; unwritten = ap (λ (d : Disk). d.writes) lacking.kept })
+    own_line (inr (inr lacking)) same = inl (record { faultless = no_fault_where_same call.old call.new lacking.kept; kept = ap (λ (d : Disk). d.contents) lacking.kept; unwritten = ap (λ (d : Disk). d.writes) lacking.kept })
 
-    go : Tells (outcome_line o) (outcome_status o) from to result → SaysMemory words old new before after report report' ⊎ (LacksLine words old new before after report report' ⊎ AskOnlyForText words)
+    go : Tells (outcome_line o) (outcome_status o) from to call.status → SaysMemory call ⊎ (LacksLine call ⊎ AskOnlyForText call.words)
     go (inl put) =
         let same : outcome_status o ≡ OUT_OF_MEMORY = sym put.0 ∙ is in
-        inl (record { stopped = own_line comes same; refused = memory_said words old new before after report report' o same (put_so put.1) })
+        inl (record { stopped = own_line comes same; refused = memory_said call o same (put_so put.1) })
     go (inr (inl failed)) = absurd (let e = failed.0 in omega arith)
     go (inr (inr lacking)) =
-        let kept = both_kept before after report report' result o reports lacking.1 in inr (inl (record { outcome = o; comes = comes; silent = kept.0; unreported = kept.1 }))
+        let kept = both_kept call o reports lacking.1 in inr (inl (record { outcome = o; comes = comes; silent = kept.0; unreported = kept.1 }))
 
   -- where the line is put no put failed
-  own_line_put : (status : ℕ) → status ≢ WRITE → status ≢ OUT_OF_MEMORY → result ≡ status → (outcome_status o ≡ status) × ((after.faults ≡ before.faults) × (report'.faults ≡ report.faults))
+  own_line_put : (status : ℕ) → status ≢ WRITE → status ≢ OUT_OF_MEMORY → call.status ≡ status → (outcome_status o ≡ status) × ((call.after.faults ≡ call.before.faults) × (call.reported.faults ≡ call.report.faults))
   own_line_put status write memory is =
-      let put = is_put (outcome_line o) (outcome_status o) from to result own status write memory is in (put.0, line_faultless before after report report' o (put_so put.1))
+      let put = is_put (outcome_line o) (outcome_status o) from to call.status own status write memory is in (put.0, line_faultless call o (put_so put.1))
 
-  pub is_faultless : IsFaultless old new before after report report' result
+  pub is_faultless : IsFaultless call
   is_faultless among_these =
-      let unlike : (s : ℕ) → list_any (λ y. eqb y s) faultless_statuses ≡ false → result ≢ s = λ s none. unlike_elements s faultless_statuses none result among_these in
-      let line = own_line_put result (unlike WRITE refl) (unlike OUT_OF_MEMORY refl) refl in (
-        ⊎_elim (λ (none : HasNoFileFault old new). none)
+      let unlike : (s : ℕ) → list_any (λ y. eqb y s) faultless_statuses ≡ false → call.status ≢ s = λ s none. unlike_elements s faultless_statuses none call.status among_these in
+      let line = own_line_put call.status (unlike WRITE refl) (unlike OUT_OF_MEMORY refl) refl in (
+        ⊎_elim (λ (none : HasNoFileFault call.old call.new). none)
             (λ (rest : _). ⊎_elim (λ (p : _). absurd (unlike READ refl (sym line.0 ∙ p.0))) (λ (p : _). absurd (unlike WRITE refl (sym line.0 ∙ p.0))) rest)
-            (fails_so words old new o comes),
+            (fails_so call.words call.old call.new o comes),
         line.1.0,
         line.1.1,
       )
 
-  pub keeps_contents : KeepsContents old new result
+  pub keeps_contents : KeepsContents call
   keeps_contents among_these =
-      let unlike : (s : ℕ) → list_any (λ y. eqb y s) before_writes ≡ false → result ≢ s = λ s none. unlike_elements s before_writes none result among_these in
-      let line = own_line_put result (unlike WRITE refl) (unlike OUT_OF_MEMORY refl) refl in
-      keeps words old new o comes (λ e. unlike DONE refl (sym line.0 ∙ e)) (λ e. unlike WRITE refl (sym line.0 ∙ e)) (λ e. unlike OUT_OF_MEMORY refl (sym line.0 ∙ e))
+      let unlike : (s : ℕ) → list_any (λ y. eqb y s) before_writes ≡ false → call.status ≢ s = λ s none. unlike_elements s before_writes none call.status among_these in
+      let line = own_line_put call.status (unlike WRITE refl) (unlike OUT_OF_MEMORY refl) refl in
+      keeps call.words call.old call.new o comes (λ e. unlike DONE refl (sym line.0 ∙ e)) (λ e. unlike WRITE refl (sym line.0 ∙ e)) (λ e. unlike OUT_OF_MEMORY refl (sym line.0 ∙ e))
 
-  pub is_silent : IsSilent before after result
+  pub is_silent : IsSilent call
   is_silent among_these =
-      let unlike : (s : ℕ) → list_any (λ y. eqb y s) before_writes ≡ false → result ≢ s = λ s none. unlike_elements s before_writes none result among_these in
-      reported_silent before after report report' result o reports (unlike DONE refl) (unlike WRITE refl) (unlike OUT_OF_MEMORY refl)
+      let unlike : (s : ℕ) → list_any (λ y. eqb y s) before_writes ≡ false → call.status ≢ s = λ s none. unlike_elements s before_writes none call.status among_these in
+      reported_silent call o reports (unlike DONE refl) (unlike WRITE refl) (unlike OUT_OF_MEMORY refl)
 
-  pub changes_only : ((audit : Audit) → AskToAudit words audit → OnlyReads audit old new) → ChangesOnly words old new
+  pub changes_only : ((audit : Audit) → AskToAudit call.words audit → OnlyReads audit call.old call.new) → ChangesOnly call
   changes_only audited = record {
     asked = λ job asked. stays job asked comes;
     audited = audited;
     unasked = λ none. unchanged none comes;
   } where
-    stays : (job : FreemeJob) → Asks words job → ComesOf words old new o → StaysWithin job old new
-    stays job asked (inl j) = let P : FreemeJob → Type 0 = λ k. StaysWithin k old new in subst P (asks_one words j.job job j.asked asked) j.within
+    stays : (job : FreemeJob) → Asks call.words job → ComesOf call.words call.old call.new o → StaysWithin job call.old call.new
+    stays job asked (inl j) = let P : FreemeJob → Type 0 = λ k. StaysWithin k call.old call.new in subst P (asks_one call.words j.job job j.asked asked) j.within
     stays job asked (inr (inl nothing)) = absurd (nothing.unasked.no_job job asked)
-    stays job asked (inr (inr lacking)) = let P : Disk → Type 0 = λ d. StaysWithin job old d in subst P (sym lacking.kept) (reads_within job old old (reads_none job.files old))
+    stays job asked (inr (inr lacking)) = let P : Disk → Type 0 = λ d. StaysWithin job call.old d in subst P (sym lacking.kept) (reads_within job call.old call.old (reads_none job.files call.old))
 
-    unchanged : AskForNoRequest words → ComesOf words old new o → new ≡ old
+    unchanged : AskForNoRequest call.words → ComesOf call.words call.old call.new o → call.new ≡ call.old
     unchanged none (inl j) = absurd (none.no_job j.job j.asked)
     unchanged none (inr (inl nothing)) = nothing.kept
     unchanged none (inr (inr lacking)) = lacking.kept

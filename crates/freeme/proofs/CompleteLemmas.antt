@@ -14,15 +14,15 @@ use Rattle.fm_cli_requests.specs.FreemeRequest.{FreemeJob, Asks}
 use Rattle.fm_code.specs.ClassBytes.{class_bytes}
 use Rattle.fm_code.specs.Spells.{HasSpelling}
 use Rattle.fm_code.specs.declared.class_file.ClassDef.{ClassDef}
-use Rattle.fm_files.specs.Files.{Bytes, Contents, Disk}
-use Rattle.fm_files.specs.Sink.{Output}
+use Rattle.fm_files.specs.Files.{Bytes, Contents}
 use Rattle.fm_load.proofs.GivenLemmas.{Behind, behind_once, given_passes, given_spelled}
 use Rattle.fm_load.proofs.VerdictLemmas.{Ends, EndsOnce, one_verdict}
 use Rattle.fm_load.specs.Given.{AreGiven, Given, IsUnread}
+use Rattle.fm_load.specs.ProgramCalls.{ProgramCall, SaysRead}
 use Rattle.fm_load.specs.Taking.{ClassIsSpelled}
 use Rattle.freeme.proofs.CauseLemmas.{without_read}
 use Rattle.freeme.proofs.WrittenLemmas.{names_same}
-use Rattle.freeme.specs.Causes.{AskFor, BecomesAs, IsForDone, IsForRead, IsForWrite, IsKnownAs, SaysRead, SaysWrite, cause_status}
+use Rattle.freeme.specs.Causes.{AskFor, AskForGiven, BecomesAs, IsForDone, IsForRead, IsForWrite, IsKnownAs, SaysWrite, cause_status}
 use Rattle.freeme.specs.Complete.{CanBeDone, IsComplete, NothingFails}
 use Rattle.freeme.specs.Jobs.{given_of}
 use Rattle.freeme.specs.TopCall.{IsUnreported, IsUnwritten, Outcome}
@@ -72,9 +72,9 @@ files_named folder = map-map class_text (file_name folder)
 
 -- ---- a job that nothing is against
 
-module _ {words : List Bytes} {old new : Disk} {before after report report' : Output} (job : FreemeJob) (classes : List ClassDef) (asked : Asks words job) (can : CanBeDone job old.contents classes) (none : NothingFails job classes old new before after report report') where
+module _ (call : ProgramCall) (job : FreemeJob) (classes : List ClassDef) (asked : Asks call.words job) (can : CanBeDone job call.old.contents classes) (none : NothingFails job classes call) where
   -- it is known to be done
-  known_as_done : AskFor words (IsKnownAs DONE old)
+  known_as_done : AskFor call.words (IsKnownAs DONE call.old)
   known_as_done =
       let P : Option (ℕ × ℕ) → Type 0 = BecomesAs DONE job classes in
       let free = subst P (sym can.no_call) (record {
@@ -87,16 +87,16 @@ module _ {words : List Bytes} {old new : Disk} {before after report report' : Ou
       }) in
       (job, (asked, record { known = can.known; classes = classes; checked = can.checked; becomes = free }))
 
-  not_read : ¬ SaysRead words old new before after report report'
-  not_read said =
-      let P : FreemeJob → Type 0 = λ k. IsUnread k.files said.file old new in
-      let unread = subst P (asks_one words said.job job said.asked asked) said.unread in
+  not_read : ¬ AskForGiven call.words (SaysRead call)
+  not_read (own, (own_asked, said)) =
+      let P : FreemeJob → Type 0 = λ k. IsUnread k.files said.file call.old call.new in
+      let unread = subst P (asks_one call.words own job own_asked asked) said.unread in
       let rose = unread.fault.rose in
       let kept = none.reads said.file (element job.files (length unread.before) said.file unread.reaches.there) in
       omega arith
 
   -- the classes that are written have the files of these, of which no write failed
-  module _ (name : Bytes) (unwritten : IsUnwritten job name old new) where
+  module _ (name : Bytes) (unwritten : IsUnwritten job name call.old call.new) where
     abbrev given : List ClassDef
     given = unwritten.freed.classes
 
@@ -124,30 +124,28 @@ module _ {words : List Bytes} {old new : Disk} {before after report report' : Ou
         (subst P files (element (map (written_name job.folder) made) unwritten.fails.count (written_name job.folder unwritten.fails.class) there))
 
     abbrev Kept : List ClassDef → Type 0
-    Kept cs = (n : Bytes) → IsFileOf job.folder cs n → new.write_faults n ≤ old.write_faults n
+    Kept cs = (n : Bytes) → IsFileOf job.folder cs n → call.new.write_faults n ≤ call.old.write_faults n
 
     fails_here : ¬ Kept given
     fails_here kept = let low = kept name here in let rose = unwritten.fails.fault.rose in omega arith
 
     not_unwritten : ⊥
-    not_unwritten = one_sort Kept (given_of job) old.contents can.known classes given can.checked.linked.source unwritten.freed.checked.linked.source none.writes fails_here
+    not_unwritten = one_sort Kept (given_of job) call.old.contents can.known classes given can.checked.linked.source unwritten.freed.checked.linked.source none.writes fails_here
 
-  not_unreported : (o : Outcome) → ¬ IsUnreported o before after report report'
+  not_unreported : (o : Outcome) → ¬ IsUnreported o call
   not_unreported (Ok lines) fails = let rose = fails.0.fault in let kept = none.puts in omega arith
   not_unreported (Err refusal) fails = let rose = fails.0.fault in let kept = none.reports in omega arith
 
-  not_write : ¬ SaysWrite words old new before after report report'
+  not_write : ¬ SaysWrite call
   not_write (inl unput) = not_unreported unput.outcome unput.fails
-  not_write (inr (inl said)) =
-      let P : FreemeJob → Type 0 = λ k. IsUnwritten k said.name old new in
-      not_unwritten said.name (subst P (asks_one words said.job job said.asked asked) said.unwritten)
+  not_write (inr (inl (own, (own_asked, said)))) =
+      let P : FreemeJob → Type 0 = λ k. IsUnwritten k said.name call.old call.new in
+      not_unwritten said.name (subst P (asks_one call.words own job own_asked asked) said.unwritten)
   not_write (inr (inr text)) = text.no_job job asked
 
 -- ---- the clause
 
-pub is_complete : (words : List Bytes) (old new : Disk) (before after report report' : Output) (result : ℕ) → IsForDone words old new before after report report' result
-    → IsForRead words old new before after report report' result → IsForWrite words old new before after report report' result
-    → IsComplete words old new before after report report' result
-is_complete words old new before after report report' result done read write job classes asked can none =
-    done_or_memory result (λ is. not_read job classes asked can none (read.only is)) (λ is. not_write job classes asked can none (write.only is))
-    (done.there (known_as_done job classes asked can none))
+pub is_complete : (call : ProgramCall) → IsForDone call → IsForRead call → IsForWrite call → IsComplete call
+is_complete call done read write job classes asked can none =
+    done_or_memory call.status (λ is. not_read call job classes asked can none (read.only is)) (λ is. not_write call job classes asked can none (write.only is))
+    (done.there (known_as_done call job classes asked can none))

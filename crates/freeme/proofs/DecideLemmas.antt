@@ -21,12 +21,12 @@ use Rattle.fm_code.specs.declared.class_file.ClassDef.{ClassDef}
 use Rattle.fm_code.specs.declared.class_file.Member.{Member}
 use Rattle.fm_code.specs.declared.code_array.Code.{Code}
 use Rattle.fm_files.specs.Files.{Bytes, Contents, Disk}
-use Rattle.fm_files.specs.Sink.{Output}
 use Rattle.fm_law_beside_freeme.specs.Exact.{LeastFactsFindAlikeSafe}
 use Rattle.fm_law_relinked.proofs.Codes.{codes_chained}
 use Rattle.fm_law_relinked.specs.Codes.{code_with}
 use Rattle.fm_load.proofs.GivenLemmas.{given_accepted}
 use Rattle.fm_load.specs.Given.{AreGiven, Given, made_classes}
+use Rattle.fm_load.specs.ProgramCalls.{ProgramCall}
 use Rattle.fm_load.specs.Taking.{AllTaken, AreTaken, IsTaken}
 use Rattle.fm_place.specs.Insertions.{Insertions}
 use Rattle.fm_place.specs.Rewriting.{Plans}
@@ -136,22 +136,20 @@ never_unsafe alike given main written accepted safely unsafe =
 
 -- ---- the clause
 
-pub audits_decide : (words : List Bytes) (old new : Disk) (before after report report' : Output) (result : ℕ) → LeastFactsFindAlikeSafe
-    → IsForSafe words old new before after report report' result → IsForNotSafe words old new before after report report' result
-    → AuditsDecide words old new result
-audits_decide words old new before after report report' result alike safe not_safe audit classes others asked can = record {
+pub audits_decide : (call : ProgramCall) → LeastFactsFindAlikeSafe → IsForSafe call → IsForNotSafe call → AuditsDecide call
+audits_decide call alike safe not_safe audit classes others asked can = record {
   safe = λ is.
       let says = (safe audit asked is).safe in
-      let same = same_audited audit classes others says.classes says.written old new can says.audited in
+      let same = same_audited audit classes others says.classes says.written call.old call.new can says.audited in
       let P : List ClassDef × List ClassDef → Type 0 = λ q. AreSafelyWritten q.0 (given_in audit).main q.1 in
       subst P (λ k. (same.given k, same.written k)) says.safely;
   not_safe = λ is are.
       let says = not_safe is in
-      let A : Audit → Type 0 = λ a. CanBeAudited a old.contents classes others × AreSafelyWritten classes (given_in a).main others in
+      let A : Audit → Type 0 = λ a. CanBeAudited a call.old.contents classes others × AreSafelyWritten classes (given_in a).main others in
       let own = subst A (audits_one words audit says.audit asked says.asked) (can, are) in
       let found = says.not_safe in
-      let same = same_audited says.audit classes others found.classes found.written old new own.0 found.audited in
+      let same = same_audited says.audit classes others found.classes found.written call.old call.new own.0 found.audited in
       let P : List ClassDef × List ClassDef → Type 0 = λ q. NoneIsSafe (program_of q.0 (given_in says.audit).main) q.0 q.1 in
-      never_unsafe alike classes (given_in says.audit).main others (are_accepted (audited_files says.audit classes) old.contents others own.0.taken) own.1
+      never_unsafe alike classes (given_in says.audit).main others (are_accepted (audited_files says.audit classes) call.old.contents others own.0.taken) own.1
       (subst P (λ k. (same.given k, same.written k)) found.fails.unsafe);
 }

@@ -9,27 +9,26 @@ use Rattle.fm_code.specs.ClassBytes.{class_bytes}
 use Rattle.fm_code.specs.Spells.{HasSpelling}
 use Rattle.fm_code.specs.declared.class_file.ClassDef.{ClassDef}
 use Rattle.fm_files.specs.Files.{Bytes, Call, Disk}
-use Rattle.fm_files.specs.Sink.{Output}
 use Rattle.fm_load.proofs.GivenLemmas.{given_spelled}
 use Rattle.fm_load.proofs.ReadLemmas.{same_number}
 use Rattle.fm_load.specs.Given.{AreGiven, made_classes}
+use Rattle.fm_load.specs.ProgramCalls.{ProgramCall}
 use Rattle.fm_load.specs.Reading.{AreRead}
 use Rattle.fm_load.specs.Returned.{returned}
 use Rattle.fm_load.specs.Taking.{ClassIsSpelled}
 use Rattle.freeme.proofs.WrittenLemmas.{names_same}
 use Rattle.freeme.specs.Audits.{IsSafe, audited_files}
-use Rattle.freeme.specs.Causes.{IsForDone, IsForSafe, SaysDone}
+use Rattle.freeme.specs.Causes.{AskFor, IsForDone, IsForSafe, SaysDone}
 use Rattle.freeme.specs.Meaning.{AuditsAlike, HasAuditedAlike, HasKeptMeaning, HasRunsAlike, KeepsMeaning, RunsAlike}
 use Rattle.freeme.specs.TopCall.{IsDone}
 
-pub keeps_meaning : (words : List Bytes) (old new : Disk) (before after report report' : Output) (result : ℕ) → IsForDone words old new before after report report' result
-    → KeepsMeaning words old new result
-keeps_meaning words old new before after report report' result done is = by_said (done.only is) where
-  by_said : SaysDone words old new before after report report' ⊎ AskOnlyForText words → HasKeptMeaning words old new ⊎ AskOnlyForText words
+pub keeps_meaning : (call : ProgramCall) → IsForDone call → KeepsMeaning call
+keeps_meaning call done is = by_said (done.only is) where
+  by_said : AskFor call.words (SaysDone call) ⊎ AskOnlyForText call.words → HasKeptMeaning call ⊎ AskOnlyForText call.words
   by_said (inr text) = inr text
-  by_said (inl said) = inl (record {
-    job = said.job;
-    asked = said.asked;
+  by_said (inl (job, (asked, said))) = inl (record {
+    job = job;
+    asked = asked;
     classes = said.done.freed.classes;
     checked = said.done.freed.checked;
     reads = said.done.reads;
@@ -74,14 +73,13 @@ done_alike job lines old new none done =
       };
     }
 
-pub runs_alike : (words : List Bytes) (old new : Disk) (before after report report' : Output) (result : ℕ) → IsForDone words old new before after report report' result
-    → RunsAlike words old new result
-runs_alike words old new before after report report' result done job asked none is = by_said (done.only is) where
-  by_said : SaysDone words old new before after report report' ⊎ AskOnlyForText words → HasRunsAlike job old new
+pub runs_alike : (call : ProgramCall) → IsForDone call → RunsAlike call
+runs_alike call done job asked none is = by_said (done.only is) where
+  by_said : AskFor call.words (SaysDone call) ⊎ AskOnlyForText call.words → HasRunsAlike job call.old call.new
   by_said (inr text) = absurd (text.no_job job asked)
-  by_said (inl said) =
-      let P : FreemeJob → Type 0 = λ k. IsDone k said.lines old new in
-      done_alike job said.lines old new none (subst P (asks_one words said.job job said.asked asked) said.done)
+  by_said (inl (own, (own_asked, said))) =
+      let P : FreemeJob → Type 0 = λ k. IsDone k said.lines call.old call.new in
+      done_alike job said.lines call.old call.new none (subst P (asks_one call.words own job own_asked asked) said.done)
 
 -- ---- audits
 
@@ -112,7 +110,5 @@ safe_alike audit lines old new safe =
       faultless = safe.alike.faultless;
     }
 
-pub audits_alike : (words : List Bytes) (old new : Disk) (before after report report' : Output) (result : ℕ) → IsForSafe words old new before after report report' result
-    → AuditsAlike words old new result
-audits_alike words old new before after report report' result said audit asked is =
-    let says = said audit asked is in safe_alike audit says.lines old new says.safe
+pub audits_alike : (call : ProgramCall) → IsForSafe call → AuditsAlike call
+audits_alike call said audit asked is = let says = said audit asked is in safe_alike audit says.lines call.old call.new says.safe

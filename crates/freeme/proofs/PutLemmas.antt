@@ -10,12 +10,12 @@ use Rattle.fm_code.specs.ClassBytes.{class_bytes}
 use Rattle.fm_code.specs.Spells.{HasSpelling}
 use Rattle.fm_code.specs.declared.class_file.ClassDef.{ClassDef}
 use Rattle.fm_files.specs.Files.{Bytes, Contents, Disk}
-use Rattle.fm_files.specs.Sink.{Output}
 use Rattle.fm_law_spelled.proofs.ApartLemmas.{printed_name}
 use Rattle.fm_load.proofs.GivenLemmas.{given_spelled}
 use Rattle.fm_load.proofs.ReadLemmas.{same_number}
 use Rattle.fm_load.proofs.RefusalLemmas.{refusal_some as job_refusal_some}
 use Rattle.fm_load.specs.Given.{AreGiven, made_classes}
+use Rattle.fm_load.specs.ProgramCalls.{ProgramCall}
 use Rattle.fm_load.specs.Taking.{AreTaken, ClassIsSpelled}
 use Rattle.fm_rewrite.specs.declared.counts.Count.{Count}
 use Rattle.fm_rewrite.specs.declared.error.RewriteFail.TheVariants as fail
@@ -24,7 +24,7 @@ use Rattle.freeme.proofs.WrittenLemmas.{names_same, one_count_each}
 use Rattle.freeme.specs.Causes.{PutsOnce}
 use Rattle.freeme.specs.Jobs.{given_of}
 use Rattle.freeme.specs.Refusal.{refusal_line, refusal_status}
-use Rattle.freeme.specs.TopCall.{ComesOf, IsDone, IsReported, Outcome}
+use Rattle.freeme.specs.TopCall.{ComesOf, IsDone, Outcome, Reports}
 use Rattle.freeme.specs.Writing.{class_line, class_lines, class_text}
 use Rattle.freeme.specs.declared.refusal.FreeRefusal.{FreeRefusal}
 use Rattle.freeme.specs.declared.refusal.FreeRefusal.TheVariants as free_refusal
@@ -88,12 +88,10 @@ outcome_some words old new (Ok lines) (inr (inr lacking)) = absurd (let other = 
 
 -- ---- puts
 
-pub outcome_once : (before after report report' : Output) (result : ℕ) (o : Outcome) → 0 < length (outcome_line o) → IsReported o before after report report' result
-    → PutsOnce before after report report'
-outcome_once before after report report' result (Ok lines) some reports = inl (line_once (string_bytes lines) DONE before after result reports.0 some, reports.1)
-outcome_once before after report report' result (Err refusal) some reports =
-    inr (line_once (refusal_line refusal) (refusal_status refusal) report report' result reports.0 some, reports.1)
+pub outcome_once : (call : ProgramCall) (o : Outcome) → 0 < length (outcome_line o) → Reports o call → PutsOnce call
+outcome_once call (Ok lines) some reports = inl (line_once (string_bytes lines) DONE call.before call.after call.status reports.0 some, reports.1)
+outcome_once call (Err refusal) some reports =
+    inr (line_once (refusal_line refusal) (refusal_status refusal) call.report call.reported call.status reports.0 some, reports.1)
 
-pub puts_once : {words : List Bytes} {old new : Disk} (before after report report' : Output) (result : ℕ) (o : Outcome) → ComesOf words old new o
-    → IsReported o before after report report' result → PutsOnce before after report report'
-puts_once {words} {old} {new} before after report report' result o comes = outcome_once before after report report' result o (outcome_some words old new o comes)
+pub puts_once : (call : ProgramCall) (o : Outcome) → ComesOf call.words call.old call.new o → Reports o call → PutsOnce call
+puts_once call o comes = outcome_once call o (outcome_some call.words call.old call.new o comes)

@@ -1,13 +1,13 @@
 -- The status of a call is that of its outcome, or that of a failed put or of memory.
 use Rattle.std.proofs.Common.{ℕ, List, [], ◌∷◌, Ok, Err, refl, arith}
-use Rattle.fm_files.specs.Sink.{Output}
 use Rattle.fm_cli.proofs.LineLemmas.{told_among}
 use Rattle.fm_cli.specs.declared.command_refusal.CommandRefusal.TheVariants as refusal
 use Rattle.fm_cli.specs.declared.status.TheConstants.{DONE, WORDS, READ, MALFORMED, VERSION, LIMIT, UNSUPPORTED, LINK, CHECK, WRITE, OUT_OF_MEMORY}
 use Rattle.fm_rewrite.specs.declared.error.RewriteFail.TheVariants as fail
-use Rattle.freeme.proofs.ReportedLemmas.{outcome_line, outcome_status, own_sink, own_reports}
+use Rattle.freeme.proofs.ReportedLemmas.{outcome_line, outcome_status, own_after, own_before, own_reports}
+use Rattle.fm_load.specs.ProgramCalls.{ProgramCall}
 use Rattle.freeme.specs.Causes.{IsStatus}
-use Rattle.freeme.specs.TopCall.{IsReported, Outcome}
+use Rattle.freeme.specs.TopCall.{Outcome, Reports}
 use Rattle.freeme.specs.declared.refusal.FreeRefusal.TheVariants as free_refusal
 use Rattle.freeme.specs.declared.status.TheConstants.{CALLS_FREE, POOL_FULL, METHOD_TOO_LONG, NOT_SAFE}
 use Rattle.fm_load.specs.declared.class_refusal.ClassRefusal.TheVariants as refused
@@ -39,8 +39,7 @@ own_status (Err (free_refusal.Rewrite (fail.MethodTooLong method bytes) name)) =
 own_status (Err (free_refusal.Rewrite fail.NoMemory name)) = (14, omega arith, refl)
 own_status (Err (free_refusal.NotSafe name part)) = (12, omega arith, refl)
 
-pub is_status : (before after report report' : Output) (result : ℕ) (o : Outcome) → IsReported o before after report report' result → IsStatus result
-is_status before after report report' result o reports =
-    told_among (outcome_line o) (outcome_status o) (own_sink o before report) (own_sink o after report') result (own_reports before after report report' result o reports)
-    all_statuses
+pub is_status : (call : ProgramCall) (o : Outcome) → Reports o call → IsStatus call.status
+is_status call o reports =
+    told_among (outcome_line o) (outcome_status o) (own_before call o) (own_after call o) call.status (own_reports call o reports) all_statuses
     (own_status o) (13, omega arith, refl) (14, omega arith, refl)

@@ -6,9 +6,9 @@ use Rattle.fm_cli_requests.specs.AuditRequest.{Audit}
 use Rattle.fm_cli_requests.specs.FreemeRequest.{AskToAudit, Asks, FreemeJob}
 use Rattle.fm_code.specs.declared.class_file.ClassDef.{ClassDef}
 use Rattle.fm_conn.specs.Facts.{AreFacts, Facts}
-use Rattle.fm_files.specs.Files.{Bytes, Contents, Disk}
-use Rattle.fm_files.specs.Sink.{Output}
+use Rattle.fm_files.specs.Files.{Bytes, Contents}
 use Rattle.fm_load.specs.Given.{AreChecked, given_program}
+use Rattle.fm_load.specs.ProgramCalls.{ProgramCall}
 use Rattle.fm_load.specs.Taking.{AllTaken}
 use Rattle.fm_rewrite.specs.FreeCalls.{first_call}
 use Rattle.fm_summ_shapes.specs.Analysed.{AreLeastTypings}
@@ -37,17 +37,17 @@ pub record CanBeDone (job : FreemeJob) (contents : Contents) (classes : List Cla
 
 -- In this call no read of a file of the job failed, no write of the file of one of these classes, and no put of the lines or of a refusal's.
 -- Over `SureFiles` and `SureSink` of `fm_files` this always holds: their counts are 0.
-pub record NothingFails (job : FreemeJob) (classes : List ClassDef) (old new : Disk) (before after report report' : Output) : Type 0 where
-  pub reads : (file : Bytes) → Contains job.files file → new.read_faults file ≤ old.read_faults file
-  pub writes : (name : Bytes) → IsFileOf job.folder classes name → new.write_faults name ≤ old.write_faults name
-  pub puts : after.faults ≤ before.faults
-  pub reports : report'.faults ≤ report.faults
+pub record NothingFails (job : FreemeJob) (classes : List ClassDef) (call : ProgramCall) : Type 0 where
+  pub reads : (file : Bytes) → Contains job.files file → call.new.read_faults file ≤ call.old.read_faults file
+  pub writes : (name : Bytes) → IsFileOf job.folder classes name → call.new.write_faults name ≤ call.old.write_faults name
+  pub puts : call.after.faults ≤ call.before.faults
+  pub reports : call.reported.faults ≤ call.report.faults
 
 -- a job that words ask for is done where nothing is against it and nothing fails, or memory can't be had
-abbrev pub IsComplete : List Bytes → Disk → Disk → Output → Output → Output → Output → ℕ → Type 0
-IsComplete words old new before after report report' result =
-    (job : FreemeJob) (classes : List ClassDef) → Asks words job → CanBeDone job old.contents classes
-    → NothingFails job classes old new before after report report' → Contains (DONE ∷ OUT_OF_MEMORY ∷ []) result
+abbrev pub IsComplete : ProgramCall → Type 0
+IsComplete call =
+    (job : FreemeJob) (classes : List ClassDef) → Asks call.words job → CanBeDone job call.old.contents classes
+    → NothingFails job classes call → Contains (DONE ∷ OUT_OF_MEMORY ∷ []) call.status
 
 -- ---- audits
 
@@ -60,16 +60,16 @@ pub record CanBeAudited (audit : Audit) (contents : Contents) (classes others : 
   pub taken : AllTaken contents (audited_files audit classes) others
 
 -- in this call no read of a file of the audit or of a class file of its folder failed, and no put of the lines or of a refusal's
-pub record NoAuditFails (audit : Audit) (old new : Disk) (before after report report' : Output) : Type 0 where
-  pub reads : (file : Bytes) → Contains audit.files file ⊎ IsClassFileIn audit.folder file → new.read_faults file ≤ old.read_faults file
-  pub puts : after.faults ≤ before.faults
-  pub reports : report'.faults ≤ report.faults
+pub record NoAuditFails (audit : Audit) (call : ProgramCall) : Type 0 where
+  pub reads : (file : Bytes) → Contains audit.files file ⊎ IsClassFileIn audit.folder file → call.new.read_faults file ≤ call.old.read_faults file
+  pub puts : call.after.faults ≤ call.before.faults
+  pub reports : call.reported.faults ≤ call.report.faults
 
 -- an audit that words ask for finds what is audited safe or not, where nothing is against it and nothing fails, or memory can't be had
-abbrev pub AuditsComplete : List Bytes → Disk → Disk → Output → Output → Output → Output → ℕ → Type 0
-AuditsComplete words old new before after report report' result =
-    (audit : Audit) (classes others : List ClassDef) → AskToAudit words audit → CanBeAudited audit old.contents classes others
-    → NoAuditFails audit old new before after report report' → Contains (DONE ∷ NOT_SAFE ∷ OUT_OF_MEMORY ∷ []) result
+abbrev pub AuditsComplete : ProgramCall → Type 0
+AuditsComplete call =
+    (audit : Audit) (classes others : List ClassDef) → AskToAudit call.words audit → CanBeAudited audit call.old.contents classes others
+    → NoAuditFails audit call → Contains (DONE ∷ NOT_SAFE ∷ OUT_OF_MEMORY ∷ []) call.status
 
 -- where the files of an audit hold these classes, it is done only if those that are audited are the given ones with safe insertions, and finds
 -- them not safe only if they aren't
@@ -78,7 +78,7 @@ pub record Decides (given : List ClassDef) (main : List ℕ) (written : List Cla
   pub not_safe : result ≡ NOT_SAFE → ¬ AreSafelyWritten given main written
 
 -- so does any audit that words ask for, whatever fails besides
-abbrev pub AuditsDecide : List Bytes → Disk → Disk → ℕ → Type 0
-AuditsDecide words old new result =
-    (audit : Audit) (classes others : List ClassDef) → AskToAudit words audit → CanBeAudited audit old.contents classes others
-    → Decides classes (given_in audit).main others result
+abbrev pub AuditsDecide : ProgramCall → Type 0
+AuditsDecide call =
+    (audit : Audit) (classes others : List ClassDef) → AskToAudit call.words audit → CanBeAudited audit call.old.contents classes others
+    → Decides classes (given_in audit).main others call.status

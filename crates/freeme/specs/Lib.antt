@@ -8,3 +8,4 @@ pub mod TopCall
 pub mod Complete
 pub mod Causes
 pub mod Meaning
+pub mod Clauses

@@ -1,7 +1,7 @@
 -- That the classes which are written mean what those mean that are read.
-use Rattle.std.specs.Prelude.{◌≡◌, ◌⊎◌, ◌++◌, ℕ, true, List, None, length, map}
+use Rattle.std.specs.Prelude.{◌≡◌, ◌⊎◌, ◌++◌, true, List, None, length, map}
 use Rattle.std.specs.List.{AllByRecursion}
-use Rattle.fm_files.specs.Files.{Bytes, Disk}
+use Rattle.fm_files.specs.Files.{Disk}
 use Rattle.fm_cli.specs.declared.status.TheConstants.{DONE}
 use Rattle.fm_code.specs.declared.class_file.ClassDef.{ClassDef}
 use Rattle.fm_cli_requests.specs.AuditRequest.{Audit}
@@ -10,6 +10,7 @@ use Rattle.fm_law_chains.specs.FreesAll.{FreesAll}
 use Rattle.fm_law_headline.specs.Headline.{DoesTheSame, EndTheSame, MakesAsHeld}
 use Rattle.fm_law_same_runs.specs.Beside.{InAllRuns, IsWithoutFault, Marks, Same}
 use Rattle.fm_load.specs.Given.{AreChecked}
+use Rattle.fm_load.specs.ProgramCalls.{ProgramCall}
 use Rattle.fm_load.specs.Returned.{ReadsAs, returned}
 use Rattle.fm_load.specs.Taking.{ClassIsSpelled}
 use Rattle.fm_rewrite.specs.declared.rewriting.Rewritten.{Rewritten}
@@ -22,24 +23,24 @@ use Rattle.freeme.specs.Writing.{AllWritten, class_text}
 -- The classes whose bytes the reads of this call returned, and those whose bytes it wrote for them, which do the same (JVMS 2.6, 2.10, 2.11): step for matched step on
 -- memory that reuses cells in any way, no freed cell is used, and holders of what isn't needed are null. With chains nothing is held of what a site in a loop gave, where
 -- that isn't needed.
-pub record HasKeptMeaning (words : List Bytes) (old new : Disk) : Type 0 where
+pub record HasKeptMeaning (call : ProgramCall) : Type 0 where
   pub job : FreemeJob
-  pub asked : Asks words job
+  pub asked : Asks call.words job
   pub classes : List ClassDef
-  pub checked : AreChecked (given_of job) old.contents classes
-  pub reads : ReadsAs job.files classes old new
+  pub checked : AreChecked (given_of job) call.old.contents classes
+  pub reads : ReadsAs job.files classes call.old call.new
   pub program : Program
   pub analysed : IsJobProgram job classes program
   pub made : Rewritten
   pub rewritten : AreRewrittenBy job.chains program classes made
-  pub written : AllWritten job.folder made.classes.items old new
+  pub written : AllWritten job.folder made.classes.items call.old call.new
   pub does : DoesTheSame program classes (main_name job) made.classes.items rewritten.marks (own_facts rewritten)
   pub all : job.chains ≡ true
       → FreesAll program (program_of classes (main_name job)) (program_of made.classes.items (main_name job)) (own_facts rewritten) rewritten.marks
 
 -- where it is done, unless the words ask for a text
-abbrev pub KeepsMeaning : List Bytes → Disk → Disk → ℕ → Type 0
-KeepsMeaning words old new result = result ≡ DONE → HasKeptMeaning words old new ⊎ AskOnlyForText words
+abbrev pub KeepsMeaning : ProgramCall → Type 0
+KeepsMeaning call = call.status ≡ DONE → HasKeptMeaning call ⊎ AskOnlyForText call.words
 
 -- ---- the same, of what programs do, and no word of how classes are taken, analysed and rewritten
 
@@ -66,8 +67,8 @@ pub record HasRunsAlike (job : FreemeJob) (old new : Disk) : Type 0 where
   pub alike : RunAlike (program_of given (main_name job)) (program_of made (main_name job))
 
 -- where it is done, of class files
-abbrev pub RunsAlike : List Bytes → Disk → Disk → ℕ → Type 0
-RunsAlike words old new result = (job : FreemeJob) → Asks words job → job.made ≡ None → result ≡ DONE → HasRunsAlike job old new
+abbrev pub RunsAlike : ProgramCall → Type 0
+RunsAlike call = (job : FreemeJob) → Asks call.words job → job.made ≡ None → call.status ≡ DONE → HasRunsAlike job call.old call.new
 
 -- ---- the same of what is audited
 
@@ -85,5 +86,5 @@ pub record HasAuditedAlike (audit : Audit) (old new : Disk) : Type 0 where
   pub faultless : InAllRuns (program_of given (given_in audit).main) (program_of written (given_in audit).main) marks IsWithoutFault
 
 -- where the audit is done
-abbrev pub AuditsAlike : List Bytes → Disk → Disk → ℕ → Type 0
-AuditsAlike words old new result = (audit : Audit) → AskToAudit words audit → result ≡ DONE → HasAuditedAlike audit old new
+abbrev pub AuditsAlike : ProgramCall → Type 0
+AuditsAlike call = (audit : Audit) → AskToAudit call.words audit → call.status ≡ DONE → HasAuditedAlike audit call.old call.new

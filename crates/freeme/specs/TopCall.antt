@@ -25,6 +25,7 @@ use Rattle.fm_world.specs.Causes.{declared_name, method_text}
 use Rattle.fm_world.specs.Linking.{refusals}
 use Rattle.fm_world.specs.Programs.{class_info, Outline, Program, program_of}
 use Rattle.fm_load.specs.Given.{given_program, IsUntouched, AreMany, IsUnread, IsLong, IsRefusedFile, IsNotLinked, IsNotTyped, AreChecked}
+use Rattle.fm_load.specs.ProgramCalls.{ProgramCall, PutsText}
 use Rattle.fm_load.specs.Returned.{ReadsAs, ReadsInOrder}
 use Rattle.fm_load.specs.Taking.{ClassIsSpelled}
 use Rattle.fm_load.specs.Changes.{RisesOnlyAt, ChangesOnlyAt, ReadsOnly}
@@ -199,55 +200,51 @@ ComesOf words old new outcome = ComesOfJob words old new outcome ⊎ (ComesOfNot
 -- the lines of a job that is done are put into the output as one piece, that of a refusal into the report, and the result is the status of the
 -- outcome; or the put fails, or memory for it can't be had; the other sink is as it was
 abbrev pub IsReported : Outcome → Output → Output → Output → Output → ℕ → Type 0
-IsReported (Ok lines) before after report report' result = Tells (string_bytes lines) DONE before after result × (report' ≡ report)
-IsReported (Err refusal) before after report report' result =
-    Tells (refusal_line refusal) (refusal_status refusal) report report' result × (after ≡ before)
+IsReported (Ok lines) before after report reported result = Tells (string_bytes lines) DONE before after result × (reported ≡ report)
+IsReported (Err refusal) before after report reported result =
+    Tells (refusal_line refusal) (refusal_status refusal) report reported result × (after ≡ before)
+
+-- the lines of the outcome of a call are reported so
+abbrev pub Reports : Outcome → ProgramCall → Type 0
+Reports outcome call = IsReported outcome call.before call.after call.report call.reported call.status
 
 -- that put fails, and the other sink is as it was
-abbrev pub IsUnreported : Outcome → Output → Output → Output → Output → Type 0
-IsUnreported (Ok lines) before after report report' = FailsPut (string_bytes lines) before after × (report' ≡ report)
-IsUnreported (Err refusal) before after report report' = FailsPut (refusal_line refusal) report report' × (after ≡ before)
+abbrev pub IsUnreported : Outcome → ProgramCall → Type 0
+IsUnreported (Ok lines) call = FailsPut (string_bytes lines) call.before call.after × (call.reported ≡ call.report)
+IsUnreported (Err refusal) call = FailsPut (refusal_line refusal) call.report call.reported × (call.after ≡ call.before)
 
 -- a call for no text: what the words ask for, which is no audit, comes out in some way, or memory to read them can't be had, and that is reported
-pub record IsJobCall (words : List Bytes) (old new : Disk) (before after report report' : Output) (result : ℕ) : Type 0 where
-  pub no_text : AskForNoText words
+pub record IsJobCall (call : ProgramCall) : Type 0 where
+  pub no_text : AskForNoText call.words
   pub outcome : Outcome
-  pub comes : ComesOf words old new outcome
-  pub reports : IsReported outcome before after report report' result
+  pub comes : ComesOf call.words call.old call.new outcome
+  pub reports : Reports outcome call
 
 -- a call for an audit, which comes out in some way, and that is reported
-pub record IsAuditCall (words : List Bytes) (old new : Disk) (before after report report' : Output) (result : ℕ) : Type 0 where
-  pub no_text : AskForNoText words
+pub record IsAuditCall (call : ProgramCall) : Type 0 where
+  pub no_text : AskForNoText call.words
   pub audit : Audit
-  pub asked : AskToAudit words audit
-  pub within : OnlyReads audit old new
+  pub asked : AskToAudit call.words audit
+  pub within : OnlyReads audit call.old call.new
   pub outcome : Outcome
-  pub comes : AuditsTo audit old new outcome
-  pub reports : IsReported outcome before after report report' result
+  pub comes : AuditsTo audit call.old call.new outcome
+  pub reports : Reports outcome call
 
 -- one of the two
-abbrev pub IsCallForNoText : List Bytes → Disk → Disk → Output → Output → Output → Output → ℕ → Type 0
-IsCallForNoText words old new before after report report' result =
-    IsJobCall words old new before after report report' result ⊎ IsAuditCall words old new before after report report' result
+abbrev pub IsCallForNoText : ProgramCall → Type 0
+IsCallForNoText call = IsJobCall call ⊎ IsAuditCall call
 
 -- the bytes of a text of the program
 abbrev pub text_bytes : ProgramText → List ℕ
 text_bytes text.Help = HELP.now
 text_bytes text.Version = VERSION_LINE.now
 
--- the text is put into the output as one piece, or the put fails, or memory for it can't be had; the files and the report are as they were
-pub record IsTextPut (asked : ProgramText) (old new : Disk) (before after report report' : Output) (result : ℕ) : Type 0 where
-  pub kept : new ≡ old
-  pub unreported : report' ≡ report
-  pub reports : Tells (text_bytes asked) DONE before after result
-
 -- a call for a text
-pub record IsTextCall (words : List Bytes) (old new : Disk) (before after report report' : Output) (result : ℕ) : Type 0 where
+pub record IsTextCall (call : ProgramCall) : Type 0 where
   pub asked : ProgramText
-  pub asks : AskForText words asked
-  pub put : IsTextPut asked old new before after report report' result
+  pub asks : AskForText call.words asked
+  pub put : PutsText (text_bytes asked) call
 
 -- what a call does, by what the words ask for
-abbrev pub IsTopCall : List Bytes → Disk → Disk → Output → Output → Output → Output → ℕ → Type 0
-IsTopCall words old new before after report report' result =
-    IsTextCall words old new before after report report' result ⊎ IsCallForNoText words old new before after report report' result
+abbrev pub IsTopCall : ProgramCall → Type 0
+IsTopCall call = IsTextCall call ⊎ IsCallForNoText call

@@ -4,13 +4,18 @@ ghost use Rattle.std.specs.Prelude.{◌≡◌, ◌<◌, ℕ, List, IfOk, length,
 ghost use Rattle.std.specs.List.{AllByRecursion, flat_map};
 ghost use Rattle.fm_cli.specs.Words.{texts};
 ghost use Rattle.fm_cli_requests.specs.AuditRequest.{audit_of};
+ghost use Rattle.fm_cli_requests.specs.FreemeRequest.{AskToAudit};
+ghost use Rattle.fm_cli_requests.specs.ProgramText.{AskForNoText};
 ghost use Rattle.fm_code.specs.Fits.{FitsTwo};
+ghost use Rattle.fm_files.specs.Files.{Bytes};
+ghost use Rattle.fm_load.specs.ProgramCalls.{call_of};
 ghost use Rattle.fm_load.specs.Reading.{ReadsAll};
 ghost use Rattle.fm_world.specs.Members.{methods_of};
 ghost use Rattle.fm_world.specs.Programs.{program_of};
 ghost use Rattle.freeme.specs.Audits.{OnlyReads, safe_line};
+ghost use Rattle.freeme.specs.TopCall.{IsAuditCall};
 ghost use Rattle.freeme.specs.Writing.{HasName};
-ghost use Rattle.freeme.specs.inner.Auditing.{FindsAs, IsAuditable, IsAuditReported, IsCallRefused, IsRefusalOf, IsThereIn, JudgesTo, names_in};
+ghost use Rattle.freeme.specs.inner.Auditing.{FindsAs, IsAuditable, IsCallRefused, IsRefusalOf, IsThereIn, JudgesTo, names_in};
 
 use crate::freeing::class_name;
 use crate::refusal::FreeRefusal;
@@ -45,10 +50,9 @@ pub fn audit_files<F: Files, O: Sink, R: Sink>(
     out: &mut O,
     report: &mut R,
 ) -> u8
-    ensures within { OnlyReads (audit_of request.entry) (F.disk files.old) (F.disk files.new) }
-    ensures comes { IsAuditReported (audit_of request.entry)
-        (F.disk files.old) (F.disk files.new) (O.output out.old) (O.output out.new)
-        (R.output report.old) (R.output report.new) result }
+    ensures { (words : List Bytes) → AskForNoText words → AskToAudit words (audit_of request.entry)
+        → IsAuditCall (call_of words (F.disk files.old) (F.disk files.new)
+        (O.output out.old) (O.output out.new) (R.output report.old) (R.output report.new) result) }
 {
     // For their clauses: classes that are taken and have safe insertions do what they do without these.
     law_taken();
@@ -155,7 +159,8 @@ fn safe_lines(alloc: Global, classes: &[ClassDef]) -> Result<String, NoMemory>
     Ok(lines)
 }
 
-// The refusal of an audit, with the name of the method or the class for which it isn't safe.
+// The refusal of an audit, with the name of the method or the class for which it isn't safe. A call of FreeMe
+// doesn't come here, since no program is audited that has one.
 fn audit_refusal<'a>(
     alloc: Global,
     program: &Program,

@@ -12,7 +12,7 @@ pub const POOL_FULL: u8 = 73;
 /// A method would have too many bytes of code.
 pub const METHOD_TOO_LONG: u8 = 74;
 
-/// A class that is audited isn't a safe insertion into the one of the program.
+/// A class that is audited is another one than that of the program with safe insertions.
 pub const NOT_SAFE: u8 = 78;
 
 /// The value of each status, as its clauses say.

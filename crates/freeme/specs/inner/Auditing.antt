@@ -14,7 +14,6 @@ use Rattle.fm_cli.specs.declared.command_refusal.CommandRefusal.TheVariants as r
 use Rattle.fm_cli_requests.specs.AuditRequest.{Audit}
 use Rattle.fm_code.specs.declared.class_file.ClassDef.{ClassDef}
 use Rattle.fm_files.specs.Files.{Bytes, Disk}
-use Rattle.fm_files.specs.Sink.{Output}
 use Rattle.fm_law_spelled.specs.Changed.{IsShort}
 use Rattle.fm_load.specs.Given.{IsLong, IsRefusedFile, IsUnread, IsUntouched, given_program}
 use Rattle.fm_load.specs.Reading.{AreRead}
@@ -26,7 +25,6 @@ use Rattle.fm_world.specs.Causes.{declared_name, method_text}
 use Rattle.fm_world.specs.Members.{methods_of}
 use Rattle.fm_world.specs.Programs.{Outline, program_of}
 use Rattle.freeme.specs.Audits.{AuditsTo, IsJudged, audited_files, given_in, named, safe_line}
-use Rattle.freeme.specs.TopCall.{IsReported, Outcome}
 use Rattle.freeme.specs.Writing.{HasName}
 use Rattle.freeme.specs.declared.auditing.AuditedProgram.{AuditedProgram}
 use Rattle.freeme.specs.declared.refusal.FreeRefusal.{FreeRefusal}
@@ -94,7 +92,7 @@ IsThereIn o (audit_fail.NotSafe class None part) = class.0 < length o.classes
 IsThereIn o (audit_fail.NotSafe class (Some method) part) = method.0 < length (methods_of o.classes)
 IsThereIn o audit_fail.NoMemory = Unit {0}
 
--- the refusal names it
+-- the refusal names it; that of a call of FreeMe isn't looked at, since no program is audited that has one
 abbrev pub IsRefusalOf : Outline → AuditFail → FreeRefusal → Type 0
 IsRefusalOf o (audit_fail.CallsFree method offset) r = Unit {0}
 IsRefusalOf o (audit_fail.NotSafe class method part) r = r ≡ free_refusal.NotSafe (named o class method) (part_number part)
@@ -106,9 +104,3 @@ IsCallRefused o method offset (free_refusal.Rewrite cause name) =
     (cause ≡ fail.CallsFree method offset) × (name ≡ method_text (declared_name o.classes method.0))
 IsCallRefused o method offset (free_refusal.Job (job_refusal.Shared refusal.OutOfMemory)) = Unit {0}
 IsCallRefused o method offset r = ⊥
-
--- an audit comes out in some way, and that is reported
-pub record IsAuditReported (audit : Audit) (old new : Disk) (before after report report' : Output) (result : ℕ) : Type 0 where
-  pub outcome : Outcome
-  pub comes : AuditsTo audit old new outcome
-  pub reports : IsReported outcome before after report report' result

@@ -8,15 +8,16 @@ use Rattle.freeme.proofs.auditing.audit_files.Goals as goal
 pub audit_program-outcome-requires : goal.audit_program-outcome-requires
 audit_program-outcome-requires g c = is_auditable c.in-Ok.ensures.comes
 
-pub returns-in-Ok-clause-within : goal.returns-in-Ok-clause-within
-returns-in-Ok-clause-within g c =
-    both_read (audit_of c.args.request) c.in-Ok.audited.classes.items (names_in c.in-Ok.audited) (g.F.Files.disk c.args.files.now) (g.F.Files.disk c.audited_program.new.files)
-    (g.F.Files.disk c.audit_program-outcome.new.files) c.in-Ok.ensures.comes.names_are c.audited_program.ensures.within c.audit_program-outcome.ensures.within
-
-pub returns-in-Ok-clause-comes : goal.returns-in-Ok-clause-comes
-returns-in-Ok-clause-comes g c =
-    let so = c.in-Ok.ensures.comes in
-    record {
+pub returns-in-Ok : goal.returns-in-Ok
+returns-in-Ok g c =
+    let so = c.in-Ok.ensures.comes in λ words no_text asked. record {
+      no_text = no_text;
+      audit = audit_of c.args.request;
+      asked = asked;
+      within =
+          both_read (audit_of c.args.request) c.in-Ok.audited.classes.items (names_in c.in-Ok.audited) (g.F.Files.disk c.args.files.now)
+          (g.F.Files.disk c.audited_program.new.files) (g.F.Files.disk c.audit_program-outcome.new.files) so.names_are c.audited_program.ensures.within
+          c.audit_program-outcome.ensures.within;
       outcome = c.audit_program-outcome.result;
       comes =
           found so (g.F.Files.disk c.audit_program-outcome.new.files) c.law_taken.ensures.files c.law_alike.ensures c.audit_program-outcome.result
@@ -24,5 +25,13 @@ returns-in-Ok-clause-comes g c =
       reports = c.report_outcome.ensures;
     }
 
-pub returns-clause-comes : goal.returns-clause-comes
-returns-clause-comes g c = record { outcome = Err c.in-Err.refusal; comes = c.in-Err.ensures.comes; reports = c.report_outcome-in-Err.ensures }
+pub returns : goal.returns
+returns g c = λ words no_text asked. record {
+  no_text = no_text;
+  audit = audit_of c.args.request;
+  asked = asked;
+  within = c.audited_program.ensures.within;
+  outcome = Err c.in-Err.refusal;
+  comes = c.in-Err.ensures.comes;
+  reports = c.report_outcome-in-Err.ensures;
+}

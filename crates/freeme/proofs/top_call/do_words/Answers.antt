@@ -3,7 +3,7 @@ use Rattle.fm_cli.specs.Words.{texts}
 use Rattle.fm_cli.specs.declared.command_refusal.CommandRefusal.TheVariants as refusal
 use Rattle.fm_cli_requests.proofs.ClassFilesLemmas.{made_alone}
 use Rattle.fm_cli_requests.specs.AuditRequest.{audit_of}
-use Rattle.fm_cli_requests.specs.FreemeRequest.{AskForRequest, AskForNoRequest, Asks, job_of, matched_in}
+use Rattle.fm_cli_requests.specs.FreemeRequest.{AskForRequest, AskForNoRequest, AskToAudit, Asks, job_of, matched_in}
 use Rattle.fm_cli_requests.specs.declared.freeme_request.FreemeRequest.{FreemeRequest}
 use Rattle.fm_load.specs.declared.refusal.JobRefusal.TheVariants as job_refusal
 use Rattle.freeme.specs.declared.refusal.FreeRefusal.TheVariants as free_refusal
@@ -40,16 +40,8 @@ returns-in-Write g c =
 pub returns-in-Audit : goal.returns-in-Audit
 returns-in-Audit g c =
     let words = texts c.args.words.now in
-    let said = c.audit_files.ensures.comes in
-    inr (record {
-      no_text = c.requires;
-      audit = audit_of c.in-Audit.request;
-      asked = asked_so words _ _ _ c.in-Ok-Some.field-0-is c.in-Audit.is c.in-Ok-Some.ensures;
-      within = c.audit_files.ensures.within;
-      outcome = said.outcome;
-      comes = said.comes;
-      reports = said.reports;
-    })
+    let asked : AskToAudit words (audit_of c.in-Audit.request) = asked_so words _ _ _ c.in-Ok-Some.field-0-is c.in-Audit.is c.in-Ok-Some.ensures in
+    inr (c.audit_files.ensures words c.requires asked)
 
 pub returns-in-Ok-None : goal.returns-in-Ok-None
 returns-in-Ok-None g c =
