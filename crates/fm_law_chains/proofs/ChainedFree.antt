@@ -9,7 +9,7 @@ use Rattle.fm_law_chains.proofs.ChainsAhead.{ForthLaws, given_collected, stays_c
 use Rattle.fm_law_chains.proofs.Collecting.{all_freed, collected_in_step, CollectingLaws, IsCollected, IsPaceCollected}
 use Rattle.fm_law_chains.proofs.LoopedHolders.{full_have_chains, HaveChains}
 use Rattle.fm_law_chains.specs.Chains.{ChainedClassesFreeAll}
-use Rattle.fm_law_chains.specs.FreesAll.{AreAllFreed, FreesAll, IsGiven}
+use Rattle.fm_law_chains.specs.FreesAll.{AreAllFreed, FreesAll, IsGivenBySite}
 use Rattle.fm_law_headline.proofs.Alike.{both_of}
 use Rattle.fm_law_headline.proofs.BesideNarrowed.{each_whole, in_all, narrowed_beside}
 use Rattle.fm_law_headline.proofs.InStep.{step_matched}
@@ -99,7 +99,7 @@ programs_collect laws b from linked chains = record {
       (subst (λ (s : State). ¬ LacksWords s) (first_goes b steps job choose free k) has) c (λ s w. IsCollected b w depth class birth)
       (λ s.
       given_collected laws.forth b from linked choose (r.xs k).state (r.ys l).state pace.0 s chains depth class birth
-      (subst (λ (w : State). IsGiven b.one b.facts b.marks (r.ys l).state w depth class birth) (second_goes b steps job choose free l) given));
+      (subst (λ (w : State). IsGivenBySite b.one b.facts b.marks (r.ys l).state w depth class birth) (second_goes b steps job choose free l) given));
   on = λ steps job choose free k l pace has c depth class birth collected lasts.
       let r = runs_of b.one b.other b.marks steps b.words b.other_words job choose free in
       at_next_kept b from linked (going_laws laws b from linked) steps job choose free k l pace

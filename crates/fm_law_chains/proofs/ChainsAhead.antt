@@ -18,7 +18,7 @@ use Rattle.fm_frames.specs.declared.values.Value.{Value}
 use Rattle.fm_law_chains.proofs.BehindSites.{no_jump, not_entered, same_site}
 use Rattle.fm_law_chains.proofs.Collecting.{IsCollected, IsInChainAt, IsInChainOf}
 use Rattle.fm_law_chains.proofs.LoopedHolders.{HasChain, HaveChains}
-use Rattle.fm_law_chains.specs.FreesAll.{IsAbsent, IsBehind, IsGiven}
+use Rattle.fm_law_chains.specs.FreesAll.{IsAbsent, IsBehind, IsGivenBySite}
 use Rattle.fm_law_held_objects.proofs.ContentsKept.{has_born, has_later}
 use Rattle.fm_law_held_objects.specs.Contents.{Has, HasInChain}
 use Rattle.fm_law_held_objects.specs.Forth.{ChainsAreFreed, ChainsAreKept, FreesEmptyChains, KeepingLinksChains}
@@ -436,7 +436,7 @@ module _ (laws : ForthLaws) (b : Both) (from : IsWovenFrom b.one b.other b.facts
   -- ---- what a site gave
 
   module _ (chains : HaveChains b.one b.facts b.plans) (depth class birth : ℕ)
-      (given : IsGiven b.one b.facts b.marks y (following_of b choose y) depth class birth) where
+      (given : IsGivenBySite b.one b.facts b.marks y (following_of b choose y) depth class birth) where
     frames_same : given.f ∷ given.callers ≡ s.g ∷ s.below
     frames_same = sym given.frames_are ∙ s.news
 

@@ -15,7 +15,7 @@ use Rattle.fm_frames.specs.Runs.{Job}
 use Rattle.fm_frames.specs.States.{Frame, Moved, null, State, word_at}
 use Rattle.fm_frames.specs.declared.values.Value.{Value}
 use Rattle.fm_law_chained.specs.Chain.{IsChain}
-use Rattle.fm_law_chains.specs.FreesAll.{AreAllFreed, IsAbsent, IsGiven, IsQuietAt, IsQuietIn, LastsTo}
+use Rattle.fm_law_chains.specs.FreesAll.{AreAllFreed, IsAbsent, IsGivenBySite, IsQuietAt, IsQuietIn, LastsTo}
 use Rattle.fm_law_headline.specs.InStep.{AreInStep}
 use Rattle.fm_law_held_objects.specs.Contents.{HasInChain}
 use Rattle.fm_law_lockstep.proofs.Paced.{balanced, goes_along, keeps_pace, opens}
@@ -108,7 +108,7 @@ module _ (b : Both) (store : Store) (orderly : IsOrderly store) (depth class bir
 -- what sites gave up to a state is in the chain of a holder, or gone, as long as the frame is there
 abbrev pub AreCollected : (b : Both) → (ys : ℕ → Moved) → (l : ℕ) → Type 0
 AreCollected b ys l =
-    (first depth class birth : ℕ) → first < l → IsGiven b.one b.facts b.marks (ys first).state (ys (suc first)).state depth class birth
+    (first depth class birth : ℕ) → first < l → IsGivenBySite b.one b.facts b.marks (ys first).state (ys (suc first)).state depth class birth
     → LastsTo ys depth (suc first) l → IsCollected b (ys l).state depth class birth
 
 -- What is shown of inserted steps, from states that go together to the next ones: what the step of both gives is put into its holder's chain; and what is in one stays there,
@@ -117,7 +117,7 @@ pub record CollectingLaws (b : Both) : Type 0 where
   pub given : (steps : ℕ) (job : Job) (choose : Choose) (free : List (List ℕ)) (k l : ℕ)
       → let r = runs_of b.one b.other b.marks steps b.words b.other_words job choose free in
       GoTogetherIn b r k l → ¬ LacksWords (r.xs (suc k)).state → (c : CatchesUp r (GoTogetherIn b r) (suc k) (suc l))
-      → (depth class birth : ℕ) → IsGiven b.one b.facts b.marks (r.ys l).state (r.ys (suc l)).state depth class birth
+      → (depth class birth : ℕ) → IsGivenBySite b.one b.facts b.marks (r.ys l).state (r.ys (suc l)).state depth class birth
       → LastsTo r.ys depth (suc l) (suc l + c.count) → IsCollected b (r.ys (suc l + c.count)).state depth class birth
   pub on : (steps : ℕ) (job : Job) (choose : Choose) (free : List (List ℕ)) (k l : ℕ)
       → let r = runs_of b.one b.other b.marks steps b.words b.other_words job choose free in
@@ -154,7 +154,7 @@ module _ (b : Both) (laws : CollectingLaws b) (steps : ℕ) (job : Job) (choose 
     by_order (inr late) (inr few) =
         let same : first ≡ l = omega (arith, late, few) in
         laws.given steps job choose free k l pace has c depth class birth
-        (subst (λ n. IsGiven b.one b.facts b.marks (ys n).state (ys (suc n)).state depth class birth) same given)
+        (subst (λ n. IsGivenBySite b.one b.facts b.marks (ys n).state (ys (suc n)).state depth class birth) same given)
         (λ n low high. lasts n (omega (arith, same, low)) high)
 
   goes_collected : StepsGoTogether b → (k l : ℕ) → IsPaceCollected k l → ¬ LacksWords (xs (suc k)).state → GoesAlong runs IsPaceCollected k l

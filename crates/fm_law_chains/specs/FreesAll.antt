@@ -24,7 +24,7 @@ pub record IsBehind (marks : Marks) (f : Frame) (j : ℕ) : Type 0 where
 
 -- A step at an item of the old code leads right behind a held site in a loop, in the topmost frame, which has `depth` others below it; there an object of this birth is on top
 -- of the stack, which doesn't live for ever: the site, whose objects are in this class, has given it.
-pub record IsGiven (p : Program) (facts : Facts) (marks : Marks) (y next : State) (depth class birth : ℕ) : Type 0 where
+pub record IsGivenBySite (p : Program) (facts : Facts) (marks : Marks) (y next : State) (depth class birth : ℕ) : Type 0 where
   pub from_kept : is_at_kept marks y ≡ true
   pub f : Frame
   pub callers : List Frame
@@ -69,7 +69,7 @@ IsAbsent store birth = (cell : ℕ) → HasOther store birth cell
 -- What a site in a loop gave earlier in an activation isn't held in this state, if the class of it isn't busy there.
 abbrev pub AreAllFreed : Program → Facts → Beside → (l : ℕ) → Type 0
 AreAllFreed p facts b l =
-    (first depth class birth : ℕ) → first < l → IsGiven p facts b.marks (b.ys first).state (b.ys (suc first)).state depth class birth
+    (first depth class birth : ℕ) → first < l → IsGivenBySite p facts b.marks (b.ys first).state (b.ys (suc first)).state depth class birth
     → LastsTo b.ys depth (suc first) l → IsQuietAt p facts b.marks depth class (b.ys l).state.frames → IsAbsent (b.ys l).state.areas.store birth
 
 -- so it is in all states of the second program that are matched ones, in all runs
