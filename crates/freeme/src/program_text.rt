@@ -23,7 +23,7 @@ usage: freeme --out DIR --main CLASS [--rapid] [--chains] FILE...
   --main CLASS   the class of the main method, with / between the parts of its name
   FILE...        the class files of the program
   --rapid        take virtual calls to lead only to classes of which objects are made
-  --chains       free all objects that are made in a loop, and not only the last one
+  --chains       free all objects that a site in a loop gave, and not only the last one
   --make N       a large program that is made, of class G, for N from 1 to 100
   --audit DIR    read each DIR/NAME.class, and report whether its insertions are safe
   -h, --help     print this help; taken as the only word
