@@ -34,10 +34,10 @@ as_byte n = if nat_lt n 256 then Some n else None
 -- ---- fields
 
 -- one of two, by whether values of the kind are ints or references; for other kinds a third one
-abbrev pub by_kind : Kind → (int reference other : Quick) → Quick
-by_kind kind.Int int reference other = int
-by_kind (kind.Ref t) int reference other = reference
-by_kind k int reference other = other
+abbrev pub by_kind : Kind → (int reference third : Quick) → Quick
+by_kind kind.Int int reference third = int
+by_kind (kind.Ref t) int reference third = reference
+by_kind k int reference third = third
 
 -- getfield of a field of this kind at a place, if there is room for that
 abbrev pub getfield_at : Kind → (named : TypeId) (index : ℕ) (place : Option ℕ) → Quick
