@@ -41,7 +41,7 @@ pub record IsFreemeCall (call : ProgramCall) : Type 0 where
   -- where it is done: the classes written do what the classes read do
   pub same : OfJobs KeepsMeaning call
   pub runs : RunsAlike call
-  -- an audit: what comes out as safe, which does what the classes of the program do, and what comes out as not safe
+  -- an audit: what is safe, which does what the classes of the program do, and what isn't
   pub safe : IsForSafe call
   pub not_safe : IsForNotSafe call
   pub audited : AuditsComplete call
