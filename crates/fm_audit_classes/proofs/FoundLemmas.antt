@@ -1,7 +1,10 @@
 -- What an audit returns: that written classes are safe, or what it names.
-use Rattle.std.proofs.Common.{◌≡◌, sym, ◌∙◌, ap, subst, ℕ, ◌+◌, ◌<◌, ◌≤◌, List, length, map, drop, Option, Some, None, Result, Ok, Err, IfSome, OnOk, arith}
+use Rattle.std.proofs.Common.{◌≡◌, refl, sym, ◌∙◌, ap, subst, ℕ, ◌+◌, ◌<◌, ◌≤◌, List, length, map, drop, Option, Some, None, Result, Ok, Err, IfSome, OnOk, arith}
 use Rattle.std.specs.Prelude.{IfErr}
 use Rattle.std.specs.List.{AllByRecursion}
+use Rattle.std.proofs.lemmas.Bool.{false≢true}
+use Rattle.std.proofs.lemmas.Option.{none-some}
+use Rattle.fm_base.specs.declared.ids.ClassId.{ClassId}
 use Rattle.fm_base.specs.declared.ids.MethodId.{MethodId}
 use Rattle.fm_code.specs.Spells.{HasSpelling}
 use Rattle.fm_code.specs.declared.class_file.ClassDef.{ClassDef}
@@ -18,12 +21,15 @@ use Rattle.fm_world.specs.Programs.{Program, program_of}
 use Rattle.fm_audit.specs.NewCodes.{AllStay}
 use Rattle.fm_audit.specs.SafeMethods.{AreSafelyInserted}
 use Rattle.fm_audit.specs.declared.methods.NewCode.{NewCode}
+use Rattle.fm_audit.specs.declared.parts.Part.{Part}
 use Rattle.fm_audit_classes.proofs.AuditedLemmas.{audited}
 use Rattle.fm_audit_classes.proofs.UnsafeLemmas.{refused_unsafe}
 use Rattle.fm_audit_classes.specs.Audited.{ComesOfAudit, NoneIsSafe}
+use Rattle.fm_audit_classes.specs.Parts.{HaveClasses, IsFirstOther}
 use Rattle.fm_audit_classes.specs.declared.error.AuditFail.{AuditFail}
 use Rattle.fm_audit_classes.specs.declared.error.AuditFail.TheVariants as fail
 use Rattle.fm_audit_classes.specs.inner.Codes.{pair_of, written_codes}
+use Rattle.fm_audit_classes.specs.inner.Named.{IsFirstRefusal, NamesMethodIf, NamesOnly}
 use Rattle.fm_audit_classes.specs.inner.Found.{AreWhollyWritten, ComesOfJudged, IsFalseOf, IsFound, IsNamed, IsRefused, IsUnsafe}
 
 -- ---- how many there are
@@ -56,15 +62,40 @@ comes_of_judged given p new done written judged are stay count spelled codes (Er
 -- ---- what is named
 
 pub not_written : (p : Program) (given : List ClassDef) (main : List ℕ) (written : List ClassDef) (e : AuditFail) → first_call p ≡ None
-    → IsRefused p given written e → p ≡ program_of given main → ComesOfAudit given main written (Err e)
-not_written p given main written (fail.CallsFree method offset) none refused is = absurd refused
-not_written p given main written (fail.NotSafe class method part) none refused is = record {
+    → IsRefused p given written e → IsFirstRefusal given written e → p ≡ program_of given main → ComesOfAudit given main written (Err e)
+not_written p given main written (fail.CallsFree method offset) none refused named is = absurd refused
+not_written p given main written (fail.NotSafe class method part) none refused named is = record {
   no_call = ap first_call (sym is) ∙ none;
   class_inside = subst (λ (q : Program). class.0 < length q.outline.classes) is refused.class_inside;
   method_inside = subst (λ (q : Program). IfSome method (λ (m : MethodId). m.0 < length (methods_of q.outline.classes))) is refused.method_inside;
   unsafe = subst (λ (q : Program). NoneIsSafe q given written) is refused.unsafe;
+  named = named;
 }
-not_written p given main written fail.NoMemory none refused is = tt
+not_written p given main written fail.NoMemory none refused named is = tt
+
+-- no class is found that isn't the given one
+pub named_same : (given written : List ClassDef) (e : AuditFail) → HaveClasses given written → NamesMethodIf (HaveClasses given written) e
+    → IsFirstRefusal given written e
+named_same given written (fail.CallsFree method offset) have named = tt
+named_same given written (fail.NotSafe class None part) have named = absurd (false≢true (named have))
+named_same given written (fail.NotSafe class (Some method) part) have named = have
+named_same given written fail.NoMemory have named = tt
+
+-- the first one is found
+pub named_first : (given written : List ClassDef) (place number : ℕ) (e : AuditFail) → IsFirstOther given written place → number ≡ length built_in + place
+    → NamesOnly number e → IsFirstRefusal given written e
+named_first given written place number (fail.CallsFree method offset) first place_is named = absurd named
+named_first given written place number (fail.NotSafe class None part) first place_is named =
+    (named.1.1, record { place = place; number = named.0 ∙ place_is; first = first })
+named_first given written place number (fail.NotSafe class (Some method) part) first place_is named = absurd (none-some method (sym named.1.0))
+named_first given written place number fail.NoMemory first place_is named = absurd named
+
+-- memory was wanted, or FreeMe is called
+pub named_other : (given written : List ClassDef) (e : AuditFail)
+    → ((class : ClassId) (method : Option MethodId) (part : Part) → e ≡ fail.NotSafe class method part → ⊥) → IsFirstRefusal given written e
+named_other given written (fail.CallsFree method offset) other = tt
+named_other given written (fail.NotSafe class method part) other = absurd (other class method part refl)
+named_other given written fail.NoMemory other = tt
 
 -- another class may be named
 unsafe_by : (p : Program) (given written : List ClassDef) (e : AuditFail) → NoneIsSafe p given written → IsUnsafe p given written e

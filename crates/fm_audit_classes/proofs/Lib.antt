@@ -9,3 +9,8 @@ pub mod UnsafeLemmas
 pub mod FoundLemmas
 pub mod WholeClassLemmas
 pub mod PushedLemmas
+pub mod SameLemmas
+pub mod PairLemmas
+pub mod HeadLemmas
+pub mod WholeIfLemmas
+pub mod StillLemmas

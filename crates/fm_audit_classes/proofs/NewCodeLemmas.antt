@@ -40,7 +40,7 @@ no_code = (0, [])
 
 -- ---- lists
 
-place_items : (methods : List Member) (i : ℕ) → method_items (slice_get methods i) ≡ code_items (get_or (map code_of methods) i None)
+pub place_items : (methods : List Member) (i : ℕ) → method_items (slice_get methods i) ≡ code_items (get_or (map code_of methods) i None)
 place_items [] i = refl
 place_items (m ∷ methods) zero = refl
 place_items (m ∷ methods) (suc i) = place_items methods i

@@ -9,6 +9,7 @@ use Rattle.fm_audit_classes.specs.declared.error.AuditFail.{AuditFail}
 use Rattle.fm_audit_classes.specs.declared.error.AuditFail.TheVariants as fail
 use Rattle.fm_audit_classes.specs.inner.Found.{AreLowEach, AreWhollyWritten, IsFalseOf}
 use Rattle.fm_audit_classes.specs.inner.Low.{are_low}
+use Rattle.fm_audit_classes.specs.inner.Named.{AreStill, IsStill}
 use Rattle.fm_rewrite.specs.inner.ByPlans.{classes_by, others, own, rewritten_by}
 
 -- where a class is the written one, and so are those that are left, all are
@@ -46,6 +47,14 @@ whole_more classes written place class new done within inside class_is new_is wh
         same = same_tail new (rewritten_by (own class done) class) (drop (place + 1) written) (classes_by (others class done) (drop (place + 1) classes)) same;
       };
     }
+
+-- and where each class that has its codes stays as it is, so do this one and those that are left
+pub still_more : (classes written : List ClassDef) (place : ℕ) (class new : ClassDef) (done : List Planned) → place < length classes → place < length written
+    → class ≡ get_or classes place class → new ≡ get_or written place new → AreStill done (drop place classes) (drop place written)
+    → IsStill (own class done) class new × AreStill (others class done) (drop (place + 1) classes) (drop (place + 1) written)
+still_more classes written place class new done within inside class_is new_is still =
+    subst (λ (q : List ClassDef × List ClassDef). AreStill done q.0 q.1)
+    (λ k. (drop_here classes place class within class_is k, drop_here written place new inside new_is k)) still
 
 -- a refusal says that something doesn't hold, where it doesn't
 pub false_of : (P : Type 0) (e : AuditFail) → (P → ⊥) → IsFalseOf P e

@@ -1,6 +1,6 @@
 -- Classes that safe insertions give are the given ones by what is to be done with their methods, and so none of them is refused.
 use Rattle.std.proofs.Common.{◌≡◌, refl, sym, ◌∙◌, ap, subst, ℕ, zero, suc, ◌+◌, ◌-◌, ◌<◌, ◌≤◌, ⊎_elim, Bool, true, false, cond, not, List, [], ◌∷◌, length, map, drop, get_or, replicate, Option, Some, None, arith}
-use Rattle.std.specs.Prelude.{nat_lt, slice_get}
+use Rattle.std.specs.Prelude.{nat_lt}
 use Rattle.std.specs.List.{AllByRecursion, flat_map, range_with_len}
 use Rattle.std.specs.Option.{option_map}
 use Rattle.std.proofs.lemmas.Bool.{and_from, cases_lt, le-ltb}
@@ -37,7 +37,7 @@ use Rattle.fm_world.specs.Programs.{code_at, codes_of, Program, program_of}
 use Rattle.fm_audit.proofs.FewLemmas.{pairs_few}
 use Rattle.fm_audit.proofs.OwnLemmas.{nulls_own}
 use Rattle.fm_audit.proofs.WovenReadLemmas.{woven_is_read}
-use Rattle.fm_audit.specs.NewCodes.{AllStay, free_in, items_in, new_code, new_code_of, new_free_of, new_items_of, StaysIn}
+use Rattle.fm_audit.specs.NewCodes.{AllStay, new_free_of, new_items_of, StaysIn}
 use Rattle.fm_audit.specs.ReadBack.{read_by}
 use Rattle.fm_audit.specs.Reading.{nulls, read}
 use Rattle.fm_audit.specs.SafeMethods.{AreSafelyInserted}
@@ -46,6 +46,7 @@ use Rattle.fm_audit.specs.declared.methods.NewCode.{NewCode}
 use Rattle.fm_audit_classes.proofs.AuditedLemmas.{all_inserted, no_chain, safe_plain}
 use Rattle.fm_audit_classes.proofs.NewCodeLemmas.{all_few, all_new, IsNewFor, no_code}
 use Rattle.fm_audit_classes.proofs.NumberedLemmas.{classes_each}
+use Rattle.fm_audit_classes.proofs.StillLemmas.{pair_given}
 use Rattle.fm_audit_classes.proofs.WovenClassLemmas.{classes_are}
 use Rattle.fm_audit_classes.specs.Audited.{AreSafePlans, HaveStack}
 use Rattle.fm_audit_classes.specs.declared.error.AuditFail.{AuditFail}
@@ -69,13 +70,6 @@ bare_before given main method inside =
     let count : length front ≡ length (methods_of built_in) = length-replicate (length (methods_of built_in)) None in
     get_or_append_left front (flat_map (λ (c : ClassDef). map code_of c.methods) given) None method (omega (arith, inside, count))
     ∙ none_at (length (methods_of built_in)) method
-
--- ---- the new code of a method
-
-new_at : (new : List NewCode) (i : ℕ) → ◌≡◌ {A = ℕ × List Item} (free_in (slice_get new i), items_in (slice_get new i)) (get_or (map pair_of new) i no_code)
-new_at [] i = refl
-new_at (n ∷ new) zero = refl
-new_at (n ∷ new) (suc i) = new_at new i
 
 -- ---- room
 
@@ -109,14 +103,7 @@ module _ (given : List ClassDef) (p : Program) (new : List NewCode) (done : List
 
   -- the new code of a given method
   pair_at : (i : ℕ) → ◌≡◌ {A = ℕ × List Item} (new_free_of p new (first_given + i), new_items_of p new (first_given + i)) (get_or (map pair_of new) i no_code)
-  pair_at i =
-      let all = methods_counted given judged.main p judged.program_is in
-      let first : length (methods_of p.outline.classes) - length new ≡ first_given = omega (arith, all, count) in
-      let past : nat_lt (first_given + i) first_given ≡ false = le-ltb (first_given + i) first_given (omega arith) in
-      let left : first_given + i - first_given ≡ i = omega arith in
-      let own : new_code_of p new (first_given + i) ≡ slice_get new i =
-      ap (λ n. new_code new n (first_given + i)) first ∙ ap (λ b. cond b None (slice_get new (first_given + i - first_given))) past ∙ ap (slice_get new) left in
-      (λ k. (free_in (own k), items_in (own k))) ∙ new_at new i
+  pair_at = pair_given given p new judged count
 
   is_new : (i : ℕ) (code : Code) → code_at p (first_given + i) ≡ Some code
       → IsNewFor (plans (first_given + i)) (Some code) (new_free_of p new (first_given + i), new_items_of p new (first_given + i))

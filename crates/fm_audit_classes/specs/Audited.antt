@@ -13,6 +13,8 @@ use Rattle.fm_rewrite.specs.FreeCalls.{first_call}
 use Rattle.fm_summ_shapes.specs.Analysed.{AreLeastTypings}
 use Rattle.fm_world.specs.Members.{methods_of}
 use Rattle.fm_world.specs.Programs.{code_at, Program, program_of}
+use Rattle.fm_audit.specs.declared.parts.Part.{Part}
+use Rattle.fm_audit_classes.specs.Parts.{IsFirstNamed}
 use Rattle.fm_audit_classes.specs.declared.error.AuditFail.{AuditFail}
 use Rattle.fm_audit_classes.specs.declared.error.AuditFail.TheVariants as fail
 
@@ -39,16 +41,18 @@ pub record NoneIsSafe (p : Program) (given written : List ClassDef) : Type 0 whe
   pub least : AreLeastTypings p facts.typing
   pub none : (plans : Plans) → AreSafePlans p facts plans → HaveStack p plans → written ≡ rewritten plans given → ⊥
 
--- the program doesn't call FreeMe, what is named is one of its classes, and one of its methods or none, and no safe insertions give the classes written
-pub record AreNotSafelyWritten (given : List ClassDef) (main : List ℕ) (written : List ClassDef) (class : ℕ) (method : Option MethodId) : Type 0 where
+-- The program doesn't call FreeMe, what is named is one of its classes, and one of its methods or none, and no safe insertions give the classes written. Without
+-- a method the first class is named that isn't the given one, codes aside.
+pub record AreNotSafelyWritten (given : List ClassDef) (main : List ℕ) (written : List ClassDef) (class : ℕ) (method : Option MethodId) (part : Part) : Type 0 where
   pub no_call : first_call (program_of given main) ≡ None
   pub class_inside : class < length (program_of given main).outline.classes
   pub method_inside : IfSome method (λ m. m.0 < length (methods_of (program_of given main).outline.classes))
   pub unsafe : NoneIsSafe (program_of given main) given written
+  pub named : IsFirstNamed given written class method part
 
 -- one of the two, or the first call of FreeMe; want of memory says nothing
 abbrev pub ComesOfAudit : List ClassDef → (main : List ℕ) → (written : List ClassDef) → Result Unit AuditFail → Type 0
 ComesOfAudit given main written (Ok done) = AreSafelyWritten given main written
 ComesOfAudit given main written (Err (fail.CallsFree method offset)) = first_call (program_of given main) ≡ Some (method.0, offset)
-ComesOfAudit given main written (Err (fail.NotSafe class method part)) = AreNotSafelyWritten given main written class.0 method
+ComesOfAudit given main written (Err (fail.NotSafe class method part)) = AreNotSafelyWritten given main written class.0 method part
 ComesOfAudit given main written (Err fail.NoMemory) = Unit {0}

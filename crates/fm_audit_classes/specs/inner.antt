@@ -3,3 +3,4 @@ pub mod Inserted
 pub mod Compared
 pub mod Found
 pub mod Codes
+pub mod Named

@@ -3,6 +3,8 @@
 ghost use Rattle.std.specs.Prelude.{◌≡◌, ◌+◌, ℕ, IfErr, IfOk, List, OnOk, drop, length};
 ghost use Rattle.std.specs.List.{AllByRecursion};
 ghost use Rattle.fm_audit_classes.specs.Audited.{ComesOfAudit};
+ghost use Rattle.fm_audit_classes.specs.Parts.{HaveClasses};
+ghost use Rattle.fm_audit_classes.specs.inner.Named.{AreStill, IsFirstRefusal, NamesMethodIf, NamesOnly};
 ghost use Rattle.fm_audit_classes.specs.inner.Compared.{MayBeComparedEach};
 ghost use Rattle.fm_audit_classes.specs.inner.Found.{AreWhollyWritten, ComesOfJudged, IsFalseOf, IsFound, IsRefused};
 ghost use Rattle.fm_code.specs.Fits.{FitsTwo};
@@ -67,7 +69,8 @@ fn audited(
     requires short { AllByRecursion IsShort classes.now }
     requires spelled { AllByRecursion HasSpelling written.now }
     requires one_each { length written.now ≡ length classes.now }
-    ensures { ComesOfJudged program.now classes.now written.now result }
+    ensures judged { ComesOfJudged program.now classes.now written.now result }
+    ensures named { IfErr result (NamesMethodIf (HaveClasses classes.now written.now)) }
 {
     let codes = new_codes(alloc, classes, written)?;
     let found = judged_methods(alloc, program, codes.as_slice())?;
@@ -84,9 +87,12 @@ fn first_cause(
     cause: AuditFail,
 ) -> Result<AuditFail, NoMemory>
     requires judged { AreJudged classes.now program.now }
+    requires spelled { AllByRecursion HasSpelling written.now }
     requires one_each { length written.now ≡ length classes.now }
     requires refused { IsRefused program.now classes.now written.now cause }
-    ensures { IfOk result (IsRefused program.now classes.now written.now) }
+    requires named { NamesMethodIf (HaveClasses classes.now written.now) cause }
+    ensures refused { IfOk result (IsRefused program.now classes.now written.now) }
+    ensures named { IfOk result (IsFirstRefusal classes.now written.now) }
 {
     let AuditFail::NotSafe(..) = cause else {
         return Ok(cause);
@@ -102,7 +108,8 @@ fn first_cause(
 
 /// The refusal that names this class, without a method.
 fn other_class(class: u32) -> AuditFail
-    ensures { (methods : ℕ) → IsFound (class + 1) methods result }
+    ensures found { (methods : ℕ) → IsFound (class + 1) methods result }
+    ensures named { NamesOnly class result }
 {
     AuditFail::NotSafe(ClassId(class), None, Part::Classes)
 }
@@ -132,12 +139,14 @@ fn are_written_by(
     requires count { count ≡ method_count classes.now }
     requires own { length found.now.planned.items ≡ first_given + method_count classes.now }
     requires planned { MayBeComparedEach (drop first_given found.now.planned.items) classes.now }
+    requires still { AreStill (drop first_given found.now.planned.items) classes.now written.now }
     ensures same { OnOk result
         (written.now ≡ classes_by (drop first_given found.now.planned.items) classes.now) }
     ensures found { IfErr result (IsFound (length program.now.outline.classes)
         (length (methods_of program.now.outline.classes))) }
     ensures whole { IfErr result (IsFalseOf
         (AreWhollyWritten (drop first_given found.now.planned.items) classes.now written.now)) }
+    ensures named { IfErr result (NamesMethodIf (HaveClasses classes.now written.now)) }
 {
     let first_class = program.classes() - classes.len() as u32;
     let first_method = program.methods() - count as u32;

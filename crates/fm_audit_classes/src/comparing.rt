@@ -4,6 +4,8 @@ ghost use Rattle.std.specs.Prelude.{◌≡◌, ◌+◌, ◌<◌, ◌^◌, IfErr,
 ghost use Rattle.std.specs.List.{AllByRecursion};
 ghost use Rattle.fm_audit_classes.specs.inner.Found.{AreWhollyWritten, IsFalseOf, IsFound};
 ghost use Rattle.fm_audit_classes.specs.inner.Low.{are_low};
+ghost use Rattle.fm_audit_classes.specs.Parts.{HaveClasses};
+ghost use Rattle.fm_audit_classes.specs.inner.Named.{AreStill, NamesMethodIf};
 ghost use Rattle.fm_audit_classes.specs.inner.Compared.{MayBeCompared, MayBeComparedEach};
 ghost use Rattle.fm_code.specs.Spells.{HasSpelling};
 ghost use Rattle.fm_place_weave.specs.ClassByPlan.{class_by};
@@ -36,6 +38,7 @@ pub(crate) fn are_written(
     requires classes { MayBeComparedEach planned.now classes.now }
     requires written { AllByRecursion HasSpelling written.now }
     requires lengths { length written.now ≡ length classes.now }
+    requires still { AreStill planned.now classes.now written.now }
     requires class_numbers { numbers.0 + length classes.now < 2 ^ 32 }
     requires method_numbers { numbers.1 + method_count classes.now < 2 ^ 32 }
     ensures same { OnOk result (written.now ≡ classes_by planned.now classes.now) }
@@ -43,6 +46,7 @@ pub(crate) fn are_written(
         (IsFound (numbers.0 + length classes.now) (numbers.1 + method_count classes.now)) }
     ensures whole { IfErr result
         (IsFalseOf (AreWhollyWritten planned.now classes.now written.now)) }
+    ensures named { IfErr result (NamesMethodIf (HaveClasses classes.now written.now)) }
 {
     let mut rest = planned;
     for place in 0..classes.len() {

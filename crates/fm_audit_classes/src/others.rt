@@ -1,8 +1,11 @@
 // Which method of a written class isn't as it has to be.
 
-ghost use Rattle.std.specs.Prelude.{◌≡◌, ◌+◌, ◌<◌, ◌^◌, length};
-ghost use Rattle.fm_audit_classes.specs.inner.Found.{IsFound};
+ghost use Rattle.std.specs.Prelude.{◌≡◌, ◌+◌, ◌<◌, ◌^◌, IfNone, IfOk, IfSome, length, true};
 ghost use Rattle.fm_audit_classes.specs.inner.Compared.{MayBeCompared};
+ghost use Rattle.fm_audit_classes.specs.inner.Found.{IsFound};
+ghost use Rattle.fm_audit_classes.specs.inner.Low.{are_low};
+ghost use Rattle.fm_audit_classes.specs.inner.Named.{IsWholeIf, NamesMethod};
+ghost use Rattle.fm_code.specs.Spells.{HasSpelling};
 
 use crate::comparing::changes;
 use crate::error::AuditFail;
@@ -22,7 +25,11 @@ pub(crate) fn first_other(
     written: &ClassDef,
     planned: &[Planned],
 ) -> Result<Option<usize>, NoMemory>
-    requires { MayBeCompared planned.now class.now }
+    requires class { MayBeCompared planned.now class.now }
+    requires written { HasSpelling written.now }
+    ensures inside { IfOk result
+        (λ other. IfSome other (λ place. place < length class.now.methods)) }
+    ensures none { IfOk result (IsWholeIf planned.now class.now written.now) }
 {
     if !changes(planned) {
         return Ok(first_other_of(&class.methods, &written.methods));
@@ -42,30 +49,27 @@ pub(crate) fn first_other(
     }
 }
 
-/// The first place where methods differ.
-fn first_other_of(old: &[Member], new: &[Member]) -> Option<usize> {
+/// The first place of these methods where the new ones have none, or another one.
+fn first_other_of(old: &[Member], new: &[Member]) -> Option<usize>
+    ensures inside { IfSome result (λ place. place < length old.now) }
+    ensures none { IfNone result (length new.now ≡ length old.now → new.now ≡ old.now) }
+{
     for place in 0..old.len() {
-        if is_other(old.get(place), new.get(place)) {
+        if place >= new.len() {
+            return Some(place);
+        }
+        if old[place] != new[place] {
             return Some(place);
         }
     }
     None
 }
 
-/// Whether there aren't both of two methods, or they differ.
-fn is_other(old: Option<&Member>, new: Option<&Member>) -> bool {
-    match old {
-        Some(method) => match new {
-            Some(other) => method != other,
-            None => true,
-        },
-        None => true,
-    }
-}
-
 /// The place of the first of these methods that has no room for what is woven.
 fn first_high(planned: &[Planned], methods: &[Member]) -> Option<usize>
     requires { length planned.now ≡ length methods.now }
+    ensures inside { IfSome result (λ place. place < length methods.now) }
+    ensures none { IfNone result (are_low planned.now methods.now ≡ true) }
 {
     for place in 0..methods.len() {
         if !is_low(&planned[place], &methods[place]) {
@@ -86,7 +90,8 @@ pub(crate) fn not_safe(
     failing: Option<(MethodId, Part)>,
 ) -> AuditFail
     requires { first + length planned.now < 2 ^ 32 }
-    ensures { IsFound (class + 1) (first + length planned.now) result }
+    ensures found { IsFound (class + 1) (first + length planned.now) result }
+    ensures named { IfSome other (λ place. place < length planned.now → NamesMethod result) }
 {
     let Some(place) = other else {
         return AuditFail::NotSafe(ClassId(class), None, Part::Classes);

@@ -3,6 +3,7 @@ use Rattle.std.specs.Prelude.{IfErr}
 use Rattle.std.proofs.lemmas.List.{length-drop}
 use Rattle.fm_audit_classes.proofs.FoundLemmas.{classes_judged, found_within_err, methods_judged}
 use Rattle.fm_audit_classes.specs.inner.Compared.{MayBeComparedEach}
+use Rattle.fm_audit_classes.specs.inner.Named.{AreStill}
 use Rattle.fm_audit_classes.specs.inner.Found.{AreWhollyWritten, IsFalseOf}
 use Rattle.fm_place.specs.Rewriting.{first_given}
 use Rattle.fm_place_weave.specs.declared.planned.Planned.{Planned}
@@ -50,6 +51,13 @@ are_written-requires-clause-classes c =
     let first : c.methods.result - c.args.count ≡ first_given = omega (arith, all, c.methods.ensures, c.requires.count) in
     subst (λ (ds : List Planned). MayBeComparedEach ds c.args.classes.now)
     (sym (c.split_at.ensures.back ∙ (λ k. drop (first k) (c.as_slice.ensures.value k)))) c.requires.planned
+
+pub are_written-requires-clause-still : goal.are_written-requires-clause-still
+are_written-requires-clause-still c =
+    let all = methods_judged c.args.classes.now c.args.program.now c.requires.judged in
+    let first : c.methods.result - c.args.count ≡ first_given = omega (arith, all, c.methods.ensures, c.requires.count) in
+    subst (λ (ds : List Planned). AreStill ds c.args.classes.now c.args.written.now)
+    (sym (c.split_at.ensures.back ∙ (λ k. drop (first k) (c.as_slice.ensures.value k)))) c.requires.still
 
 pub are_written-requires-clause-class_numbers : goal.are_written-requires-clause-class_numbers
 are_written-requires-clause-class_numbers c =

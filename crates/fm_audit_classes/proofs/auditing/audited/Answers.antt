@@ -4,6 +4,7 @@ use Rattle.fm_audit.specs.SafeMethods.{AreSafelyInserted}
 use Rattle.fm_audit.specs.declared.methods.NewCode.{NewCode}
 use Rattle.fm_audit_classes.proofs.AuditedLemmas.{parts_of}
 use Rattle.fm_audit_classes.proofs.FoundLemmas.{comes_of_judged}
+use Rattle.fm_audit_classes.proofs.StillLemmas.{are_still}
 use Rattle.fm_rewrite.proofs.JudgedLemmas.{judged_analysable, judged_spelled}
 use Rattle.fm_audit_classes.proofs.auditing.audited.Goals as goal
 
@@ -23,8 +24,19 @@ are_written_by-requires-clause-planned c =
     (parts_of c.args.classes.now c.args.program.now c.as_slice.result.now c.in_ok-found.found.planned.items c.requires.judged c.requires.short
     c.in_ok-found.ensures.safe).compared
 
-pub returns : goal.returns
-returns c =
+pub are_written_by-requires-clause-still : goal.are_written_by-requires-clause-still
+are_written_by-requires-clause-still c =
+    let p = c.args.program.now in
+    let done = c.in_ok-found.found.planned.items in
+    let are : AreSafelyInserted p c.in_ok-codes.codes.items done =
+    subst (λ (new : List NewCode). AreSafelyInserted p new done) c.as_slice.ensures.value c.in_ok-found.ensures.safe in
+    let stay : AllStay p c.in_ok-codes.codes.items done =
+    subst (λ (new : List NewCode). AllStay p new done) c.as_slice.ensures.value c.in_ok-found.ensures.still in
+    are_still c.args.classes.now p c.in_ok-codes.codes.items c.requires.judged c.in_ok-codes.ensures.one_each done are stay c.args.written.now
+    c.in_ok-codes.ensures.codes
+
+pub returns-clause-judged : goal.returns-clause-judged
+returns-clause-judged c =
     let p = c.args.program.now in
     let done = c.in_ok-found.found.planned.items in
     let are : AreSafelyInserted p c.in_ok-codes.codes.items done =

@@ -2,7 +2,11 @@ use Rattle.std.proofs.Common.{◌≡◌, ◌∙◌, sym, ap, subst, ◌+◌, ◌
 use Rattle.std.proofs.lemmas.Bool.{false≢true}
 use Rattle.std.proofs.lemmas.List.{length-drop}
 use Rattle.fm_audit_classes.proofs.FoundLemmas.{found_within}
-use Rattle.fm_audit_classes.proofs.StepLemmas.{false_of, spelled_more, whole_more, written_more}
+use Rattle.fm_audit_classes.proofs.HeadLemmas.{class_in}
+use Rattle.fm_audit_classes.proofs.StepLemmas.{false_of, spelled_more, still_more, whole_more, written_more}
+use Rattle.fm_audit_classes.proofs.WholeIfLemmas.{named_by}
+use Rattle.fm_audit_classes.specs.Parts.{HaveClasses}
+use Rattle.fm_audit_classes.specs.inner.Named.{AreStill, IsStill}
 use Rattle.fm_audit_classes.specs.inner.Found.{AreWhollyWritten}
 use Rattle.fm_audit_classes.specs.inner.Low.{are_low}
 use Rattle.fm_audit_classes.specs.inner.Compared.{MayBeCompared, MayBeComparedEach}
@@ -68,7 +72,7 @@ returns-then-not-same-clause-found c =
     let first = c.args.numbers.1 + (length c.args.planned.now - length here.rest.now) in
     found_within (c.args.numbers.0 + here.place + 1) (c.args.numbers.0 + length c.args.classes.now) (first + length c.split_at.result.0.now)
     (c.args.numbers.1 + method_count c.args.classes.now) c.not_safe.result (omega (arith, c.loop-place-test.true))
-    (omega (arith, own, taken, all, shorter)) c.not_safe.ensures
+    (omega (arith, own, taken, all, shorter)) c.not_safe.ensures.found
 
 pub returns-then-not-same-clause-whole : goal.returns-then-not-same-clause-whole
 returns-then-not-same-clause-whole c =
@@ -87,6 +91,26 @@ returns-then-not-same-clause-whole c =
     let low : are_low c.split_at.result.0.now class.methods ≡ true = subst (λ (ds : List Planned). are_low ds class.methods ≡ true) (sym front) more.low in
     let same : new ≡ rewritten_by c.split_at.result.0.now class = more.same ∙ ap (λ ds. rewritten_by ds class) (sym front) in
     false≢true (sym c.if-not-same.true ∙ c.in_ok-same.ensures.whole low same))
+
+pub returns-then-not-same-clause-named : goal.returns-then-not-same-clause-named
+returns-then-not-same-clause-named c =
+    let here = c.loop-place in
+    let classes = c.args.classes.now in
+    let written = c.args.written.now in
+    let class = c.index-classes-place.result in
+    let new = c.index-written-place.result in
+    let within = c.loop-place-test.true in
+    let inside : here.place < length written = omega (arith, within, c.requires.lengths) in
+    let front = c.split_at.ensures.front ∙ ap (λ n. take n here.rest.now) c.len.ensures in
+    let more = still_more classes written here.place class new here.rest.now within inside c.index-classes-place.is c.index-written-place.is
+    here.invariant.still in
+    let may = (left classes here.place class within c.index-classes-place.is (λ (cs : List ClassDef). MayBeComparedEach here.rest.now cs)
+    here.invariant.may).0 in
+    named_by c.split_at.result.0.now class new (HaveClasses classes written) c.in_ok-other.other c.not_safe.result
+    (λ have. class_in classes written here.place class new within inside c.index-classes-place.is c.index-written-place.is (have here.place within))
+    (subst (λ (ds : List Planned). IsStill ds class new) (sym front) more.0) c.in_ok-other.ensures.none c.in_ok-other.ensures.inside
+    (ap length front ∙ may.one_each) c.not_safe.ensures.named
+    (λ low same. false≢true (sym c.if-not-same.true ∙ c.in_ok-same.ensures.whole low same))
 
 pub loop-place-preserved : goal.loop-place-preserved
 loop-place-preserved c =
@@ -114,6 +138,9 @@ loop-place-preserved c =
           subst (λ (d : List Planned). MayBeComparedEach d rest) (sym after)
           (left classes place class within is (λ (cs : List ClassDef). MayBeComparedEach done cs) here.invariant.may).1;
       spelled = (spelled_more written place new inside c.index-written-place.is here.invariant.spelled).1;
+      still =
+          subst (λ (ds : List Planned). AreStill ds rest (drop (place + 1) written)) (sym after)
+          (still_more classes written place class new done within inside is c.index-written-place.is here.invariant.still).1;
       whole = λ whole.
           subst (λ (ds : List Planned). AreWhollyWritten ds rest (drop (place + 1) written)) (sym after)
           (whole_more classes written place class new done within inside is c.index-written-place.is (here.invariant.whole whole)).more;

@@ -4,6 +4,7 @@ use Rattle.fm_code.specs.Spells.{HasSpelling}
 use Rattle.fm_rewrite.specs.inner.ByPlans.{classes_by, method_count}
 use Rattle.fm_audit_classes.specs.inner.Compared.{MayBeComparedEach}
 use Rattle.fm_audit_classes.specs.inner.Found.{AreWhollyWritten}
+use Rattle.fm_audit_classes.specs.inner.Named.{AreStill}
 use Rattle.fm_audit_classes.proofs.comparing.are_written.Given as goal
 
 abbrev pub invariant-loop-place : goal.invariant-loop-place
@@ -12,6 +13,7 @@ invariant-loop-place l = record {
   one_each : length l.rest ≡ method_count (drop l.place l.classes);
   may : MayBeComparedEach l.rest (drop l.place l.classes);
   spelled : AllByRecursion HasSpelling (drop l.place l.written);
+  still : AreStill l.rest (drop l.place l.classes) (drop l.place l.written);
   whole : AreWhollyWritten l.planned l.classes l.written → AreWhollyWritten l.rest (drop l.place l.classes) (drop l.place l.written);
   same : drop l.place l.written ≡ classes_by l.rest (drop l.place l.classes) → l.written ≡ classes_by l.planned l.classes;
 }
