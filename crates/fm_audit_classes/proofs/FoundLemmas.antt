@@ -2,7 +2,6 @@
 use Rattle.std.proofs.Common.{◌≡◌, refl, sym, ◌∙◌, ap, subst, ℕ, ◌+◌, ◌<◌, ◌≤◌, List, length, map, drop, Option, Some, None, Result, Ok, Err, IfSome, OnOk, arith}
 use Rattle.std.specs.Prelude.{IfErr}
 use Rattle.std.specs.List.{AllByRecursion}
-use Rattle.std.proofs.lemmas.Bool.{false≢true}
 use Rattle.std.proofs.lemmas.Option.{none-some}
 use Rattle.fm_base.specs.declared.ids.ClassId.{ClassId}
 use Rattle.fm_base.specs.declared.ids.MethodId.{MethodId}
@@ -23,14 +22,16 @@ use Rattle.fm_audit.specs.SafeMethods.{AreSafelyInserted}
 use Rattle.fm_audit.specs.declared.methods.NewCode.{NewCode}
 use Rattle.fm_audit.specs.declared.parts.Part.{Part}
 use Rattle.fm_audit_classes.proofs.AuditedLemmas.{audited}
-use Rattle.fm_audit_classes.proofs.UnsafeLemmas.{refused_unsafe}
+use Rattle.fm_audit_classes.proofs.PlannedSafeLemmas.{first_unsafe}
+use Rattle.fm_audit_classes.proofs.UnsafeLemmas.{never_safe}
 use Rattle.fm_audit_classes.specs.Audited.{ComesOfAudit, NoneIsSafe}
 use Rattle.fm_audit_classes.specs.Parts.{HaveClasses, IsFirstOther}
 use Rattle.fm_audit_classes.specs.declared.error.AuditFail.{AuditFail}
 use Rattle.fm_audit_classes.specs.declared.error.AuditFail.TheVariants as fail
 use Rattle.fm_audit_classes.specs.inner.Codes.{pair_of, written_codes}
-use Rattle.fm_audit_classes.specs.inner.Named.{IsFirstRefusal, NamesMethodIf, NamesOnly}
-use Rattle.fm_audit_classes.specs.inner.Found.{AreWhollyWritten, ComesOfJudged, IsFalseOf, IsFound, IsNamed, IsRefused, IsUnsafe}
+use Rattle.fm_audit_classes.specs.inner.Methods.{NamesFirst}
+use Rattle.fm_audit_classes.specs.inner.Named.{NamesOnly}
+use Rattle.fm_audit_classes.specs.inner.Found.{AreWhollyWritten, ComesOfJudged, IsFalseOf, IsFirstRefusal, IsFound, IsNamed, IsNamedFirst, IsRefused}
 
 -- ---- how many there are
 
@@ -42,70 +43,86 @@ methods_judged given p judged = methods_counted given judged.main p judged.progr
 
 -- ---- what is returned
 
-refused_by : (p : Program) (given written : List ClassDef) (e : AuditFail) → IsFound (length p.outline.classes) (length (methods_of p.outline.classes)) e
-    → IsUnsafe p given written e → IsRefused p given written e
-refused_by p given written (fail.CallsFree method offset) found unsafe = absurd found
-refused_by p given written (fail.NotSafe class method part) found unsafe = record { class_inside = found.0; method_inside = found.1; unsafe = unsafe }
-refused_by p given written fail.NoMemory found unsafe = tt
+module _ (given : List ClassDef) (p : Program) (new : List NewCode) (done : List Planned) (written : List ClassDef) (judged : AreJudged given p)
+    (are : AreSafelyInserted p new done) (stay : AllStay p new done) (count : length new ≡ method_count given) (spelled : AllByRecursion HasSpelling written)
+    (codes : map pair_of new ≡ written_codes given written) where
+  abbrev unsafe : (AreWhollyWritten (drop first_given done) given written → ⊥) → NoneIsSafe p given written
+  unsafe never = record {
+    facts = are.facts;
+    exact = are.exact;
+    least = are.least;
+    none = never_safe given p new done judged are stay count written spelled codes never;
+  }
+
+  refused_by : (e : AuditFail) → IsFound (length p.outline.classes) (length (methods_of p.outline.classes)) e
+      → IsFalseOf (AreWhollyWritten (drop first_given done) given written) e → NamesFirst (length built_in) first_given (drop first_given done) given written e
+      → IsRefused p given written e
+  refused_by (fail.CallsFree method offset) found never names = absurd found
+  refused_by (fail.NotSafe class None part) found never names =
+      record { class_inside = found.0; method_inside = found.1; unsafe = unsafe never; first = names }
+  refused_by (fail.NotSafe class (Some method) part) found never names = record {
+    class_inside = found.0;
+    method_inside = found.1;
+    unsafe = unsafe never;
+    first = λ have. first_unsafe given p new done judged are stay count written spelled codes have class.0 method.0 (names have);
+  }
+  refused_by fail.NoMemory found never names = tt
 
 -- where plans insert what is safe, and all of it
 pub comes_of_judged : (given : List ClassDef) (p : Program) (new : List NewCode) (done : List Planned) (written : List ClassDef) → AreJudged given p
     → AreSafelyInserted p new done → AllStay p new done → length new ≡ method_count given → AllByRecursion HasSpelling written
     → map pair_of new ≡ written_codes given written → (r : Result Unit AuditFail) → OnOk r (written ≡ classes_by (drop first_given done) given)
     → IfErr r (IsFound (length p.outline.classes) (length (methods_of p.outline.classes)))
-    → IfErr r (IsFalseOf (AreWhollyWritten (drop first_given done) given written)) → ComesOfJudged p given written r
-comes_of_judged given p new done written judged are stay count spelled codes (Ok tested) is found never = λ no_call main program_is.
+    → IfErr r (IsFalseOf (AreWhollyWritten (drop first_given done) given written))
+    → IfErr r (NamesFirst (length built_in) first_given (drop first_given done) given written) → ComesOfJudged p given written r
+comes_of_judged given p new done written judged are stay count spelled codes (Ok tested) is found never names = λ no_call main program_is.
     audited given p new done written judged are no_call is main program_is
-comes_of_judged given p new done written judged are stay count spelled codes (Err e) is found never =
-    refused_by p given written e found (refused_unsafe given p new done judged are stay count written spelled codes e never)
+comes_of_judged given p new done written judged are stay count spelled codes (Err e) is found never names =
+    refused_by given p new done written judged are stay count spelled codes e found never names
 
 -- ---- what is named
 
 pub not_written : (p : Program) (given : List ClassDef) (main : List ℕ) (written : List ClassDef) (e : AuditFail) → first_call p ≡ None
-    → IsRefused p given written e → IsFirstRefusal given written e → p ≡ program_of given main → ComesOfAudit given main written (Err e)
-not_written p given main written (fail.CallsFree method offset) none refused named is = absurd refused
-not_written p given main written (fail.NotSafe class method part) none refused named is = record {
-  no_call = ap first_call (sym is) ∙ none;
-  class_inside = subst (λ (q : Program). class.0 < length q.outline.classes) is refused.class_inside;
-  method_inside = subst (λ (q : Program). IfSome method (λ (m : MethodId). m.0 < length (methods_of q.outline.classes))) is refused.method_inside;
-  unsafe = subst (λ (q : Program). NoneIsSafe q given written) is refused.unsafe;
-  named = named;
-}
-not_written p given main written fail.NoMemory none refused named is = tt
+    → IsFirstRefusal p given written e → p ≡ program_of given main → ComesOfAudit given main written (Err e)
+not_written p given main written e none refused is = by_cause e (subst (λ (q : Program). IsFirstRefusal q given written e) is refused) where
+  by_cause : (e : AuditFail) → IsFirstRefusal (program_of given main) given written e → ComesOfAudit given main written (Err e)
+  by_cause (fail.CallsFree method offset) named = absurd named
+  by_cause (fail.NotSafe class method part) named = record {
+    no_call = ap first_call (sym is) ∙ none;
+    class_inside = named.class_inside;
+    method_inside = named.method_inside;
+    unsafe = named.unsafe;
+    named = named.named;
+  }
+  by_cause fail.NoMemory named = tt
 
 -- no class is found that isn't the given one
-pub named_same : (given written : List ClassDef) (e : AuditFail) → HaveClasses given written → NamesMethodIf (HaveClasses given written) e
-    → IsFirstRefusal given written e
-named_same given written (fail.CallsFree method offset) have named = tt
-named_same given written (fail.NotSafe class None part) have named = absurd (false≢true (named have))
-named_same given written (fail.NotSafe class (Some method) part) have named = have
-named_same given written fail.NoMemory have named = tt
+pub named_same : (p : Program) (given written : List ClassDef) (class : ℕ) (method : Option MethodId) (part : Part) → HaveClasses given written
+    → IsNamed p given written class method → IsNamedFirst p given written class method part
+named_same p given written class None part have named = absurd (named.first have)
+named_same p given written class (Some method) part have named = record {
+  class_inside = named.class_inside;
+  method_inside = named.method_inside;
+  unsafe = named.unsafe;
+  named = (have, named.first have);
+}
 
 -- the first one is found
-pub named_first : (given written : List ClassDef) (place number : ℕ) (e : AuditFail) → IsFirstOther given written place → number ≡ length built_in + place
-    → NamesOnly number e → IsFirstRefusal given written e
-named_first given written place number (fail.CallsFree method offset) first place_is named = absurd named
-named_first given written place number (fail.NotSafe class None part) first place_is named =
-    (named.1.1, record { place = place; number = named.0 ∙ place_is; first = first })
-named_first given written place number (fail.NotSafe class (Some method) part) first place_is named = absurd (none-some method (sym named.1.0))
-named_first given written place number fail.NoMemory first place_is named = absurd named
-
--- memory was wanted, or FreeMe is called
-pub named_other : (given written : List ClassDef) (e : AuditFail)
-    → ((class : ClassId) (method : Option MethodId) (part : Part) → e ≡ fail.NotSafe class method part → ⊥) → IsFirstRefusal given written e
-named_other given written (fail.CallsFree method offset) other = tt
-named_other given written (fail.NotSafe class method part) other = absurd (other class method part refl)
-named_other given written fail.NoMemory other = tt
-
--- another class may be named
-unsafe_by : (p : Program) (given written : List ClassDef) (e : AuditFail) → NoneIsSafe p given written → IsUnsafe p given written e
-unsafe_by p given written (fail.CallsFree method offset) none = tt
-unsafe_by p given written (fail.NotSafe class method part) none = none
-unsafe_by p given written fail.NoMemory none = tt
-
-pub named_again : (p : Program) (given written : List ClassDef) (class : ℕ) (method : Option MethodId) (e : AuditFail) → IsNamed p given written class method
-    → IsFound (length p.outline.classes) (length (methods_of p.outline.classes)) e → IsRefused p given written e
-named_again p given written class method e named found = refused_by p given written e found (unsafe_by p given written e named.unsafe)
+pub named_first : (p : Program) (given written : List ClassDef) (place number class : ℕ) (method : Option MethodId) (e : AuditFail)
+    → IsFirstOther given written place → AreJudged given p → number ≡ length built_in + place → IsNamed p given written class method → NamesOnly number e
+    → IsFirstRefusal p given written e
+named_first p given written place number class method (fail.CallsFree named offset) first judged place_is refused names = absurd names
+named_first p given written place number class method (fail.NotSafe named None part) first judged place_is refused names =
+    let all = classes_judged given p judged in
+    record {
+      class_inside = (let is = names.0 in let inside = first.inside in omega (arith, is, place_is, inside, all));
+      method_inside = tt;
+      unsafe = refused.unsafe;
+      named = (names.2, record { place = place; number = names.0 ∙ place_is; first = first });
+    }
+named_first p given written place number class method (fail.NotSafe named (Some other) part) first judged place_is refused names =
+    absurd (none-some other (sym names.1))
+named_first p given written place number class method fail.NoMemory first judged place_is refused names = absurd names
 
 -- what is named among fewer is named among more
 pub found_within : (classes more_classes methods more_methods : ℕ) (e : AuditFail) → classes ≤ more_classes → methods ≤ more_methods

@@ -13,4 +13,7 @@ pub mod SameLemmas
 pub mod PairLemmas
 pub mod HeadLemmas
 pub mod WholeIfLemmas
+pub mod MemberLemmas
 pub mod StillLemmas
+pub mod FirstLemmas
+pub mod PlannedSafeLemmas

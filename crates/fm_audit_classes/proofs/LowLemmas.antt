@@ -15,7 +15,7 @@ use Rattle.fm_audit_classes.specs.inner.Low.{is_low, is_low_code, is_low_in, IsL
 at_most : (limit n : ℕ) → nat_lt limit n ≡ false → n ≤ limit
 at_most limit n low = let le = ltb-false limit n low in omega (arith, le)
 
-low_code : (code : Code) (plan : Plan) → is_low_code code plan ≡ true → IsLow code plan
+pub low_code : (code : Code) (plan : Plan) → is_low_code code plan ≡ true → IsLow code plan
 low_code code plan is =
     by_tests (nat_lt MAX_WOVEN_STACK_WORDS code.max_stack) refl (nat_lt 65535 (length plan.before.items)) refl (nat_lt 65535 (length plan.after.items)) refl is where
       by_tests : (high : Bool) → nat_lt MAX_WOVEN_STACK_WORDS code.max_stack ≡ high → (before : Bool) → nat_lt 65535 (length plan.before.items) ≡ before

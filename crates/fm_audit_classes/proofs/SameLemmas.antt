@@ -1,5 +1,5 @@
 -- What `==` tells of class files and their parts: they are one.
-use Rattle.std.proofs.Common.{ℕ, ℤ, int_eq, ◌≡◌, ◌∙◌, true, false, Bool, ◌&&◌, sym, refl, ap, inl, inr, List, [], ◌∷◌, Option, Some, None}
+use Rattle.std.proofs.Common.{ℕ, ℤ, int_eq, ◌≡◌, ◌∙◌, true, false, Bool, ◌&&◌, ◌⊎◌, sym, refl, ap, inl, inr, List, [], ◌∷◌, Option, Some, None}
 use Rattle.std.proofs.lemmas.Bool.{false≢true}
 use Rattle.std.proofs.lemmas.Bool.Decides.{Decides-and, Decides-eqb, Decides-int_eq, Decides-like}
 use Rattle.std.specs.Prelude.{Decides}
@@ -245,3 +245,12 @@ member_lists = lists member_decides
 
 pub raw_lists : (xs ys : List Raw) → Decides (pointwise (same_raw.ghosts).eq xs ys) (xs ≡ ys)
 raw_lists = lists raw_decides
+-- ---- codes that there may be
+
+-- what a test decides holds, or it doesn't
+decided : (P : Type 0) (b : Bool) → Decides b P → P ⊎ (P → ⊥)
+decided P true decides = inl (decides.0 refl)
+decided P false decides = inr (λ p. false≢true (decides.1 p))
+
+pub are_same_codes : (xs ys : List (Option Code)) → (xs ≡ ys) ⊎ (xs ≡ ys → ⊥)
+are_same_codes xs ys = decided (xs ≡ ys) _ (lists (option_decides code_decides) xs ys)

@@ -1,5 +1,5 @@
 -- One class more, in the loop that compares classes.
-use Rattle.std.proofs.Common.{◌≡◌, sym, ◌∙◌, ap, subst, ℕ, ◌+◌, ◌<◌, true, List, ◌∷◌, length, drop, get_or}
+use Rattle.std.proofs.Common.{◌≡◌, sym, ◌∙◌, ap, subst, ℕ, ◌+◌, ◌<◌, Bool, true, List, ◌∷◌, length, drop, get_or, Result, Ok, Err, IfOk, IsTrue}
 use Rattle.std.specs.List.{AllByRecursion}
 use Rattle.fm_base.proofs.ListFacts.{drop_here, same_head, same_tail}
 use Rattle.fm_code.specs.Spells.{HasSpelling}
@@ -61,3 +61,8 @@ pub false_of : (P : Type 0) (e : AuditFail) → (P → ⊥) → IsFalseOf P e
 false_of P (fail.CallsFree method offset) never = tt
 false_of P (fail.NotSafe class method part) never = never
 false_of P fail.NoMemory never = tt
+
+-- what holds anyway, where a test succeeds
+pub always_ok : {E P : Type 0} (r : Result Bool E) → P → IfOk r (λ same. IsTrue same → P)
+always_ok (Ok same) holds = λ is. holds
+always_ok (Err e) holds = tt

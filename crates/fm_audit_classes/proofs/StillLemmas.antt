@@ -41,7 +41,7 @@ none_changed [] each = refl
 none_changed (d ∷ done) each =
     λ k. is_changed (each 0 (omega arith) k) || none_changed done (λ i inside. each (suc i) (omega (arith, inside))) k
 
-taken_at : (n : ℕ) (rest : List Planned) (i : ℕ) → i < n → planned_at (take n rest) i ≡ planned_at rest i
+pub taken_at : (n : ℕ) (rest : List Planned) (i : ℕ) → i < n → planned_at (take n rest) i ≡ planned_at rest i
 taken_at zero rest i inside = absurd (omega (arith, inside))
 taken_at (suc n) [] i inside = refl
 taken_at (suc n) (d ∷ rest) zero inside = refl
@@ -52,10 +52,10 @@ taken_few zero rest = omega arith
 taken_few (suc n) [] = omega arith
 taken_few (suc n) (d ∷ rest) = let few = taken_few n rest in omega (arith, few)
 
-dropped_at : (n : ℕ) (rest : List Planned) (i : ℕ) → planned_at (drop n rest) i ≡ planned_at rest (n + i)
-dropped_at zero rest i = refl
+pub dropped_at : (n : ℕ) (rest : List Planned) (i : ℕ) → planned_at (drop n rest) i ≡ planned_at rest (n + i)
+dropped_at zero rest i = let same : i ≡ 0 + i = omega arith in ap (planned_at rest) same
 dropped_at (suc n) [] i = refl
-dropped_at (suc n) (d ∷ rest) i = dropped_at n rest i
+dropped_at (suc n) (d ∷ rest) i = let same : suc (n + i) ≡ suc n + i = omega arith in dropped_at n rest i ∙ ap (planned_at (d ∷ rest)) same
 
 abbrev old_codes : List ClassDef → List (Option Code)
 old_codes classes = flat_map (λ (c : ClassDef). map code_of c.methods) classes
@@ -141,7 +141,7 @@ module _ (given : List ClassDef) (p : Program) (new : List NewCode) (judged : Ar
     all_planned : length done ≡ first_given + method_count given
     all_planned = are.one_each ∙ methods_counted given judged.main p judged.program_is
 
-    stays_so : (i : ℕ) → i < method_count given → (o : Option Code) → code_at p (first_given + i) ≡ o
+    pub stays_so : (i : ℕ) → i < method_count given → (o : Option Code) → code_at p (first_given + i) ≡ o
         → StaysSo o (new_free_of p new (first_given + i), new_items_of p new (first_given + i)) (planned_at done (first_given + i))
     stays_so i inside None is = (are.others (first_given + i) is).1
     stays_so i inside (Some code) is = λ items.

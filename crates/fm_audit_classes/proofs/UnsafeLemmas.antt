@@ -49,10 +49,8 @@ use Rattle.fm_audit_classes.proofs.NumberedLemmas.{classes_each}
 use Rattle.fm_audit_classes.proofs.StillLemmas.{pair_given}
 use Rattle.fm_audit_classes.proofs.WovenClassLemmas.{classes_are}
 use Rattle.fm_audit_classes.specs.Audited.{AreSafePlans, HaveStack}
-use Rattle.fm_audit_classes.specs.declared.error.AuditFail.{AuditFail}
-use Rattle.fm_audit_classes.specs.declared.error.AuditFail.TheVariants as fail
 use Rattle.fm_audit_classes.specs.inner.Codes.{pair_of, written_codes}
-use Rattle.fm_audit_classes.specs.inner.Found.{AreLowEach, AreWhollyWritten, IsFalseOf, IsUnsafe}
+use Rattle.fm_audit_classes.specs.inner.Found.{AreLowEach, AreWhollyWritten}
 use Rattle.fm_audit_classes.specs.inner.Inserted.{AreEachClass, AreEachMethod}
 use Rattle.fm_audit_classes.specs.inner.Low.{are_low, is_low, is_low_in}
 
@@ -84,7 +82,7 @@ low_classes first done [] low = tt
 low_classes first done (c ∷ classes) low =
     (low_methods first (own c done) c.methods low.0, low_classes (first + length c.methods) (others c done) classes low.1)
 
-low_plan : (plan : Plan) (code : Code) → code.max_stack + 1 ≤ MAX_STACK_WORDS → length plan.before.items + length plan.after.items ≤ 65535
+pub low_plan : (plan : Plan) (code : Code) → code.max_stack + 1 ≤ MAX_STACK_WORDS → length plan.before.items + length plan.after.items ≤ 65535
     → is_low_in plan (Some code) ≡ true
 low_plan plan code stack few =
     ap (λ b. cond b false (cond (nat_lt 65535 (length plan.before.items)) false (not (nat_lt 65535 (length plan.after.items)))))
@@ -239,15 +237,9 @@ module _ (given : List ClassDef) (p : Program) (new : List NewCode) (done : List
 -- ---- refusals
 
 -- what isn't wholly written isn't safe
-pub refused_unsafe : (given : List ClassDef) (p : Program) (new : List NewCode) (done : List Planned) → AreJudged given p → (are : AreSafelyInserted p new done)
+pub never_safe : (given : List ClassDef) (p : Program) (new : List NewCode) (done : List Planned) → AreJudged given p → (are : AreSafelyInserted p new done)
     → AllStay p new done → length new ≡ method_count given → (written : List ClassDef) → AllByRecursion HasSpelling written
-    → map pair_of new ≡ written_codes given written → (e : AuditFail) → IsFalseOf (AreWhollyWritten (drop first_given done) given written) e
-    → IsUnsafe p given written e
-refused_unsafe given p new done judged are stay count written spelled codes (fail.CallsFree method offset) never = tt
-refused_unsafe given p new done judged are stay count written spelled codes (fail.NotSafe class method part) never = record {
-  facts = are.facts;
-  exact = are.exact;
-  least = are.least;
-  none = λ plans safe stack is. never (wholly_written given p new done judged are stay count written spelled codes plans safe stack is);
-}
-refused_unsafe given p new done judged are stay count written spelled codes fail.NoMemory never = tt
+    → map pair_of new ≡ written_codes given written → (AreWhollyWritten (drop first_given done) given written → ⊥) → (plans : Plans)
+    → AreSafePlans p are.facts plans → HaveStack p plans → written ≡ rewritten plans given → ⊥
+never_safe given p new done judged are stay count written spelled codes never plans safe stack is =
+    never (wholly_written given p new done judged are stay count written spelled codes plans safe stack is)

@@ -1,9 +1,10 @@
 -- Classes by what is to be done with their methods, where that is insertions that have room.
-use Rattle.std.proofs.Common.{arith, ◌≡◌, refl, sym, ◌∙◌, ap, subst, ℕ, suc, ◌+◌, ◌≤◌, ◌||◌, Bool, true, false, cond, List, [], ◌∷◌, length, map, Option, Some, None}
+use Rattle.std.proofs.Common.{arith, ◌≡◌, refl, sym, ◌∙◌, ap, subst, ℕ, zero, suc, ◌+◌, ◌≤◌, ◌||◌, Bool, true, false, cond, List, [], ◌∷◌, length, map, Option, Some, None}
 use Rattle.std.specs.Prelude.{if◌then◌else◌, is_some}
 use Rattle.std.specs.List.{AllByRecursion, list_any, range_with_len}
 use Rattle.std.specs.Option.{option_map, option_or}
 use Rattle.std.proofs.lemmas.Bool.{and_parts, le-ltb}
+use Rattle.std.proofs.lemmas.Option.{none-some, same_Some}
 use Rattle.fm_chain.proofs.WithoutChains.{calls_same, class_none, class_same, plain_calls}
 use Rattle.fm_chain.specs.Chaining as changing
 use Rattle.fm_chain.specs.Chaining.{calls_for, chained_class, class_has_chain, entries_for, plan_has_chain}
@@ -28,17 +29,19 @@ use Rattle.fm_place.specs.Insertions.{Insertions}
 use Rattle.fm_place.specs.Rewriting.{changes, Plans, rewritten_class, rewritten_from}
 use Rattle.fm_place_weave.proofs.ClassLawLemmas.{by_change, classes_are_chained}
 use Rattle.fm_place_weave.specs.ByPlan.{code_by, items_by}
-use Rattle.fm_place_weave.specs.ClassByPlan.{attribute_by, class_by, first_long, has_chains, long_attributes, long_code, long_method, MayDoAll, method_by, methods_by}
+use Rattle.fm_place_weave.specs.ClassByPlan.{attribute_by, class_by, first_long, has_chains, long_attributes, long_code, long_method, MayDo, MayDoAll, method_by, methods_by}
 use Rattle.fm_place_weave.specs.ClassLaws.{AreAlike}
 use Rattle.fm_place_weave.specs.declared.planned.Planned.{Planned}
 use Rattle.fm_place_weave.specs.declared.planned.Planned.TheVariants as planned
 use Rattle.fm_rewrite.proofs.ClassMeantLemmas.{or_first, or_rest}
+use Rattle.fm_rewrite.specs.Alike.{IsShortEnough}
 use Rattle.fm_rewrite.specs.Plans.{CallsFit}
 use Rattle.fm_rewrite.specs.inner.ByPlans.{changes_by, classes_by, is_changed, others, own, rewritten_by}
 use Rattle.fm_audit_classes.proofs.InsertedLemmas.{alike_do, can_do, may_do, plain_do}
 use Rattle.fm_audit_classes.specs.inner.Compared.{MayBeCompared, MayBeComparedEach}
 use Rattle.fm_audit_classes.specs.inner.Inserted.{AreAllInserted, AreInserted, IsInserted}
 use Rattle.fm_audit_classes.specs.inner.Low.{are_low, is_low}
+use Rattle.fm_audit_classes.specs.inner.Methods.{MayDoEach}
 
 -- ---- the methods of a class
 
@@ -62,6 +65,29 @@ may_all plans first (d ∷ done) [] are low calls fit = absurd are
 may_all plans first (d ∷ done) (m ∷ methods) are low calls fit =
     let lows = and_parts (is_low d m) (are_low done methods) low in
     (may_do (plans first) d m are.0 lows.0 calls fit, may_all plans (first + 1) done methods are.1 lows.1 calls fit)
+
+-- so may each of which there is room
+may_each : (plans : Plans) (first : ℕ) (done : List Planned) (methods : List Member) → AreInserted plans first done methods → (calls : Calls) → CallsFit calls
+    → MayDoEach calls done methods
+may_each plans first [] [] are calls fit place m is low = absurd (none-some m is)
+may_each plans first [] (n ∷ methods) are calls fit place m is low = absurd are
+may_each plans first (d ∷ done) [] are calls fit place m is low = absurd are
+may_each plans first (d ∷ done) (n ∷ methods) are calls fit zero m is low =
+    let same : n ≡ m = same_Some n m is in
+    subst (λ (k : Member). MayDo calls d k) same
+    (may_do (plans first) d n are.0 (subst (λ (k : Member). is_low d k ≡ true) (sym same) low) calls fit)
+may_each plans first (d ∷ done) (n ∷ methods) are calls fit (suc place) m is low = may_each plans (first + 1) done methods are.1 calls fit place m is low
+
+short_do : (o : Option Insertions) (d : Planned) (m : Member) → IsInserted o d m → IsShortEnough d
+short_do o planned.Same m is = tt
+short_do o (planned.Woven plan) m is = tt
+short_do None (planned.TooLong bytes chains) m is = absurd is
+short_do (Some ins) (planned.TooLong bytes chains) m is = absurd is
+
+short_all : (plans : Plans) (first : ℕ) (done : List Planned) (methods : List Member) → AreInserted plans first done methods → AllByRecursion IsShortEnough done
+short_all plans first [] methods are = tt
+short_all plans first (d ∷ done) [] are = absurd are
+short_all plans first (d ∷ done) (m ∷ methods) are = (short_do (plans first) d m are.0, short_all plans (first + 1) done methods are.1)
 
 pub plain_all : (plans : Plans) (first : ℕ) (done : List Planned) (methods : List Member) → AreInserted plans first done methods → has_chains done ≡ false
 plain_all plans first [] [] are = refl
@@ -171,6 +197,8 @@ module _ (plans : Plans) (plain : (method : ℕ) → plan_has_chain (plans metho
     one_each = one_each plans first done c.methods are;
     spelled = spelled;
     plain = plain_all plans first done c.methods are;
+    short = short_all plans first done c.methods are;
+    each = λ calls fit. may_each plans first done c.methods are calls fit;
     may = λ low. may_all plans first done c.methods are low;
     woven = λ low changed fits few none.
         let is : class_by done c ≡ changing.changed_class plans first c =

@@ -42,13 +42,13 @@ pub record NoneIsSafe (p : Program) (given written : List ClassDef) : Type 0 whe
   pub none : (plans : Plans) → AreSafePlans p facts plans → HaveStack p plans → written ≡ rewritten plans given → ⊥
 
 -- The program doesn't call FreeMe, what is named is one of its classes, and one of its methods or none, and no safe insertions give the classes written. Without
--- a method the first class is named that isn't the given one, codes aside.
+-- a method the first class is named that isn't the given one, codes aside; else the first method that isn't safe by the same facts.
 pub record AreNotSafelyWritten (given : List ClassDef) (main : List ℕ) (written : List ClassDef) (class : ℕ) (method : Option MethodId) (part : Part) : Type 0 where
   pub no_call : first_call (program_of given main) ≡ None
   pub class_inside : class < length (program_of given main).outline.classes
   pub method_inside : IfSome method (λ m. m.0 < length (methods_of (program_of given main).outline.classes))
   pub unsafe : NoneIsSafe (program_of given main) given written
-  pub named : IsFirstNamed given written class method part
+  pub named : IsFirstNamed (program_of given main) unsafe.facts given written class method part
 
 -- one of the two, or the first call of FreeMe; want of memory says nothing
 abbrev pub ComesOfAudit : List ClassDef → (main : List ℕ) → (written : List ClassDef) → Result Unit AuditFail → Type 0

@@ -3,16 +3,17 @@
 ghost use Rattle.std.specs.Prelude.{◌≡◌, ◌+◌, ℕ, IfErr, IfOk, List, OnOk, drop, length};
 ghost use Rattle.std.specs.List.{AllByRecursion};
 ghost use Rattle.fm_audit_classes.specs.Audited.{ComesOfAudit};
-ghost use Rattle.fm_audit_classes.specs.Parts.{HaveClasses};
-ghost use Rattle.fm_audit_classes.specs.inner.Named.{AreStill, IsFirstRefusal, NamesMethodIf, NamesOnly};
+ghost use Rattle.fm_audit_classes.specs.inner.Methods.{NamesFirst};
+ghost use Rattle.fm_audit_classes.specs.inner.Named.{AreStill, NamesOnly};
 ghost use Rattle.fm_audit_classes.specs.inner.Compared.{MayBeComparedEach};
-ghost use Rattle.fm_audit_classes.specs.inner.Found.{AreWhollyWritten, ComesOfJudged, IsFalseOf, IsFound, IsRefused};
+ghost use Rattle.fm_audit_classes.specs.inner.Found.{AreWhollyWritten, ComesOfJudged, IsFalseOf, IsFirstRefusal, IsFound, IsNamed, IsRefused};
 ghost use Rattle.fm_code.specs.Fits.{FitsTwo};
 ghost use Rattle.fm_code.specs.Spells.{HasSpelling};
 ghost use Rattle.fm_law_spelled.specs.Changed.{IsShort};
 ghost use Rattle.fm_place.specs.Rewriting.{first_given};
 ghost use Rattle.fm_rewrite.specs.Rewritten.{AreJudged};
 ghost use Rattle.fm_rewrite.specs.inner.ByPlans.{classes_by, method_count};
+ghost use Rattle.fm_world.specs.BuiltIns.{built_in};
 ghost use Rattle.fm_world.specs.Members.{methods_of};
 ghost use Rattle.fm_world.specs.Programs.{program_of};
 
@@ -69,8 +70,7 @@ fn audited(
     requires short { AllByRecursion IsShort classes.now }
     requires spelled { AllByRecursion HasSpelling written.now }
     requires one_each { length written.now ≡ length classes.now }
-    ensures judged { ComesOfJudged program.now classes.now written.now result }
-    ensures named { IfErr result (NamesMethodIf (HaveClasses classes.now written.now)) }
+    ensures { ComesOfJudged program.now classes.now written.now result }
 {
     let codes = new_codes(alloc, classes, written)?;
     let found = judged_methods(alloc, program, codes.as_slice())?;
@@ -90,26 +90,45 @@ fn first_cause(
     requires spelled { AllByRecursion HasSpelling written.now }
     requires one_each { length written.now ≡ length classes.now }
     requires refused { IsRefused program.now classes.now written.now cause }
-    requires named { NamesMethodIf (HaveClasses classes.now written.now) cause }
-    ensures refused { IfOk result (IsRefused program.now classes.now written.now) }
-    ensures named { IfOk result (IsFirstRefusal classes.now written.now) }
+    ensures { IfOk result (IsFirstRefusal program.now classes.now written.now) }
 {
-    let AuditFail::NotSafe(..) = cause else {
-        return Ok(cause);
-    };
+    match cause {
+        AuditFail::NotSafe(class, method, part) => {
+            first_named(alloc, program, classes, written, (class, method, part))
+        }
+        AuditFail::CallsFree(..) => Ok(cause),
+        AuditFail::NoMemory => Ok(AuditFail::NoMemory),
+    }
+}
+
+/// The same where this class is refused, with a method or without, for a part.
+fn first_named(
+    alloc: Global,
+    program: &Program,
+    classes: &[ClassDef],
+    written: &[ClassDef],
+    named: (ClassId, Option<MethodId>, Part),
+) -> Result<AuditFail, NoMemory>
+    requires judged { AreJudged classes.now program.now }
+    requires spelled { AllByRecursion HasSpelling written.now }
+    requires one_each { length written.now ≡ length classes.now }
+    requires named { IsNamed program.now classes.now written.now named.0.0 named.1 }
+    ensures { IfOk result (IsFirstRefusal program.now classes.now written.now) }
+{
     let first = program.classes() - classes.len() as u32;
     let other = first_other_class(alloc, classes, written)?;
-    let Some(place) = other else {
-        return Ok(cause);
-    };
-    let number = first + place as u32;
-    Ok(other_class(number))
+    match other {
+        Some(place) => {
+            let number = first + place as u32;
+            Ok(other_class(number))
+        }
+        None => Ok(AuditFail::NotSafe(named.0, named.1, named.2)),
+    }
 }
 
 /// The refusal that names this class, without a method.
 fn other_class(class: u32) -> AuditFail
-    ensures found { (methods : ℕ) → IsFound (class + 1) methods result }
-    ensures named { NamesOnly class result }
+    ensures { NamesOnly class result }
 {
     AuditFail::NotSafe(ClassId(class), None, Part::Classes)
 }
@@ -146,7 +165,8 @@ fn are_written_by(
         (length (methods_of program.now.outline.classes))) }
     ensures whole { IfErr result (IsFalseOf
         (AreWhollyWritten (drop first_given found.now.planned.items) classes.now written.now)) }
-    ensures named { IfErr result (NamesMethodIf (HaveClasses classes.now written.now)) }
+    ensures first { IfErr result (NamesFirst (length built_in) first_given
+        (drop first_given found.now.planned.items) classes.now written.now) }
 {
     let first_class = program.classes() - classes.len() as u32;
     let first_method = program.methods() - count as u32;

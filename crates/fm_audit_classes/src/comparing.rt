@@ -4,8 +4,8 @@ ghost use Rattle.std.specs.Prelude.{◌≡◌, ◌+◌, ◌<◌, ◌^◌, IfErr,
 ghost use Rattle.std.specs.List.{AllByRecursion};
 ghost use Rattle.fm_audit_classes.specs.inner.Found.{AreWhollyWritten, IsFalseOf, IsFound};
 ghost use Rattle.fm_audit_classes.specs.inner.Low.{are_low};
-ghost use Rattle.fm_audit_classes.specs.Parts.{HaveClasses};
-ghost use Rattle.fm_audit_classes.specs.inner.Named.{AreStill, NamesMethodIf};
+ghost use Rattle.fm_audit_classes.specs.inner.Methods.{NamesFirst};
+ghost use Rattle.fm_audit_classes.specs.inner.Named.{AreStill};
 ghost use Rattle.fm_audit_classes.specs.inner.Compared.{MayBeCompared, MayBeComparedEach};
 ghost use Rattle.fm_code.specs.Spells.{HasSpelling};
 ghost use Rattle.fm_place_weave.specs.ClassByPlan.{class_by};
@@ -46,7 +46,8 @@ pub(crate) fn are_written(
         (IsFound (numbers.0 + length classes.now) (numbers.1 + method_count classes.now)) }
     ensures whole { IfErr result
         (IsFalseOf (AreWhollyWritten planned.now classes.now written.now)) }
-    ensures named { IfErr result (NamesMethodIf (HaveClasses classes.now written.now)) }
+    ensures first { IfErr result
+        (NamesFirst numbers.0 numbers.1 planned.now classes.now written.now) }
 {
     let mut rest = planned;
     for place in 0..classes.len() {
@@ -76,6 +77,8 @@ fn is_written(
     requires written { HasSpelling written.now }
     ensures same { IfOk result
         (λ same. IsTrue same → written.now ≡ rewritten_by planned.now class.now) }
+    ensures low { IfOk result
+        (λ same. IsTrue same → are_low planned.now class.now.methods ≡ true) }
     ensures whole { IfOk result (λ same. are_low planned.now class.now.methods ≡ true
         → written.now ≡ rewritten_by planned.now class.now → IsTrue same) }
 {
@@ -97,6 +100,8 @@ fn is_woven(
     requires written { HasSpelling written.now }
     ensures same { IfOk result
         (λ same. IsTrue same → written.now ≡ rewritten_by planned.now class.now) }
+    ensures low { IfOk result
+        (λ same. IsTrue same → are_low planned.now class.now.methods ≡ true) }
     ensures whole { IfOk result (λ same. are_low planned.now class.now.methods ≡ true
         → written.now ≡ class_by planned.now class.now → IsTrue same) }
 {
@@ -116,7 +121,7 @@ fn is_woven(
 }
 
 /// Whether one of the methods doesn't stay as it is.
-pub(crate) fn changes(planned: &[Planned]) -> bool
+fn changes(planned: &[Planned]) -> bool
     ensures { result ≡ changes_by planned.now }
 {
     for method in planned {

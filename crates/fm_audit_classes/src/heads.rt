@@ -119,7 +119,7 @@ fn have_same_codes(old: &[Member], new: &[Member]) -> bool
 }
 
 /// Whether two methods have the same code, or both have none.
-fn has_same_code(old: &Member, new: &Member) -> bool
+pub(crate) fn has_same_code(old: &Member, new: &Member) -> bool
     ensures { IsTrue result ↔ (code_of new.now ≡ code_of old.now) }
 {
     match old.code() {

@@ -27,7 +27,7 @@ pub(crate) fn are_low(planned: &[Planned], methods: &[Member]) -> bool
 }
 
 /// The same of one method.
-pub(crate) fn is_low(planned: &Planned, method: &Member) -> bool
+fn is_low(planned: &Planned, method: &Member) -> bool
     ensures { result ≡ is_low planned.now method.now }
 {
     match planned {
@@ -40,7 +40,7 @@ pub(crate) fn is_low(planned: &Planned, method: &Member) -> bool
 }
 
 /// Whether the stack of a code may have one more word, and its plan has so few pairs.
-fn is_low_code(code: &Code, plan: &Plan) -> bool
+pub(crate) fn is_low_code(code: &Code, plan: &Plan) -> bool
     ensures { result ≡ is_low_code code.now plan.now }
 {
     if code.max_stack > MAX_WOVEN_STACK_WORDS {

@@ -1,13 +1,16 @@
 -- What a refusal of written classes names, and when there is one.
-use Rattle.std.specs.Prelude.{◌≡◌, ◌<◌, ℕ, true, List, [], ◌∷◌, length, None, Option, IfSome, Result, Ok, Err}
+use Rattle.std.specs.Prelude.{◌≡◌, ◌<◌, ℕ, true, List, [], ◌∷◌, length, None, Some, Option, IfSome, Result, Ok, Err}
 use Rattle.fm_base.specs.declared.ids.MethodId.{MethodId}
 use Rattle.fm_code.specs.declared.class_file.ClassDef.{ClassDef}
+use Rattle.fm_conn.specs.Facts.{Facts}
 use Rattle.fm_place_weave.specs.declared.planned.Planned.{Planned}
 use Rattle.fm_rewrite.specs.FreeCalls.{first_call}
 use Rattle.fm_rewrite.specs.inner.ByPlans.{classes_by, others, own}
 use Rattle.fm_world.specs.Members.{methods_of}
 use Rattle.fm_world.specs.Programs.{Program, program_of}
+use Rattle.fm_audit.specs.declared.parts.Part.{Part}
 use Rattle.fm_audit_classes.specs.Audited.{AreSafelyWritten, NoneIsSafe}
+use Rattle.fm_audit_classes.specs.Parts.{HaveClasses, IsFirstNamed, IsFirstUnsafe}
 use Rattle.fm_audit_classes.specs.declared.error.AuditFail.{AuditFail}
 use Rattle.fm_audit_classes.specs.declared.error.AuditFail.TheVariants as fail
 use Rattle.fm_audit_classes.specs.inner.Low.{are_low}
@@ -34,23 +37,36 @@ pub record AreWhollyWritten (done : List Planned) (given written : List ClassDef
   pub low : AreLowEach done given
   pub same : written ≡ classes_by done given
 
--- no safe insertions give the written classes, where these are refused
-abbrev pub IsUnsafe : Program → (given written : List ClassDef) → AuditFail → Type 0
-IsUnsafe p given written (fail.CallsFree method offset) = Unit {0}
-IsUnsafe p given written (fail.NotSafe class method part) = NoneIsSafe p given written
-IsUnsafe p given written fail.NoMemory = Unit {0}
+-- where each class has the first part, a method is named, the first one that isn't safe by these facts
+abbrev pub IsFirstMethod : Program → Facts → (given written : List ClassDef) → (class : ℕ) → Option MethodId → Type 0
+IsFirstMethod p facts given written class None = HaveClasses given written → ⊥
+IsFirstMethod p facts given written class (Some method) = HaveClasses given written → IsFirstUnsafe p facts given written class method.0
 
 -- what is named is there, and no safe insertions give the written classes
 pub record IsNamed (p : Program) (given written : List ClassDef) (class : ℕ) (method : Option MethodId) : Type 0 where
   pub class_inside : class < length p.outline.classes
   pub method_inside : IfSome method (λ m. m.0 < length (methods_of p.outline.classes))
   pub unsafe : NoneIsSafe p given written
+  pub first : IsFirstMethod p unsafe.facts given written class method
 
 -- so it is with a refusal
 abbrev pub IsRefused : Program → (given written : List ClassDef) → AuditFail → Type 0
 IsRefused p given written (fail.CallsFree method offset) = ⊥
 IsRefused p given written (fail.NotSafe class method part) = IsNamed p given written class.0 method
 IsRefused p given written fail.NoMemory = Unit {0}
+
+-- the same, but what is named is the first one
+pub record IsNamedFirst (p : Program) (given written : List ClassDef) (class : ℕ) (method : Option MethodId) (failed : Part) : Type 0 where
+  pub class_inside : class < length p.outline.classes
+  pub method_inside : IfSome method (λ m. m.0 < length (methods_of p.outline.classes))
+  pub unsafe : NoneIsSafe p given written
+  pub named : IsFirstNamed p unsafe.facts given written class method failed
+
+-- so it is with a refusal
+abbrev pub IsFirstRefusal : Program → (given written : List ClassDef) → AuditFail → Type 0
+IsFirstRefusal p given written (fail.CallsFree method offset) = ⊥
+IsFirstRefusal p given written (fail.NotSafe class method failed) = IsNamedFirst p given written class.0 method failed
+IsFirstRefusal p given written fail.NoMemory = Unit {0}
 
 -- where the program doesn't call FreeMe, the written classes are safe, or they are refused
 abbrev pub ComesOfJudged : Program → (given written : List ClassDef) → Result Unit AuditFail → Type 0

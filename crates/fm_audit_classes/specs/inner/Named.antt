@@ -1,10 +1,10 @@
 -- What is found of the first class that isn't the given one, codes aside, and of the first method that isn't as it has to be.
-use Rattle.std.specs.Prelude.{◌≡◌, ℕ, true, false, List, ◌∷◌, Option, Some, None, is_some}
+use Rattle.std.specs.Prelude.{◌≡◌, ℕ, true, false, List, ◌∷◌, Option, Some, None}
 use Rattle.fm_audit.specs.declared.parts.Part.TheVariants as part
 use Rattle.fm_code.specs.declared.class_file.ClassDef.{ClassDef}
 use Rattle.fm_place_weave.specs.declared.planned.Planned.{Planned}
 use Rattle.fm_rewrite.specs.inner.ByPlans.{changes_by, others, own, rewritten_by}
-use Rattle.fm_audit_classes.specs.Parts.{class_codes, HasClass, HaveClasses, IsFirstNamed, IsFirstOther}
+use Rattle.fm_audit_classes.specs.Parts.{class_codes, HasClass, HaveClasses, IsFirstOther}
 use Rattle.fm_audit_classes.specs.declared.error.AuditFail.{AuditFail}
 use Rattle.fm_audit_classes.specs.declared.error.AuditFail.TheVariants as fail
 use Rattle.fm_audit_classes.specs.inner.Low.{are_low}
@@ -28,22 +28,7 @@ abbrev pub IsWholeIf : List Planned → (given written : ClassDef) → Option �
 IsWholeIf done c w None = HasClass c w → IsStill done c w → (are_low done c.methods ≡ true) × (w ≡ rewritten_by done c)
 IsWholeIf done c w (Some place) = Unit {0}
 
--- a refusal names a method
-abbrev pub NamesMethod : AuditFail → Type 0
-NamesMethod (fail.NotSafe class method part) = is_some method ≡ true
-NamesMethod e = ⊥
-
--- where this holds, a refusal of classes names a method
-abbrev pub NamesMethodIf : Type 0 → AuditFail → Type 0
-NamesMethodIf P (fail.NotSafe class method part) = P → is_some method ≡ true
-NamesMethodIf P e = Unit {0}
-
--- it names this class, without a method, and the first part
+-- a refusal names this class, without a method, and the first part
 abbrev pub NamesOnly : (class : ℕ) → AuditFail → Type 0
 NamesOnly class (fail.NotSafe named method failed) = (named.0 ≡ class) × (method ≡ None) × (failed ≡ part.Classes)
 NamesOnly class e = ⊥
-
--- what a refusal of classes names is the first one
-abbrev pub IsFirstRefusal : (given written : List ClassDef) → AuditFail → Type 0
-IsFirstRefusal given written (fail.NotSafe class method failed) = IsFirstNamed given written class.0 method failed
-IsFirstRefusal given written e = Unit {0}

@@ -1,13 +1,15 @@
-use Rattle.std.proofs.Common.{◌≡◌, ◌-◌, ◌+◌, sym, ◌∙◌, ap, subst, List, drop, length, arith, OnOk}
+use Rattle.std.proofs.Common.{◌≡◌, ℕ, ◌-◌, ◌+◌, sym, ◌∙◌, ap, subst, List, drop, length, arith, OnOk}
 use Rattle.std.specs.Prelude.{IfErr}
 use Rattle.std.proofs.lemmas.List.{length-drop}
 use Rattle.fm_audit_classes.proofs.FoundLemmas.{classes_judged, found_within_err, methods_judged}
 use Rattle.fm_audit_classes.specs.inner.Compared.{MayBeComparedEach}
+use Rattle.fm_audit_classes.specs.inner.Methods.{NamesFirst}
 use Rattle.fm_audit_classes.specs.inner.Named.{AreStill}
 use Rattle.fm_audit_classes.specs.inner.Found.{AreWhollyWritten, IsFalseOf}
 use Rattle.fm_place.specs.Rewriting.{first_given}
 use Rattle.fm_place_weave.specs.declared.planned.Planned.{Planned}
 use Rattle.fm_rewrite.specs.inner.ByPlans.{classes_by, method_count}
+use Rattle.fm_world.specs.BuiltIns.{built_in}
 use Rattle.fm_world.specs.Members.{methods_of}
 use Rattle.fm_audit_classes.proofs.auditing.are_written_by.Goals as goal
 
@@ -91,3 +93,14 @@ returns-clause-whole c =
     let first : c.methods.result - c.args.count ≡ first_given = omega (arith, all, c.methods.ensures, c.requires.count) in
     subst (λ (ds : List Planned). IfErr c.are_written.result (IsFalseOf (AreWhollyWritten ds c.args.classes.now c.args.written.now)))
     (c.split_at.ensures.back ∙ (λ k. drop (first k) (c.as_slice.ensures.value k))) c.are_written.ensures.whole
+
+pub returns-clause-first : goal.returns-clause-first
+returns-clause-first c =
+    let p = c.args.program.now in
+    let classes = classes_judged c.args.classes.now p c.requires.judged in
+    let methods = methods_judged c.args.classes.now p c.requires.judged in
+    let first_class : c.classes.result - length c.args.classes.now ≡ length built_in = omega (arith, classes, c.classes.ensures) in
+    let first_method : c.methods.result - c.args.count ≡ first_given = omega (arith, methods, c.methods.ensures, c.requires.count) in
+    let own = c.split_at.ensures.back ∙ (λ k. drop (first_method k) (c.as_slice.ensures.value k)) in
+    subst (λ (q : (ℕ × ℕ) × List Planned). IfErr c.are_written.result (NamesFirst q.0.0 q.0.1 q.1 c.args.classes.now c.args.written.now))
+    (λ k. ((first_class k, first_method k), own k)) c.are_written.ensures.first

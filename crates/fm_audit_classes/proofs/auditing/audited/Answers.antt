@@ -35,8 +35,8 @@ are_written_by-requires-clause-still c =
     are_still c.args.classes.now p c.in_ok-codes.codes.items c.requires.judged c.in_ok-codes.ensures.one_each done are stay c.args.written.now
     c.in_ok-codes.ensures.codes
 
-pub returns-clause-judged : goal.returns-clause-judged
-returns-clause-judged c =
+pub returns : goal.returns
+returns c =
     let p = c.args.program.now in
     let done = c.in_ok-found.found.planned.items in
     let are : AreSafelyInserted p c.in_ok-codes.codes.items done =
@@ -45,4 +45,4 @@ returns-clause-judged c =
     subst (λ (new : List NewCode). AllStay p new done) c.as_slice.ensures.value c.in_ok-found.ensures.still in
     comes_of_judged c.args.classes.now p c.in_ok-codes.codes.items done c.args.written.now c.requires.judged are stay c.in_ok-codes.ensures.one_each
     c.requires.spelled c.in_ok-codes.ensures.codes c.are_written_by.result c.are_written_by.ensures.same c.are_written_by.ensures.found
-    c.are_written_by.ensures.whole
+    c.are_written_by.ensures.whole c.are_written_by.ensures.first

@@ -9,6 +9,7 @@ use Rattle.fm_place_weave.specs.ClassByPlan.{first_long, IsFirstLong, IsFull}
 use Rattle.fm_place_weave.specs.declared.error.WeaveFail.{WeaveFail}
 use Rattle.fm_pool.specs.declared.error.AddFail.{AddFail}
 use Rattle.fm_audit_classes.specs.inner.Low.{are_low}
+use Rattle.fm_audit_classes.proofs.StepLemmas.{always_ok}
 use Rattle.fm_audit_classes.proofs.WholeClassLemmas.{never_full, never_too_long, woven_whole}
 use Rattle.fm_audit_classes.proofs.comparing.is_woven.Goals as goal
 
@@ -62,3 +63,8 @@ returns-in-Err-TooLong-clause-whole c = λ low is.
     subst (λ (fail : WeaveFail). IsFirstLong long fail) c.in-Err-TooLong.field-0-is c.in-Err-TooLong.ensures.refused in
     absurd (never_too_long c.args.planned.now c.args.class.now c.args.written.now c.requires.class c.requires.written is c.in-Ok.pool.calls _
     c.in-Ok.ensures.calls first)
+
+pub returns-in-Ok-woven_class-clause-low : goal.returns-in-Ok-woven_class-clause-low
+returns-in-Ok-woven_class-clause-low c =
+    let low : are_low c.args.planned.now c.args.class.now.methods ≡ true = search rules in
+    always_ok c.is_same.result low

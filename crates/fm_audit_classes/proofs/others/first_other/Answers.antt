@@ -1,43 +1,42 @@
-use Rattle.std.proofs.Common.{rules, ◌≡◌, ◌∙◌, sym, ap, Bool, true, false}
-use Rattle.fm_chain.specs.Chaining.{calls_for, entries_for}
-use Rattle.fm_audit_classes.specs.inner.Low.{are_low}
-use Rattle.fm_audit_classes.proofs.WholeIfLemmas.{whole_changed, whole_full, whole_high, whole_still}
-use Rattle.fm_rewrite.specs.inner.ByPlans.{changes_by}
+use Rattle.std.proofs.Common.{rules, ◌≡◌, sym, subst, false, List}
+use Rattle.std.specs.List.{AllByRecursion}
+use Rattle.fm_chain.specs.Chaining.{calls_for}
+use Rattle.fm_code.specs.AccessFlags.{is_interface}
+use Rattle.fm_code.specs.FreeEntries.{with_free}
+use Rattle.fm_code.specs.declared.class_file.Member.{Member}
+use Rattle.fm_place_weave.specs.ClassByPlan.{IsFull}
+use Rattle.fm_audit_classes.proofs.WholeIfLemmas.{first_ok, short_each, whole_full, whole_ok}
+use Rattle.fm_audit_classes.specs.inner.Methods.{HasShortCode, MayDoEach}
 use Rattle.fm_audit_classes.proofs.others.first_other.Goals as goal
 
-pub woven_class-requires-clause-pool : goal.woven_class-requires-clause-pool
-woven_class-requires-clause-pool c =
-    c.in-Ok.ensures.pool ∙ ap (λ (chains : Bool). entries_for chains c.args.class.now.pool.entries) (sym c.requires.class.plain)
+pub first_unplanned-requires-clause-may : goal.first_unplanned-requires-clause-may
+first_unplanned-requires-clause-may c =
+    let methods : c.deref.result.now ≡ c.args.class.now.methods = search rules in
+    subst (λ (l : List Member). MayDoEach c.in-Ok.pool.calls c.args.planned.now l) (sym methods)
+    (c.requires.class.each c.in-Ok.pool.calls (record { free = search rules; link = search rules; free_chain = search rules }))
 
-pub woven_class-requires-clause-calls : goal.woven_class-requires-clause-calls
-woven_class-requires-clause-calls c =
-    c.in-Ok.ensures.calls ∙ ap (λ (chains : Bool). calls_for chains c.args.class.now.pool.entries) (sym c.requires.class.plain)
+pub first_unplanned-requires-clause-short : goal.first_unplanned-requires-clause-short
+first_unplanned-requires-clause-short c =
+    let w = c.args.written.now in
+    let methods : c.deref-in-Ok.result.now ≡ w.methods = search rules in
+    subst (λ (l : List Member). AllByRecursion HasShortCode l) (sym methods)
+    (short_each (is_interface w.flags) w.pool.entries w.methods c.requires.written.1.methods)
 
-pub woven_class-requires-clause-may : goal.woven_class-requires-clause-may
-woven_class-requires-clause-may c =
-    let low : are_low c.args.planned.now c.args.class.now.methods ≡ true = search rules in
-    c.requires.class.may low c.in-Ok.pool.calls (record { free = search rules; link = search rules; free_chain = search rules })
+pub returns-in-Ok-clause-first : goal.returns-in-Ok-clause-first
+returns-in-Ok-clause-first c =
+    let old_is : c.deref.result.now ≡ c.args.class.now.methods = search rules in
+    let new_is : c.deref-in-Ok.result.now ≡ c.args.written.now.methods = search rules in
+    first_ok c.in-Ok.pool.calls (calls_for false c.args.class.now.pool.entries) c.in-Ok.ensures.calls c.args.planned.now _ _ old_is _ _ new_is
+    c.first_unplanned.result c.first_unplanned.ensures
 
--- ---- what is found
-
-pub returns-then-not-changes-clause-none : goal.returns-then-not-changes-clause-none
-returns-then-not-changes-clause-none c =
-    let still : changes_by c.args.planned.now ≡ false = sym c.changes.ensures ∙ c.if-not-changes.true in
-    whole_still c.args.planned.now c.args.class.now c.args.written.now still c.first_other_of.result (search rules)
-
-pub returns-then-not-are_low-clause-none : goal.returns-then-not-are_low-clause-none
-returns-then-not-are_low-clause-none c =
-    let high : are_low c.args.planned.now c.args.class.now.methods ≡ false = search rules in
-    whole_high c.args.planned.now c.args.class.now c.args.written.now high c.first_high.result (search rules)
+pub returns-in-Ok-clause-none : goal.returns-in-Ok-clause-none
+returns-in-Ok-clause-none c =
+    let old_is : c.deref.result.now ≡ c.args.class.now.methods = search rules in
+    let new_is : c.deref-in-Ok.result.now ≡ c.args.written.now.methods = search rules in
+    whole_ok c.in-Ok.pool.calls c.args.planned.now c.args.class.now c.args.written.now c.requires.class c.requires.written c.in-Ok.ensures.calls _ old_is _ new_is
+    c.first_unplanned.result c.first_unplanned.ensures
 
 pub returns-in-Err-Full-clause-none : goal.returns-in-Err-Full-clause-none
 returns-in-Err-Full-clause-none c =
-    let changed : changes_by c.args.planned.now ≡ true = sym c.changes.ensures ∙ c.if-not-changes.false in
-    whole_full c.args.planned.now c.args.class.now c.args.written.now c.requires.class changed c.requires.written c.in-Err-Full.ensures.refused.0
-
-pub returns-in-Ok-woven_class-clause-none : goal.returns-in-Ok-woven_class-clause-none
-returns-in-Ok-woven_class-clause-none c =
-    let changed : changes_by c.args.planned.now ≡ true = sym c.changes.ensures ∙ c.if-not-changes.false in
-    let low : are_low c.args.planned.now c.args.class.now.methods ≡ true = search rules in
-    whole_changed c.args.planned.now c.args.class.now c.args.written.now c.in-Ok-woven_class.woven c.requires.class changed low
-    c.in-Ok-woven_class.ensures.woven c.first_other_of.result (search rules)
+    let full = subst (IsFull (with_free c.args.class.now.pool.entries)) c.in-Err-Full.field-0-is c.in-Err-Full.ensures.refused in
+    whole_full c.args.planned.now c.args.class.now c.args.written.now c.requires.class c.requires.written full.0
