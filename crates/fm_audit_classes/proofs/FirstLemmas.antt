@@ -3,7 +3,7 @@ use Rattle.std.proofs.Common.{◌≡◌, refl, sym, ◌∙◌, ap, subst, ℕ, z
 use Rattle.std.specs.Prelude.{slice_get}
 use Rattle.std.proofs.lemmas.Bool.{cases_lt}
 use Rattle.std.proofs.lemmas.Option.{same_Some}
-use Rattle.fm_base.proofs.ListFacts.{drop_here}
+use Rattle.fm_base.proofs.ListFacts.{drop_here, slice_get-append_right}
 use Rattle.fm_chain.specs.Chaining.{calls_for}
 use Rattle.fm_code.specs.Members.{code_of}
 use Rattle.fm_code.specs.declared.class_file.ClassDef.{ClassDef}
@@ -27,11 +27,6 @@ pub get_left : {X : Type 0} (xs ys : List X) (i : ℕ) → i < length xs → sli
 get_left [] ys i inside = absurd (omega (arith, inside))
 get_left (x ∷ xs) ys zero inside = refl
 get_left (x ∷ xs) ys (suc i) inside = get_left xs ys i (omega (arith, inside))
-
-pub get_past : {X : Type 0} (xs ys : List X) (i : ℕ) → slice_get (xs ++ ys) (length xs + i) ≡ slice_get ys i
-get_past [] ys i = let same : 0 + i ≡ i = omega arith in ap (slice_get ys) same
-get_past (x ∷ xs) ys i =
-    let same : suc (length xs) + i ≡ suc (length xs + i) = omega arith in ap (slice_get (x ∷ xs ++ ys)) same ∙ get_past xs ys i
 
 -- ---- the methods of a class
 
@@ -105,7 +100,7 @@ module _ (class first : ℕ) (rest : List Planned) (c w : ClassDef) (cs ws : Lis
   first_later are number method found =
       let n = length c.methods in
       let past : (i : ℕ) → slice_get (here ++ after) (n + i) ≡ slice_get after i = λ i.
-      ap (λ k. slice_get (here ++ after) (k + i)) (sym here_count) ∙ get_past here after i in
+      ap (λ k. slice_get (here ++ after) (k + i)) (sym here_count) ∙ slice_get-append_right here after i in
       record {
         place = n + found.place;
         own = found.own;
@@ -133,8 +128,7 @@ module _ (done : List Planned) (c w : ClassDef) (may : MayBeCompared done c) (lo
     changed_well : AreWell (class_by done c)
     changed_well =
         subst (λ (b : Bool). AreAsPlanned (calls_for false c.pool.entries) done c.methods (methods_by (calls_for b c.pool.entries) done c.methods)
-        × (length (methods_by (calls_for b c.pool.entries) done c.methods) ≡ length c.methods)) (sym may.plain)
-        (
+        × (length (methods_by (calls_for b c.pool.entries) done c.methods) ≡ length c.methods)) (sym may.plain) (
           woven_each (calls_for false c.pool.entries) done c.methods may.short low may.one_each,
           methods_counted (calls_for false c.pool.entries) done c.methods may.one_each,
         )

@@ -3,7 +3,7 @@ use Rattle.std.proofs.Common.{◌≡◌, refl, sym, ◌∙◌, ap, subst, ℕ, z
 use Rattle.std.specs.Prelude.{IfSome, slice_get}
 use Rattle.std.specs.List.{AllByRecursion}
 use Rattle.std.specs.Option.{option_map}
-use Rattle.std.proofs.lemmas.Bool.{and_from, and_parts, cases_lt, false≢true}
+use Rattle.std.proofs.lemmas.Bool.{and_from, and_parts, cases_lt, false≢true, or_parts}
 use Rattle.std.proofs.lemmas.Option.{get_or_from_slice_get, none-some, same_Some, slice_get_read}
 use Rattle.fm_base.proofs.ListFacts.{same_head, same_tail}
 use Rattle.fm_chain.specs.declared.calls.Calls.{Calls}
@@ -126,10 +126,6 @@ module _ (new_interface old_interface : Bool) (new_entries old_entries : List En
 
 -- ---- all methods of a class
 
-pub both_stay : (a b : Bool) → (a || b) ≡ false → (a ≡ false) × (b ≡ false)
-both_stay true b is = absurd (false≢true (sym is))
-both_stay false b is = (refl, is)
-
 stays_here : (d : Planned) → is_changed d ≡ false → d ≡ planned.Same
 stays_here planned.Same same = refl
 stays_here (planned.Woven plan) same = absurd (false≢true (sym same))
@@ -137,8 +133,8 @@ stays_here (planned.TooLong bytes chains) same = absurd (false≢true (sym same)
 
 pub stays_at : (done : List Planned) → changes_by done ≡ false → (k : ℕ) → planned_at done k ≡ planned.Same
 stays_at [] still k = refl
-stays_at (d ∷ done) still zero = stays_here d (both_stay (is_changed d) (changes_by done) still).0
-stays_at (d ∷ done) still (suc k) = stays_at done (both_stay (is_changed d) (changes_by done) still).1 k
+stays_at (d ∷ done) still zero = stays_here d (or_parts (is_changed d) (changes_by done) still).0
+stays_at (d ∷ done) still (suc k) = stays_at done (or_parts (is_changed d) (changes_by done) still).1 k
 
 abbrev pub AreAsPlanned : Calls → List Planned → (old new : List Member) → Type 0
 AreAsPlanned calls done old new = (k : ℕ) → k < length old → IsAsPlannedAt calls done old new k

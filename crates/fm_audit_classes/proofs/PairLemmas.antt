@@ -2,6 +2,7 @@
 use Rattle.std.proofs.Common.{◌≡◌, refl, sym, ◌∙◌, ap, ℕ, zero, suc, ◌+◌, ◌<◌, ◌≤◌, Bool, true, false, not, List, [], ◌∷◌, length, map, drop, get_or, drop_of_length-le, arith}
 use Rattle.std.proofs.lemmas.Bool.{false≢true}
 use Rattle.std.proofs.lemmas.List.{length-map}
+use Rattle.std.specs.Prelude.{Decides}
 use Rattle.fm_base.proofs.ListFacts.{drop_here, same_head}
 
 module _ {X Y : Type 0} (f : X → Y) where
@@ -42,6 +43,6 @@ fails_so r fails decides p = false≢true (sym fails ∙ decides p)
 pub never_other : (r p : Bool) → r ≡ not p → r ≡ true → p ≡ true → ⊥
 never_other r p is other same = false≢true (sym (is ∙ ap not same) ∙ other)
 
-pub not_other : (r p : Bool) → r ≡ not p → r ≡ false → p ≡ true
-not_other r true is same = refl
-not_other r false is same = absurd (false≢true (sym same ∙ is))
+pub same_unless : {P : Type 0} (r p : Bool) → Decides p P → r ≡ not p → r ≡ false → P
+same_unless r true decides is same = decides.0 refl
+same_unless r false decides is same = absurd (false≢true (sym same ∙ is))

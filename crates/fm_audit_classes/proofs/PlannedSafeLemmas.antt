@@ -44,12 +44,13 @@ use Rattle.fm_audit.specs.Reading.{read}
 use Rattle.fm_audit.specs.SafeMethods.{AreSafelyInserted}
 use Rattle.fm_audit.specs.SafePlans.{IsListedIn}
 use Rattle.fm_audit.specs.declared.methods.NewCode.{NewCode}
-use Rattle.fm_audit_classes.proofs.FirstLemmas.{are_at, class_count, get_left, get_past}
+use Rattle.fm_base.proofs.ListFacts.{slice_get-append_right}
+use Rattle.fm_audit_classes.proofs.FirstLemmas.{are_at, class_count, get_left}
 use Rattle.fm_audit_classes.proofs.HeadLemmas.{never_full_pool}
 use Rattle.fm_audit_classes.proofs.LowLemmas.{low_code}
-use Rattle.fm_audit_classes.proofs.NewCodeLemmas.{all_few, no_code, place_items}
+use Rattle.fm_audit_classes.proofs.NewCodeLemmas.{all_few, no_code}
 use Rattle.fm_audit_classes.proofs.SameLemmas.{are_same_codes}
-use Rattle.fm_audit_classes.proofs.StillLemmas.{dropped_at, pair_given, stays_so}
+use Rattle.fm_audit_classes.proofs.StillLemmas.{dropped_at, old_codes, pair_given, stays_so}
 use Rattle.fm_audit_classes.proofs.UnsafeLemmas.{low_plan}
 use Rattle.fm_audit_classes.proofs.WholeIfLemmas.{counted}
 use Rattle.fm_audit_classes.specs.Parts.{all_methods, class_codes, class_methods, HasClass, HaveClasses, IsFirstUnsafe, IsSafelyWoven, IsSafeNew, WrittenMethod}
@@ -58,9 +59,6 @@ use Rattle.fm_audit_classes.specs.inner.Low.{is_low_in}
 use Rattle.fm_audit_classes.specs.inner.Methods.{free_calls, IsFirstPlanned, IsPlannedWell}
 
 -- ---- the methods of written classes by their numbers
-
-abbrev old_codes : List ClassDef → List (Option Code)
-old_codes given = flat_map (λ (c : ClassDef). map code_of c.methods) given
 
 -- each class has the first part
 abbrev AreClasses : (given written : List ClassDef) → Type 0
@@ -115,11 +113,11 @@ module _ (class : ℕ) (c w : ClassDef) (given written : List ClassDef) (has : H
     free : (code_of new ≡ code_of old) ⊎ (free_for c ≡ free_index c)
     free = ⊎_elim
         (λ (full : 65535 < length (with_free c.pool.entries)). ⊎_elim
-            (λ (codes : class_codes w ≡ class_codes c).
-            inl (sym (code_there w.methods i new new_at) ∙ ap (λ (l : List (Option Code)). get_or l i None) codes ∙ code_there c.methods i old old_at))
-            (λ (differ : class_codes w ≡ class_codes c → ⊥).
-            absurd (never_full_pool c w spelled full (ap (λ (d : ClassDef). d.pool.entries) (has.changed differ))))
-            (are_same_codes (class_codes w) (class_codes c)))
+        (λ (codes : class_codes w ≡ class_codes c).
+        inl (sym (code_there w.methods i new new_at) ∙ ap (λ (l : List (Option Code)). get_or l i None) codes ∙ code_there c.methods i old old_at))
+        (λ (differ : class_codes w ≡ class_codes c → ⊥).
+        absurd (never_full_pool c w spelled full (ap (λ (d : ClassDef). d.pool.entries) (has.changed differ))))
+        (are_same_codes (class_codes w) (class_codes c)))
         (λ (few : length (with_free c.pool.entries) ≤ 65535). inr (ap (λ b. cond b 0 (free_index c)) (le-ltb 65535 (length (with_free c.pool.entries)) few)))
         (cases_lt 65535 (length (with_free c.pool.entries)))
 
@@ -171,7 +169,7 @@ is_at class (c ∷ given) (w ∷ written) spelled have i m is = ⊎_elim
     let own = class_methods class (free_index c) c.methods w.methods in
     let wide = class_count class (free_index c) c.methods w.methods (counted [] c w have.0) in
     let later : slice_get rest (i - length c.methods) ≡ Some m =
-    sym (get_past own rest (i - length c.methods)) ∙ ap (λ n. slice_get (own ++ rest) (n + (i - length c.methods))) wide ∙ ap (slice_get (own ++ rest)) place ∙ is in
+    sym (slice_get-append_right own rest (i - length c.methods)) ∙ ap (λ n. slice_get (own ++ rest) (n + (i - length c.methods))) wide ∙ ap (slice_get (own ++ rest)) place ∙ is in
     subst (λ n. IsAt (c ∷ given) (w ∷ written) n m) place
     (at_later class c w given written have.0 spelled.0 (i - length c.methods) m
     (is_at (class + 1) given written spelled.1 have.1 (i - length c.methods) m later)))

@@ -132,7 +132,7 @@ conv = bare_decides the_conv.the_type tt
 test : (a b : Test) → Decides (sameb the_test.the_type a b) (a ≡ b)
 test = bare_decides the_test.the_type tt
 
-numbers : (xs ys : List ℕ) → Decides (pointwise nat_eq xs ys) (xs ≡ ys)
+pub numbers : (xs ys : List ℕ) → Decides (pointwise nat_eq xs ys) (xs ≡ ys)
 numbers xs ys = slice_eq-Decides Decides-eqb xs ys _ refl
 
 keys : (xs ys : List ℤ) → Decides (pointwise int_eq xs ys) (xs ≡ ys)
@@ -237,14 +237,12 @@ class_decides a b =
 
 -- ---- lists of them
 
-pub number_lists : (xs ys : List ℕ) → Decides (pointwise nat_eq xs ys) (xs ≡ ys)
-number_lists = numbers
-
 pub member_lists : (xs ys : List Member) → Decides (pointwise (same_member.ghosts).eq xs ys) (xs ≡ ys)
 member_lists = lists member_decides
 
 pub raw_lists : (xs ys : List Raw) → Decides (pointwise (same_raw.ghosts).eq xs ys) (xs ≡ ys)
 raw_lists = lists raw_decides
+
 -- ---- codes that there may be
 
 -- what a test decides holds, or it doesn't

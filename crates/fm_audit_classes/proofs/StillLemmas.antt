@@ -57,8 +57,8 @@ dropped_at zero rest i = let same : i ≡ 0 + i = omega arith in ap (planned_at 
 dropped_at (suc n) [] i = refl
 dropped_at (suc n) (d ∷ rest) i = let same : suc (n + i) ≡ suc n + i = omega arith in dropped_at n rest i ∙ ap (planned_at (d ∷ rest)) same
 
-abbrev old_codes : List ClassDef → List (Option Code)
-old_codes classes = flat_map (λ (c : ClassDef). map code_of c.methods) classes
+abbrev pub old_codes : List ClassDef → List (Option Code)
+old_codes classes = flat_map class_codes classes
 
 pub still_each : (given written : List ClassDef) (rest : List Planned)
     → ((i : ℕ) → i < method_count given → StaysSo (get_or (old_codes given) i None) (get_or (written_codes given written) i no_code) (planned_at rest i))

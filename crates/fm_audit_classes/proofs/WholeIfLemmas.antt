@@ -2,7 +2,7 @@
 use Rattle.std.proofs.Common.{◌≡◌, ◌≢◌, refl, sym, ◌∙◌, ap, subst, ℕ, suc, ◌+◌, ◌<◌, ◌≤◌, ⊎_elim, Bool, true, false, cond, List, [], ◌∷◌, length, map, drop, Option, Some, None, Result, Ok, Err, IfOk, arith}
 use Rattle.std.specs.Prelude.{IfSome}
 use Rattle.std.specs.List.{AllByRecursion}
-use Rattle.std.proofs.lemmas.Bool.{and_from, cases_eq, false≢true}
+use Rattle.std.proofs.lemmas.Bool.{and_from, cases_eq, false≢true, or_parts}
 use Rattle.std.proofs.lemmas.List.{length-map}
 use Rattle.std.proofs.lemmas.Option.{none-some, same_Some}
 use Rattle.fm_chain.specs.Chaining.{calls_for, entries_for}
@@ -23,7 +23,7 @@ use Rattle.fm_place_weave.specs.declared.planned.Planned.{Planned}
 use Rattle.fm_place_weave.specs.declared.planned.Planned.TheVariants as planned
 use Rattle.fm_rewrite.specs.inner.ByPlans.{changes_by, is_changed, rewritten_by}
 use Rattle.fm_audit_classes.proofs.HeadLemmas.{never_full_pool}
-use Rattle.fm_audit_classes.proofs.MemberLemmas.{AreAsPlanned, both_stay, low_all, members_are, stays_at}
+use Rattle.fm_audit_classes.proofs.MemberLemmas.{AreAsPlanned, low_all, members_are, stays_at}
 use Rattle.fm_audit_classes.proofs.SameLemmas.{are_same_codes}
 use Rattle.fm_audit_classes.specs.Parts.{bare_class, bare_method, class_codes, HasClass, with_entries}
 use Rattle.fm_audit_classes.specs.declared.error.AuditFail.{AuditFail}
@@ -44,7 +44,7 @@ pub low_still : (done : List Planned) (methods : List Member) → changes_by don
 low_still [] methods still = refl
 low_still (d ∷ done) [] still = refl
 low_still (d ∷ done) (m ∷ methods) still =
-    let both = both_stay (is_changed d) (changes_by done) still in
+    let both = or_parts (is_changed d) (changes_by done) still in
     and_from (is_low d m) (are_low done methods) (low_one d m both.0) (low_still done methods both.1)
 
 pub methods_counted : (calls : Calls) (done : List Planned) (methods : List Member) → length done ≡ length methods → length (methods_by calls done methods) ≡ length methods
@@ -56,7 +56,7 @@ methods_counted calls (d ∷ done) (m ∷ methods) same =
 
 still_rest : (done : List Planned) → changes_by done ≡ false → changes_by (drop 1 done) ≡ false
 still_rest [] still = refl
-still_rest (d ∷ done) still = (both_stay (is_changed d) (changes_by done) still).1
+still_rest (d ∷ done) still = (or_parts (is_changed d) (changes_by done) still).1
 
 codes_same : (calls : Calls) (done : List Planned) (old new : List Member) → length new ≡ length old → changes_by done ≡ false
     → AreAsPlanned calls done old new → map code_of new ≡ map code_of old
