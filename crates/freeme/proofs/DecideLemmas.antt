@@ -1,5 +1,5 @@
 -- What an audit says of its files it says of the classes that these hold, where contents are known: there are no others.
-use Rattle.std.proofs.Common.{◌≡◌, ◌+◌, ◌≤◌, ℕ, cond, List, [], ◌∷◌, ◌++◌, map, None, Option, Some, IsSome, is_some, refl, sym, ◌∙◌, ap, subst, arith}
+use Rattle.std.proofs.Common.{◌≡◌, ◌+◌, ◌≤◌, ℕ, cond, List, [], ◌∷◌, ◌++◌, append-nil, map, None, Option, Some, IsSome, is_some, refl, sym, ◌∙◌, ap, subst, arith}
 use Rattle.fm_base.proofs.OptionFacts.{Some-from_is_some}
 use Rattle.std.proofs.lemmas.Option.{same_Some}
 use Rattle.std.specs.List.{AllByRecursion}
@@ -66,7 +66,7 @@ module _ (contents : Contents) (known : IsSome contents) where
 are_accepted : (files : List Bytes) (contents : Contents) (classes : List ClassDef) → AllTaken contents files classes → AllByRecursion Profile classes
 are_accepted files contents classes taken =
     let given : Given = record { files = files; made = None; main = [] } in
-    given_accepted {given} {contents} {classes} (record { read = classes; taken = taken; alone = tt; classes_are = sym (append-nil classes) })
+    given_accepted {given = given} {contents = contents} {classes = classes} (record { read = classes; taken = taken; alone = tt; classes_are = sym (append-nil classes) })
 
 -- the classes of an audit, and those that are audited
 record AreTheSame (classes others these those : List ClassDef) : Type 0 where
