@@ -20,6 +20,7 @@ BRANCHES = (*range(153, 169), 198, 199)
 OPERANDS = {1: (16, 18, *range(21, 26), *range(54, 59), 169, 188), 3: (197,), 4: (185, 186, 200, 201)}
 OPERANDS[2] = (17, 19, 20, 132, *range(153, 169), *range(178, 185), 187, 189, 192, 193, 198, 199)
 SIZES = {code: size for size, codes in OPERANDS.items() for code in codes}
+MAX_CODE_LENGTH = 65_535
 CLASSES, ITEMS, HOLDERS, USES, FREES, LAYOUT = range(1, 7)
 
 
@@ -629,13 +630,14 @@ CLASS_CHANGES = (one_entry_more, other_version, final_method, strict_method)
 
 
 def edited(written, place, edit):
-    """A written class file with one of its codes changed, or None where a branch would have to be widened or a range of a handler gets empty."""
+    """A written class file with one of its codes changed, or None where a branch would have to be widened, a range of a handler gets empty, or the code gets
+    longer than a class file may have it (JVMS 4.7.3)."""
     file = ClassFile(written)
     code = next(code for number, _, code in file.codes() if number == place)
     edit(code)
     with suppress(struct.error):
         changed = file.bytes()
-        if all(start.at < end.at for start, end, *_ in code.handlers):
+        if code.end.at <= MAX_CODE_LENGTH and all(start.at < end.at for start, end, *_ in code.handlers):
             return changed
     return None
 
