@@ -404,8 +404,11 @@ fn is_refused(alloc: Global, row: &Refused) -> Result<bool, NoMemory> {
     };
     let mut files = MemFiles::new(alloc, Vec::new(alloc));
     for file in ["M.class", "d/M.class"] {
-        let bytes = if file == *name { other.as_slice() } else { M };
-        files.add(file, bytes)?;
+        if file == *name {
+            files.add(file, other.as_slice())?;
+        } else {
+            files.add(file, M)?;
+        }
     }
     ends_with(alloc, WORDS, &mut files, *status, line)
 }
