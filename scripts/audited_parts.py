@@ -242,7 +242,7 @@ class Original:
 
     def judged_anew(self, old, new):
         if not is_class_kept(old, new):
-            return new.name(), CLASSES
+            return old.name(), CLASSES
         for (place, name, before), (_, _, after) in zip(old.codes(), new.codes()):
             part = self.part(old, new, place, before, after) if before.body() != after.body() else None
             if part:
