@@ -99,7 +99,8 @@ IsForRead call =
 
 -- ---- 66, 67 and 69
 
--- this status comes exactly where a class file is refused by its bytes with it, unless a read or the put fails or memory can't be had
+-- this status comes exactly where there aren't too many arguments and a class file is refused by its bytes with it, unless a read or the put fails or
+-- memory can't be had
 abbrev pub IsForBytes : ℕ → ProgramCall → Type 0
 IsForBytes status call =
     ComesExactly status (READ ∷ WRITE ∷ OUT_OF_MEMORY ∷ []) call.status (AskForGiven call.words (SaysRefused status call))
@@ -147,7 +148,7 @@ pub record IsForLimit (call : ProgramCall) : Type 0 where
 
 -- ---- 70
 
--- this status comes exactly where the classes make no program, unless a read or the put fails or memory can't be had
+-- this status comes exactly where the input is read and the classes make no program, unless a read or the put fails or memory can't be had
 abbrev pub IsForLink : ProgramCall → Type 0
 IsForLink call =
     ComesExactly LINK (READ ∷ WRITE ∷ OUT_OF_MEMORY ∷ []) call.status (AskWithInput call (λ job. SaysLink call (given_of job)))
@@ -155,7 +156,7 @@ IsForLink call =
 
 -- ---- 71
 
--- this status comes exactly where a method of the program isn't typed, unless a read or the put fails or memory can't be had
+-- this status comes exactly where the input is read and a method of the program isn't typed, unless a read or the put fails or memory can't be had
 abbrev pub IsForCheck : ProgramCall → Type 0
 IsForCheck call =
     ComesExactly CHECK (READ ∷ WRITE ∷ OUT_OF_MEMORY ∷ []) call.status (AskWithInput call (λ job. SaysCheck call (given_of job)))
@@ -205,7 +206,7 @@ pub record IsForRun (call : ProgramCall) : Type 0 where
 
 -- ---- 83
 
--- the run reached its end of this status, and a method of its program calls FreeMe
+-- the run reached its end, and a method of its program calls FreeMe
 pub record SaysFault (call : ProgramCall) : Type 0 where
   pub run : SaysRun call
   pub frees : ¬ CallsNoFreeMe (job_program run.job run.ran.classes)

@@ -271,8 +271,8 @@ pub record SaysSafe (audit : Audit) (call : ProgramCall) : Type 0 where
 abbrev pub IsForSafe : ProgramCall → Type 0
 IsForSafe call = (audit : Audit) → AskToAudit call.words audit → call.status ≡ DONE → SaysSafe audit call
 
--- the words ask for an audit, all files of which are taken, and those that are audited aren't safe insertions; the line names a class or one of its
--- methods, and a part
+-- the words ask for an audit, all files of which are taken, and those that are audited aren't safe insertions; the line names the first class or method
+-- for which they aren't, and a part
 pub record SaysNotSafe (call : ProgramCall) : Type 0 where
   pub audit : Audit
   pub asked : AskToAudit call.words audit
