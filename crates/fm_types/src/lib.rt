@@ -9,6 +9,7 @@ mod fitting;
 mod joins;
 mod known_state;
 mod laws;
+mod pieces;
 mod shared_slots;
 mod slots;
 mod stacks;

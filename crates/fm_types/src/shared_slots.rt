@@ -6,9 +6,9 @@ ghost use Rattle.std.specs.Prelude.{◌≡◌, ◌∷◌, ◌++◌, ◌+◌, ◌
 ghost use Rattle.fm_types.specs.States.{local_at};
 ghost use Rattle.fm_types.specs.inner.Pieces.{AreEven, in_one};
 
+use crate::pieces::{Piece, extended, piece_of};
 use crate::slots::{Slot, slot_in};
 use fm_base::NoMemory;
-use fm_world::Shared;
 use std::alloc::Global;
 use std::marker::Model;
 
@@ -19,7 +19,7 @@ pub const PIECE_SLOTS: usize = 32;
 #[derive(Debug, Drop)]
 pub struct SharedSlots {
     alloc: Global,
-    pieces: Vec<Shared<Slot>>,
+    pieces: Vec<Piece>,
     // how many slots of the pieces belong to the list
     len: usize,
 }
@@ -96,8 +96,8 @@ impl SharedSlots {
         Some(self.slot(number))
     }
 
-    /// Puts a slot at the place of this number. Takes memory for one piece; after `NoMemory` the list is
-    /// as before.
+    /// Puts a slot at the place of this number. Takes memory for its piece where other lists have it too;
+    /// after `NoMemory` the list is as before.
     pub fn set(&mut self, number: usize, slot: Slot) -> Result<(), NoMemory>
         requires { number < length self.old }
         ensures { OnOk result (self.new ≡ slice_set self.old number slot) }
@@ -149,40 +149,8 @@ impl SharedSlots {
     }
 }
 
-// A piece with these slots.
-fn piece_of(alloc: Global, slots: &[Slot]) -> Result<Shared<Slot>, NoMemory>
-    ensures { IfOk result (λ piece. piece ≡ slots.now) }
-{
-    Shared::new(Vec::from_slice(alloc, slots)?)
-}
-
-// A piece with these slots, but for another one at one place.
-fn changed(
-    alloc: Global,
-    slots: &[Slot],
-    place: usize,
-    slot: Slot,
-) -> Result<Shared<Slot>, NoMemory>
-    requires { place < length slots.now }
-    ensures { IfOk result (λ piece. piece ≡ slice_set slots.now place slot) }
-{
-    let mut changed = Vec::from_slice(alloc, slots)?;
-    changed[place] = slot;
-    Shared::new(changed)
-}
-
-// A piece with these slots, and one more.
-fn extended(alloc: Global, slots: &[Slot], slot: Slot) -> Result<Shared<Slot>, NoMemory>
-    ensures { IfOk result (λ piece. piece ≡ slots.now ++ slot ∷ []) }
-{
-    let mut extended = Vec::with_capacity(alloc, slots.len() + 1)?;
-    extended.extend_from_slice(slots)?;
-    extended.push(slot)?;
-    Shared::new(extended)
-}
-
 // The slots in pieces.
-fn cut(alloc: Global, slots: &[Slot]) -> Result<Vec<Shared<Slot>>, NoMemory>
+fn cut(alloc: Global, slots: &[Slot]) -> Result<Vec<Piece>, NoMemory>
     ensures even { IfOk result (λ pieces. AreEven pieces.items) }
     ensures slots { IfOk result (λ pieces. in_one pieces.items ≡ slots.now) }
 {
@@ -198,7 +166,7 @@ fn cut(alloc: Global, slots: &[Slot]) -> Result<Vec<Shared<Slot>>, NoMemory>
 }
 
 // The same pieces, with one owner more.
-fn copies(alloc: Global, pieces: &[Shared<Slot>]) -> Result<Vec<Shared<Slot>>, NoMemory>
+fn copies(alloc: Global, pieces: &[Piece]) -> Result<Vec<Piece>, NoMemory>
     ensures { IfOk result (λ copies. copies.items ≡ pieces.now) }
 {
     let mut copies = Vec::with_capacity(alloc, pieces.len())?;
@@ -209,7 +177,7 @@ fn copies(alloc: Global, pieces: &[Shared<Slot>]) -> Result<Vec<Shared<Slot>>, N
 }
 
 // The slots of all pieces.
-fn joined(alloc: Global, pieces: &[Shared<Slot>]) -> Result<Vec<Slot>, NoMemory>
+fn joined(alloc: Global, pieces: &[Piece]) -> Result<Vec<Slot>, NoMemory>
     ensures { IfOk result (λ slots. slots.items ≡ in_one pieces.now) }
 {
     let mut slots = Vec::with_capacity(alloc, pieces.len())?;
@@ -220,7 +188,7 @@ fn joined(alloc: Global, pieces: &[Shared<Slot>]) -> Result<Vec<Slot>, NoMemory>
 }
 
 // The slot of this number; `Top` past the last one.
-fn slot_of(pieces: &[Shared<Slot>], number: usize) -> Slot
+fn slot_of(pieces: &[Piece], number: usize) -> Slot
     requires { AreEven pieces.now }
     ensures { result ≡ local_at (in_one pieces.now) number }
 {
@@ -231,7 +199,7 @@ fn slot_of(pieces: &[Shared<Slot>], number: usize) -> Slot
 }
 
 // The slot of this number among the first ones, of which there are `count`; `Top` past them.
-fn slot_below(pieces: &[Shared<Slot>], count: usize, number: usize) -> Slot
+fn slot_below(pieces: &[Piece], count: usize, number: usize) -> Slot
     requires even { AreEven pieces.now }
     requires count { count ≤ length (in_one pieces.now) }
     ensures { result ≡ local_at (take count (in_one pieces.now)) number }
@@ -243,12 +211,7 @@ fn slot_below(pieces: &[Shared<Slot>], count: usize, number: usize) -> Slot
 }
 
 // Puts a slot into the piece that has the slot of this number.
-fn put(
-    alloc: Global,
-    pieces: &mut Vec<Shared<Slot>>,
-    number: usize,
-    slot: Slot,
-) -> Result<(), NoMemory>
+fn put(alloc: Global, pieces: &mut Vec<Piece>, number: usize, slot: Slot) -> Result<(), NoMemory>
     requires even { AreEven pieces.old.items }
     requires number { number < length (in_one pieces.old.items) }
     ensures even { AreEven pieces.new.items }
@@ -256,9 +219,7 @@ fn put(
     ensures slots { OnOk result (in_one pieces.new.items
         ≡ slice_set (in_one pieces.old.items) number slot) }
 {
-    let place = number / PIECE_SLOTS;
-    let piece = changed(alloc, pieces[place].as_slice(), number % PIECE_SLOTS, slot)?;
-    pieces[place] = piece;
+    pieces[number / PIECE_SLOTS].set(alloc, number % PIECE_SLOTS, slot)?;
     Ok(())
 }
 
@@ -266,7 +227,7 @@ fn put(
 // how many there are then.
 fn put_after(
     alloc: Global,
-    pieces: &mut Vec<Shared<Slot>>,
+    pieces: &mut Vec<Piece>,
     count: usize,
     slot: Slot,
 ) -> Result<usize, NoMemory>
@@ -294,7 +255,7 @@ fn put_after(
 // Makes a piece the last one, with its first slots, of which there are `count`, and one more.
 fn end_piece(
     alloc: Global,
-    pieces: &mut Vec<Shared<Slot>>,
+    pieces: &mut Vec<Piece>,
     place: usize,
     count: usize,
     slot: Slot,
