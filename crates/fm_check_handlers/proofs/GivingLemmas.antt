@@ -1,11 +1,9 @@
 -- What items give to handlers by runs: a state that has room for what they gave, and that all handlers of a run's entries have room for it.
 use Rattle.std.proofs.Common.{◌≡◌, refl, sym, ◌∙◌, ap, inl, inr, ◌⊎◌, ⊎_elim, ℕ, suc, ◌+◌, ◌/◌, ◌<◌, ◌≤◌, ◌||◌, not, Bool, true, false, List, [], ◌∷◌, ◌++◌, length, map, take, get_or, set, All, Option, Some, None, Contains, subst, arith}
 use Rattle.std.specs.Prelude.{IsSomeAnd}
-use Rattle.std.specs.List.{range_with_len}
 use Rattle.std.proofs.Math.Seq.{map-set_same}
 use Rattle.std.proofs.lemmas.Bool.{cases_lt, false≢true}
 use Rattle.std.proofs.lemmas.List.{get_or-map, get_or_past, length-map, take_more}
-use Rattle.std.proofs.lemmas.List.FromFn.{get_or-range_with_len, length-range_with_len}
 use Rattle.std.proofs.lemmas.List.Elements.{All-contains, Contains-append_left, Contains-get_or, Contains-push, Contains-push_cases, recursion_from_All}
 use Rattle.fm_base.proofs.ContainsFacts.{Contains-none}
 use Rattle.fm_base.proofs.OptionFacts.{IsSomeAnd-at_some, IsSomeAnd-from_some, same_value, Some-from_some_and}
@@ -25,12 +23,12 @@ use Rattle.fm_check_handlers.specs.declared.catching.Giving.{Giving}
 use Rattle.fm_check_handlers.specs.declared.catching.Giving.TheVariants as giving
 use Rattle.fm_check_handlers.specs.declared.runs.Level.{Level}
 use Rattle.fm_check_handlers.specs.declared.runs.Run.{Run}
-use Rattle.fm_check_walk.specs.inner.Risen.{is_local, local_rises, rise_of}
+use Rattle.fm_check_walk.specs.inner.Risen.{AreBeside, is_local, rise_of}
 use Rattle.fm_types.specs.inner.Places.{HasPlace, slot_at, with_slot, without_words}
-use Rattle.fm_check_handlers.specs.inner.Runs.{AreGiven, entries_at, entries_in, entries_of, GivesAll, GivesLevel, GivesLevels, GivesRun, halved, has_room, Holds, is_brought, is_open, is_open_to, is_taken, IsAsked, IsCovered, IsGiven, IsGuarded, IsHeld, IsLaid, IsRaised, LeavesAll, MayGive, RaisesOne, RaisesRun, shape, Wanted, BringsHandlers, CarriesHandlers}
+use Rattle.fm_check_handlers.specs.inner.Runs.{AreGiven, AreLeft, entries_at, entries_in, entries_of, GivesAll, GivesLevel, GivesLevels, GivesRun, halved, has_room, Holds, is_brought, is_open, is_open_to, is_taken, IsAsked, IsCovered, IsGiven, IsGuarded, IsHeld, IsLaid, IsRaised, LeavesAll, MayGive, RaisesOne, RaisesRun, shape, Wanted, BringsHandlers, CarriesHandlers}
 use Rattle.fm_check_walk.specs.inner.Walks.{CanCarry, HasRoom, IsForced, Rises, Stands, Walked, Went}
 use Rattle.fm_check_walk.specs.inner.Tasks.{is_within, IsSound, Task}
-use Rattle.fm_code.proofs.EdgesLemmas.{Contains-from_filter, Contains-from_map, Contains-map}
+use Rattle.fm_code.proofs.EdgesLemmas.{Contains-from_filter, Contains-map}
 use Rattle.fm_code.specs.Edges.{Catches}
 use Rattle.fm_code.specs.declared.code_array.Handler.{Handler}
 use Rattle.fm_types.proofs.LeastJoins.{join-least}
@@ -280,23 +278,18 @@ CarriesHandlers-nothing t rises handlers w sound stands none =
 
 -- ---- an item's state is brought to a run
 
--- all its locals are among the slots
-local_there : (count k : ℕ) (s : TypeState) → k < count → Contains (local_rises count s) (rise_of s (place.Local k))
-local_there count k s below =
-    let size = length-range_with_len 0 count in
-    Contains-map (λ n. rise_of s (place.Local n)) (range_with_len 0 count) k
-    (k, omega (arith, below, size), get_or-range_with_len 0 count k k below ∙ (let plain : 0 + k ≡ k = omega arith in plain))
+-- what is put is in locals
+pub all_local : (count : ℕ) (others : List Slot) (s : TypeState) (rises : List Rise) → AreBeside count others s rises
+    → (rise : Rise) → Contains rises rise → is_local rise.place ≡ true
+all_local count others s rises beside rise found =
+    ⊎_elim (λ (none : Contains [] rise). absurd (Contains-none rise none))
+    (λ (was : (k : ℕ) × (rise_of s (place.Local k) ≡ rise)). subst (λ (r : Rise). is_local r.place ≡ true) was.1 refl)
+    (beside.only rise found)
 
--- and they are locals
-pub all_local : (count : ℕ) (s : TypeState) (rise : Rise) → Contains (local_rises count s) rise → is_local rise.place ≡ true
-all_local count s rise found =
-    let was = Contains-from_map (λ n. rise_of s (place.Local n)) (range_with_len 0 count) rise found in
-    subst (λ (r : Rise). is_local r.place ≡ true) was.2 refl
-
--- which can be carried to the handlers of entries that hold the item
-pub brought_can : (t : Task) (w : Walked) (item count : ℕ) (s given : TypeState) (h : Handler) → IsSound t → IsForced t item s
-    → Holds t.code.handlers item h → IsHeld t w.states given h → CanCarry t w h.handler (local_rises count s)
-brought_can t w item count s given h sound forced holds held =
+-- and can be carried to the handlers of entries that hold the item
+pub brought_can : (t : Task) (w : Walked) (item count : ℕ) (others : List Slot) (s given : TypeState) (rises : List Rise) (h : Handler) → IsSound t
+    → IsForced t item s → Holds t.code.handlers item h → IsHeld t w.states given h → AreBeside count others s rises → CanCarry t w h.handler rises
+brought_can t w item count others s given rises h sound forced holds held beside =
     let found = fits_one t w.states h.handler (handler_state held.caught given) held.fits in
     record {
       state = found.state;
@@ -304,9 +297,11 @@ brought_can t w item count s given h sound forced holds held =
       brought = handler_state held.caught s;
       forced = caught_forced t item h held.caught s sound forced holds.listed holds.after_start holds.before_end held.is;
       slots = λ n d below.
-          let rise = get_or (local_rises count s) n d in
-          let was = Contains-from_map (λ n. rise_of s (place.Local n)) (range_with_len 0 count) rise (Contains-get_or (local_rises count s) n d below) in
-          subst (λ (r : Rise). slot_at (handler_state held.caught s) r.place ≡ r.slot) was.2 refl;
+          let rise = get_or rises n d in
+          ⊎_elim (λ (none : Contains [] rise). absurd (Contains-none rise none))
+          (λ (was : (k : ℕ) × (rise_of s (place.Local k) ≡ rise)).
+          subst (λ (r : Rise). slot_at (handler_state held.caught s) r.place ≡ r.slot) was.1 refl)
+          (beside.only rise (Contains-get_or rises n d below));
     }
 
 -- what was given for a run that is open
@@ -320,10 +315,10 @@ open_given run built None is opens = absurd (false≢true (ap (is_open_to built)
 open_given run built (Some given) is opens = record { given = given; is = is; built = ap (is_open_to built) (sym is) ∙ opens }
 
 -- the item's own state fits where there is room for all its locals
-open_fits : (t : Task) (w : Walked) (s given : TypeState) (h : Handler) → IsSound t → Stands t w → is_within t.code s ≡ true → (s.built || not given.built) ≡ true
-    → IsHeld t w.states given h → has_room t (local_rises t.code.max_locals s) w.states h
+open_fits : (t : Task) (w : Walked) (s given : TypeState) (rises : List Rise) (h : Handler) → IsSound t → Stands t w → is_within t.code s ≡ true
+    → (s.built || not given.built) ≡ true → IsHeld t w.states given h → AreBeside t.code.max_locals given.locals s rises → has_room t rises w.states h
     → IsSomeAnd (caught_type t.program t.number h) (λ c. FitsAt t.program w.states h.handler (handler_state c s))
-open_fits t w s given h sound stands within built held room =
+open_fits t w s given rises h sound stands within built held beside room =
     IsSomeAnd-from_some (caught_type t.program t.number h) (λ c. FitsAt t.program w.states h.handler (handler_state c s)) held.caught held.is
     (fits_at t w.states h.handler (handler_state held.caught s) u above.is
     (fits-from o (handler_state held.caught s) u (record {
@@ -353,9 +348,13 @@ open_fits t w s given h sound stands within built held room =
       each k =
           ⊎_elim
           (λ (below : k < t.code.max_locals).
+          ⊎_elim
+          (λ (found : Contains rises (rise_of s (place.Local k))).
           IsSomeAnd-at_some (state_at w.states h.handler) (λ x. fits o (local_at s.locals k) (local_at x.locals k) ≡ true) u above.is
-          (All-contains (HasRoom t w.states h.handler) (local_rises t.code.max_locals s) (rise_of s (place.Local k)) room
-          (local_there t.code.max_locals k s below)))
+          (All-contains (HasRoom t w.states h.handler) rises (rise_of s (place.Local k)) room found))
+          (λ (same : local_at s.locals k ≡ local_at given.locals k).
+          ap (λ x. fits o x (local_at u.locals k)) same ∙ slot-fits o (handler_state held.caught given) u (place.Local k) above.fits)
+          (beside.there k below))
           (λ (past : t.code.max_locals ≤ k).
           let first : local_at s.locals k ≡ slot.Top = get_or_past s.locals k slot.Top (omega (arith, past, size)) in
           let second : local_at u.locals k ≡ slot.Top = get_or_past u.locals k slot.Top (omega (arith, past, other_size)) in
@@ -363,25 +362,34 @@ open_fits t w s given h sound stands within built held room =
           (cases_lt k t.code.max_locals)
 
 -- the state was joined into what was given
-pub GivesRun-open : (t : Task) (item : ℕ) (s : TypeState) (run given : Run) (old new : Walked) → IsSound t → is_within t.code s ≡ true
-    → is_open run s.built ≡ true → IsGiven t old.states run → GivesRun (has_room t (local_rises t.code.max_locals s)) t run given old new
-    → GivesRun (is_brought t item s) t run given old new
-GivesRun-open t item s run given old new sound within opens held gives = record {
+pub GivesRun-open : (t : Task) (item : ℕ) (s : TypeState) (rises : List Rise) (run given : Run) (old new : Walked) → IsSound t
+    → is_within t.code s ≡ true → is_open run s.built ≡ true → IsGiven t old.states run → AreLeft t.code.max_locals run s rises
+    → GivesRun (has_room t rises) t run given old new → GivesRun (is_brought t item s) t run given old new
+GivesRun-open t item s rises run given old new sound within opens held left gives = record {
   went = gives.went;
   same = gives.same;
   held = gives.held;
   done = λ h found catches.
       let was = open_given run s.built run.given refl opens in
-      open_fits t new s (known_state was.given) h sound gives.went.stands within was.built
-      (held-later t old new (known_state was.given) h sound gives.went.rises (held was.given was.is h found)) (gives.done h found);
+      open_fits t new s (known_state was.given) rises h sound gives.went.stands within was.built
+      (held-later t old new (known_state was.given) h sound gives.went.rises (held was.given was.is h found)) (left was.given was.is) (gives.done h found);
 }
 
-pub open_can : (t : Task) (w : Walked) (item : ℕ) (s : TypeState) (run : Run) → IsSound t → IsForced t item s → is_open run s.built ≡ true
-    → IsGiven t w.states run → ((h : Handler) → Contains run.entries.items h → Holds t.code.handlers item h)
-    → (h : Handler) → Contains run.entries.items h → CanCarry t w h.handler (local_rises t.code.max_locals s)
-open_can t w item s run sound forced opens given holds h found =
+pub open_can : (t : Task) (w : Walked) (item : ℕ) (s : TypeState) (rises : List Rise) (run : Run) → IsSound t → IsForced t item s
+    → is_open run s.built ≡ true → IsGiven t w.states run → AreLeft t.code.max_locals run s rises
+    → ((h : Handler) → Contains run.entries.items h → Holds t.code.handlers item h)
+    → (h : Handler) → Contains run.entries.items h → CanCarry t w h.handler rises
+open_can t w item s rises run sound forced opens given left holds h found =
     let was = open_given run s.built run.given refl opens in
-    brought_can t w item t.code.max_locals s (known_state was.given) h sound forced (holds h found) (given was.given was.is h found)
+    brought_can t w item t.code.max_locals was.given.locals s (known_state was.given) rises h sound forced (holds h found) (given was.given was.is h found)
+    (left was.given was.is)
+
+-- what is put is in locals
+pub open_local : (count : ℕ) (s : TypeState) (rises : List Rise) (run : Run) → is_open run s.built ≡ true → AreLeft count run s rises
+    → (rise : Rise) → Contains rises rise → is_local rise.place ≡ true
+open_local count s rises run opens left rise found =
+    let was = open_given run s.built run.given refl opens in
+    all_local count was.given.locals s rises (left was.given was.is) rise found
 
 -- it was brought to each handler, and given
 pub GivesRun-brought : (t : Task) (item : ℕ) (s : TypeState) (run given : Run) (now : KnownState) (old new : Walked) → IsSound t → IsForced t item s
@@ -426,12 +434,12 @@ stays-brought t item s sound = λ a b h rises fitting catches.
     (fits_later t a b h.handler (handler_state found.0 s) sound rises found.2)
 
 pub stays-taken : (t : Task) (item : ℕ) (given : Giving) → IsSound t → Stays t (is_taken t item given)
-stays-taken t item (giving.State s locals) sound = stays-brought t item (type_state s.now) sound
+stays-taken t item (giving.State s) sound = stays-brought t item (type_state s.now) sound
 stays-taken t item (giving.Locals rises) sound = stays-room t rises.now sound
 
 -- what may be given still may
 pub MayGive-later : (t : Task) (a b : Walked) (item : ℕ) (given : Giving) → Went t a b → MayGive t a item given → MayGive t b item given
-MayGive-later t a b item (giving.State s locals) went may = may
+MayGive-later t a b item (giving.State s) went may = may
 MayGive-later t a b item (giving.Locals rises) went may =
     record { local = may.local; carried = λ h holds. can_carry_later t a b h.handler rises.now went (may.carried h holds) }
 

@@ -3,8 +3,8 @@
 // handlers of the run's entries.
 
 ghost use Rattle.std.specs.Prelude.{◌≡◌, ◌<◌, ◌⊎◌, Contains, IfOk, MatchBool, OnOk, length, true};
-ghost use Rattle.fm_check_walk.specs.inner.Risen.{is_local, local_rises};
-ghost use Rattle.fm_check_handlers.specs.inner.Runs.{AreGiven, GivesAll, GivesLevel, GivesRun, Holds, IsGiven, IsGuarded, IsRaised, LeavesAll, MayGive, RaisesOne, RaisesRun, entries_in, has_room, is_brought, is_open, is_taken, BringsCaught, BringsHandlers, CarriesHandlers};
+ghost use Rattle.fm_check_walk.specs.inner.Risen.{is_local};
+ghost use Rattle.fm_check_handlers.specs.inner.Runs.{AreGiven, AreLeft, GivesAll, GivesLevel, GivesRun, Holds, IsGiven, IsGuarded, IsRaised, LeavesAll, MayGive, RaisesOne, RaisesRun, entries_in, has_room, is_brought, is_open, is_taken, BringsCaught, BringsHandlers, CarriesHandlers};
 ghost use Rattle.fm_check_walk.specs.inner.Walks.{CanCarry, IsForced, Stands, Untypable, walked};
 ghost use Rattle.fm_check_walk.specs.inner.Tasks.{IsSound, is_within, task};
 ghost use Rattle.fm_check_walk.specs.declared.risen.Rise.{Rise as RiseSpec};
@@ -16,7 +16,7 @@ ghost use Rattle.fm_world.specs.Members.{methods_of};
 use crate::runs::{Level, Run};
 use fm_base::{NoMemory, TypeRef};
 use fm_check_rows::{built_in_type, type_of_use, use_in};
-use fm_check_walk::{CheckedMethod, Rise, Walk, local_rises, rises_of};
+use fm_check_walk::{CheckedMethod, Rise, Walk, rises_beside, rises_of};
 use fm_code::Handler;
 use fm_types::{KnownState, SharedSlots, Slot, SlotPlace, Stack, State, fits, fits_type, join};
 use std::alloc::Global;
@@ -24,8 +24,8 @@ use std::alloc::Global;
 /// What an item gives to the handlers of the entries whose ranges hold it.
 #[derive(Clone, Copy)]
 pub enum Giving<'a> {
-    /// Its state, and the slots of the state's locals.
-    State(&'a State, &'a [Rise]),
+    /// Its state.
+    State(&'a State),
     /// Slots of locals alone.
     Locals(&'a [Rise]),
 }
@@ -239,7 +239,19 @@ fn carry_to_run(
     carry_to_handlers(alloc, walk, method, run.entries.as_slice(), left.as_slice())
 }
 
-// Brings an item's state, which has these slots in its locals, to the handlers of a run's entries.
+// What is in the locals of a state, of which there are a number, but for some in which the same is as in
+// what was given for a run.
+fn rises_for(alloc: Global, run: &Run, state: &State, count: u16) -> Result<Vec<Rise>, NoMemory>
+    ensures { IfOk result (λ rises. AreLeft count run.now (type_state state.now) rises.items) }
+{
+    match &run.given {
+        Some(given) => rises_beside(alloc, state, &given.locals, count),
+        None => Ok(Vec::new(alloc)),
+    }
+}
+
+// Brings an item's state to the handlers of a run's entries. Where a state was given for the run that is
+// open to it, only what is in those pieces of its locals that aren't the same is carried.
 fn bring_to_run(
     alloc: Global,
     walk: &mut Walk,
@@ -247,15 +259,12 @@ fn bring_to_run(
     run: &mut Run,
     item: u32,
     state: &State,
-    locals: &[Rise],
 ) -> Result<bool, NoMemory>
     requires sound { IsSound (task method.now) }
     requires stands { Stands (task method.now) (walked walk.old) }
     requires given { IsGiven (task method.now) (walked walk.old).states run.old }
     requires forced { IsForced (task method.now) item (type_state state.now) }
     requires within { is_within (task method.now).code (type_state state.now) ≡ true }
-    requires locals { locals.now
-        ≡ local_rises (task method.now).code.max_locals (type_state state.now) }
     requires holds { (h : HandlerSpec) → Contains run.old.entries.items h
         → Holds (task method.now).code.handlers item h }
     ensures { IfOk result (λ fits. MatchBool fits
@@ -264,7 +273,8 @@ fn bring_to_run(
         (Untypable (task method.now))) }
 {
     if is_open(run, state.built) {
-        return carry_to_run(alloc, walk, method, run, locals);
+        let rises = rises_for(alloc, run, state, method.code.max_locals)?;
+        return carry_to_run(alloc, walk, method, run, &rises);
     }
     if !bring_to_handlers(alloc, walk, method, item, run.entries.as_slice(), state)? {
         return Ok(false);
@@ -297,9 +307,7 @@ fn give_to_run(
         return Ok(true);
     }
     match giving {
-        Giving::State(state, locals) => {
-            bring_to_run(alloc, walk, method, run, item, state, locals)
-        }
+        Giving::State(state) => bring_to_run(alloc, walk, method, run, item, state),
         Giving::Locals(rises) => carry_to_run(alloc, walk, method, run, rises),
     }
 }
@@ -390,13 +398,5 @@ pub fn bring_to_runs(
     if levels.is_empty() {
         return Ok(true);
     }
-    let locals = local_rises(alloc, state, method.code.max_locals)?;
-    give_to_levels(
-        alloc,
-        walk,
-        method,
-        levels,
-        item,
-        Giving::State(state, locals.as_slice()),
-    )
+    give_to_levels(alloc, walk, method, levels, item, Giving::State(state))
 }

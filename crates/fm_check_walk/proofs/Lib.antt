@@ -4,6 +4,7 @@ pub mod MergingLemmas
 pub mod RankLemmas
 pub mod PlaceLemmas
 pub mod RisenLemmas
+pub mod PutLemmas
 pub mod Outcomes
 pub mod WalkLemmas
 pub mod CarryLemmas

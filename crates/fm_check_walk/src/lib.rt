@@ -13,5 +13,5 @@ mod walk;
 pub use checked_method::{CheckedMethod, parameter_slots};
 pub use frames::{all_left_alone, words_taken};
 pub use merging::{join_state, law_bounded, law_bounded_state, state_fits};
-pub use risen::{Rise, is_lost, local_rises, locals_of, noted, risen_places, rises_of};
+pub use risen::{Rise, is_lost, locals_of, noted, risen_places, rises_beside, rises_of};
 pub use walk::{Walk, is_within, state_of};

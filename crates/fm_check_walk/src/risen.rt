@@ -1,12 +1,12 @@
 // What rose at an item: some places, or more.
 
 ghost use Rattle.std.specs.Prelude.{◌≡◌, ◌≤◌, IfOk, OnOk, length, map};
-ghost use Rattle.fm_check_walk.specs.inner.Risen.{DifferIn, IsPlaced, IsRisenIn, is_local, is_lost, local_rises, locals_of, noted, rise_of};
+ghost use Rattle.fm_check_walk.specs.inner.Risen.{AreBeside, DifferIn, IsAsIn, IsInPiece, IsPlaced, IsRisenIn, IsThisLocal, PutsLocals, is_local, is_lost, locals_of, noted, rise_of};
 ghost use Rattle.fm_types.specs.declared.known_state.SlotPlace.TheVariants as place;
 ghost use Rattle.fm_types.specs.Typings.{known_state, type_state};
 
 use fm_base::{NoMemory, Seq};
-use fm_types::{KnownState, SharedSlots, Slot, SlotPlace, State};
+use fm_types::{KnownState, PIECE_SLOTS, SharedSlots, Slot, SlotPlace, State};
 use std::alloc::Global;
 
 /// A place at which something rose, and what is there now.
@@ -37,16 +37,80 @@ pub fn rises_of(
     Ok(rises)
 }
 
-/// What is in each of a given number of locals, in their order.
-pub fn local_rises(alloc: Global, state: &State, count: u16) -> Result<Vec<Rise>, NoMemory>
-    ensures { IfOk result (λ rises. rises.items ≡ local_rises count (type_state state.now)) }
+// Puts what is in a local after the others, if it is one of this number of locals.
+fn push_local(
+    rises: &mut Vec<Rise>,
+    state: &State,
+    local: usize,
+    count: u16,
+) -> Result<(), NoMemory>
+    ensures { OnOk result (PutsLocals (IsThisLocal local count) (λ _. ⊥) (type_state state.now)
+        rises.old.items rises.new.items) }
 {
-    let mut rises = Vec::with_capacity(alloc, usize::from(count))?;
-    for local in 0..count {
-        rises.push(Rise {
-            place: SlotPlace::Local(local),
-            slot: state.locals.slot(usize::from(local)),
-        })?;
+    let most = usize::from(count);
+    if local >= most {
+        return Ok(());
+    }
+    let slot = state.locals.slot(local);
+    rises.push(Rise {
+        place: SlotPlace::Local(local as u16),
+        slot,
+    })?;
+    Ok(())
+}
+
+// The same of each local of a piece.
+fn push_piece(
+    rises: &mut Vec<Rise>,
+    state: &State,
+    piece: usize,
+    count: u16,
+) -> Result<(), NoMemory>
+    requires { piece ≤ 65535 }
+    ensures { OnOk result (PutsLocals (IsInPiece piece count) (λ _. ⊥) (type_state state.now)
+        rises.old.items rises.new.items) }
+{
+    let first = piece * PIECE_SLOTS;
+    for index in 0..PIECE_SLOTS {
+        push_local(rises, state, first + index, count)?;
+    }
+    Ok(())
+}
+
+// The same, but where the piece is the same in another list.
+fn push_unlike(
+    rises: &mut Vec<Rise>,
+    state: &State,
+    others: &SharedSlots,
+    piece: usize,
+    count: u16,
+) -> Result<(), NoMemory>
+    requires { piece ≤ 65535 }
+    ensures { OnOk result (PutsLocals (IsInPiece piece count)
+        (IsAsIn others.now (type_state state.now)) (type_state state.now) rises.old.items
+        rises.new.items) }
+{
+    if state.locals.has_same_piece(others, piece) {
+        return Ok(());
+    }
+    push_piece(rises, state, piece, count)?;
+    Ok(())
+}
+
+/// What is in each of a given number of locals, but for pieces of them that are the same in another list.
+pub fn rises_beside(
+    alloc: Global,
+    state: &State,
+    others: &SharedSlots,
+    count: u16,
+) -> Result<Vec<Rise>, NoMemory>
+    ensures { IfOk result (λ rises. AreBeside count others.now (type_state state.now)
+        rises.items) }
+{
+    let mut rises = Vec::new(alloc);
+    let pieces = usize::from(count) / PIECE_SLOTS + 1;
+    for piece in 0..pieces {
+        push_unlike(&mut rises, state, others, piece, count)?;
     }
     Ok(rises)
 }

@@ -1,9 +1,12 @@
 -- What is read of a list in pieces, and put into it.
-use Rattle.std.proofs.Common.{◌≡◌, refl, sym, ◌∙◌, ap, ℕ, zero, suc, ◌+◌, ◌-◌, ◌*◌, ◌<◌, ◌≤◌, List, [], ◌∷◌, ◌++◌, length, get_or, set, take, arith}
+use Rattle.std.proofs.Common.{◌≡◌, refl, sym, ◌∙◌, ap, ⊎_elim, ℕ, zero, suc, ◌+◌, ◌-◌, ◌*◌, ◌/◌, ◌%◌, ◌<◌, ◌≤◌, List, [], ◌∷◌, ◌++◌, length, get_or, set, take, arith}
 use Rattle.std.specs.List.{All}
+use Rattle.std.proofs.Math.Nat.{div-add-mod, mod-lt}
 use Rattle.std.proofs.Math.Seq.{take-append-add, take-length}
-use Rattle.std.proofs.lemmas.List.{append-nil, append_assoc, get_or_append_left, get_or-append_right, get_or_past, length-append, length-set, length-take-le, set-append_left, set-append_right, take-append-le}
+use Rattle.std.proofs.lemmas.Bool.{cases_lt}
+use Rattle.std.proofs.lemmas.List.{append-nil, append_assoc, get_or_append_left, get_or-append_right, get_or_past, get_or-take, length-append, length-set, length-take, length-take-le, set-append_left, set-append_right, take-append-le}
 use Rattle.fm_types.specs.declared.slots.Slot.{Slot}
+use Rattle.fm_types.specs.declared.slots.Slot.TheVariants as slot
 use Rattle.fm_types.specs.inner.Pieces.{AreEven, in_one}
 
 -- ---- where the slot of a number is
@@ -58,6 +61,33 @@ slot_there (piece ∷ next ∷ pieces) (suc q) r i even small is within =
     let size : length piece ≡ 32 = even.1 (omega arith) in
     let whole = length-append piece (in_one (next ∷ pieces)) in
     slot_there (next ∷ pieces) q r (i - 32) even.2 small (omega (arith, is)) (omega (arith, is, whole, size, within))
+
+-- the first slots of two lists of pieces are the same where these are
+pub same_in_piece : (pieces others : List (List Slot)) (view other : List Slot) (n m piece k : ℕ) → AreEven pieces → AreEven others → n ≡ m
+    → get_or pieces piece [] ≡ get_or others piece [] → take n (in_one pieces) ≡ view → take m (in_one others) ≡ other → k / 32 ≡ piece
+    → get_or view k slot.Top ≡ get_or other k slot.Top
+same_in_piece pieces others view other n m piece k even even_too same alike seen seen_too at =
+    sym (ap (λ (xs : List Slot). get_or xs k slot.Top) seen) ∙ first ∙ ap (λ (xs : List Slot). get_or xs k slot.Top) seen_too where
+      is : k ≡ 32 * piece + k % 32
+      is = sym (div-add-mod k 32) ∙ ap (λ (q : ℕ). 32 * q + k % 32) at
+
+      whole : get_or (in_one pieces) k slot.Top ≡ get_or (in_one others) k slot.Top
+      whole =
+          let small = mod-lt k (omega arith) in
+          read_piece pieces piece (k % 32) k slot.Top even small is ∙ ap (λ (xs : List Slot). get_or xs (k % 32) slot.Top) alike
+          ∙ sym (read_piece others piece (k % 32) k slot.Top even_too small is)
+
+      first : get_or (take n (in_one pieces)) k slot.Top ≡ get_or (take m (in_one others)) k slot.Top
+      first =
+          ⊎_elim
+          (λ (inside : k < n).
+          get_or-take n (in_one pieces) k slot.Top inside ∙ whole ∙ sym (get_or-take m (in_one others) k slot.Top (omega (arith, inside, same))))
+          (λ (past : n ≤ k).
+          let size = length-take n (in_one pieces) in
+          let other_size = length-take m (in_one others) in
+          get_or_past (take n (in_one pieces)) k slot.Top (omega (arith, size, past))
+          ∙ sym (get_or_past (take m (in_one others)) k slot.Top (omega (arith, other_size, past, same))))
+          (cases_lt k n)
 
 -- ---- a piece that changes
 

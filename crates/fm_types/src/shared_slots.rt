@@ -2,8 +2,9 @@
 // most instructions leave most slots as they are, so the states of items that follow one another share
 // them.
 
-ghost use Rattle.std.specs.Prelude.{◌≡◌, ◌∷◌, ◌++◌, ◌+◌, ◌<◌, ◌≤◌, [], IfOk, IfSome, IsNone, OnErr, OnOk, length, slice_get, slice_index_or, slice_set, take};
+ghost use Rattle.std.specs.Prelude.{◌≡◌, ◌∷◌, ◌++◌, ◌+◌, ◌/◌, ◌<◌, ◌≤◌, [], ℕ, IfOk, IfSome, IsNone, IsTrue, OnErr, OnOk, length, slice_get, slice_index_or, slice_set, take};
 ghost use Rattle.fm_types.specs.States.{local_at};
+ghost use Rattle.fm_types.specs.declared.shared_slots.TheConstants.{PIECE_SLOTS};
 ghost use Rattle.fm_types.specs.inner.Pieces.{AreEven, in_one};
 
 use crate::pieces::{Piece, extended, piece_of};
@@ -96,6 +97,18 @@ impl SharedSlots {
         Some(self.slot(number))
     }
 
+    /// Whether it is clear that the piece of this number has the same slots in another list. Takes no
+    /// memory.
+    pub fn has_same_piece(&self, other: &SharedSlots, piece: usize) -> bool
+        ensures { IsTrue result → (k : ℕ) → k / PIECE_SLOTS ≡ piece
+            → local_at self.now k ≡ local_at other.now k }
+    {
+        if self.len != other.len {
+            return false;
+        }
+        are_same_at(self.pieces.as_slice(), other.pieces.as_slice(), piece)
+    }
+
     /// Puts a slot at the place of this number. Takes memory for its piece where other lists have it too;
     /// after `NoMemory` the list is as before.
     pub fn set(&mut self, number: usize, slot: Slot) -> Result<(), NoMemory>
@@ -147,6 +160,35 @@ impl SharedSlots {
         slots.truncate(self.len);
         Ok(slots)
     }
+}
+
+// Whether these are the same slots.
+fn are_same(slots: &[Slot], others: &[Slot]) -> bool
+    ensures { IsTrue result → slots.now ≡ others.now }
+{
+    if slots.len() != others.len() {
+        return false;
+    }
+    for index in 0..slots.len() {
+        if slots[index] != others[index] {
+            return false;
+        }
+    }
+    true
+}
+
+// Whether both have a piece of this number, and these have the same slots.
+fn are_same_at(pieces: &[Piece], others: &[Piece], piece: usize) -> bool
+    ensures { IsTrue result → slice_index_or pieces.now piece []
+        ≡ slice_index_or others.now piece [] }
+{
+    let Some(first) = pieces.get(piece) else {
+        return false;
+    };
+    let Some(second) = others.get(piece) else {
+        return false;
+    };
+    are_same(first.as_slice(), second.as_slice())
 }
 
 // The slots in pieces.

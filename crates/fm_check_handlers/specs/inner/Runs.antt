@@ -10,10 +10,10 @@ use Rattle.fm_check_handlers.specs.declared.catching.Giving.TheVariants as givin
 use Rattle.fm_check_handlers.specs.declared.runs.Level.{Level}
 use Rattle.fm_check_handlers.specs.declared.runs.Run.{Run}
 use Rattle.fm_check_handlers.specs.declared.runs.Span.{Span}
-use Rattle.fm_check_walk.specs.inner.Risen.{IsAlikeBut, is_local, local_rises, rise_of}
+use Rattle.fm_check_walk.specs.inner.Risen.{AreBeside, IsAlikeBut, is_local, rise_of}
 use Rattle.fm_types.specs.inner.Places.{slot_at, without_words}
-use Rattle.fm_check_walk.specs.inner.Walks.{CanCarry, HasRoom, IsForced, Walked, Went}
-use Rattle.fm_check_walk.specs.inner.Tasks.{is_within, Task}
+use Rattle.fm_check_walk.specs.inner.Walks.{CanCarry, HasRoom, IsForced, IsKept, Walked, Went}
+use Rattle.fm_check_walk.specs.inner.Tasks.{Task}
 use Rattle.fm_code.specs.declared.code_array.Handler.{Handler}
 use Rattle.fm_types.specs.Fits.{fits}
 use Rattle.fm_types.specs.States.{TypeState}
@@ -193,11 +193,9 @@ has_room t rises states h = All (HasRoom t states h.handler) rises
 abbrev pub is_brought : Task → ℕ → TypeState → Wanted
 is_brought t item s states h = FitsHandler t.program t.number states item s h
 
--- an item has this state, within the method's counts, and these are the slots of its locals
-pub record IsWhole (t : Task) (item : ℕ) (s : TypeState) (rises : List Rise) : Type 0 where
-  pub forced : IsForced t item s
-  pub within : is_within t.code s ≡ true
-  pub locals : rises ≡ local_rises t.code.max_locals s
+-- what is in the locals of a state, of which there are a number, but for some in which the same is as in what was given to a run
+abbrev pub AreLeft : ℕ → Run → TypeState → List Rise → Type 0
+AreLeft count run s rises = (given : KnownState) → run.given ≡ Some given → AreBeside count given.locals s rises
 
 -- slots of locals that the handlers of an item can take
 pub record AreWanted (t : Task) (w : Walked) (item : ℕ) (rises : List Rise) : Type 0 where
@@ -206,12 +204,12 @@ pub record AreWanted (t : Task) (w : Walked) (item : ℕ) (rises : List Rise) : 
 
 -- an item may give this
 abbrev pub MayGive : Task → Walked → ℕ → Giving → Type 0
-MayGive t w item (giving.State s locals) = IsWhole t item (type_state s.now) locals.now
+MayGive t w item (giving.State s) = IsKept t item (type_state s.now)
 MayGive t w item (giving.Locals rises) = AreWanted t w item rises.now
 
 -- a handler has taken it
 abbrev pub is_taken : Task → ℕ → Giving → Wanted
-is_taken t item (giving.State s locals) = is_brought t item (type_state s.now)
+is_taken t item (giving.State s) = is_brought t item (type_state s.now)
 is_taken t item (giving.Locals rises) = has_room t rises.now
 
 -- the handlers of a run's entries have what is wanted

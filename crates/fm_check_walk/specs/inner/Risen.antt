@@ -1,6 +1,6 @@
 -- What rose at an item, place by place: which places the item's row leaves alone, and states that differ in such places only.
-use Rattle.std.specs.Prelude.{◌≡◌, ℕ, ◌+◌, ◌++◌, ◌&&◌, ◌||◌, not, nat_le, nat_lt, Bool, true, false, List, length, map, reverse, Option, Some, None, Contains, if◌then◌else◌}
-use Rattle.std.specs.List.{filter, flat_map, range_with_len}
+use Rattle.std.specs.Prelude.{◌≡◌, ℕ, ◌+◌, ◌/◌, ◌<◌, ◌⊎◌, ◌++◌, ◌&&◌, ◌||◌, not, nat_le, nat_lt, Bool, true, false, List, [], length, reverse, Option, Some, None, Contains, if◌then◌else◌}
+use Rattle.std.specs.List.{filter, flat_map}
 use Rattle.fm_types.specs.declared.known_state.SlotPlace.{SlotPlace}
 use Rattle.fm_types.specs.declared.known_state.SlotPlace.TheVariants as place
 use Rattle.fm_check_walk.specs.declared.risen.Rise.{Rise}
@@ -10,6 +10,7 @@ use Rattle.fm_code.specs.declared.instructions.Insn.TheVariants as insn
 use Rattle.fm_types.specs.Named.{parameters_of}
 use Rattle.fm_types.specs.States.{local_at, local_slots, TypeState}
 use Rattle.fm_types.specs.inner.Places.{slot_at}
+use Rattle.fm_types.specs.declared.shared_slots.TheConstants.{PIECE_SLOTS}
 use Rattle.fm_types.specs.declared.slots.Slot.{Slot}
 use Rattle.fm_types.specs.declared.slots.Slot.TheVariants as slot
 use Rattle.fm_world.specs.Programs.{Outline}
@@ -78,9 +79,29 @@ leaves_alone i below (place.Word h) s = nat_lt h below && leaves_word i s
 abbrev pub rise_of : TypeState → SlotPlace → Rise
 rise_of s p = record { place = p; slot = slot_at s p }
 
--- what is in each of a given number of locals
-abbrev pub local_rises : ℕ → TypeState → List Rise
-local_rises count s = map (λ k. rise_of s (place.Local k)) (range_with_len 0 count)
+-- what is in locals was put after others: in those that pass the first test, but maybe for some that pass the second one
+pub record PutsLocals (P Q : ℕ → Type 0) (s : TypeState) (old new : List Rise) : Type 0 where
+  pub still : (rise : Rise) → Contains old rise → Contains new rise
+  pub only : (rise : Rise) → Contains new rise → Contains old rise ⊎ ((k : ℕ) × (rise_of s (place.Local k) ≡ rise))
+  pub there : (k : ℕ) → P k → Contains new (rise_of s (place.Local k)) ⊎ Q k
+
+-- it is this local, and one of a number of locals
+pub record IsThisLocal (local count k : ℕ) : Type 0 where
+  pub same : k ≡ local
+  pub below : k < count
+
+-- the local is in this piece, and one of a number of locals
+pub record IsInPiece (piece count k : ℕ) : Type 0 where
+  pub at : k / PIECE_SLOTS ≡ piece
+  pub below : k < count
+
+-- the same is in it as in another list
+abbrev pub IsAsIn : List Slot → TypeState → ℕ → Type 0
+IsAsIn others s k = local_at s.locals k ≡ local_at others k
+
+-- what is in locals, of which there are a number, but for some in which the same is as in another list
+abbrev pub AreBeside : ℕ → List Slot → TypeState → List Rise → Type 0
+AreBeside count others s rises = PutsLocals (λ k. k < count) (IsAsIn others s) s [] rises
 
 -- the same of a place at which something rose
 abbrev pub IsLeftAlone : Insn → ℕ → Rise → Type 0

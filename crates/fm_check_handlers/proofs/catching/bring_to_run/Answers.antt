@@ -1,6 +1,6 @@
 use Rattle.std.proofs.Common.{◌∙◌, sym, subst, List, Contains}
 use Rattle.fm_base.proofs.TestFacts.{match_true}
-use Rattle.fm_check_handlers.proofs.GivingLemmas.{all_local, GivesRun-brought, GivesRun-open, open_can}
+use Rattle.fm_check_handlers.proofs.GivingLemmas.{GivesRun-brought, GivesRun-open, open_can, open_local}
 use Rattle.fm_check_walk.proofs.Outcomes.{ok_weaker}
 use Rattle.fm_check_walk.specs.declared.risen.Rise.{Rise}
 use Rattle.fm_check_handlers.specs.inner.Runs.{GivesRun, has_room, is_brought, BringsHandlers}
@@ -13,15 +13,16 @@ use Rattle.fm_check_handlers.proofs.catching.bring_to_run.Goals as goal
 pub carry_to_run-requires-clause-local : goal.carry_to_run-requires-clause-local
 carry_to_run-requires-clause-local c = λ rise found.
     let t = task c.args.method.now in
-    all_local t.code.max_locals (type_state c.args.state.now) rise (subst (λ (xs : List Rise). Contains xs rise) c.requires.locals found)
+    open_local t.code.max_locals (type_state c.args.state.now) c.in_ok-rises.rises.items c.args.run.now (sym c.is_open.ensures ∙ c.if-is_open.true)
+    c.in_ok-rises.ensures rise (subst (λ (xs : List Rise). Contains xs rise) c.deref.ensures.value found)
 
 pub carry_to_run-requires-clause-carried : goal.carry_to_run-requires-clause-carried
 carry_to_run-requires-clause-carried c = λ h found.
     let t = task c.args.method.now in
     let w = walked c.args.walk.now in
-    subst (λ (xs : List Rise). CanCarry t w h.handler xs) (sym c.requires.locals)
-    (open_can t w c.args.item (type_state c.args.state.now) c.args.run.now c.requires.sound c.requires.forced (sym c.is_open.ensures ∙ c.if-is_open.true)
-    c.requires.given c.requires.holds h found)
+    subst (λ (xs : List Rise). CanCarry t w h.handler xs) (sym c.deref.ensures.value)
+    (open_can t w c.args.item (type_state c.args.state.now) c.in_ok-rises.rises.items c.args.run.now c.requires.sound c.requires.forced
+    (sym c.is_open.ensures ∙ c.if-is_open.true) c.requires.given c.in_ok-rises.ensures c.requires.holds h found)
 
 pub returns-then-is_open : goal.returns-then-is_open
 returns-then-is_open c =
@@ -29,12 +30,13 @@ returns-then-is_open c =
     let s = type_state c.args.state.now in
     let run = c.args.run.now in
     let given = c.carry_to_run.new.run in
+    let rises = c.in_ok-rises.rises.items in
     let old = walked c.args.walk.now in
     let new = walked c.carry_to_run.new.walk in
-    ok_weaker (GivesRun (has_room t c.args.locals.now) t run given old new) (GivesRun (is_brought t c.args.item s) t run given old new) (Untypable t)
+    ok_weaker (GivesRun (has_room t c.deref.result.now) t run given old new) (GivesRun (is_brought t c.args.item s) t run given old new) (Untypable t)
     c.carry_to_run.result
-    (λ gives. GivesRun-open t c.args.item s run given old new c.requires.sound c.requires.within (sym c.is_open.ensures ∙ c.if-is_open.true)
-    c.requires.given (subst (λ (xs : List Rise). GivesRun (has_room t xs) t run given old new) c.requires.locals gives))
+    (λ gives. GivesRun-open t c.args.item s rises run given old new c.requires.sound c.requires.within (sym c.is_open.ensures ∙ c.if-is_open.true)
+    c.requires.given c.in_ok-rises.ensures (subst (λ (xs : List Rise). GivesRun (has_room t xs) t run given old new) c.deref.ensures.value gives))
     c.carry_to_run.ensures
 
 pub bring_to_handlers-requires-clause-holds : goal.bring_to_handlers-requires-clause-holds

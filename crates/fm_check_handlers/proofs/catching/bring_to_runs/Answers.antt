@@ -1,4 +1,4 @@
-use Rattle.std.proofs.Common.{rules, ◌≡◌, ◌∙◌, length, arith}
+use Rattle.std.proofs.Common.{rules, ◌≡◌, length, arith}
 use Rattle.fm_check_handlers.proofs.GivingLemmas.{GivesAll-all, GivesLevels-none}
 use Rattle.fm_check_handlers.specs.inner.Runs.{is_brought}
 use Rattle.fm_check_walk.specs.inner.Walks.{walked}
@@ -16,5 +16,4 @@ returns-then-is_empty c =
     GivesAll-all W t c.args.item 0 levels levels w w (omega (arith, none)) (GivesLevels-none W t c.args.item levels w c.requires.sound c.requires.stands c.requires.guarded)
 
 pub give_to_levels-requires-clause-may : goal.give_to_levels-requires-clause-may
-give_to_levels-requires-clause-may c =
-    record { forced = c.requires.forced; within = c.requires.within; locals = c.as_slice.ensures.value ∙ c.in_ok-locals.ensures }
+give_to_levels-requires-clause-may c = record { forced = c.requires.forced; within = c.requires.within }

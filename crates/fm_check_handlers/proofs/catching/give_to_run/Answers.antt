@@ -22,7 +22,7 @@ carry_to_run-requires-clause-carried c = λ h found.
 pub returns-in-State : goal.returns-in-State
 returns-in-State c =
     let t = task c.args.method.now in
-    let is : c.args.giving ≡ giving.State c.in-State.state c.in-State.locals = cc in
+    let is : c.args.giving ≡ giving.State c.in-State.state = cc in
     let Gives : Giving → Type 0 = λ g. IfOk c.bring_to_run.result
     (λ fits. MatchBool fits
     (GivesRun (is_taken t c.args.item g) t c.args.run.now c.bring_to_run.new.run (walked c.args.walk.now) (walked c.bring_to_run.new.walk))
