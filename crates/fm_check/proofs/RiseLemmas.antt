@@ -13,7 +13,6 @@ use Rattle.fm_check_walk.proofs.WalkLemmas.{kept-locals, kept-stack, fits_one, W
 use Rattle.fm_check_walk.proofs.PlaceLemmas.{same_longs}
 use Rattle.fm_check_walk.proofs.RowFrames.{row-carried}
 use Rattle.fm_types.specs.declared.known_state.SlotPlace.{SlotPlace}
-use Rattle.fm_types.specs.declared.known_state.SlotPlace.TheVariants as place
 use Rattle.fm_check_walk.specs.declared.risen.Rise.{Rise}
 use Rattle.fm_check_walk.specs.inner.Risen.{is_local, IsAlikeBut, IsCarried, IsLeftAlone, leaves_alone, locals_of, rise_of, words_taken}
 use Rattle.fm_types.specs.inner.Places.{slot_at}
@@ -29,7 +28,6 @@ use Rattle.fm_code.specs.declared.instructions.Insn.{Insn}
 use Rattle.fm_flow.proofs.RisingLemmas.{Contains-take_more}
 use Rattle.fm_types.proofs.StateOrder.{IsShaped}
 use Rattle.fm_types.proofs.Zips.{Follows}
-use Rattle.fm_types.specs.Fits.{fits}
 use Rattle.fm_types.specs.Rows.{row_after}
 use Rattle.fm_types.specs.States.{state_fits, TypeState}
 use Rattle.fm_types.specs.Typed.{after_item, caught_type, FitsAt, FitsHandler, handler_state, made_at, state_at, use_by}

@@ -9,7 +9,6 @@ use Rattle.std.proofs.lemmas.List.Elements.{length_all_zip}
 use Rattle.fm_types.specs.declared.known_state.SlotPlace.{SlotPlace}
 use Rattle.fm_types.specs.declared.known_state.SlotPlace.TheVariants as place
 use Rattle.fm_check_walk.specs.inner.Risen.{AreCarried, IsCarried}
-use Rattle.fm_code.specs.declared.operations.Conv.TheVariants as conv
 use Rattle.fm_types.proofs.NumberOrder.{move_by}
 use Rattle.fm_types.proofs.StateOrder.{from_below, IsShaped, whole-shaped}
 use Rattle.fm_types.proofs.Zips.{Follows, follows-if, follows-map, follows-then, zip-append, zip-drop, zip-get}
@@ -19,7 +18,6 @@ use Rattle.fm_types.specs.States.{is_whole, local_at, pushed, taken, TypeState, 
 use Rattle.fm_types.specs.declared.slots.Slot.{Slot}
 use Rattle.fm_types.specs.declared.slots.Slot.TheVariants as slot
 use Rattle.fm_world.specs.Programs.{Outline}
-use Rattle.fm_world.specs.declared.uses.Use.TheVariants as resolved
 
 -- ---- options
 

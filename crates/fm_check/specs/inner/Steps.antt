@@ -11,7 +11,6 @@ use Rattle.fm_check_walk.specs.inner.Tasks.{Task}
 use Rattle.fm_check_walk.specs.inner.Risen.{IsAlikeBut, locals_of}
 use Rattle.fm_types.specs.declared.known_state.SlotPlace.{SlotPlace}
 use Rattle.fm_check_walk.specs.declared.risen.Rise.{Rise}
-use Rattle.fm_types.specs.Fits.{fits}
 use Rattle.fm_types.specs.States.{state_fits, TypeState}
 use Rattle.fm_types.specs.Typed.{FitsAt, IsTypingOf, MeetsItem, state_at}
 use Rattle.fm_check_handlers.specs.declared.runs.Level.{Level}
