@@ -3,6 +3,7 @@ pub mod GraphLemmas
 pub mod ListFacts
 pub mod OptionFacts
 pub mod ResultFacts
+pub mod RowFacts
 pub mod RowsLemmas
 pub mod RowsUnion
 pub mod SplitLemmas

@@ -12,7 +12,7 @@ use Rattle.fm_code.proofs.EdgesLemmas.{edge-from_edges_listed, edges_listed-from
 use Rattle.fm_code.specs.Edges.{edges_listed, IsEdge, IsFlowPath}
 use Rattle.fm_code.specs.declared.code_array.Code.{Code}
 use Rattle.fm_flow.proofs.ReachLemmas.{edge_from_item, edge_inside, IsFlowPath-more}
-use Rattle.fm_flow.proofs.RowFacts.{has-replicate, has_inside}
+use Rattle.fm_base.proofs.RowFacts.{has-replicate, has_inside}
 use Rattle.fm_flow.specs.Flow.{IsMarkedBy}
 use Rattle.fm_flow.specs.declared.flow.Flow.{Flow}
 use Rattle.fm_flow.specs.Marking.{Marks}

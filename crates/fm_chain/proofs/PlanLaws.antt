@@ -11,7 +11,7 @@ use Rattle.fm_code.proofs.EdgesLemmas.{Contains-first, Contains-later, Contains-
 use Rattle.fm_code.specs.declared.code_array.Code.{Code}
 use Rattle.fm_flow.proofs.SourcesLemmas.{Contains-from_flat_map}
 use Rattle.fm_conn.proofs.ListLemmas.{Contains-range}
-use Rattle.fm_flow.proofs.RowFacts.{has-replicate, has-set_kept, has-set_only, has-set_same}
+use Rattle.fm_base.proofs.RowFacts.{has-replicate, has-set_kept, has-set_only, has-set_same}
 use Rattle.fm_place.proofs.FullLemmas.{Numbered, numbers-found, numbers-from}
 use Rattle.fm_place.specs.Insertions.{after_at, Holder, Insertions, numbers_of}
 use Rattle.fm_place.specs.PlansBy.{IsPlanOf, paired}

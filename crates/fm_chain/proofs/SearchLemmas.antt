@@ -10,7 +10,8 @@ use Rattle.std.proofs.lemmas.List.FromFn.{get_or-map-range_with_len, length-map-
 use Rattle.fm_base.proofs.ContainsFacts.{any-found}
 use Rattle.fm_base.specs.Rows.{has}
 use Rattle.fm_chain.specs.Loops.{leads_within}
-use Rattle.fm_flow.proofs.RowFacts.{has-replicate, has_inside, unset-cons, unset-le, unset-lt}
+use Rattle.fm_base.proofs.RowFacts.{has-replicate, has_inside}
+use Rattle.fm_flow.proofs.UnsetBits.{unset-cons, unset-le, unset-lt}
 use Rattle.fm_flow.specs.Marking.{unset}
 
 -- ---- rows

@@ -27,7 +27,7 @@ use Rattle.fm_code.specs.declared.code_array.Item.{Item}
 use Rattle.fm_code.specs.declared.instructions.Insn.{Insn}
 use Rattle.fm_flow.proofs.CodeFacts.{items_counted, targets_inside}
 use Rattle.fm_flow.proofs.RisingLemmas.{Contains-take_more}
-use Rattle.fm_flow.proofs.RowFacts.{has_inside}
+use Rattle.fm_base.proofs.RowFacts.{has_inside}
 use Rattle.fm_types.proofs.RowOrder.{rows-keep_order, rows-keep_whole}
 use Rattle.fm_types.specs.Rows.{row_after}
 use Rattle.fm_types.specs.States.{state_fits, TypeState}

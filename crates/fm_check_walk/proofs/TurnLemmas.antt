@@ -6,7 +6,7 @@ use Rattle.std.proofs.lemmas.List.Elements.{Contains-append_right}
 use Rattle.std.proofs.lemmas.List.Sorted.{Contains-permutation}
 use Rattle.std.specs.List.Sorted.{IsPermutation}
 use Rattle.fm_base.proofs.ContainsFacts.{Contains-cons_cases}
-use Rattle.fm_flow.proofs.RowFacts.{has_inside}
+use Rattle.fm_base.proofs.RowFacts.{has_inside}
 use Rattle.fm_check_walk.specs.inner.Turns.{HaveKeys, item_of}
 
 -- an item more

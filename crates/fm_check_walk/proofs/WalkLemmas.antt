@@ -17,7 +17,7 @@ use Rattle.fm_check_walk.specs.inner.Walks.{Brings, is_marked, IsForced, IsKept,
 use Rattle.fm_check_walk.specs.inner.Tasks.{is_within, IsSound, Task}
 use Rattle.fm_code.specs.declared.code_array.Code.{Code}
 use Rattle.fm_flow.proofs.ReachLemmas.{IsFlowPath-more}
-use Rattle.fm_flow.proofs.RowFacts.{has-set_kept}
+use Rattle.fm_base.proofs.RowFacts.{has-set_kept}
 use Rattle.fm_types.proofs.StateOrder.{Fitting}
 use Rattle.fm_types.specs.Fits.{AreTree}
 use Rattle.fm_types.specs.States.{state_fits, TypeState}

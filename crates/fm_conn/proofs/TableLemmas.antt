@@ -6,7 +6,7 @@ use Rattle.std.proofs.lemmas.List.FromFn.{length-map-range_with_len, get_or-map-
 use Rattle.std.specs.List.{range_with_len}
 use Rattle.fm_base.proofs.OptionFacts.{cond-some_then}
 use Rattle.fm_base.specs.Rows.{has}
-use Rattle.fm_flow.proofs.RowFacts.{has_inside}
+use Rattle.fm_base.proofs.RowFacts.{has_inside}
 use Rattle.fm_conn.proofs.NumberLemmas.{word_below, words_before-append, words_before_le, words_before_next}
 use Rattle.fm_conn.specs.Nodes.{Global, Local, Return, Slot}
 use Rattle.fm_conn.specs.inner.NodeTables.{class_at, class_in, first_word, global_number, node_count, return_number, slot_number, table_in, words_at, words_before, AreStarts, NodeTable}

@@ -10,7 +10,7 @@ use Rattle.fm_base.proofs.OptionFacts.{cond-some_then}
 use Rattle.fm_base.specs.Rows.{has}
 use Rattle.fm_code.specs.Edges.{insn_of}
 use Rattle.fm_code.specs.declared.instructions.Insn.{Insn}
-use Rattle.fm_flow.proofs.RowFacts.{has_inside}
+use Rattle.fm_base.proofs.RowFacts.{has_inside}
 use Rattle.fm_types.specs.States.{is_reference, TypeState}
 use Rattle.fm_types.specs.Typed.{state_at}
 use Rattle.fm_conn.proofs.ListLemmas.{has-from_map, has-map}

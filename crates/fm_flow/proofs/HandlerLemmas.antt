@@ -7,7 +7,7 @@ use Rattle.fm_base.proofs.ListFacts.{AllByRecursion-weaker, AllByRecursion-appen
 use Rattle.fm_code.specs.Edges.{Catches}
 use Rattle.fm_code.specs.declared.code_array.Handler.{Handler}
 use Rattle.fm_flow.proofs.AnyLemmas.{Any-take_more}
-use Rattle.fm_flow.proofs.RowFacts.{has-set_kept, has-set_same}
+use Rattle.fm_base.proofs.RowFacts.{has-set_kept, has-set_same}
 use Rattle.fm_flow.specs.inner.Walks.{EndsWithin, IsMarked, AreMarked}
 
 -- an entry that is nowhere

@@ -8,7 +8,7 @@ pub mod LiveLemmas
 pub mod OnwardLemmas
 pub mod ReachLemmas
 pub mod RisingLemmas
-pub mod RowFacts
+pub mod UnsetBits
 pub mod RunLemmas
 pub mod SourcesLemmas
 pub mod UsesLemmas

@@ -17,7 +17,7 @@ use Rattle.fm_code.specs.declared.operations.Reg.TheVariants as reg
 use Rattle.fm_code.specs.declared.instructions.Insn.{Insn}
 use Rattle.fm_code.specs.declared.instructions.Insn.TheVariants as insn
 use Rattle.fm_flow.proofs.ReachLemmas.{edge_from_item}
-use Rattle.fm_flow.proofs.RowFacts.{has-replicate, has-set_same, has-set_kept, has-set_only}
+use Rattle.fm_base.proofs.RowFacts.{has-replicate, has-set_same, has-set_kept, has-set_only}
 use Rattle.fm_flow.proofs.UsesLemmas.{loaded_fits}
 use Rattle.fm_flow.specs.LiveRows.{AreLiveOf}
 use Rattle.fm_flow.specs.inner.LiveWalks.{IsLiveRow, row_of, StoresOver, Tracing}

@@ -11,7 +11,8 @@ use Rattle.fm_code.specs.declared.code_array.Code.{Code}
 use Rattle.fm_code.specs.declared.code_array.Item.{Item}
 use Rattle.fm_code.specs.declared.instructions.Insn.{Insn}
 use Rattle.fm_flow.proofs.RisingLemmas.{Contains-take_more}
-use Rattle.fm_flow.proofs.RowFacts.{has_inside, has-set_same, has-set_kept, has-set_only, unset-set}
+use Rattle.fm_base.proofs.RowFacts.{has_inside, has-set_same, has-set_kept, has-set_only}
+use Rattle.fm_flow.proofs.UnsetBits.{unset-set}
 use Rattle.fm_flow.specs.Tables.{AreReachableOf}
 use Rattle.fm_flow.specs.inner.Walks.{Reaching}
 use Rattle.fm_flow.specs.Marking.{Covers, Marks}

@@ -4,7 +4,7 @@ use Rattle.std.proofs.lemmas.Bool.{false≢true}
 use Rattle.std.proofs.lemmas.List.{length-replicate, set-get_or}
 use Rattle.fm_base.specs.Rows.{has}
 use Rattle.fm_flow.proofs.ReachLemmas.{Marks-all}
-use Rattle.fm_flow.proofs.RowFacts.{has-replicate, has-set_only}
+use Rattle.fm_base.proofs.RowFacts.{has-replicate, has-set_only}
 use Rattle.fm_flow.specs.inner.Walks.{MarksRun}
 use Rattle.fm_flow.specs.Marking.{Covers, Marks}
 

@@ -1,9 +1,10 @@
 -- Which classes have rows of counts: those that have objects, and with a class its superclass.
 use Rattle.std.proofs.Common.{◌≡◌, refl, sym, ◌∙◌, ap, subst, ℕ, zero, suc, ◌+◌, ◌<◌, ◌≤◌, Bool, true, false, cond, List, [], ◌∷◌, length, take, drop, get_or, set, replicate, Option, Some, None, arith, ◌⊎◌, inl, inr, get_or-set_same, get_or-set_other, length-set}
-use Rattle.std.proofs.lemmas.Bool.{cases_eq, cases_lt, false≢true}
-use Rattle.std.proofs.lemmas.List.{drop_more, get_or-replicate, get_or_past, length-replicate}
+use Rattle.std.proofs.lemmas.Bool.{cases_eq, false≢true}
+use Rattle.std.proofs.lemmas.List.{drop_more, length-replicate}
 use Rattle.std.proofs.lemmas.Option.{none-some, same_Some, slice_get-get_or}
 use Rattle.std.specs.Global.{Vec}
+use Rattle.fm_base.proofs.RowFacts.{has-replicate, has-set_kept}
 use Rattle.fm_base.specs.Rows.{has}
 use Rattle.fm_link_refusals.proofs.CountLoops.{holds_more}
 use Rattle.fm_link_refusals.specs.inner.LeftOver.{has_objects, length_above, marked_up, AreAskedOf}
@@ -26,16 +27,9 @@ length-marked_up marks (k ∷ numbers) = by_mark (has marks k) (length-marked_up
   by_mark false later = later ∙ length-set marks k true
 
 -- a mark that is there stays
-set_kept : (marks : List Bool) (k c : ℕ) → has marks c ≡ true → has (set marks k true) c ≡ true
-set_kept marks k c is = by_number (cases_eq c k) (cases_lt c (length marks)) where
-  by_number : (c ≡ k) ⊎ (c ≡ k → ⊥) → (c < length marks) ⊎ (length marks ≤ c) → has (set marks k true) c ≡ true
-  by_number (inr other) place = get_or-set_other marks k c true false other ∙ is
-  by_number (inl e) (inl inside) = ap (has (set marks k true)) e ∙ get_or-set_same marks k true false (omega (arith, inside, e))
-  by_number (inl e) (inr past) = absurd (false≢true (sym (get_or_past marks c false past) ∙ is))
-
 marked_up-kept : (marks : List Bool) (numbers : List ℕ) (c : ℕ) → has marks c ≡ true → has (marked_up marks numbers) c ≡ true
 marked_up-kept marks [] c is = is
-marked_up-kept marks (k ∷ numbers) c is = by_mark (has marks k) (marked_up-kept (set marks k true) numbers c (set_kept marks k c is)) where
+marked_up-kept marks (k ∷ numbers) c is = by_mark (has marks k) (marked_up-kept (set marks k true) numbers c (has-set_kept marks k c is)) where
   by_mark : (b : Bool) → has (marked_up (set marks k true) numbers) c ≡ true → has (cond b marks (marked_up (set marks k true) numbers)) c ≡ true
   by_mark true later = is
   by_mark false later = later
@@ -70,7 +64,7 @@ closed_above : (classes : List DeclaredClass) (class : ℕ) (marks : List Bool) 
     → IsClosedBut classes (parent_of classes class) (set marks class true)
 closed_above classes class marks inside closed c parent marked parent_is = by_number (cases_eq c class) where
   settled : (has marks parent ≡ true) ⊎ (Some class ≡ Some parent) → (has (set marks class true) parent ≡ true) ⊎ (parent_of classes class ≡ Some parent)
-  settled (inl h) = inl (set_kept marks class parent h)
+  settled (inl h) = inl (has-set_kept marks class parent h)
   settled (inr e) = inl (ap (has (set marks class true)) (sym (same_Some class parent e)) ∙ get_or-set_same marks class true false inside)
 
   by_number : (c ≡ class) ⊎ (c ≡ class → ⊥) → (has (set marks class true) parent ≡ true) ⊎ (parent_of classes class ≡ Some parent)
@@ -105,12 +99,6 @@ closed_upwards classes linear (suc bound) (Some class) marks short within long c
 
 -- ---- the marks of all classes
 
-none_marked : (count class : ℕ) → has (replicate count false) class ≡ false
-none_marked count class = by_place (cases_lt class count) where
-  by_place : (class < count) ⊎ (count ≤ class) → has (replicate count false) class ≡ false
-  by_place (inl below) = get_or-replicate count class false false below
-  by_place (inr past) = get_or_past (replicate count false) class false (let long = length-replicate count false in omega (arith, past, long))
-
 pub asked-none : (classes : List DeclaredClass) (order : List ℕ) (marks : List Bool) (count : ℕ) → marks ≡ replicate count false → count ≡ length classes
     → AreAskedOf classes (take 0 order) marks
 asked-none classes order marks count are is = by_order order where
@@ -118,7 +106,7 @@ asked-none classes order marks count are is = by_order order where
   none = record {
     one_each = ap length are ∙ length-replicate count false ∙ is;
     each = λ class among objects. absurd (false≢true among);
-    above = λ class parent marked parent_is. absurd (false≢true (sym (ap (λ (row : List Bool). has row class) are ∙ none_marked count class) ∙ marked));
+    above = λ class parent marked parent_is. absurd (false≢true (sym (ap (λ (row : List Bool). has row class) are ∙ has-replicate count class) ∙ marked));
   }
 
   by_order : (xs : List ℕ) → AreAskedOf classes (take 0 xs) marks

@@ -9,7 +9,7 @@ use Rattle.std.proofs.Math.ListN.{get_or-append}
 use Rattle.fm_base.proofs.ListFacts.{slice_get_push}
 use Rattle.fm_base.proofs.TestFacts.{apart-nat_eq, same_test}
 use Rattle.fm_base.specs.Rows.{has}
-use Rattle.fm_flow.proofs.RowFacts.{has-replicate}
+use Rattle.fm_base.proofs.RowFacts.{has-replicate}
 use Rattle.fm_flow.specs.inner.LiveWalks.{row_of}
 use Rattle.fm_place.specs.declared.groups.Groups.{Groups}
 use Rattle.fm_place.specs.inner.PlanRows.{AreGroups, AreRowsIn, classes_of, is_class, IsGroupsOf, IsRowOf, number_in, SetsBit}

@@ -11,7 +11,7 @@ use Rattle.fm_code.specs.Edges.{IsEdge}
 use Rattle.fm_conn.specs.Facts.{Facts}
 use Rattle.fm_conn.specs.Nodes.{TypedMethod}
 use Rattle.fm_flow.proofs.ReachLemmas.{edge_from_item}
-use Rattle.fm_flow.proofs.RowFacts.{has-replicate, has_inside, has-set_kept, has-set_same}
+use Rattle.fm_base.proofs.RowFacts.{has-replicate, has_inside, has-set_kept, has-set_same}
 use Rattle.fm_flow.specs.Flow.{IsMarkedBy}
 use Rattle.fm_flow.specs.inner.LiveWalks.{row_of}
 use Rattle.fm_flow.specs.Marking.{Marks}

@@ -14,7 +14,8 @@ use Rattle.fm_conn.proofs.ListLemmas.{Contains-from_range, Contains-range}
 use Rattle.fm_conn.specs.Facts.{Facts}
 use Rattle.fm_conn.specs.Nodes.{TypedMethod}
 use Rattle.fm_flow.proofs.ReachLemmas.{edge_from_item, edge_inside}
-use Rattle.fm_flow.proofs.RowFacts.{has-replicate, has_inside, unset-cons, unset-lt}
+use Rattle.fm_base.proofs.RowFacts.{has-replicate, has_inside}
+use Rattle.fm_flow.proofs.UnsetBits.{unset-cons, unset-lt}
 use Rattle.fm_flow.specs.Marking.{unset}
 use Rattle.fm_place.proofs.PlaceLemmas.{any-from}
 use Rattle.fm_place.specs.Laws.{PlacesAreByPaths}

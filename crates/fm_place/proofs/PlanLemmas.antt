@@ -20,7 +20,7 @@ use Rattle.fm_conn.specs.Summaries.{is_linked}
 use Rattle.fm_conn.specs.declared.class_numbers.Classes.{Classes}
 use Rattle.fm_conn.specs.declared.ends.End2.{End2}
 use Rattle.fm_conn.specs.declared.summaries.Summaries.{Summaries}
-use Rattle.fm_flow.proofs.RowFacts.{has_inside}
+use Rattle.fm_base.proofs.RowFacts.{has_inside}
 use Rattle.fm_flow.specs.inner.LiveWalks.{row_of}
 use Rattle.fm_place.proofs.FullLemmas.{before-is, full-safe}
 use Rattle.fm_place.proofs.GroupLemmas.{holder_row, slice_get-mapped}

@@ -8,7 +8,7 @@ use Rattle.std.proofs.Math.Bool.{and-false, and_assoc, or-false, or-true, or_ass
 use Rattle.fm_base.proofs.TestFacts.{apart-nat_eq}
 use Rattle.fm_base.specs.Rows.{has}
 use Rattle.fm_conn.specs.Nodes.{depth_at, Local}
-use Rattle.fm_flow.proofs.RowFacts.{has-replicate}
+use Rattle.fm_base.proofs.RowFacts.{has-replicate}
 use Rattle.fm_types.specs.States.{TypeState}
 use Rattle.fm_types.specs.Typed.{state_at}
 use Rattle.fm_place.proofs.BusyLemmas.{depth_of}

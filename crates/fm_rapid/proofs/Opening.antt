@@ -7,7 +7,7 @@ use Rattle.std.proofs.lemmas.List.{get_or_past, get_or-replicate, length-replica
 use Rattle.fm_base.proofs.ContainsFacts.{Contains-none}
 use Rattle.fm_base.specs.Rows.{has}
 use Rattle.fm_code.specs.AccessFlags.{is_static}
-use Rattle.fm_flow.proofs.RowFacts.{has-replicate}
+use Rattle.fm_base.proofs.RowFacts.{has-replicate}
 use Rattle.fm_world.proofs.ElementLemmas.{Contains-from_filter_map}
 use Rattle.fm_rapid.specs.Reach.{AreIn, IsClosed, starts_of}
 use Rattle.fm_flow.specs.inner.LiveWalks.{list_of}

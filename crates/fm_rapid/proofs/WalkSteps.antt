@@ -6,7 +6,7 @@ use Rattle.fm_base.specs.Rows.{has}
 use Rattle.fm_base.proofs.ContainsFacts.{Contains-none}
 use Rattle.fm_conn.proofs.ListLemmas.{Contains-one}
 use Rattle.fm_flow.proofs.RisingLemmas.{Contains-take_more}
-use Rattle.fm_flow.proofs.RowFacts.{has-set_kept, has-set_only}
+use Rattle.fm_base.proofs.RowFacts.{has-set_kept, has-set_only}
 use Rattle.fm_flow.specs.Marking.{Marks}
 use Rattle.fm_rapid.proofs.Elements.{among-from_Contains, Contains-from_among, with_one-from, with_one-kept}
 use Rattle.fm_rapid.proofs.SelectedLemmas.{among_chain, chain_inside}

@@ -1,6 +1,6 @@
 use Rattle.std.proofs.Common.{◌≡◌, ◌∙◌, ◌+◌, [], List, ℕ, length, ap, sym, subst, arith}
 use Rattle.std.proofs.lemmas.List.{nil_from_length, length_push}
-use Rattle.fm_flow.proofs.RowFacts.{has_inside}
+use Rattle.fm_base.proofs.RowFacts.{has_inside}
 use Rattle.fm_flow.specs.Marking.{unset}
 use Rattle.fm_rapid.proofs.Closing.{last_in, popped, went_on}
 use Rattle.fm_rapid.specs.inner.Walks.{sets_of, IsUnderWay}

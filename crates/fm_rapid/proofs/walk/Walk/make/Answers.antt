@@ -1,6 +1,6 @@
 use Rattle.std.proofs.Common.{◌≡◌, ◌∙◌, sym, arith, subst, List, Bool, true}
 use Rattle.fm_base.specs.Rows.{has}
-use Rattle.fm_flow.proofs.RowFacts.{has-set_same}
+use Rattle.fm_base.proofs.RowFacts.{has-set_same}
 use Rattle.fm_rapid.proofs.WalkSteps.{Goes-none, made_goes, made_one, nothing_received}
 use Rattle.fm_rapid.specs.inner.Walks.{sets_of, IsWalk}
 use Rattle.fm_rapid.proofs.walk.Walk.make.Goals as goal
