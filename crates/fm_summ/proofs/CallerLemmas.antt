@@ -1,15 +1,14 @@
 -- Which methods are listed as callers.
 use Rattle.std.proofs.Common.{◌≡◌, ◌≢◌, ℕ, zero, suc, ◌+◌, ◌-◌, ◌<◌, ◌≤◌, ◌⊎◌, true, false, cond, List, [], ◌∷◌, ◌++◌, length, get_or, replicate, Some, Contains, refl, ap, sym, ◌∙◌, subst, inl, ⊎_elim, arith, length-set}
 use Rattle.std.proofs.lemmas.Bool.{cases_eq, cases_lt}
-use Rattle.std.proofs.lemmas.List.{get_or-set_same, get_or-set_other, get_or_past, length-map, map-append}
+use Rattle.std.proofs.lemmas.List.{get_or-set_same, get_or-set_other, get_or_past, map-append}
 use Rattle.std.proofs.lemmas.Option.{get_or_from_slice_get, slice_get_within}
 use Rattle.std.specs.Global.{Vec}
 use Rattle.std.specs.List.{slice_get}
-use Rattle.fm_base.specs.declared.ids.MethodId.{MethodId}
 use Rattle.std.proofs.lemmas.List.Elements.{Contains-append_left, Contains-push, Contains-push_cases}
 use Rattle.fm_base.proofs.ContainsFacts.{Contains-cons_cases, Contains-none}
 use Rattle.fm_conn.proofs.ListedEndLemmas.{same_number-is}
-use Rattle.fm_summ.specs.inner.Callers.{all_targets, ended_by, ends_with, lists_of, targets_at, with_all, with_caller, with_callers, with_calls, HasCallers}
+use Rattle.fm_summ.specs.inner.Callers.{ended_by, ends_with, lists_of, with_all, with_caller, with_callers, HasListed}
 
 -- what a step keeps: the lists stay, all that is listed stays listed, and what is new lies below a bound
 record Grows (before after : List (List ℕ)) (bound : ℕ) : Type 0 where
@@ -103,7 +102,7 @@ listed_one : (callers : List (List ℕ)) (target caller : ℕ) → target < leng
 listed_one callers target caller inside =
     subst (λ list. Contains list caller) (sym (at_target callers target caller inside)) (ended_has (get_or callers target []) caller)
 
--- ---- at each of the targets of a call, of calls, of all methods
+-- ---- at each of a list, of all lists
 
 grows_callers : (callers : List (List ℕ)) (called : List ℕ) (caller bound : ℕ) → caller < bound → Grows callers (with_callers callers called caller) bound
 grows_callers callers [] caller bound below = grows_same callers bound
@@ -123,46 +122,28 @@ listed_callers callers (first ∷ rest) caller bound target below inside found =
     (λ later. listed_callers (with_caller callers first caller) rest caller bound target below (let size = one.one_each in omega arith) later)
     (Contains-cons_cases first rest target found)
 
-grows_calls : (callers : List (List ℕ)) (calls : List (List ℕ)) (caller bound : ℕ) → caller < bound → Grows callers (with_calls callers calls caller) bound
-grows_calls callers [] caller bound below = grows_same callers bound
-grows_calls callers (called ∷ rest) caller bound below =
-    grows_then callers (with_callers callers called caller) (with_calls (with_callers callers called caller) rest caller) bound
-    (grows_callers callers called caller bound below) (grows_calls (with_callers callers called caller) rest caller bound below)
-
-listed_calls : (callers : List (List ℕ)) (calls : List (List ℕ)) (caller bound target : ℕ) (called : List ℕ) → caller < bound → target < length callers →
-    Contains calls called → Contains called target → Contains (get_or (with_calls callers calls caller) target []) caller
-listed_calls callers [] caller bound target called below inside among found = absurd (Contains-none called among)
-listed_calls callers (first ∷ rest) caller bound target called below inside among found =
-    let one = grows_callers callers first caller bound below in
-    ⊎_elim
-    (λ (same : called ≡ first).
-    (grows_calls (with_callers callers first caller) rest caller bound below).kept target caller
-    (listed_callers callers first caller bound target below inside (subst (λ list. Contains list target) same found)))
-    (λ later. listed_calls (with_callers callers first caller) rest caller bound target called below (let size = one.one_each in omega arith) later found)
-    (Contains-cons_cases first rest called among)
-
-grows_all : (callers : List (List ℕ)) (targets : List (List (List ℕ))) (from bound : ℕ) → from + length targets ≤ bound →
-    Grows callers (with_all callers targets from) bound
+grows_all : (callers : List (List ℕ)) (lists : List (List ℕ)) (from bound : ℕ) → from + length lists ≤ bound →
+    Grows callers (with_all callers lists from) bound
 grows_all callers [] from bound below = grows_same callers bound
-grows_all callers (calls ∷ rest) from bound below =
-    grows_then callers (with_calls callers calls from) (with_all (with_calls callers calls from) rest (from + 1)) bound
-    (grows_calls callers calls from bound (omega arith)) (grows_all (with_calls callers calls from) rest (from + 1) bound (omega arith))
+grows_all callers (called ∷ rest) from bound below =
+    grows_then callers (with_callers callers called from) (with_all (with_callers callers called from) rest (from + 1)) bound
+    (grows_callers callers called from bound (omega arith)) (grows_all (with_callers callers called from) rest (from + 1) bound (omega arith))
 
-listed_all : (callers : List (List ℕ)) (targets : List (List (List ℕ))) (from bound target index : ℕ) (called : List ℕ) → from + length targets ≤ bound →
-    target < length callers → index < length targets → Contains (get_or targets index []) called → Contains called target →
-    Contains (get_or (with_all callers targets from) target []) (from + index)
-listed_all callers [] from bound target index called below inside within among found = absurd (omega arith)
-listed_all callers (calls ∷ rest) from bound target zero called below inside within among found =
+listed_all : (callers : List (List ℕ)) (lists : List (List ℕ)) (from bound target index : ℕ) → from + length lists ≤ bound →
+    target < length callers → index < length lists → Contains (get_or lists index []) target →
+    Contains (get_or (with_all callers lists from) target []) (from + index)
+listed_all callers [] from bound target index below inside within found = absurd (omega arith)
+listed_all callers (called ∷ rest) from bound target zero below inside within found =
     let here : from + 0 ≡ from = omega arith in
-    subst (λ k. Contains (get_or (with_all (with_calls callers calls from) rest (from + 1)) target []) k) (sym here)
-    ((grows_all (with_calls callers calls from) rest (from + 1) bound (omega arith)).kept target from
-    (listed_calls callers calls from bound target called (omega arith) inside among found))
-listed_all callers (calls ∷ rest) from bound target (suc index) called below inside within among found =
-    let one = grows_calls callers calls from bound (omega arith) in
+    subst (λ k. Contains (get_or (with_all (with_callers callers called from) rest (from + 1)) target []) k) (sym here)
+    ((grows_all (with_callers callers called from) rest (from + 1) bound (omega arith)).kept target from
+    (listed_callers callers called from bound target (omega arith) inside found))
+listed_all callers (called ∷ rest) from bound target (suc index) below inside within found =
+    let one = grows_callers callers called from bound (omega arith) in
     let next : from + 1 + index ≡ from + suc index = omega arith in
-    subst (λ k. Contains (get_or (with_all (with_calls callers calls from) rest (from + 1)) target []) k) next
-    (listed_all (with_calls callers calls from) rest (from + 1) bound target index called (omega arith) (let size = one.one_each in omega arith) (omega arith)
-    among found)
+    subst (λ k. Contains (get_or (with_all (with_callers callers called from) rest (from + 1)) target []) k) next
+    (listed_all (with_callers callers called from) rest (from + 1) bound target index (omega arith) (let size = one.one_each in omega arith) (omega arith)
+    found)
 
 -- empty lists
 nothing_listed : (n target caller : ℕ) → Contains (get_or (replicate n []) target []) caller → ⊥
@@ -174,19 +155,18 @@ length_of-replicate : (n : ℕ) → length (replicate n (let none : List ℕ = [
 length_of-replicate zero = refl
 length_of-replicate (suc n) = let rest = length_of-replicate n in omega arith
 
-pub has_callers : (targets : List (List (List ℕ))) (callers : List (List ℕ)) → callers ≡ with_all (replicate (length targets) []) targets 0 →
-    HasCallers targets callers
-has_callers targets callers are =
-    let empty : List (List ℕ) = replicate (length targets) [] in
-    let grown = grows_all empty targets 0 (length targets) (omega arith) in
-    let size : length empty ≡ length targets = length_of-replicate (length targets) in
-    subst (HasCallers targets) (sym are) record {
+has_listed : (count : ℕ) (lists found : List (List ℕ)) → found ≡ with_all (replicate count []) lists 0 → HasListed count lists found
+has_listed count lists found are =
+    let empty : List (List ℕ) = replicate count [] in
+    let grown = grows_all empty lists 0 (length lists) (omega arith) in
+    let size : length empty ≡ count = length_of-replicate count in
+    subst (HasListed count lists) (sym are) record {
       one_each = grown.one_each ∙ size;
-      inside = grown.inside (λ target caller found. absurd (nothing_listed (length targets) target caller found));
-      each = λ target caller called inside within among found.
-          let from_zero : 0 + caller ≡ caller = omega arith in
-          subst (λ k. Contains (get_or (with_all empty targets 0) target []) k) from_zero
-          (listed_all empty targets 0 (length targets) target caller called (omega arith) (omega arith) within among found);
+      inside = grown.inside (λ n place there. absurd (nothing_listed count n place there));
+      each = λ n place inside within has.
+          let from_zero : 0 + place ≡ place = omega arith in
+          subst (λ k. Contains (get_or (with_all empty lists 0) n []) k) from_zero
+          (listed_all empty lists 0 (length lists) n place (omega arith) (omega arith) within has);
     }
 
 -- ---- the code's lists
@@ -202,9 +182,7 @@ pub one_more_list : (before after : List (Vec ℕ)) (new : Vec ℕ) (n : ℕ) �
 one_more_list before after new n so_far more empty =
     ap lists_of more ∙ map-append (λ (x : Vec ℕ). x.items) before (new ∷ []) ∙ (λ k. so_far k ++ empty k ∷ []) ∙ replicate_more n
 
-pub callers_made : (targets : List (Vec (Vec MethodId))) (before after : List (Vec ℕ)) (n : ℕ) → lists_of before ≡ replicate n [] → n ≡ length targets →
-    lists_of after ≡ with_all (lists_of before) (all_targets targets) 0 → HasCallers (all_targets targets) (lists_of after)
-callers_made targets before after n empty size are =
-    let count : n ≡ length (all_targets targets) = size ∙ sym (length-map targets (λ (x : Vec (Vec MethodId)). targets_at x.items)) in
-    has_callers (all_targets targets) (lists_of after)
-    (are ∙ ap (λ list. with_all list (all_targets targets) 0) (empty ∙ ap (λ k. replicate k []) count))
+pub lists_made : (count : ℕ) (lists before after : List (Vec ℕ)) (n : ℕ) → lists_of before ≡ replicate n [] → n ≡ count →
+    lists_of after ≡ with_all (lists_of before) (lists_of lists) 0 → HasListed count (lists_of lists) (lists_of after)
+lists_made count lists before after n empty size are =
+    has_listed count (lists_of lists) (lists_of after) (are ∙ ap (λ list. with_all list (lists_of lists) 0) (empty ∙ ap (λ k. replicate k []) size))

@@ -2,18 +2,21 @@
 use Rattle.std.proofs.Common.{◌≡◌, ℕ, ◌+◌, ◌<◌, Bool, true, List, [], ◌∷◌, length, map, get_or, Contains, ap, sym, ◌∙◌, subst, inl, ⊎_elim, Result, Ok, Err, IfOk, arith}
 use Rattle.std.proofs.lemmas.List.{get_or-map, length-map}
 use Rattle.std.specs.Global.{Vec}
+use Rattle.std.specs.List.{flat_map}
 use Rattle.fm_base.proofs.ContainsFacts.{Contains-none}
-use Rattle.fm_base.specs.declared.ids.MethodId.{MethodId}
 use Rattle.fm_world.specs.Members.{methods_of}
 use Rattle.fm_world.specs.Programs.{Program}
 use Rattle.fm_conn.specs.Links.{Typings}
 use Rattle.fm_conn.specs.declared.shapes.Shape.{Shape}
 use Rattle.fm_conn.specs.declared.summaries.Summaries.{Summaries}
+use Rattle.fm_flow.specs.inner.LiveWalks.{list_of}
 use Rattle.fm_summ.proofs.LoopLemmas.{going_on, targets_of_method}
 use Rattle.fm_summ.proofs.RoundLemmas.{exact}
 use Rattle.fm_summ.proofs.StartLemmas.{first_sound, first_targets}
 use Rattle.fm_summ.specs.Exact.{shape_at, AreExact, AreShapes, AreShapesOf, HasBareBuiltIns}
-use Rattle.fm_summ.specs.inner.Callers.{all_targets, call_targets, lists_of, numbers_of, targets_at, HasCallers}
+use Rattle.fm_summ.specs.inner.Callers.{call_targets, called_by, lists_of, HasCallers}
+use Rattle.fm_summ.specs.inner.Lists.{callers_in, targets_in, targets_of}
+use Rattle.fm_summ.specs.declared.calls.Calls.{Calls}
 use Rattle.fm_summ.specs.inner.Passed.{Passes}
 use Rattle.fm_summ.specs.inner.State.{first_shapes, summaries_of, AreSound, Going}
 
@@ -67,25 +70,36 @@ going_end p given targets shapes queue s going none built_ins is typings are =
 
 -- ---- what the code reads
 
-pub targets_here : (items : List (Vec (Vec MethodId))) (method : ℕ) (read : Vec (Vec MethodId)) (list : List (Vec MethodId)) → method < length items →
-    read ≡ get_or items method read → list ≡ read.items → targets_at list ≡ get_or (all_targets items) method []
-targets_here items method read list inside is of =
-    ap targets_at of ∙ ap (λ (x : Vec (Vec MethodId)). targets_at x.items) is
-    ∙ sym (get_or-map (λ (x : Vec (Vec MethodId)). targets_at x.items) items method read [] inside)
+-- the targets of the calls of a method that is there
+pub targets_here : (calls : Calls) (method : ℕ) → method < length (targets_in calls) → targets_of calls method ≡ get_or (targets_in calls) method []
+targets_here calls method inside =
+    let lists = lists_of calls.known.lists.items in
+    let numbers = lists_of calls.of_methods.items in
+    let size : length (targets_in calls) ≡ length numbers = length-map numbers (called_by lists) in
+    sym (get_or-map (called_by lists) numbers method [] [] (omega (arith, inside, size)))
+
+-- and who calls it
+pub called_here : (calls : Calls) (method : ℕ) → method < length (callers_in calls) →
+    flat_map (list_of (lists_of calls.callers.items)) (list_of (lists_of calls.leading.items) method) ≡ get_or (callers_in calls) method []
+called_here calls method inside =
+    let lists = lists_of calls.callers.items in
+    let leading = lists_of calls.leading.items in
+    let size : length (callers_in calls) ≡ length leading = length-map leading (flat_map (list_of lists)) in
+    sym (get_or-map (flat_map (list_of lists)) leading method [] [] (omega (arith, inside, size)))
 
 pub callers_here : (items : List (Vec ℕ)) (method : ℕ) (read : Vec ℕ) (list : List ℕ) → method < length items → read ≡ get_or items method read →
     list ≡ read.items → list ≡ get_or (lists_of items) method []
 callers_here items method read list inside is of =
     of ∙ ap (λ (x : Vec ℕ). x.items) is ∙ sym (get_or-map (λ (x : Vec ℕ). x.items) items method read [] inside)
 
-pub targets_count : (items : List (Vec (Vec MethodId))) → length (all_targets items) ≡ length items
-targets_count items = length-map items (λ (x : Vec (Vec MethodId)). targets_at x.items)
-
-pub calls_count : (list : List (Vec MethodId)) → length (targets_at list) ≡ length list
-calls_count list = length-map list (λ (x : Vec MethodId). numbers_of x.items)
-
 pub callers_count : (items : List (Vec ℕ)) → length (lists_of items) ≡ length items
 callers_count items = length-map items (λ (x : Vec ℕ). x.items)
+
+pub waits_here : (calls : Calls) (method : ℕ) (leading callers : List (Vec ℕ)) (lists : List ℕ) → method < length (callers_in calls) →
+    leading ≡ calls.leading.items → callers ≡ calls.callers.items → lists ≡ list_of (lists_of leading) method →
+    flat_map (list_of (lists_of callers)) lists ≡ get_or (callers_in calls) method []
+waits_here calls method leading callers lists inside leading_is callers_is is =
+    (λ k. flat_map (list_of (lists_of (callers_is k))) ((is ∙ ap (λ list. list_of (lists_of list) method) leading_is) k)) ∙ called_here calls method inside
 
 pub told_exact : {E : Type 0} (p : Program) (typings : Typings) (shapes : List Shape) (r : Result Summaries E) →
     ((s : Summaries) → s ≡ summaries_of shapes → AreExact p typings s) → IfOk r (λ s. s ≡ summaries_of shapes) → IfOk r (AreExact p typings)

@@ -3,7 +3,7 @@ use Rattle.std.proofs.Common.{◌≡◌, ℕ, ◌↔◌, true, false, cond, List
 use Rattle.std.proofs.lemmas.Bool.{false≢true}
 use Rattle.fm_base.proofs.ContainsFacts.{Contains-cons_cases}
 use Rattle.fm_code.proofs.EdgesLemmas.{Contains-from_map, Contains-later, Contains-map}
-use Rattle.fm_conn.specs.Summaries.{end_number, is_same_end, same_number}
+use Rattle.fm_conn.specs.Summaries.{end_number, is_same_end}
 use Rattle.fm_conn.specs.declared.ends.End2.{End2}
 use Rattle.fm_conn.specs.declared.ends.End2.TheVariants as end
 use Rattle.fm_summ.specs.inner.Passed.{renumbered_ends}

@@ -8,6 +8,8 @@ pub mod OrderLemmas
 pub mod BareLemmas
 pub mod CallerLemmas
 pub mod StartLemmas
+pub mod ListLemmas
+pub mod CallsMade
 pub mod LoopLemmas
 pub mod CodeLemmas
 pub mod EndLemmas

@@ -1,5 +1,5 @@
 -- Lists of methods that have each method once.
-use Rattle.std.proofs.Common.{◌≡◌, ◌≢◌, ◌∙◌, ℕ, ◌+◌, ◌<◌, ◌≤◌, Bool, true, false, List, [], ◌∷◌, ◌++◌, length, set, slice_get, replicate, nat_eq, nat_lt, if◌then◌else◌, cond, Some, is_some, count_by, ◌⊎◌, inl, inr, ap, refl, sym, ⊎_elim, arith}
+use Rattle.std.proofs.Common.{◌≡◌, ◌≢◌, ◌∙◌, ℕ, ◌+◌, ◌<◌, ◌≤◌, Bool, true, false, List, [], ◌∷◌, ◌++◌, length, set, slice_get, replicate, nat_eq, if◌then◌else◌, cond, Some, is_some, count_by, ◌⊎◌, inl, inr, ap, refl, sym, ⊎_elim, arith}
 use Rattle.std.proofs.lemmas.Bool.{cases_eq, cases_lt, eq-eqb, false≢true, le-ltb, lt-ltb, ne_eqb}
 use Rattle.std.proofs.lemmas.List.{get_or-replicate, get_or-set_other, get_or-set_same, get_or_past, length-replicate, set-get_or, set_past}
 use Rattle.std.proofs.lemmas.List.Sums.{sum_by-append}

@@ -2,9 +2,7 @@
 use Rattle.std.proofs.Common.{◌≡◌, ℕ, ◌⊎◌, ◌+◌, ◌<◌, true, List, [], ◌∷◌, ◌++◌, length, drop, get_or, append_assoc, Contains, refl, ap, sym, ◌∙◌, subst, ⊎_elim, arith}
 use Rattle.std.proofs.lemmas.List.Elements.{Contains-append_left, Contains-append_right, Contains-append_cases}
 use Rattle.std.proofs.lemmas.List.{drop_more}
-use Rattle.std.specs.Global.{Vec}
 use Rattle.fm_base.proofs.ContainsFacts.{Contains-cons_cases, Contains-flat_map, Contains-none}
-use Rattle.fm_base.specs.declared.ids.MethodId.{MethodId}
 use Rattle.fm_code.proofs.EdgesLemmas.{Contains-later}
 use Rattle.fm_world.specs.Programs.{targets, Program}
 use Rattle.fm_conn.specs.Summaries.{links}
@@ -14,7 +12,8 @@ use Rattle.fm_conn.specs.declared.shapes.Shape.{Shape}
 use Rattle.fm_conn.proofs.ListedEndLemmas.{linked_ends, linked_first, LinkedEnds}
 use Rattle.fm_flow.proofs.SourcesLemmas.{Contains-from_flat_map}
 use Rattle.fm_conn.proofs.ListLemmas.{Contains-first}
-use Rattle.fm_summ.specs.inner.Callers.{call_targets, numbers_of, targets_at}
+use Rattle.fm_flow.specs.inner.LiveWalks.{list_of}
+use Rattle.fm_summ.specs.inner.Callers.{call_targets, called_by}
 use Rattle.fm_conn.specs.inner.ListedEnds.{link_pairs}
 use Rattle.fm_summ.specs.inner.Passed.{call_pairs, ends_at, method_pairs, target_pairs}
 
@@ -84,13 +83,13 @@ pub pairs_end : (shapes : List Shape) (targets : List (List ℕ)) (calls : List 
 pairs_end shapes [] calls none = refl
 pairs_end shapes (called ∷ targets) calls none = ap (method_pairs shapes (called ∷ targets)) none
 
-pub pairs_more : (shapes : List Shape) (targets : List (Vec MethodId)) (calls : List CallShape) (i : ℕ) (t : Vec MethodId) (c : CallShape)
-    (before after all : List (ℕ × ℕ)) → i < length calls → length targets ≡ length calls → get_or targets i t ≡ t → get_or calls i c ≡ c →
-    before ++ method_pairs shapes (targets_at (drop i targets)) (drop i calls) ≡ all → after ≡ before ++ call_pairs shapes (numbers_of t.items) c →
-    after ++ method_pairs shapes (targets_at (drop (i + 1) targets)) (drop (i + 1) calls) ≡ all
-pairs_more shapes targets calls i t c before after all inside same t_is c_is so_far more =
-    let rest = method_pairs shapes (targets_at (drop (i + 1) targets)) (drop (i + 1) calls) in
-    let target : drop i targets ≡ t ∷ drop (i + 1) targets = drop_more targets i t (omega arith) ∙ ap (λ v. v ∷ drop (i + 1) targets) t_is in
+pub pairs_more : (shapes : List Shape) (lists : List (List ℕ)) (numbers : List ℕ) (calls : List CallShape) (i n : ℕ) (c : CallShape)
+    (before after all : List (ℕ × ℕ)) → i < length calls → length numbers ≡ length calls → get_or numbers i n ≡ n → get_or calls i c ≡ c →
+    before ++ method_pairs shapes (called_by lists (drop i numbers)) (drop i calls) ≡ all → after ≡ before ++ call_pairs shapes (list_of lists n) c →
+    after ++ method_pairs shapes (called_by lists (drop (i + 1) numbers)) (drop (i + 1) calls) ≡ all
+pairs_more shapes lists numbers calls i n c before after all inside same n_is c_is so_far more =
+    let rest = method_pairs shapes (called_by lists (drop (i + 1) numbers)) (drop (i + 1) calls) in
+    let number : drop i numbers ≡ n ∷ drop (i + 1) numbers = drop_more numbers i n (omega arith) ∙ ap (λ v. v ∷ drop (i + 1) numbers) n_is in
     let call : drop i calls ≡ c ∷ drop (i + 1) calls = drop_more calls i c inside ∙ ap (λ v. v ∷ drop (i + 1) calls) c_is in
-    ap (λ list. list ++ rest) more ∙ append_assoc before (call_pairs shapes (numbers_of t.items) c) rest
-    ∙ sym (λ k. before ++ method_pairs shapes (targets_at (target k)) (call k)) ∙ so_far
+    ap (λ list. list ++ rest) more ∙ append_assoc before (call_pairs shapes (list_of lists n) c) rest
+    ∙ sym (λ k. before ++ method_pairs shapes (called_by lists (number k)) (call k)) ∙ so_far

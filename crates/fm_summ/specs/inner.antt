@@ -1,5 +1,6 @@
 pub mod BuiltIns
 pub mod Callers
+pub mod Lists
 pub mod Numbers
 pub mod Orders
 pub mod Passed

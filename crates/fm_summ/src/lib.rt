@@ -12,6 +12,7 @@ mod order;
 mod pairs;
 mod renumbering;
 mod shapes;
+mod target_lists;
 mod waiting;
 
 pub use laws::{law_answers, law_programs};

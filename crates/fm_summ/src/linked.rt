@@ -7,18 +7,19 @@ ghost use Rattle.fm_conn.specs.Shapes.{HasUsesIn};
 ghost use Rattle.fm_conn.specs.declared.shapes.Shape.{Shape};
 ghost use Rattle.fm_conn.specs.declared.summaries.Ends.{Ends};
 ghost use Rattle.fm_summ.specs.Exact.{shape_at, AreExact, AreShapes, AreShapesOf, HasBareBuiltIns};
-ghost use Rattle.fm_summ.specs.inner.Callers.{targets_at};
+ghost use Rattle.fm_summ.specs.inner.Lists.{targets_of};
 ghost use Rattle.fm_summ.specs.inner.Passed.{Passes};
 ghost use Rattle.fm_summ.specs.inner.State.{first_shape, first_shapes, summaries_of};
 ghost use Rattle.fm_summ.specs.inner.BuiltIns.{bare_entries};
 ghost use Rattle.fm_summ.specs.inner.Renumberings.{renumber, IsRenumbering};
 
 use crate::built_ins::bare_entries;
-use crate::calls::{callers_of, targets_of};
+use crate::calls::Calls;
 use crate::order::callees_first;
 use crate::pairs::pairs_of;
 use crate::renumbering::Renumbering;
 use crate::shapes::{is_changed, renumbered};
+use crate::target_lists::list_at;
 use crate::waiting::Waiting;
 use fm_base::{MethodId, NoMemory, Seq};
 use fm_conn::{Ends, Shape, Summaries};
@@ -36,15 +37,19 @@ pub fn summaries(alloc: Global, program: &Program, shapes: &[Shape]) -> Result<S
         → IfOk result (AreExact program.now typings) }
 {
     let count = program.methods();
-    let targets = targets_of(alloc, program, shapes)?;
-    let callers = callers_of(alloc, targets.as_slice())?;
+    let calls = Calls::of(alloc, program, shapes)?;
     let mut so_far = first_shapes(alloc, program, shapes)?;
-    let order = callees_first(alloc, count, targets.as_slice())?;
+    let order = callees_first(
+        alloc,
+        count,
+        calls.known.lists.as_slice(),
+        calls.of_methods.as_slice(),
+    )?;
     let mut waiting = Waiting::all(alloc, count, order.as_slice())?;
     while let Some(method) = waiting.next(count) {
-        let index = method as usize;
-        let changed = pass_on(alloc, targets[index].as_slice(), &mut so_far, method)?;
-        waiting.push_if(count, callers[index].as_slice(), changed)?;
+        let changed = pass_on(alloc, &calls, &mut so_far, method)?;
+        let lists = list_at(calls.leading.as_slice(), method);
+        waiting.push_if(count, calls.callers.as_slice(), lists, changed)?;
     }
     told(alloc, so_far.as_slice())
 }
@@ -99,16 +104,24 @@ fn bare_shape(alloc: Global, method: &MethodInfo) -> Result<Shape, NoMemory>
 // others.
 fn pass_on(
     alloc: Global,
-    targets: &[Vec<MethodId>],
+    calls: &Calls,
     so_far: &mut Vec<Shape>,
     method: u32,
 ) -> Result<bool, NoMemory>
     requires inside { method < length so_far.old.items }
-    requires targets { length targets.now ≡ length (shape_at so_far.old.items method).calls }
-    ensures { IfOk result (Passes (targets_at targets.now) so_far.old.items so_far.new.items method) }
+    requires targets { length (targets_of calls.now method)
+        ≡ length (shape_at so_far.old.items method).calls }
+    ensures { IfOk result
+        (Passes (targets_of calls.now method) so_far.old.items so_far.new.items method) }
 {
     let shape = &so_far[method as usize];
-    let pairs = pairs_of(alloc, so_far.as_slice(), shape.calls.as_slice(), targets)?;
+    let pairs = pairs_of(
+        alloc,
+        so_far.as_slice(),
+        shape.calls.as_slice(),
+        calls.known.lists.as_slice(),
+        list_at(calls.of_methods.as_slice(), method),
+    )?;
     if pairs.is_empty() {
         return Ok(false);
     }

@@ -3,15 +3,14 @@
 ghost use Rattle.std.specs.Prelude.{◌≡◌, ◌↔◌, IfOk, IsTrue, OnOk, Some, false, slice_get, slice_set, true};
 ghost use Rattle.fm_summ.specs.inner.Orders.{AreListed, ListsEachOnce};
 
-use fm_base::{MethodId, NoMemory, mark};
+use fm_base::{NoMemory, mark};
 use std::alloc::Global;
 
-// A method that the walk over calls went into, and which target of which of its calls comes next.
+// A method that the walk over calls went into, and which of its calls comes next.
 #[derive(Clone, Copy)]
 struct Visit {
     method: u32,
     call: usize,
-    target: usize,
 }
 
 /// Methods by their numbers, of which there are `count`: each once, behind those that it calls, but where
@@ -19,11 +18,12 @@ struct Visit {
 pub fn callees_first(
     alloc: Global,
     count: u32,
-    targets: &[Vec<Vec<MethodId>>],
+    lists: &[Vec<u32>],
+    calls: &[Vec<u32>],
 ) -> Result<Vec<u32>, NoMemory>
     ensures { IfOk result (λ order. ListsEachOnce count order.items) }
 {
-    let walked = walked(alloc, count, targets)?;
+    let walked = walked(alloc, count, lists, calls)?;
     each_once(alloc, count, walked.as_slice())
 }
 
@@ -66,33 +66,50 @@ fn is_unlisted(listed: &[bool], method: u32) -> bool
     }
 }
 
-// The methods in the order in which a walk over the calls leaves them. Takes memory for the methods,
-// however many calls there are.
-fn walked(alloc: Global, count: u32, targets: &[Vec<Vec<MethodId>>]) -> Result<Vec<u32>, NoMemory> {
+// The methods in the order in which a walk over the calls leaves them. Takes memory for the methods and
+// the lists, however many calls there are.
+fn walked(
+    alloc: Global,
+    count: u32,
+    lists: &[Vec<u32>],
+    calls: &[Vec<u32>],
+) -> Result<Vec<u32>, NoMemory> {
     let mut order = Vec::new(alloc);
-    let mut entered = vec![in alloc; false; targets.len()]?;
+    let mut entered = vec![in alloc; false; calls.len()]?;
+    let mut gone = vec![in alloc; 0; lists.len()]?;
     let mut visits = Vec::new(alloc);
-    let most = most_steps(targets);
+    let most = most_steps(lists, calls);
     for method in 0..count {
         enter(&mut entered, &mut visits, method)?;
         for _ in 0..most {
             let Some(visit) = visits.pop() else {
                 break;
             };
-            go_on(targets, &mut entered, &mut visits, &mut order, visit)?;
+            let Some(list) = next_list(calls, visit) else {
+                order.push(visit.method)?;
+                continue;
+            };
+            match next_target(lists, &mut gone, list) {
+                Some(target) => go_on(&mut entered, &mut visits, visit, target)?,
+                None => visits.push(Visit {
+                    method: visit.method,
+                    call: visit.call.saturating_add(1),
+                })?,
+            }
         }
     }
     Ok(order)
 }
 
-// No more steps are made: each method is left once, and each call and each target is gone over once.
-fn most_steps(targets: &[Vec<Vec<MethodId>>]) -> usize {
-    let mut most = targets.len();
-    for calls in targets {
-        most = most.saturating_add(calls.len());
-        for called in calls {
-            most = most.saturating_add(called.len());
-        }
+// No more steps are made: each method is left once, and each call and each target of a list is gone
+// over once.
+fn most_steps(lists: &[Vec<u32>], calls: &[Vec<u32>]) -> usize {
+    let mut most = calls.len();
+    for numbers in calls {
+        most = most.saturating_add(numbers.len());
+    }
+    for list in lists {
+        most = most.saturating_add(list.len());
     }
     most
 }
@@ -102,42 +119,39 @@ fn enter(entered: &mut Vec<bool>, visits: &mut Vec<Visit>, method: u32) -> Resul
     let index = method as usize;
     if index < entered.len() && !entered[index] {
         entered[index] = true;
-        visits.push(Visit {
-            method,
-            call: 0,
-            target: 0,
-        })?;
+        visits.push(Visit { method, call: 0 })?;
     }
     Ok(())
 }
 
-// Goes into the next target of a visit, or on to its next call; behind the last one the method is
-// listed.
+// The list of the call that comes next; none behind the last call.
+fn next_list(calls: &[Vec<u32>], visit: Visit) -> Option<u32> {
+    let index = visit.method as usize;
+    if index >= calls.len() || visit.call >= calls[index].len() {
+        return None;
+    }
+    Some(calls[index][visit.call])
+}
+
+// The first target of a list that no visit took from it, which now is taken. Those before it were gone
+// into.
+fn next_target(lists: &[Vec<u32>], gone: &mut Vec<usize>, list: u32) -> Option<u32> {
+    let index = list as usize;
+    if index >= lists.len() || index >= gone.len() || gone[index] >= lists[index].len() {
+        return None;
+    }
+    let place = gone[index];
+    gone[index] = place + 1;
+    Some(lists[index][place])
+}
+
+// Goes into a target of a visit, which goes on behind it.
 fn go_on(
-    targets: &[Vec<Vec<MethodId>>],
     entered: &mut Vec<bool>,
     visits: &mut Vec<Visit>,
-    order: &mut Vec<u32>,
     visit: Visit,
+    target: u32,
 ) -> Result<(), NoMemory> {
-    let index = visit.method as usize;
-    if index >= targets.len() || visit.call >= targets[index].len() {
-        order.push(visit.method)?;
-        return Ok(());
-    }
-    let called = targets[index][visit.call].as_slice();
-    if visit.target >= called.len() {
-        visits.push(Visit {
-            method: visit.method,
-            call: visit.call + 1,
-            target: 0,
-        })?;
-        return Ok(());
-    }
-    visits.push(Visit {
-        method: visit.method,
-        call: visit.call,
-        target: visit.target + 1,
-    })?;
-    enter(entered, visits, called[visit.target].0)
+    visits.push(visit)?;
+    enter(entered, visits, target)
 }

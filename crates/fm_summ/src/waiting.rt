@@ -1,7 +1,11 @@
 // The methods that wait to be done again.
 
 ghost use Rattle.std.specs.Prelude.{◌≡◌, ◌<◌, ◌+◌, ◌∷◌, ◌⊎◌, ◌≤◌, ℕ, Contains, IfOk, OnOk, MatchOption, length, [], false, true};
+ghost use Rattle.std.specs.List.{flat_map};
+ghost use Rattle.fm_flow.specs.inner.LiveWalks.{list_of};
+ghost use Rattle.fm_summ.specs.inner.Callers.{lists_of};
 
+use crate::target_lists::list_at;
 use fm_base::NoMemory;
 use std::alloc::Global;
 use std::collections::VecDeque;
@@ -62,22 +66,57 @@ impl Waiting {
         Ok(())
     }
 
-    /// Puts each of the methods in line, if `wait` is true.
-    pub fn push_if(&mut self, count: u32, methods: &[u32], wait: bool) -> Result<(), NoMemory>
+    /// Puts each of the methods of these lists in line, if `wait` is true.
+    pub fn push_if(
+        &mut self,
+        count: u32,
+        methods: &[Vec<u32>],
+        lists: &[u32],
+        wait: bool,
+    ) -> Result<(), NoMemory>
         requires kept { IsWaiting count self.old }
-        requires inside { (m : ℕ) → Contains methods.now m → m < count }
+        requires inside { (m : ℕ)
+            → Contains (flat_map (list_of (lists_of methods.now)) lists.now) m → m < count }
         ensures kept { OnOk result (IsWaiting count self.new) }
-        ensures wait { OnOk result (wait ≡ true
-            → (m : ℕ) → Contains methods.now m → Contains self.new.queue.items m) }
+        ensures wait { OnOk result (wait ≡ true → (m : ℕ)
+            → Contains (flat_map (list_of (lists_of methods.now)) lists.now) m
+            → Contains self.new.queue.items m) }
         ensures others { OnOk result
             ((m : ℕ) → Contains self.old.queue.items m → Contains self.new.queue.items m) }
         ensures more { OnOk result
-            (length self.new.queue.items ≤ length self.old.queue.items + length methods.now) }
+            (length self.new.queue.items ≤ length self.old.queue.items
+            + length (flat_map (list_of (lists_of methods.now)) lists.now)) }
         ensures none { OnOk result
             (wait ≡ false → length self.new.queue.items ≤ length self.old.queue.items) }
     {
         if wait {
-            return self.push_all(count, methods);
+            return self.push_lists(count, methods, lists);
+        }
+        Ok(())
+    }
+
+    // Each of the methods of these lists waits.
+    fn push_lists(
+        &mut self,
+        count: u32,
+        methods: &[Vec<u32>],
+        lists: &[u32],
+    ) -> Result<(), NoMemory>
+        requires kept { IsWaiting count self.old }
+        requires inside { (m : ℕ)
+            → Contains (flat_map (list_of (lists_of methods.now)) lists.now) m → m < count }
+        ensures kept { OnOk result (IsWaiting count self.new) }
+        ensures wait { OnOk result ((m : ℕ)
+            → Contains (flat_map (list_of (lists_of methods.now)) lists.now) m
+            → Contains self.new.queue.items m) }
+        ensures others { OnOk result
+            ((m : ℕ) → Contains self.old.queue.items m → Contains self.new.queue.items m) }
+        ensures more { OnOk result
+            (length self.new.queue.items ≤ length self.old.queue.items
+            + length (flat_map (list_of (lists_of methods.now)) lists.now)) }
+    {
+        for list in lists {
+            self.push_all(count, list_at(methods, *list))?;
         }
         Ok(())
     }

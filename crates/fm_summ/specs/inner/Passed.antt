@@ -1,5 +1,5 @@
 -- What is passed on from the methods that are called to those that call them.
-use Rattle.std.specs.Prelude.{◌≡◌, ◌==◌, ◌<◌, not, ℕ, Bool, true, false, List, [], ◌∷◌, ◌++◌, map, sum_by, slice_set, if◌then◌else◌}
+use Rattle.std.specs.Prelude.{◌≡◌, ◌==◌, ◌<◌, not, ℕ, Bool, true, false, List, [], ◌∷◌, ◌++◌, map, sum_by, slice_set}
 use Rattle.std.specs.List.{flat_map, list_any}
 use Rattle.fm_conn.specs.inner.ListedEnds.{link_pairs}
 use Rattle.fm_conn.specs.declared.ends.End2.{End2}

@@ -1,9 +1,8 @@
-use Rattle.std.proofs.Common.{◌≡◌, ◌++◌, take, map}
+use Rattle.std.proofs.Common.{◌≡◌, ◌++◌, take}
 use Rattle.std.specs.List.{flat_map}
-use Rattle.fm_base.specs.declared.ids.MethodId.{MethodId}
 use Rattle.fm_summ.specs.inner.Passed.{target_pairs}
 use Rattle.fm_summ.proofs.pairs.push_call.Given as goal
 
 abbrev pub invariant-loop-target : goal.invariant-loop-target
 invariant-loop-target l =
-    l.pairs.items ≡ l.initial.pairs.items ++ flat_map (target_pairs l.shapes l.call.ends) (map (λ (m : MethodId). m.0) (take l.target-index l.targets))
+    l.pairs.items ≡ l.initial.pairs.items ++ flat_map (target_pairs l.shapes l.call.ends) (take l.target-index l.targets)
