@@ -3,6 +3,10 @@ pub mod RoomsLemmas
 pub mod InPlaceLemmas
 pub mod BoundsLemmas
 pub mod WideningLemmas
+pub mod StartsLemmas
+pub mod SpotsLemmas
+pub mod ChangeLemmas
+pub mod MovingLemmas
 pub mod SizesLemmas
 pub mod PairsLemmas
 pub mod LayoutLemmas

@@ -2,12 +2,10 @@
 use Rattle.std.proofs.Common.{◌≡◌, ℕ, zero, suc, ◌+◌, ◌-◌, ◌<◌, ◌≤◌, Bool, true, false, List, [], ◌∷◌, length, get_or, drop, refl, sym, ap, ◌∙◌, arith, if◌then◌else◌, Option, Some, None}
 use Rattle.std.proofs.lemmas.List.{get_or_default}
 use Rattle.std.proofs.Math.ListN.{drop_of_length-le}
-use Rattle.std.proofs.lemmas.Bool.{and_parts}
 use Rattle.fm_base.proofs.ListFacts.{drop_here}
 use Rattle.fm_code.specs.declared.code_array.TheConstants.{MAX_CODE_BYTES}
 use Rattle.fm_layout.specs.Laid.{item_count, branch_count}
 use Rattle.fm_layout.specs.Rooms.{is_in_reach, size_at, wide_size, end_from, starts_from, widened_at, widened_from, round_after, rounds_after}
-use Rattle.fm_layout.specs.inner.Settled.{is_settled_at, is_settled}
 use Rattle.fm_layout.specs.inner.Weights.{weight, weight_of, AreOffsetsWithin}
 use Rattle.fm_layout.specs.declared.rooms.Condition.{Condition}
 use Rattle.fm_layout.specs.declared.rooms.Room.{Room}
@@ -54,18 +52,6 @@ pub starts_within : (rooms : List Room) → end_from 0 rooms ≤ MAX_CODE_BYTES 
 starts_within rooms short k = let below = start_le_end 0 rooms k in omega arith
 
 -- ---- rounds
-
-settled_room : (starts : List ℕ) (start : ℕ) (r : Room) → is_settled_at starts start r ≡ true → widened_at starts start r ≡ r
-settled_room starts start (room.Plain n) settled = refl
-settled_room starts start (room.Switch n) settled = refl
-settled_room starts start (room.Narrow b) settled = rw settled refl
-settled_room starts start (room.Wide b) settled = refl
-
-pub settled_rooms : (starts : List ℕ) (start : ℕ) (rooms : List Room) → is_settled starts start rooms ≡ true → widened_from starts start rooms ≡ rooms
-settled_rooms starts start [] settled = refl
-settled_rooms starts start (r ∷ rooms) settled =
-    let both = and_parts (is_settled_at starts start r) (is_settled starts (start + size_at start r) rooms) settled in
-    (λ k. settled_room starts start r both.0 k ∷ settled_rooms starts (start + size_at start r) rooms both.1 k)
 
 -- once a round widens nothing, no round does
 pub rounds_settled : (rounds : ℕ) (rooms : List Room) → round_after rooms ≡ rooms → rounds_after rounds rooms ≡ rooms

@@ -1,3 +1,3 @@
 pub mod Weights
-pub mod Settled
 pub mod Sizes
+pub mod Spots

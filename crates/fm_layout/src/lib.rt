@@ -12,6 +12,7 @@ mod new_items;
 mod rooms;
 mod rounds;
 mod spelling;
+mod spots;
 mod tables;
 
 pub use error::LayFail;

@@ -6,7 +6,6 @@ ghost use Rattle.fm_code.specs.InstructionTable.{padding_at};
 ghost use Rattle.fm_layout.specs.Laid.{item_count};
 ghost use Rattle.fm_layout.specs.Rooms.{is_in_reach, narrow, room_of, size_at, switch_size, wide_size, widened_at};
 ghost use Rattle.fm_layout.specs.Spelling.{inserted_bytes, is_goto_w, kept_item, plain_bytes};
-ghost use Rattle.fm_layout.specs.inner.Settled.{is_settled_at};
 ghost use Rattle.fm_layout.specs.inner.Sizes.{local_size};
 ghost use Rattle.fm_layout.specs.inner.Weights.{AreShort, IsShortIfSome};
 
@@ -189,16 +188,6 @@ impl Room {
         }
     }
 
-    /// Whether a round leaves the room as it is, where each target starts at an offset of this list.
-    pub(crate) fn is_settled_at(self, starts: &[u32], start: u32) -> bool
-        ensures { result ≡ is_settled_at starts.now start self }
-    {
-        match self {
-            Room::Narrow(branch) => is_in_reach(start, number_at(starts, branch.target)),
-            _ => true,
-        }
-    }
-
     /// The room at an offset after a round, where each target starts at an offset of this list.
     pub(crate) fn widened_at(self, starts: &[u32], start: u32) -> Room
         ensures { result ≡ widened_at starts.now start self }
@@ -229,7 +218,7 @@ impl Branch {
 }
 
 /// Whether the distance from one offset to another fits two bytes.
-fn is_in_reach(from: u32, to: u32) -> bool
+pub(crate) fn is_in_reach(from: u32, to: u32) -> bool
     ensures { result ≡ is_in_reach from to }
 {
     let distance = i64::from(to) - i64::from(from);

@@ -1,16 +1,21 @@
 // Widening in rounds, and where each room begins.
 
-ghost use Rattle.std.specs.Prelude.{◌≡◌, ◌<◌, ◌^◌, ◌*◌, IfOk, OnOk, length};
+ghost use Rattle.std.specs.Prelude.{◌≡◌, ◌+◌, ◌<◌, ◌^◌, ◌*◌, IfOk, OnOk, length};
+ghost use Rattle.std.specs.List.{AllByRecursion};
 ghost use Rattle.fm_layout.specs.Laid.{firsts_from};
-ghost use Rattle.fm_layout.specs.Rooms.{end_from, rooms_of, starts_from, widened_from, widened_rooms};
-ghost use Rattle.fm_layout.specs.inner.Settled.{is_settled};
+ghost use Rattle.fm_layout.specs.Rooms.{end_from, rooms_of, round_after, starts_from, widened_from, widened_rooms};
+ghost use Rattle.fm_layout.specs.inner.Spots.{Tracks, far_items, widen_all, widen_item};
 ghost use Rattle.fm_layout.specs.inner.Weights.{AreShort, weight_of};
 
 use crate::new_items::NewItem;
 use crate::rooms::Room;
+use crate::spots::{Spot, change_of, move_spots, put_far, put_spots};
 use fm_base::NoMemory;
 use fm_code::Item;
 use std::alloc::Global;
+
+// A round that widens no more branches than this doesn't go over all rooms.
+const FEW_BRANCHES: usize = 16;
 
 /// The rooms of the new items before any branch is widened.
 pub(crate) fn rooms_of(
@@ -107,34 +112,78 @@ fn widen_each(rooms: &mut [Room], starts: &[u32])
     }
 }
 
-/// Whether a round widens none of these rooms.
-fn is_settled(rooms: &[Room], starts: &[u32]) -> bool
-    requires { end_from 0 rooms.now < 2 ^ 32 }
-    ensures { result ≡ is_settled starts.now 0 rooms.now }
+// Widens the branch of an item, and moves what is listed with it.
+fn widen_one(rooms: &mut [Room], spots: &mut [Spot], item: usize)
+    requires within { item < length rooms.old }
+    requires tracks { Tracks rooms.old spots.old }
+    ensures widened { rooms.new ≡ widen_item rooms.old item }
+    ensures tracks { Tracks rooms.new spots.new }
 {
-    let mut start = 0;
-    for room in rooms {
-        if !room.is_settled_at(starts, start) {
-            return false;
-        }
-        start += room.size_at(start);
-    }
-    true
+    let room = rooms[item];
+    let wider = room.widened();
+    let change = change_of(spots, item, room.growth(), rooms.len());
+    move_spots(spots, change);
+    rooms[item] = wider;
 }
 
-/// The rooms after the last round. Each round goes over the code, and takes no memory of its own.
+// Widens the branches of these items one after the other.
+fn widen_far(rooms: &mut [Room], spots: &mut [Spot], far: &[usize])
+    requires within { AllByRecursion (λ item. item < length rooms.old) far.now }
+    requires tracks { Tracks rooms.old spots.old }
+    ensures widened { rooms.new ≡ widen_all rooms.old far.now }
+    ensures tracks { Tracks rooms.new spots.new }
+{
+    for item in far {
+        widen_one(rooms, spots, *item);
+    }
+}
+
+// A round that widens these branches: one after the other, or if they are many by going over all
+// rooms.
+fn widen_round(
+    rooms: &mut [Room],
+    starts: &mut Vec<u32>,
+    spots: &mut Vec<Spot>,
+    far: &[usize],
+) -> Result<(), NoMemory>
+    requires tracks { Tracks rooms.old spots.old.items }
+    requires far { far.now ≡ far_items spots.old.items }
+    ensures widened { OnOk result (rooms.new ≡ round_after rooms.old) }
+    ensures tracks { OnOk result (Tracks rooms.new spots.new.items) }
+{
+    if far.len() <= FEW_BRANCHES {
+        widen_far(rooms, spots.as_mut_slice(), far);
+        return Ok(());
+    }
+    put_starts(rooms, starts)?;
+    widen_each(rooms, starts.as_slice());
+    put_starts(rooms, starts)?;
+    put_spots(rooms, starts.as_slice(), spots)?;
+    Ok(())
+}
+
+/// The rooms after the last round. Each round widens the branches that are known not to reach, and
+/// looks at branches and switches only, unless it widens many.
 pub(crate) fn widened_rooms(alloc: Global, rooms: Vec<Room>) -> Result<Vec<Room>, NoMemory>
-    requires { weight_of rooms.items < 2 ^ 32 }
+    requires { weight_of rooms.items + 8 < 2 ^ 32 }
     ensures { IfOk result (λ wide. wide.items ≡ widened_rooms rooms.items) }
 {
     let mut rooms = rooms;
-    let mut starts = Vec::new(alloc);
+    let mut starts = starts_of(alloc, rooms.as_slice())?;
+    let mut spots = Vec::new(alloc);
+    put_spots(rooms.as_slice(), starts.as_slice(), &mut spots)?;
+    let mut far = Vec::new(alloc);
     for _ in 0..rooms.len() {
-        put_starts(rooms.as_slice(), &mut starts)?;
-        if is_settled(rooms.as_slice(), starts.as_slice()) {
+        put_far(spots.as_slice(), &mut far)?;
+        if far.is_empty() {
             return Ok(rooms);
         }
-        widen_each(rooms.as_mut_slice(), starts.as_slice());
+        widen_round(
+            rooms.as_mut_slice(),
+            &mut starts,
+            &mut spots,
+            far.as_slice(),
+        )?;
     }
     Ok(rooms)
 }

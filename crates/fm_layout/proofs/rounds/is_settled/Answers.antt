@@ -1,9 +1,0 @@
-use Rattle.std.proofs.Common.{arith}
-use Rattle.fm_layout.proofs.RoomsLemmas.{fits_at}
-use Rattle.fm_layout.proofs.rounds.is_settled.Goals as goal
-
-pub size_at-start-requires : goal.size_at-start-requires
-size_at-start-requires c = let fits = fits_at c.args.rooms.now c.loop-room.room-index c.loop-room.start _ c.loop-room-test.true c.loop-room.invariant.end in omega arith
-
-pub overflow_add-start : goal.overflow_add-start
-overflow_add-start c = let fits = fits_at c.args.rooms.now c.loop-room.room-index c.loop-room.start _ c.loop-room-test.true c.loop-room.invariant.end in omega arith
