@@ -7,7 +7,7 @@ use Rattle.fm_place.specs.declared.holding_rows.Holding.{Holding}
 use Rattle.fm_place.specs.inner.PlanRows.{AreFreedRows, is_freed}
 use Rattle.fm_place_weave.specs.ByPlan.{here, later}
 use Rattle.fm_audit.proofs.HeldLemmas.{range_from, range_past}
-use Rattle.fm_audit.specs.inner.Frees.{are_freed_there, are_safe_from, is_freed_there, is_safe_at, lists}
+use Rattle.fm_audit.specs.inner.Frees.{all_from, are_freed_there, are_safe_from, is_freed_there, is_safe_at, lists}
 
 -- ---- a test of all numbers
 
@@ -77,3 +77,30 @@ module _ (classes : List ℕ) (busy rows : List (List Bool)) (i n : ℕ) (pairs 
   pub safe_end : (whole : Bool) → n ≤ i → are_safe_from classes busy rows i (n - i) pairs ≡ whole → true ≡ whole
   safe_end whole past so_far =
       let left : n - i ≡ 0 = omega (arith, past) in sym (ap (λ count. are_safe_from classes busy rows i count pairs) left) ∙ so_far
+
+-- ---- a test of each item with its pairs
+
+module _ (test : ℕ → List (ℕ × ℕ) → Bool) (i n : ℕ) (pairs : List (ℕ × ℕ)) where
+  test_next : i < n → all_from test i (n - i) pairs ≡ (test i (here i pairs) && all_from test (i + 1) (n - (i + 1)) (later i pairs))
+  test_next below =
+      let left : n - i ≡ suc (n - (i + 1)) = omega (arith, below) in ap (λ count. all_from test i count pairs) left
+
+  -- it holds of one more
+  pub test_more : (b whole : Bool) (own more : List (ℕ × ℕ)) → i < n → b ≡ test i own → b ≡ true → own ≡ here i pairs → more ≡ later i pairs
+      → all_from test i (n - i) pairs ≡ whole → all_from test (i + 1) (n - (i + 1)) more ≡ whole
+  test_more b whole own more below is holds own_is more_is so_far =
+      ap (all_from test (i + 1) (n - (i + 1))) more_is
+      ∙ sym (ap (λ c. c && all_from test (i + 1) (n - (i + 1)) (later i pairs)) (sym (ap (test i) own_is) ∙ sym is ∙ holds))
+      ∙ sym (test_next below) ∙ so_far
+
+  -- it doesn't
+  pub test_stops : (b whole : Bool) (own : List (ℕ × ℕ)) → i < n → b ≡ test i own → b ≡ false → own ≡ here i pairs
+      → all_from test i (n - i) pairs ≡ whole → false ≡ whole
+  test_stops b whole own below is fails own_is so_far =
+      sym (ap (λ c. c && all_from test (i + 1) (n - (i + 1)) (later i pairs)) (sym (ap (test i) own_is) ∙ sym is ∙ fails))
+      ∙ sym (test_next below) ∙ so_far
+
+  -- none is left
+  pub test_end : (whole : Bool) → n ≤ i → all_from test i (n - i) pairs ≡ whole → true ≡ whole
+  test_end whole past so_far =
+      let left : n - i ≡ 0 = omega (arith, past) in sym (ap (λ count. all_from test i count pairs) left) ∙ so_far

@@ -18,3 +18,6 @@ pub mod FewLemmas
 pub mod FoundAgainLemmas
 pub mod SafeAgainLemmas
 pub mod WhollyLemmas
+pub mod SameLemmas
+pub mod KeptLemmas
+pub mod ItemsLemmas

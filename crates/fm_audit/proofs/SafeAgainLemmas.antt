@@ -29,7 +29,7 @@ unlisted_again : (j x : ℕ) (freed : List ℕ) → AllByRecursion (λ y. nat_eq
 unlisted_again j x [] apart = refl
 unlisted_again j x (h ∷ freed) apart = or_from (nat_eq x h) (lists (map (λ g. (j, g)) freed) x) apart.0 (unlisted_again j x freed apart.1)
 
-once_again : (j : ℕ) (freed : List ℕ) → IsDistinct nat_eq freed → is_once (map (λ h. (j, h)) freed) ≡ true
+pub once_again : (j : ℕ) (freed : List ℕ) → IsDistinct nat_eq freed → is_once (map (λ h. (j, h)) freed) ≡ true
 unfolding IsDistinct
 once_again j [] own = refl
 once_again j (h ∷ freed) own =

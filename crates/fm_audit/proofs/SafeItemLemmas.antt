@@ -30,7 +30,7 @@ unlisted j x (h ∷ freed) none =
     let rest = lists (map (λ h. (j, h)) freed) x in
     (or_left_fails (nat_eq x h) rest none, unlisted j x freed (or_right_fails (nat_eq x h) rest none))
 
-distinct_once : (j : ℕ) (freed : List ℕ) → is_once (map (λ h. (j, h)) freed) ≡ true → IsDistinct nat_eq freed
+pub distinct_once : (j : ℕ) (freed : List ℕ) → is_once (map (λ h. (j, h)) freed) ≡ true → IsDistinct nat_eq freed
 unfolding IsDistinct
 distinct_once j [] is = tt
 distinct_once j (h ∷ freed) is =

@@ -2,6 +2,7 @@ pub mod Reading
 pub mod ReadBy
 pub mod Example
 pub mod Parts
+pub mod SafeParts
 pub mod SafePlans
 pub mod SafeMethods
 pub mod NewCodes

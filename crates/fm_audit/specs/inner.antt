@@ -3,3 +3,4 @@ pub mod Holders
 pub mod Frees
 pub mod Listed
 pub mod Checked
+pub mod Kept

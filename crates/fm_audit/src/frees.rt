@@ -3,7 +3,7 @@
 ghost use Rattle.std.specs.Prelude.{◌≡◌, ◌<◌, length};
 ghost use Rattle.std.specs.List.{list_all};
 ghost use Rattle.fm_place.specs.inner.PlanRows.{is_freed, AreFreedRows};
-ghost use Rattle.fm_audit.specs.inner.Frees.{are_freed_there, are_safe_from, is_freed_there, is_once, is_quiet, is_safe_at, lists};
+ghost use Rattle.fm_audit.specs.inner.Frees.{are_freed_there, are_once_from, are_quiet_from, are_safe_from, is_freed_there, is_once, is_quiet, is_safe_at, lists};
 
 use fm_base::Row;
 use fm_place::{Holding, is_freed};
@@ -53,7 +53,9 @@ fn is_safe_at(
 }
 
 /// Whether before each of as many items no holder is freed twice.
-pub(crate) fn are_once(items: u32, pairs: &[(u32, u16)]) -> bool {
+pub(crate) fn are_once(items: u32, pairs: &[(u32, u16)]) -> bool
+    ensures { result ≡ are_once_from 0 items pairs.now }
+{
     let mut rest = pairs;
     for item in 0..items {
         if !is_once(here(rest, item as usize)) {
@@ -72,6 +74,8 @@ pub(crate) fn are_all_quiet(
     pairs: &[(u32, u16)],
 ) -> bool
     requires { AreFreedRows classes.now busy.now holding.now }
+    ensures { result ≡ are_quiet_from classes.now busy.now 0
+        (length holding.now.freed) pairs.now }
 {
     let mut rest = pairs;
     for item in 0..holding.freed.bits() {

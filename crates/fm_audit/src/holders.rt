@@ -1,9 +1,9 @@
 // At which sites the holders of a method take their objects.
 
-ghost use Rattle.std.specs.Prelude.{◌≡◌, IfOk};
-ghost use Rattle.std.specs.List.{range_with_len};
+ghost use Rattle.std.specs.Prelude.{◌≡◌, ℕ, IfOk};
+ghost use Rattle.std.specs.List.{list_all, range_with_len};
 ghost use Rattle.std.specs.Option.{option_map};
-ghost use Rattle.fm_audit.specs.inner.Holders.{are_own_items, captured_class, class_at, counts_up, held_by, held_by_all, is_own_item, item_of};
+ghost use Rattle.fm_audit.specs.inner.Holders.{are_own_items, captured_class, class_at, counts_up, held_by, held_by_all, is_local, is_own_item, item_of};
 
 use fm_base::NoMemory;
 use fm_base::limits::MAX_LOCAL_WORDS;
@@ -109,7 +109,9 @@ fn is_own_item(held: &[(u32, u32)], pair: &(u32, u16)) -> bool
 }
 
 /// Whether each of these holders has a local that there may be, where the first one has this local.
-pub(crate) fn are_locals(first: u16, holders: &[u16]) -> bool {
+pub(crate) fn are_locals(first: u16, holders: &[u16]) -> bool
+    ensures { result ≡ list_all (is_local first) holders.now }
+{
     for holder in holders {
         if !is_local(first, *holder) {
             return false;
@@ -119,7 +121,9 @@ pub(crate) fn are_locals(first: u16, holders: &[u16]) -> bool {
 }
 
 /// The same of the holders of pairs.
-pub(crate) fn have_locals(first: u16, pairs: &[(u32, u16)]) -> bool {
+pub(crate) fn have_locals(first: u16, pairs: &[(u32, u16)]) -> bool
+    ensures { result ≡ list_all (λ (p : ℕ × ℕ). is_local first p.1) pairs.now }
+{
     for pair in pairs {
         if !is_local(first, pair.1) {
             return false;
@@ -129,6 +133,8 @@ pub(crate) fn have_locals(first: u16, pairs: &[(u32, u16)]) -> bool {
 }
 
 /// Whether a holder has a local that there may be, where the first one has this local.
-fn is_local(first: u16, holder: u16) -> bool {
+fn is_local(first: u16, holder: u16) -> bool
+    ensures { result ≡ is_local first holder }
+{
     u32::from(first) + u32::from(holder) < u32::from(MAX_LOCAL_WORDS)
 }

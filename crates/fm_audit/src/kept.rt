@@ -1,6 +1,9 @@
 // Whether a method's new items keep its old ones, each with the targets that it has to have.
 
-ghost use Rattle.std.specs.Prelude.{◌≢◌, ◌≤◌, IfOk, IsTrue, length};
+ghost use Rattle.std.specs.Prelude.{◌≡◌, ◌≢◌, ◌-◌, ◌≤◌, ◌↔◌, IfOk, IsTrue, length};
+ghost use Rattle.fm_audit.specs.Reading.{after_nulls};
+ghost use Rattle.fm_audit.specs.SafeParts.{AreKept, IsKept, IsWidenedTo, anchors_read, target_of};
+ghost use Rattle.fm_audit.specs.inner.Kept.{AreThere};
 
 use crate::reading::{after_frees, after_kept, after_nulls, after_taken, is_widened};
 use fm_base::NoMemory;
@@ -19,7 +22,10 @@ pub(crate) fn are_kept(
     first: u16,
     old: &[Item],
     new: &[Item],
-) -> Result<bool, NoMemory> {
+) -> Result<bool, NoMemory>
+    ensures { IfOk result (λ kept. length new.now ≤ 65535
+        → IsTrue kept ↔ AreKept free first old.now new.now) }
+{
     if new.len() > MAX_ITEMS {
         return Ok(false);
     }
@@ -40,7 +46,8 @@ pub(crate) fn are_kept(
 /// The number of the first of these new items, which come last.
 fn number_of(new: &[Item], rest: &[Item]) -> u32
     requires { length new.now ≤ 65535 }
-    ensures { result ≤ 65535 }
+    ensures few { result ≤ 65535 }
+    ensures is { result ≡ length new.now - length rest.now }
 {
     new.len().saturating_sub(rest.len()) as u32
 }
@@ -55,6 +62,8 @@ fn anchors_read(
     new: &[Item],
 ) -> Result<Vec<u32>, NoMemory>
     requires { length new.now ≤ 65535 }
+    ensures { IfOk result (λ anchors. AreThere free first old.now (after_nulls first new.now)
+        → anchors.items ≡ anchors_read free first old.now new.now) }
 {
     let mut anchors = Vec::new(alloc);
     let mut rest = after_nulls(first, new);
@@ -80,7 +89,9 @@ fn is_kept(
     items: &[Item],
 ) -> Result<bool, NoMemory>
     requires { number ≤ 65535 }
-    ensures { IfOk result (λ kept. IsTrue kept → length items.now ≢ 0) }
+    ensures there { IfOk result (λ kept. IsTrue kept → length items.now ≢ 0) }
+    ensures is { IfOk result
+        (λ kept. IsTrue kept ↔ IsKept anchors.now number item.now items.now) }
 {
     if items.is_empty() {
         return Ok(false);
@@ -96,6 +107,7 @@ fn is_kept(
 /// number, past the goto. Where no item follows the test names the goto, since the end is no item.
 fn is_widened_to(number: u32, meant: &Insn, items: &[Item]) -> bool
     requires { number ≤ 65535 }
+    ensures { IsTrue result ↔ IsWidenedTo number meant.now items.now }
 {
     match items {
         [test, goto, rest @ ..] => {
@@ -114,7 +126,9 @@ fn is_widened_to(number: u32, meant: &Insn, items: &[Item]) -> bool
 }
 
 /// The target of a branch.
-fn target_of(insn: &Insn) -> Option<u32> {
+fn target_of(insn: &Insn) -> Option<u32>
+    ensures { result ≡ target_of insn.now }
+{
     match insn {
         Insn::IfInt(_, target)
         | Insn::IfPair(_, target)

@@ -1,6 +1,8 @@
 // The plans by which the methods of a program are changed safely, whoever wrote their new items.
 
-ghost use Rattle.std.specs.Prelude.{◌≡◌, ◌<◌, ◌^◌, IfOk, Some, length};
+ghost use Rattle.std.specs.Prelude.{◌≡◌, ◌↔◌, ◌<◌, ◌≤◌, ◌^◌, IfOk, IsTrue, Some, length};
+ghost use Rattle.fm_audit.specs.ReadBy.{read_in};
+ghost use Rattle.fm_audit.specs.inner.Kept.{IsWell, is_insertable};
 ghost use Rattle.fm_conn.specs.Summaries.{AreSummariesOf};
 ghost use Rattle.fm_place.specs.inner.PlanRows.{IsSeen};
 ghost use Rattle.fm_summ_shapes.specs.Analysed.{AreAnalysable};
@@ -169,6 +171,8 @@ fn has_items_of(
     new: &[Item],
 ) -> Result<bool, NoMemory>
     requires { length code.now.items < 2 ^ 32 }
+    ensures { IfOk result (λ well. length new.now ≤ 65535
+        → IsTrue well ↔ IsWell free code.now (read_in found.now) new.now) }
 {
     let kept = are_kept(alloc, free, code.max_locals, &code.items, new)?;
     if !kept {
@@ -181,6 +185,7 @@ fn has_items_of(
 /// twice before one item.
 fn are_insertable(code: &Code, found: &Found) -> bool
     requires { length code.now.items < 2 ^ 32 }
+    ensures { result ≡ is_insertable code.now (read_in found.now) }
 {
     let first = code.max_locals;
     let before = found.inserted.before.as_slice();

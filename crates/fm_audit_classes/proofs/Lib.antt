@@ -9,7 +9,6 @@ pub mod UnsafeLemmas
 pub mod FoundLemmas
 pub mod WholeClassLemmas
 pub mod PushedLemmas
-pub mod SameLemmas
 pub mod PairLemmas
 pub mod HeadLemmas
 pub mod WholeIfLemmas

@@ -49,7 +49,7 @@ use Rattle.fm_audit_classes.proofs.FirstLemmas.{are_at, class_count, get_left}
 use Rattle.fm_audit_classes.proofs.HeadLemmas.{never_full_pool}
 use Rattle.fm_audit_classes.proofs.LowLemmas.{low_code}
 use Rattle.fm_audit_classes.proofs.NewCodeLemmas.{all_few, no_code}
-use Rattle.fm_audit_classes.proofs.SameLemmas.{are_same_codes}
+use Rattle.fm_audit.proofs.SameLemmas.{are_same_codes}
 use Rattle.fm_audit_classes.proofs.StillLemmas.{dropped_at, old_codes, pair_given, stays_so}
 use Rattle.fm_audit_classes.proofs.UnsafeLemmas.{low_plan}
 use Rattle.fm_audit_classes.proofs.WholeIfLemmas.{counted}

@@ -24,7 +24,7 @@ use Rattle.fm_place_weave.specs.declared.planned.Planned.TheVariants as planned
 use Rattle.fm_rewrite.specs.inner.ByPlans.{changes_by, is_changed, rewritten_by}
 use Rattle.fm_audit_classes.proofs.HeadLemmas.{never_full_pool}
 use Rattle.fm_audit_classes.proofs.MemberLemmas.{AreAsPlanned, low_all, members_are, stays_at}
-use Rattle.fm_audit_classes.proofs.SameLemmas.{are_same_codes}
+use Rattle.fm_audit.proofs.SameLemmas.{are_same_codes}
 use Rattle.fm_audit_classes.specs.Parts.{bare_class, bare_method, class_codes, HasClass, with_entries}
 use Rattle.fm_audit_classes.specs.declared.error.AuditFail.{AuditFail}
 use Rattle.fm_audit_classes.specs.declared.error.AuditFail.TheVariants as fail

@@ -32,6 +32,19 @@ abbrev pub is_safe_at : (classes : List ℕ) → (busy rows : List (List Bool)) 
 is_safe_at classes busy rows item pairs =
     is_once pairs && (list_all (is_quiet classes busy item) pairs && are_freed_there classes busy rows item pairs)
 
+-- a test holds of each of this many items, from one on, with its pairs
+abbrev pub all_from : (test : ℕ → List (ℕ × ℕ) → Bool) → (item count : ℕ) → (pairs : List (ℕ × ℕ)) → Bool
+all_from test item zero pairs = true
+all_from test item (suc count) pairs = test item (here item pairs) && all_from test (item + 1) count (later item pairs)
+
+-- no holder is freed twice
+abbrev pub are_once_from : (item count : ℕ) → (pairs : List (ℕ × ℕ)) → Bool
+are_once_from item count pairs = all_from (λ item own. is_once own) item count pairs
+
+-- only holders are freed whose class isn't busy
+abbrev pub are_quiet_from : (classes : List ℕ) → (busy : List (List Bool)) → (item count : ℕ) → (pairs : List (ℕ × ℕ)) → Bool
+are_quiet_from classes busy item count pairs = all_from (λ item own. list_all (is_quiet classes busy item) own) item count pairs
+
 -- the same of this many items, from one on, with the pairs of each
 abbrev pub are_safe_from : (classes : List ℕ) → (busy rows : List (List Bool)) → (item count : ℕ) → (pairs : List (ℕ × ℕ)) → Bool
 are_safe_from classes busy rows item zero pairs = true

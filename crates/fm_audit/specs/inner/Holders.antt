@@ -61,6 +61,12 @@ is_own_item held p = is_of_item (slice_get held p.1) p.0
 abbrev pub are_own_items : (held after : List (ℕ × ℕ)) → Bool
 are_own_items held after = list_all (is_own_item held) after
 
+-- ---- locals
+
+-- a holder has a local that there may be, where the first one has this local
+abbrev pub is_local : (first holder : ℕ) → Bool
+is_local first holder = nat_lt (first + holder) MAX_LOCAL_WORDS
+
 -- ---- how many there are
 
 -- this many holders, if there are some, and locals left for them

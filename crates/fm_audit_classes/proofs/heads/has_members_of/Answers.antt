@@ -2,7 +2,7 @@ use Rattle.std.proofs.Common.{rules, ◌≡◌, sym, ◌∙◌, ap, map}
 use Rattle.std.proofs.lemmas.Bool.{false≢true}
 use Rattle.fm_code.specs.declared.class_file.ClassDef.{ClassDef}
 use Rattle.fm_audit_classes.proofs.PairLemmas.{never_other, same_unless}
-use Rattle.fm_audit_classes.proofs.SameLemmas.{member_lists, numbers, raw_lists}
+use Rattle.fm_audit.proofs.SameLemmas.{member_lists, numbers, raw_lists}
 use Rattle.fm_audit_classes.specs.Parts.{bare_method}
 use Rattle.fm_audit_classes.proofs.heads.has_members_of.Goals as goal
 

@@ -5,7 +5,7 @@ use Rattle.fm_code.specs.contracts.constant_pool.PoolPartialEq.TheImpl as same_p
 use Rattle.fm_code.specs.declared.constant_pool.Pool.{Pool}
 use Rattle.fm_place_weave.specs.ClassByPlan.{IsFull}
 use Rattle.fm_audit_classes.proofs.HeadLemmas.{never_full_pool}
-use Rattle.fm_audit_classes.proofs.SameLemmas.{pool_decides}
+use Rattle.fm_audit.proofs.SameLemmas.{pool_decides}
 use Rattle.fm_audit_classes.proofs.heads.has_pool_of.Goals as goal
 
 pub returns-in-Ok : goal.returns-in-Ok

@@ -1,6 +1,6 @@
 use Rattle.std.proofs.Common.{◌≡◌, ◌∙◌, sym, ap, Some}
 use Rattle.std.proofs.lemmas.Option.{same_Some}
-use Rattle.fm_audit_classes.proofs.SameLemmas.{code_decides}
+use Rattle.fm_audit.proofs.SameLemmas.{code_decides}
 use Rattle.fm_code.specs.contracts.code_array.CodePartialEq.TheImpl as same_code
 use Rattle.fm_code.specs.Members.{code_of}
 use Rattle.fm_code.specs.declared.code_array.Code.{Code}

@@ -2,7 +2,7 @@ use Rattle.std.proofs.Common.{rules, ◌≡◌, sym, ◌∙◌, ap, subst, Bool,
 use Rattle.std.specs.Prelude.{Decides}
 use Rattle.fm_code.specs.Members.{code_of}
 use Rattle.fm_audit_classes.proofs.HeadLemmas.{class_still}
-use Rattle.fm_audit_classes.proofs.SameLemmas.{class_decides}
+use Rattle.fm_audit.proofs.SameLemmas.{class_decides}
 use Rattle.fm_audit_classes.specs.Parts.{class_codes}
 use Rattle.fm_audit_classes.proofs.heads.is_class_of.Goals as goal
 

@@ -7,7 +7,7 @@ use Rattle.fm_code.specs.declared.code_array.Code.{Code}
 use Rattle.fm_layout.specs.Laid.{IsCause}
 use Rattle.fm_place_weave.specs.ByPlan.{code_by, items_by}
 use Rattle.fm_audit_classes.proofs.MemberLemmas.{never_long_code}
-use Rattle.fm_audit_classes.proofs.SameLemmas.{code_decides}
+use Rattle.fm_audit.proofs.SameLemmas.{code_decides}
 use Rattle.fm_audit_classes.specs.inner.Low.{is_low_code}
 use Rattle.fm_audit_classes.proofs.others.has_woven_code.Goals as goal
 
