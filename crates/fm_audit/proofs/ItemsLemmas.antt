@@ -1,8 +1,8 @@
 -- New items that keep the old ones well have the part of what makes insertions safe that is of the items, and none else has.
-use Rattle.std.proofs.Common.{◌≡◌, ◌≢◌, refl, sym, ◌∙◌, ap, subst, ℕ, zero, suc, ◌+◌, ◌<◌, ◌≤◌, ◌&&◌, ◌==◌, ◌++◌, ⊎_elim, Bool, true, false, cond, List, [], ◌∷◌, length, map, Some, append-nil, arith, eqb-true}
-use Rattle.std.specs.Prelude.{nat_eq}
+use Rattle.std.proofs.Common.{◌≡◌, ◌≢◌, refl, sym, ◌∙◌, ap, subst, ℕ, zero, suc, ◌+◌, ◌<◌, ◌≤◌, ◌&&◌, ◌==◌, ◌++◌, ⊎_elim, Bool, true, false, cond, List, [], ◌∷◌, length, map, Option, Some, None, append-nil, arith, eqb-true}
+use Rattle.std.specs.Prelude.{◌↔◌, IsTrue, nat_eq}
 use Rattle.std.specs.List.{flat_map, IsDistinct, list_all, range_with_len}
-use Rattle.std.proofs.lemmas.Bool.{and_from, cases_eq, cases_lt, eq-eqb, lt-ltb, ltb-true}
+use Rattle.std.proofs.lemmas.Bool.{and_from, cases_eq, cases_lt, eq-eqb, false≢true, lt-ltb, ltb-true}
 use Rattle.fm_base.proofs.TestFacts.{and_left, and_right}
 use Rattle.fm_base.specs.declared.limits.TheConstants.{MAX_LOCAL_WORDS}
 use Rattle.fm_code.specs.declared.code_array.Code.{Code}
@@ -11,13 +11,19 @@ use Rattle.fm_place.specs.PlansBy.{paired}
 use Rattle.fm_place_weave.proofs.PlanLemmas.{here-listed, later-listed}
 use Rattle.fm_summ.proofs.BareLemmas.{all_pass}
 use Rattle.fm_audit.proofs.FoundAgainLemmas.{all_true}
+use Rattle.fm_audit.proofs.ListedLemmas.{found_listed, same_read}
 use Rattle.fm_audit.proofs.SafeAgainLemmas.{once_again}
 use Rattle.fm_audit.proofs.SafeItemLemmas.{distinct_once}
 use Rattle.fm_audit.specs.Reading.{Read, read}
-use Rattle.fm_audit.specs.SafeParts.{freed_before, HasItems}
+use Rattle.fm_audit.specs.ReadBy.{read_in}
+use Rattle.fm_audit.specs.SafeParts.{AreItemsJudged, freed_before, HasItems}
+use Rattle.fm_audit.specs.declared.parts.Part.TheVariants as part
+use Rattle.fm_audit.specs.declared.parts.Part.{Part}
+use Rattle.fm_audit.specs.declared.reading.Found.{Found}
+use Rattle.fm_audit.specs.inner.Checked.{IsPastItems}
 use Rattle.fm_audit.specs.inner.Frees.{all_from, are_once_from, is_once}
 use Rattle.fm_audit.specs.inner.Holders.{is_local}
-use Rattle.fm_audit.specs.inner.Kept.{IsWell}
+use Rattle.fm_audit.specs.inner.Kept.{IsWell, least_failed}
 use Rattle.fm_audit.specs.inner.Listed.{AreListed}
 
 -- ---- a test of each item with its pairs
@@ -161,3 +167,29 @@ module _ (free : ℕ) (code : Code) (new : List Item) (found : Read) (is : read 
             (and_from after once (all_true (λ (p : ℕ × ℕ). is_local code.max_locals p.1) found.pairs.after (λ p there. there_local p.1 (has.after p.0 p.1 there)))
             (each_once has.once))),
       )
+
+-- ---- as the code finds it
+
+-- where the items are these, no part of theirs is failed
+past_items : (free : ℕ) (code : Code) (new : List Item) (later : Option Part) → IsPastItems later → (found : Read) × HasItems free code new found
+    → AreItemsJudged free code new later
+past_items free code new None past has = has
+past_items free code new (Some part.Classes) past has = absurd past
+past_items free code new (Some part.Items) past has = absurd past
+past_items free code new (Some part.Holders) past has = has
+past_items free code new (Some part.Uses) past has = has
+past_items free code new (Some part.Frees) past has = has
+past_items free code new (Some part.Layout) past has = has
+
+-- the items are these, or that is the part that is failed
+pub items_judged : (free : ℕ) (code : Code) (new : List Item) (f : Found) (well : Bool) (later : Option Part)
+    → read free code.max_locals code.items new ≡ Some (read_in f) → (length new ≤ 65535 → IsTrue well ↔ IsWell free code (read_in f) new) → IsPastItems later
+    → length new ≤ 65535 → AreItemsJudged free code new (least_failed well later)
+items_judged free code new f true later is well past few =
+    past_items free code new later past
+    (read_in f, well_items free code new (read_in f) is (found_listed free code.max_locals code.items new f is) ((well few).0 refl))
+items_judged free code new f false later is well past few = λ found has.
+    let same = same_read free code.max_locals code.items new f found is has.read_is in
+    false≢true ((well few).1 (subst (λ (r : Read). IsWell free code r new) same
+    (items_well free code new found has.read_is
+    (subst (λ (r : Read). AreListed 0 (length code.items) r.pairs) (sym same) (found_listed free code.max_locals code.items new f is)) has)))

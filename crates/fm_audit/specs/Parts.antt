@@ -1,5 +1,5 @@
 -- The parts of what makes written classes safe insertions, and what is to be done with a method that was judged by them.
-use Rattle.std.specs.Prelude.{ℕ}
+use Rattle.std.specs.Prelude.{ℕ, Option, Some, None}
 use Rattle.fm_place_weave.specs.declared.planned.Planned.{Planned}
 use Rattle.fm_audit.specs.declared.parts.Part.{Part}
 use Rattle.fm_audit.specs.declared.parts.Part.TheVariants as part
@@ -19,3 +19,8 @@ part_number part.Layout = 6
 abbrev pub planned_of : Judged → Planned
 planned_of (judged.Safe done) = done
 planned_of (judged.Fails part done) = done
+
+-- the part that a method is found to fail, if it is found to fail one
+abbrev pub failed_in : Judged → Option Part
+failed_in (judged.Safe done) = None
+failed_in (judged.Fails failed done) = Some failed

@@ -86,6 +86,12 @@ pub record HasItems (free : ℕ) (old : Code) (new : List Item) (found : Read) :
   pub after : (j h : ℕ) → Contains found.pairs.after (j, h) → old.max_locals + h < MAX_LOCAL_WORDS
   pub once : (j : ℕ) → IsDistinct nat_eq (freed_before found.pairs.before j)
 
+-- by the least of the parts 2 to 5 that a method is found to fail, if it is found to fail one: its items aren't these, or they are
+abbrev pub AreItemsJudged : (free : ℕ) → (old : Code) → (new : List Item) → Option Part → Type 0
+AreItemsJudged free old new (Some part.Items) = (found : Read) → HasItems free old new found → ⊥
+AreItemsJudged free old new (Some part.Classes) = ⊥
+AreItemsJudged free old new other = (found : Read) × HasItems free old new found
+
 -- ---- part 3: the holders
 
 -- there are some, all null at the start, in the order of their numbers, and each takes the objects of one captured site, that of no other

@@ -1,10 +1,10 @@
 // Whether the pairs that a method's new items are read as are safe, by what is known of the method.
 
-ghost use Rattle.std.specs.Prelude.{◌≡◌, ◌+◌, ◌<◌, ◌≤◌, ◌^◌, IfOk, IfSome, IsTrue, length};
+ghost use Rattle.std.specs.Prelude.{◌≡◌, ◌+◌, ◌<◌, ◌≤◌, ◌^◌, IfOk, IfSome, IsTrue, Some, length};
 ghost use Rattle.fm_base.specs.declared.limits.TheConstants.{MAX_LOCAL_WORDS};
 ghost use Rattle.fm_place.specs.inner.PlanRows.{AreFreedRows, IsSeen};
 ghost use Rattle.fm_audit.specs.ReadBy.{read_in};
-ghost use Rattle.fm_audit.specs.inner.Checked.{AreFreesJudged, IsChecking};
+ghost use Rattle.fm_audit.specs.inner.Checked.{AreFreesJudged, IsChecking, IsPastItems};
 ghost use Rattle.fm_audit.specs.inner.Holders.{holders_for};
 
 use crate::frees::{are_all_quiet, are_safe};
@@ -106,6 +106,7 @@ fn judged_frees(
 /// Which part is failed where holders aren't freed safely, and none twice before one item.
 fn failing(classes: &[u32], busy: &[Row], holding: &Holding, before: &[(u32, u16)]) -> Part
     requires { AreFreedRows classes.now busy.now holding.now }
+    ensures { IsPastItems (Some result) }
 {
     if are_all_quiet(classes, busy, holding, before) {
         Part::Frees

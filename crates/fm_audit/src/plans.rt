@@ -1,14 +1,15 @@
 // The plans by which the methods of a program are changed safely, whoever wrote their new items.
 
-ghost use Rattle.std.specs.Prelude.{◌≡◌, ◌↔◌, ◌<◌, ◌≤◌, ◌^◌, IfOk, IsTrue, Some, length};
+ghost use Rattle.std.specs.Prelude.{◌≡◌, ◌↔◌, ◌<◌, ◌≤◌, ◌^◌, IfOk, IsTrue, Some, None, length};
 ghost use Rattle.fm_audit.specs.ReadBy.{read_in};
-ghost use Rattle.fm_audit.specs.inner.Kept.{IsWell, is_insertable};
+ghost use Rattle.fm_audit.specs.inner.Kept.{IsWell, is_insertable, least_failed};
 ghost use Rattle.fm_conn.specs.Summaries.{AreSummariesOf};
 ghost use Rattle.fm_place.specs.inner.PlanRows.{IsSeen};
 ghost use Rattle.fm_summ_shapes.specs.Analysed.{AreAnalysable};
 ghost use Rattle.fm_world.specs.Programs.{code_at};
 ghost use Rattle.fm_audit.specs.NewCodes.{StaysIn};
-ghost use Rattle.fm_audit.specs.Parts.{planned_of};
+ghost use Rattle.fm_audit.specs.Parts.{failed_in, planned_of};
+ghost use Rattle.fm_audit.specs.SafeParts.{AreItemsJudged};
 ghost use Rattle.fm_audit.specs.SafePlans.{IsReadAs, IsSafelyPlanned};
 ghost use Rattle.fm_audit.specs.inner.Checked.{IsJudgedDone, IsWhollyDone};
 
@@ -71,6 +72,8 @@ pub fn judged_code(
         code.now free new.now (planned_of found)) }
     ensures read { IfOk result (λ found. IsReadAs free code.now new.now (planned_of found)) }
     ensures still { IfOk result (λ found. StaysIn (Some code.now) new.now (planned_of found)) }
+    ensures items { IfOk result (λ found. length new.now ≤ 65535
+        → AreItemsJudged free code.now new.now (failed_in found)) }
 {
     let typed = Typed::of(alloc, program, method, code)?;
     let rows = live(alloc, code)?;
@@ -119,6 +122,8 @@ fn judged_in(
     ensures whole { IfOk result (IsWhollyDone seen.now sites.now free new.now) }
     ensures still { IfOk result
         (λ found. StaysIn (Some seen.now.method.code.now) new.now (planned_of found)) }
+    ensures items { IfOk result (λ found. length new.now ≤ 65535
+        → AreItemsJudged free seen.now.method.code.now new.now (failed_in found)) }
 {
     let code = seen.method.code;
     let Some(found) = read(alloc, free, code.max_locals, &code.items, new)? else {
@@ -147,7 +152,8 @@ fn judged_in(
 
 /// A method with which this is to be done, whose new items keep the old ones well or not.
 fn judged_by(well: bool, planned: Planned) -> Judged
-    ensures { planned_of result ≡ planned }
+    ensures planned { planned_of result ≡ planned }
+    ensures failed { failed_in result ≡ least_failed well None }
 {
     if well {
         Judged::Safe(planned)
@@ -157,7 +163,9 @@ fn judged_by(well: bool, planned: Planned) -> Judged
 }
 
 /// The least part that is failed besides this one, where new items keep the old ones well or not.
-fn least(well: bool, part: Part) -> Part {
+fn least(well: bool, part: Part) -> Part
+    ensures { Some result ≡ least_failed well (Some part) }
+{
     if well { part } else { Part::Items }
 }
 

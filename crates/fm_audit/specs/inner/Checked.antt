@@ -1,5 +1,5 @@
 -- What is checked of the pairs that a method's new items are read as, by what is known of the method.
-use Rattle.std.specs.Prelude.{◌≡◌, ◌+◌, ◌<◌, ◌≤◌, ℕ, true, false, List, length, replicate, Some, Contains, IsSomeAnd, nat_eq, slice_get, ⊤}
+use Rattle.std.specs.Prelude.{◌≡◌, ◌+◌, ◌<◌, ◌≤◌, ℕ, true, false, List, length, replicate, Option, Some, None, Contains, IsSomeAnd, nat_eq, slice_get, ⊤}
 use Rattle.std.specs.List.{flat_map, IsDistinct, range_with_len}
 use Rattle.fm_code.specs.declared.code_array.Item.{Item}
 use Rattle.fm_base.specs.declared.limits.TheConstants.{MAX_LOCAL_WORDS}
@@ -12,6 +12,8 @@ use Rattle.fm_place_weave.specs.declared.planned.Planned.{Planned}
 use Rattle.fm_place_weave.specs.declared.planned.Planned.TheVariants as planned
 use Rattle.fm_place.specs.inner.PlanRows.{count_of, is_busy_at, may_hold_at}
 use Rattle.fm_audit.specs.Parts.{planned_of}
+use Rattle.fm_audit.specs.declared.parts.Part.{Part}
+use Rattle.fm_audit.specs.declared.parts.Part.TheVariants as part
 use Rattle.fm_audit.specs.Reading.{Pairs, Read, read}
 use Rattle.fm_audit.specs.declared.checking.Outcome.{Outcome}
 use Rattle.fm_audit.specs.declared.checking.Outcome.TheVariants as outcome
@@ -82,15 +84,21 @@ abbrev pub AreUnsafeFrees : Seen → (held before : List (ℕ × ℕ)) → Type 
 AreUnsafeFrees s held before =
     (freed : ℕ → List ℕ) → before ≡ flat_map (paired freed) (range_with_len 0 (count_of s)) → ((j : ℕ) → j < count_of s → IsSafeItem s held j (freed j)) → ⊥
 
+-- this is one of the parts that are of holders and of what is freed, if it is one
+abbrev pub IsPastItems : Option Part → Type 0
+IsPastItems (Some part.Classes) = ⊥
+IsPastItems (Some part.Items) = ⊥
+IsPastItems other = ⊤
+
 -- what is freed is safe, or a part is failed by it
 abbrev pub AreFreesJudged : Seen → (held before : List (ℕ × ℕ)) → Freeing → Type 0
 AreFreesJudged s held before freeing.Safe = AreSafeFrees s held before
-AreFreesJudged s held before (freeing.Fails part) = AreUnsafeFrees s held before
+AreFreesJudged s held before (freeing.Fails failed) = AreUnsafeFrees s held before × IsPastItems (Some failed)
 
 -- what was read is checked for these holders, or fails a part
 abbrev pub IsChecking : Seen → List Site → Read → Outcome → Type 0
 IsChecking s sites found (outcome.Safe holders) = IsCheckedFor s sites found holders
-IsChecking s sites found (outcome.Fails part) = (holders : ℕ) → IsSafelyRead s sites found holders → ⊥
+IsChecking s sites found (outcome.Fails failed) = ((holders : ℕ) → IsSafelyRead s sites found holders → ⊥) × IsPastItems (Some failed)
 
 -- the plan is that of what was read, for these holders, and none holds a chain
 pub record IsPlanRead (found : Read) (many : ℕ) (plan : ChainPlan) : Type 0 where

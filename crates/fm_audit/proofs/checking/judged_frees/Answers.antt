@@ -48,7 +48,9 @@ returns-then-not-are_safe c =
     let busy : AreRowsIn g (count_of s) (is_busy_at s) c.in_ok-busy.busy.items = subst (λ n. AreRowsIn g n (is_busy_at s) c.in_ok-busy.busy.items) (search rules) c.in_ok-busy.ensures in
     let fails : are_safe_from g.of_holders.items c.in_ok-busy.busy.items holding.rows.items 0 (length holding.freed) c.args.before.now ≡ false =
     sym (λ k. are_safe_from (classes k) (rows k) holding.rows.items 0 (length holding.freed) c.args.before.now) ∙ sym c.are_safe.ensures
-    ∙ c.if-not-are_safe.true in
-    λ freed listed each.
-    false≢true (sym fails ∙ frees_again s g c.in_ok-busy.busy.items holding c.in_ok-groups.ensures.0 busy c.in_ok-holding.ensures c.args.before.now freed listed
-    (λ j inside. subst (λ (held : List (ℕ × ℕ)). IsSafeItem s held j (freed j)) (sym c.in_ok-groups.ensures.1) (each j inside)))
+    ∙ c.if-not-are_safe.true in (
+      λ freed listed each.
+          false≢true (sym fails ∙ frees_again s g c.in_ok-busy.busy.items holding c.in_ok-groups.ensures.0 busy c.in_ok-holding.ensures c.args.before.now freed listed
+          (λ j inside. subst (λ (held : List (ℕ × ℕ)). IsSafeItem s held j (freed j)) (sym c.in_ok-groups.ensures.1) (each j inside))),
+      c.failing.ensures,
+    )

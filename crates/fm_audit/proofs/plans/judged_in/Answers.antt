@@ -1,9 +1,11 @@
-use Rattle.std.proofs.Common.{rules, ◌≡◌, ◌∙◌, ◌==◌, ℕ, false, List, Some, length, replicate, ap, subst, sym}
+use Rattle.std.proofs.Common.{rules, ◌≡◌, ◌∙◌, ◌==◌, ◌≤◌, ℕ, false, List, Some, None, length, replicate, ap, subst, sym}
 use Rattle.std.specs.Option.{option_map}
+use Rattle.fm_audit.proofs.ItemsLemmas.{items_judged}
 use Rattle.fm_audit.proofs.ListedLemmas.{found_listed, read_is, same_read, some_null}
 use Rattle.fm_audit.proofs.WhollyLemmas.{never_empty, never_read, woven_by}
 use Rattle.fm_audit.specs.ReadBy.{pairs_in, read_in}
 use Rattle.fm_audit.specs.Reading.{Read}
+use Rattle.fm_audit.specs.SafeParts.{AreItemsJudged}
 use Rattle.fm_audit.specs.SafePlans.{IsReadAs, read_of}
 use Rattle.fm_audit.specs.inner.Checked.{IsCheckedDone, IsCheckedPlan, IsChecking, IsSafelyRead, IsWovenBy}
 use Rattle.fm_audit.specs.inner.Listed.{AreListed}
@@ -21,13 +23,13 @@ returns-in_default-clause-whole c = λ found holders is safe.
 -- ---- nothing is null at the start
 
 pub returns-then-is_empty-clause-safe : goal.returns-then-is_empty-clause-safe
-returns-then-is_empty-clause-safe c = subst (IsCheckedDone c.args.seen.now c.args.sites.now) (sym c.judged_by-stays.ensures) tt
+returns-then-is_empty-clause-safe c = subst (IsCheckedDone c.args.seen.now c.args.sites.now) (sym c.judged_by-stays.ensures.planned) tt
 
 pub returns-then-is_empty-clause-read : goal.returns-then-is_empty-clause-read
-returns-then-is_empty-clause-read c = subst (IsReadAs c.args.free c.args.seen.now.method.code.now c.args.new.now) (sym c.judged_by-stays.ensures) tt
+returns-then-is_empty-clause-read c = subst (IsReadAs c.args.free c.args.seen.now.method.code.now c.args.new.now) (sym c.judged_by-stays.ensures.planned) tt
 
 pub returns-then-is_empty-clause-still : goal.returns-then-is_empty-clause-still
-returns-then-is_empty-clause-still c = λ none. c.judged_by-stays.ensures
+returns-then-is_empty-clause-still c = λ none. c.judged_by-stays.ensures.planned
 
 pub returns-then-is_empty-clause-whole : goal.returns-then-is_empty-clause-whole
 returns-then-is_empty-clause-whole c = λ found holders is safe.
@@ -42,7 +44,7 @@ returns-then-is_empty-clause-whole c = λ found holders is safe.
 pub returns-in_ok-plain-in-Safe-clause-safe : goal.returns-in_ok-plain-in-Safe-clause-safe
 returns-in_ok-plain-in-Safe-clause-safe c =
     let checked = subst (IsChecking c.args.seen.now c.args.sites.now (read_in c.in-Some.found)) c.in-Safe.is c.in_ok-outcome.ensures in
-    subst (IsCheckedDone c.args.seen.now c.args.sites.now) (sym c.judged_by-woven.ensures) (
+    subst (IsCheckedDone c.args.seen.now c.args.sites.now) (sym c.judged_by-woven.ensures.planned) (
       subst (IsCheckedPlan c.args.seen.now c.args.sites.now) (sym c.in_ok-plain-in-Safe.ensures.plan) (record {
         listed =
             subst (λ (items : List Item). AreListed 0 (length items) (pairs_in c.in-Some.found.inserted)) c.deref.ensures
@@ -57,7 +59,7 @@ pub returns-in_ok-plain-in-Safe-clause-read : goal.returns-in_ok-plain-in-Safe-c
 returns-in_ok-plain-in-Safe-clause-read c =
     let checked = subst (IsChecking c.args.seen.now c.args.sites.now (read_in c.in-Some.found)) c.in-Safe.is c.in_ok-outcome.ensures in
     let with_starts : List ℕ → Read = λ starts. record { starts = starts; pairs = pairs_in c.in-Some.found.inserted } in
-    subst (IsReadAs c.args.free c.args.seen.now.method.code.now c.args.new.now) (sym c.judged_by-woven.ensures)
+    subst (IsReadAs c.args.free c.args.seen.now.method.code.now c.args.new.now) (sym c.judged_by-woven.ensures.planned)
     (read_is c.args.free c.args.seen.now.method.code.now.max_locals c.deref.result.now c.args.seen.now.method.code.now.items c.args.new.now _
     c.in-Some.found c.in_ok-found.ensures c.in-Some.is c.deref.ensures
     ∙ ap (λ starts. Some (with_starts starts)) checked.starts ∙ ap (λ (p : Plan). Some (read_of p)) (sym c.in_ok-plain-in-Safe.ensures.plan))
@@ -74,7 +76,7 @@ returns-in_ok-plain-in-Safe-clause-whole c = λ found holders is safe.
     let checked = subst (IsChecking c.args.seen.now c.args.sites.now (read_in c.in-Some.found)) c.in-Safe.is c.in_ok-outcome.ensures in
     let own = read_is c.args.free c.args.seen.now.method.code.now.max_locals c.deref.result.now c.args.seen.now.method.code.now.items c.args.new.now _
     c.in-Some.found c.in_ok-found.ensures c.in-Some.is c.deref.ensures in
-    subst (IsWovenBy found holders) (sym c.judged_by-woven.ensures)
+    subst (IsWovenBy found holders) (sym c.judged_by-woven.ensures.planned)
     (woven_by c.args.seen.now c.args.sites.now found holders c.in-Safe.holders c.in-Some.found c.in_ok-plain-in-Safe.plain
     (same_read c.args.free c.args.seen.now.method.code.now.max_locals c.args.seen.now.method.code.now.items c.args.new.now c.in-Some.found found own is)
     checked.starts c.in_ok-plain-in-Safe.ensures.plan c.in_ok-plain-in-Safe.ensures.flags safe)
@@ -87,4 +89,33 @@ returns-in-Fails-clause-whole c = λ found holders is safe.
     c.in-Some.found c.in_ok-found.ensures c.in-Some.is c.deref.ensures in
     let same = same_read c.args.free c.args.seen.now.method.code.now.max_locals c.args.seen.now.method.code.now.items c.args.new.now c.in-Some.found found own is in
     let unsafe = subst (IsChecking c.args.seen.now c.args.sites.now (read_in c.in-Some.found)) c.in-Fails.is c.in_ok-outcome.ensures in
-    unsafe holders (subst (λ (r : Read). IsSafelyRead c.args.seen.now c.args.sites.now r holders) same safe)
+    unsafe.0 holders (subst (λ (r : Read). IsSafelyRead c.args.seen.now c.args.sites.now r holders) same safe)
+
+-- ---- the items
+
+pub returns-in_default-clause-items : goal.returns-in_default-clause-items
+returns-in_default-clause-items c = λ few found has.
+    never_read c.args.free c.args.seen.now.method.code.now.max_locals c.deref.result.now c.args.seen.now.method.code.now.items c.args.new.now _ found
+    c.in_ok-found.ensures c.in_default.is c.deref.ensures has.read_is
+
+pub returns-then-is_empty-clause-items : goal.returns-then-is_empty-clause-items
+returns-then-is_empty-clause-items c =
+    let own = read_is c.args.free c.args.seen.now.method.code.now.max_locals c.deref.result.now c.args.seen.now.method.code.now.items c.args.new.now _
+    c.in-Some.found c.in_ok-found.ensures c.in-Some.is c.deref.ensures in
+    subst (λ o. length c.args.new.now ≤ 65535 → AreItemsJudged c.args.free c.args.seen.now.method.code.now c.args.new.now o) (sym c.judged_by-stays.ensures.failed)
+    (items_judged c.args.free c.args.seen.now.method.code.now c.args.new.now c.in-Some.found c.in_ok-well.well None own c.in_ok-well.ensures tt)
+
+pub returns-in_ok-plain-in-Safe-clause-items : goal.returns-in_ok-plain-in-Safe-clause-items
+returns-in_ok-plain-in-Safe-clause-items c =
+    let own = read_is c.args.free c.args.seen.now.method.code.now.max_locals c.deref.result.now c.args.seen.now.method.code.now.items c.args.new.now _
+    c.in-Some.found c.in_ok-found.ensures c.in-Some.is c.deref.ensures in
+    subst (λ o. length c.args.new.now ≤ 65535 → AreItemsJudged c.args.free c.args.seen.now.method.code.now c.args.new.now o) (sym c.judged_by-woven.ensures.failed)
+    (items_judged c.args.free c.args.seen.now.method.code.now c.args.new.now c.in-Some.found c.in_ok-well.well None own c.in_ok-well.ensures tt)
+
+pub returns-in-Fails-clause-items : goal.returns-in-Fails-clause-items
+returns-in-Fails-clause-items c =
+    let own = read_is c.args.free c.args.seen.now.method.code.now.max_locals c.deref.result.now c.args.seen.now.method.code.now.items c.args.new.now _
+    c.in-Some.found c.in_ok-found.ensures c.in-Some.is c.deref.ensures in
+    let unsafe = subst (IsChecking c.args.seen.now c.args.sites.now (read_in c.in-Some.found)) c.in-Fails.is c.in_ok-outcome.ensures in
+    subst (λ o. length c.args.new.now ≤ 65535 → AreItemsJudged c.args.free c.args.seen.now.method.code.now c.args.new.now o) (sym c.least.ensures)
+    (items_judged c.args.free c.args.seen.now.method.code.now c.args.new.now c.in-Some.found c.in_ok-well.well (Some c.in-Fails.part) own c.in_ok-well.ensures unsafe.1)
