@@ -72,7 +72,7 @@ holders_none max_locals count is some room = by_tests (count == 0) refl (nat_lt 
 -- ---- where what was read is safe, no part is failed
 
 -- the numbers from one on count up
-up_again : (n k : ℕ) → counts_up n (range_with_len n k) ≡ true
+pub up_again : (n k : ℕ) → counts_up n (range_with_len n k) ≡ true
 up_again n zero = refl
 up_again n (suc k) = and_from (n == n) (counts_up (n + 1) (range_with_len (n + 1) k)) (eq-eqb n n refl) (up_again (n + 1) k)
 

@@ -58,6 +58,20 @@ module _ (test : Holder → Bool) where
         (λ (more : Contains rest m). shift (later more))
         (Contains-cons_cases a rest m found)
 
+-- ---- the item of a holder
+
+pub item_first : (after : List (ℕ × ℕ)) (k j : ℕ) → ((p : ℕ × ℕ) → Contains after p → p.1 ≡ k → p.0 ≡ j) → Contains after (j, k) → item_of after k ≡ Some j
+item_first [] k j only found = absurd (Contains-none (j, k) found)
+item_first (p ∷ after) k j only found =
+    by_test (p.1 == k) refl (λ later. item_first after k j (λ q there. only q (Contains-later p after q there)) later) where
+      by_test : (b : Bool) → (p.1 == k) ≡ b → (Contains after (j, k) → item_of after k ≡ Some j) → cond b (Some p.0) (item_of after k) ≡ Some j
+      by_test true same later = ap (λ i. Some i) (only p (Contains-first p after p refl) (eqb-true p.1 k same))
+      by_test false other later = later (⊎_elim
+          (λ (same : ◌≡◌ {A = ℕ × ℕ} (j, k) p).
+          absurd (false≢true (sym other ∙ eq-eqb p.1 k (ap (λ (q : ℕ × ℕ). q.1) (sym same)))))
+          (λ (more : Contains after (j, k)). more)
+          (Contains-cons_cases p after (j, k) found))
+
 -- ---- the pairs of those that take an object
 
 module _ (ins : Insertions) (n : ℕ) where
@@ -82,18 +96,6 @@ module _ (ins : Insertions) (n : ℕ) where
       let same : 0 + k ≡ k = omega arith in
       listed_from (after_at ins) 0 n h.site k (omega arith) (omega (arith, inside))
       (subst (Contains (after_at ins h.site)) same (numbers-from (λ g. nat_eq g.site h.site) 0 ins.holders k h there (eq-eqb h.site h.site refl)))
-
-  pub item_first : (after : List (ℕ × ℕ)) (k j : ℕ) → ((p : ℕ × ℕ) → Contains after p → p.1 ≡ k → p.0 ≡ j) → Contains after (j, k) → item_of after k ≡ Some j
-  item_first [] k j only found = absurd (Contains-none (j, k) found)
-  item_first (p ∷ after) k j only found =
-      by_test (p.1 == k) refl (λ later. item_first after k j (λ q there. only q (Contains-later p after q there)) later) where
-        by_test : (b : Bool) → (p.1 == k) ≡ b → (Contains after (j, k) → item_of after k ≡ Some j) → cond b (Some p.0) (item_of after k) ≡ Some j
-        by_test true same later = ap (λ i. Some i) (only p (Contains-first p after p refl) (eqb-true p.1 k same))
-        by_test false other later = later (⊎_elim
-            (λ (same : ◌≡◌ {A = ℕ × ℕ} (j, k) p).
-            absurd (false≢true (sym other ∙ eq-eqb p.1 k (ap (λ (q : ℕ × ℕ). q.1) (sym same)))))
-            (λ (more : Contains after (j, k)). more)
-            (Contains-cons_cases p after (j, k) found))
 
 -- ---- captured sites
 
@@ -182,7 +184,7 @@ module _ (s : Seen) (facts : Facts) (sites : List Site) (told : IsToldBy facts s
   held_one k h there =
       let own = holder_safe k h there in
       let item : item_of after k ≡ Some h.site =
-      item_first ins (count_of s) after k h.site
+      item_first after k h.site
       (λ p found of_holder.
       let pair = pair_in ins (count_of s) p found in
       let same : pair.h ≡ h = same_Some _ _ (sym pair.there ∙ ap (slice_get ins.holders) of_holder ∙ there) in

@@ -1,5 +1,5 @@
 -- New items that keep the old ones well have the part of what makes insertions safe that is of the items, and none else has.
-use Rattle.std.proofs.Common.{◌≡◌, ◌≢◌, refl, sym, ◌∙◌, ap, subst, ℕ, zero, suc, ◌+◌, ◌<◌, ◌≤◌, ◌&&◌, ◌==◌, ◌++◌, ⊎_elim, Bool, true, false, cond, List, [], ◌∷◌, length, map, Option, Some, None, append-nil, arith, eqb-true}
+use Rattle.std.proofs.Common.{◌≡◌, ◌≢◌, refl, sym, ◌∙◌, ap, subst, ℕ, zero, suc, ◌+◌, ◌<◌, ◌≤◌, ◌&&◌, ◌==◌, ◌++◌, ⊎_elim, Bool, true, false, cond, List, [], ◌∷◌, length, map, Option, Some, append-nil, arith, eqb-true}
 use Rattle.std.specs.Prelude.{◌↔◌, IsTrue, nat_eq}
 use Rattle.std.specs.List.{flat_map, IsDistinct, list_all, range_with_len}
 use Rattle.std.proofs.lemmas.Bool.{and_from, cases_eq, cases_lt, eq-eqb, false≢true, lt-ltb, ltb-true}
@@ -7,7 +7,10 @@ use Rattle.fm_base.proofs.TestFacts.{and_left, and_right}
 use Rattle.fm_base.specs.declared.limits.TheConstants.{MAX_LOCAL_WORDS}
 use Rattle.fm_code.specs.declared.code_array.Code.{Code}
 use Rattle.fm_code.specs.declared.code_array.Item.{Item}
+use Rattle.fm_conn.specs.Facts.{Facts}
+use Rattle.fm_conn.specs.Nodes.{TypedMethod}
 use Rattle.fm_place.specs.PlansBy.{paired}
+use Rattle.fm_place_weave.specs.declared.planned.Planned.{Planned}
 use Rattle.fm_place_weave.proofs.PlanLemmas.{here-listed, later-listed}
 use Rattle.fm_summ.proofs.BareLemmas.{all_pass}
 use Rattle.fm_audit.proofs.FoundAgainLemmas.{all_true}
@@ -16,11 +19,10 @@ use Rattle.fm_audit.proofs.SafeAgainLemmas.{once_again}
 use Rattle.fm_audit.proofs.SafeItemLemmas.{distinct_once}
 use Rattle.fm_audit.specs.Reading.{Read, read}
 use Rattle.fm_audit.specs.ReadBy.{read_in}
-use Rattle.fm_audit.specs.SafeParts.{AreItemsJudged, freed_before, HasItems}
+use Rattle.fm_audit.specs.SafeParts.{FailsPart, FailsRead, freed_before, HasItems, IsJudgedBy}
 use Rattle.fm_audit.specs.declared.parts.Part.TheVariants as part
 use Rattle.fm_audit.specs.declared.parts.Part.{Part}
 use Rattle.fm_audit.specs.declared.reading.Found.{Found}
-use Rattle.fm_audit.specs.inner.Checked.{IsPastItems}
 use Rattle.fm_audit.specs.inner.Frees.{all_from, are_once_from, is_once}
 use Rattle.fm_audit.specs.inner.Holders.{is_local}
 use Rattle.fm_audit.specs.inner.Kept.{IsWell, least_failed}
@@ -38,7 +40,7 @@ module _ (test : ℕ → List (ℕ × ℕ) → Bool) (freed : ℕ → List ℕ) 
   later_on : (a j : ℕ) → a ≤ j → a ≢ j → a + 1 ≤ j
   later_on a j low other = ⊎_elim (λ (before : a < j). omega (arith, before)) (λ (past : j ≤ a). absurd (other (omega (arith, low, past)))) (cases_lt a j)
 
-  test_each : (a n j : ℕ) → all_from test a n (pairs_from a n) ≡ true → a ≤ j → j < a + n → test j (paired freed j) ≡ true
+  pub test_each : (a n j : ℕ) → all_from test a n (pairs_from a n) ≡ true → a ≤ j → j < a + n → test j (paired freed j) ≡ true
   test_each a zero j is low high = absurd (omega (arith, low, high))
   test_each a (suc n) j is low high =
       let both = sym (both_are a n) ∙ is in
@@ -48,7 +50,7 @@ module _ (test : ℕ → List (ℕ × ℕ) → Bool) (freed : ℕ → List ℕ) 
       test_each (a + 1) n j (and_right (test a (paired freed a)) (all_from test (a + 1) n (pairs_from (a + 1) n)) both) (later_on a j low other) (omega (arith, high)))
       (cases_eq a j)
 
-  test_again : (a n : ℕ) → ((j : ℕ) → a ≤ j → j < a + n → test j (paired freed j) ≡ true) → all_from test a n (pairs_from a n) ≡ true
+  pub test_again : (a n : ℕ) → ((j : ℕ) → a ≤ j → j < a + n → test j (paired freed j) ≡ true) → all_from test a n (pairs_from a n) ≡ true
   test_again a zero each = refl
   test_again a (suc n) each =
       both_are a n
@@ -88,7 +90,7 @@ module _ (freed : ℕ → List ℕ) where
   past_there a (suc n) j past =
       other_there a j (λ same. let s : a ≡ j = same in omega (arith, past, s)) (freed a) (listed_from (a + 1) n) ∙ past_there (a + 1) n j (omega (arith, past))
 
-  freed_there : (a n j : ℕ) → a ≤ j → j < a + n → freed_before (listed_from a n) j ≡ freed j
+  pub freed_there : (a n j : ℕ) → a ≤ j → j < a + n → freed_before (listed_from a n) j ≡ freed j
   freed_there a zero j low high = absurd (omega (arith, low, high))
   freed_there a (suc n) j low high = ⊎_elim
       (λ (same : a ≡ j).
@@ -170,26 +172,39 @@ module _ (free : ℕ) (code : Code) (new : List Item) (found : Read) (is : read 
 
 -- ---- as the code finds it
 
--- where the items are these, no part of theirs is failed
-past_items : (free : ℕ) (code : Code) (new : List Item) (later : Option Part) → IsPastItems later → (found : Read) × HasItems free code new found
-    → AreItemsJudged free code new later
-past_items free code new None past has = has
-past_items free code new (Some part.Classes) past has = absurd past
-past_items free code new (Some part.Items) past has = absurd past
-past_items free code new (Some part.Holders) past has = has
-past_items free code new (Some part.Uses) past has = has
-past_items free code new (Some part.Frees) past has = has
-past_items free code new (Some part.Layout) past has = has
+-- the items are these, or none are
+abbrev pub AreFoundWell : (free : ℕ) → Code → (new : List Item) → Read → (well : Bool) → Type 0
+AreFoundWell free code new found true = HasItems free code new found
+AreFoundWell free code new found false = (other : Read) → HasItems free code new other → ⊥
 
--- the items are these, or that is the part that is failed
-pub items_judged : (free : ℕ) (code : Code) (new : List Item) (f : Found) (well : Bool) (later : Option Part)
-    → read free code.max_locals code.items new ≡ Some (read_in f) → (length new ≤ 65535 → IsTrue well ↔ IsWell free code (read_in f) new) → IsPastItems later
-    → length new ≤ 65535 → AreItemsJudged free code new (least_failed well later)
-items_judged free code new f true later is well past few =
-    past_items free code new later past
-    (read_in f, well_items free code new (read_in f) is (found_listed free code.max_locals code.items new f is) ((well few).0 refl))
-items_judged free code new f false later is well past few = λ found has.
+pub found_well : (free : ℕ) (code : Code) (new : List Item) (f : Found) (well : Bool) → read free code.max_locals code.items new ≡ Some (read_in f)
+    → (length new ≤ 65535 → IsTrue well ↔ IsWell free code (read_in f) new) → length new ≤ 65535 → AreFoundWell free code new (read_in f) well
+found_well free code new f true is well few =
+    well_items free code new (read_in f) is (found_listed free code.max_locals code.items new f is) ((well few).0 refl)
+found_well free code new f false is well few = λ found has.
     let same = same_read free code.max_locals code.items new f found is has.read_is in
     false≢true ((well few).1 (subst (λ (r : Read). IsWell free code r new) same
     (items_well free code new found has.read_is
     (subst (λ (r : Read). AreListed 0 (length code.items) r.pairs) (sym same) (found_listed free code.max_locals code.items new f is)) has)))
+
+-- what is known of a method besides is of use only where its items are these
+pub items_judged : (facts : Facts) (x : TypedMethod) (free : ℕ) (code : Code) (new : List Item) (found : Read) (well : Bool) (later : Option Part)
+    (done : Planned) → AreFoundWell free code new found well → (HasItems free code new found → IsJudgedBy facts x free code new later done)
+    → IsJudgedBy facts x free code new (least_failed well later) done
+items_judged facts x free code new found true later done has judged = judged has
+items_judged facts x free code new found false later done none judged = none
+
+-- a later part
+pub later_fails : (facts : Facts) (x : TypedMethod) (free : ℕ) (code : Code) (new : List Item) (found : Read) (failed : Part) → HasItems free code new found
+    → FailsRead facts x found failed → FailsPart facts x free code new failed
+later_fails facts x free code new found part.Classes has fails = absurd fails
+later_fails facts x free code new found part.Items has fails = absurd fails
+later_fails facts x free code new found part.Holders has fails = (found, has, fails)
+later_fails facts x free code new found part.Uses has fails = (found, has, fails)
+later_fails facts x free code new found part.Frees has fails = (found, has, fails)
+later_fails facts x free code new found part.Layout has fails = (found, has, fails)
+
+-- a list without elements
+pub none_listed : (ks : List ℕ) → length ks ≡ 0 → ks ≡ []
+none_listed [] none = refl
+none_listed (k ∷ ks) none = absurd (omega (arith, none))

@@ -21,3 +21,5 @@ pub mod WhollyLemmas
 pub mod SameLemmas
 pub mod KeptLemmas
 pub mod ItemsLemmas
+pub mod QuietLemmas
+pub mod PartLemmas

@@ -1,7 +1,7 @@
 -- Where it is safe what is freed before each item, the rows that are checked say so.
 use Rattle.std.proofs.Common.{◌≡◌, ℕ, zero, suc, ◌+◌, ◌<◌, ◌≤◌, ◌&&◌, ◌||◌, not, Bool, true, false, List, [], ◌∷◌, length, map, get_or, Some, Contains, refl, sym, ap, subst, ◌∙◌, ⊎_elim, arith, eq-eqb}
 use Rattle.std.specs.Prelude.{nat_eq, nat_lt, slice_get}
-use Rattle.std.specs.List.{AllByRecursion, flat_map, IsDistinct, range_with_len}
+use Rattle.std.specs.List.{AllByRecursion, flat_map, IsDistinct, list_all, range_with_len}
 use Rattle.std.proofs.lemmas.Bool.{and_from, lt-ltb, not-true, or_from, or_left, or_right}
 use Rattle.std.proofs.lemmas.Option.{slice_get-get_or, slice_get_within}
 use Rattle.fm_base.proofs.ContainsFacts.{Contains-cons_cases, Contains-none}
@@ -20,7 +20,7 @@ use Rattle.fm_place.specs.inner.PlanRows.{AreGroups, AreHolding, AreRowsIn, coun
 use Rattle.fm_place_weave.proofs.PlanLemmas.{here-listed, later-listed}
 use Rattle.fm_audit.proofs.FoundAgainLemmas.{all_true}
 use Rattle.fm_audit.proofs.SafeItemLemmas.{busy_bit}
-use Rattle.fm_audit.specs.inner.Checked.{IsSafeItem}
+use Rattle.fm_audit.specs.inner.Checked.{IsMayItem, IsSafeItem}
 use Rattle.fm_audit.specs.inner.Frees.{are_freed_there, are_safe_from, is_freed_there, is_once, is_quiet, is_safe_at, lists}
 
 -- ---- pairs of one item
@@ -58,19 +58,29 @@ all_again classes busy rows freed a (suc n) each =
 
 module _ (s : Seen) (g : Groups) (busy : List (List Bool)) (holding : Holding) (groups : AreGroups g) (busy_are : AreRowsIn g (count_of s) (is_busy_at s) busy)
     (holding_are : AreHolding s g.held.now (length g.held.now) holding.freed holding.rows.items) where
+  quiet_one : (j : ℕ) → j < count_of s → (freed : List ℕ) → IsMayItem s g.held.now j freed → (h : ℕ) → Contains freed h
+      → is_quiet g.of_holders.items busy j (j, h) ≡ true
+  quiet_one j inside freed may h found =
+      let own = Some-from_some_and (slice_get g.held.now h) (λ (p : ℕ × ℕ). is_busy_at s j p.1 ≡ false) (may h found) in
+      let within = slice_get_within g.held.now h own.0 own.1 in
+      let low : nat_lt h (length g.of_holders.items) ≡ true =
+      lt-ltb h (length g.of_holders.items) (omega (arith, within, holders s g busy holding groups busy_are holding_are)) in
+      let idle : has (row_of busy (get_or g.of_holders.items h 0)) j ≡ false =
+      busy_bit s g busy holding groups busy_are holding_are h j own.0 own.1 inside ∙ own.2 in
+      and_from (nat_lt h (length g.of_holders.items)) (not (has (row_of busy (get_or g.of_holders.items h 0)) j)) low (ap not idle)
+
+  -- where no holder is freed whose class is busy
+  pub all_quiet : (j : ℕ) → j < count_of s → (freed : List ℕ) → IsMayItem s g.held.now j freed
+      → list_all (is_quiet g.of_holders.items busy j) (map (λ h. (j, h)) freed) ≡ true
+  all_quiet j inside freed may =
+      all_true (is_quiet g.of_holders.items busy j) (map (λ h. (j, h)) freed)
+      (λ q found.
+      let own = Contains-from_map {Y = ℕ × ℕ} (λ h. (j, h)) freed q found in
+      subst (λ (r : ℕ × ℕ). is_quiet g.of_holders.items busy j r ≡ true) own.2 (quiet_one j inside freed may own.0 own.1))
+
   module _ (j : ℕ) (inside : j < count_of s) (freed : List ℕ) (safe : IsSafeItem s g.held.now j freed) where
     abbrev pairs : List (ℕ × ℕ)
     pairs = map (λ h. (j, h)) freed
-
-    quiet_one : (h : ℕ) → Contains freed h → is_quiet g.of_holders.items busy j (j, h) ≡ true
-    quiet_one h found =
-        let own = Some-from_some_and (slice_get g.held.now h) (λ (p : ℕ × ℕ). is_busy_at s j p.1 ≡ false) (safe.may h found) in
-        let within = slice_get_within g.held.now h own.0 own.1 in
-        let low : nat_lt h (length g.of_holders.items) ≡ true =
-        lt-ltb h (length g.of_holders.items) (omega (arith, within, holders s g busy holding groups busy_are holding_are)) in
-        let idle : has (row_of busy (get_or g.of_holders.items h 0)) j ≡ false =
-        busy_bit s g busy holding groups busy_are holding_are h j own.0 own.1 inside ∙ own.2 in
-        and_from (nat_lt h (length g.of_holders.items)) (not (has (row_of busy (get_or g.of_holders.items h 0)) j)) low (ap not idle)
 
     freed_one : (h : ℕ) → h < length g.of_holders.items → is_freed_there g.of_holders.items busy holding.rows.items j pairs h ≡ true
     freed_one h below = by_test (is_freed g.of_holders.items busy holding.rows.items j h) refl where
@@ -95,10 +105,7 @@ module _ (s : Seen) (g : Groups) (busy : List (List Bool)) (holding : Holding) (
 
     safe_again : is_safe_at g.of_holders.items busy holding.rows.items j pairs ≡ true
     safe_again =
-        let quiet = all_true (is_quiet g.of_holders.items busy j) pairs
-        (λ q found.
-        let own = Contains-from_map {Y = ℕ × ℕ} (λ h. (j, h)) freed q found in
-        subst (λ (r : ℕ × ℕ). is_quiet g.of_holders.items busy j r ≡ true) own.2 (quiet_one own.0 own.1)) in
+        let quiet = all_quiet j inside freed safe.may in
         let needed = all_true (is_freed_there g.of_holders.items busy holding.rows.items j pairs) (range_with_len 0 (length g.of_holders.items))
         (λ h found. freed_one h (let within = (Contains-from_range 0 (length g.of_holders.items) h found).1 in omega (arith, within))) in
         and_from (is_once pairs) _ (once_again j freed safe.once)

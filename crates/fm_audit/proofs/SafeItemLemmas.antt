@@ -72,6 +72,19 @@ module _ (s : Seen) (g : Groups) (busy : List (List Bool)) (holding : Holding) (
       → has (row_of busy (get_or g.of_holders.items h 0)) j ≡ is_busy_at s j p.1
   busy_bit h j p there inside = (holder_row g (count_of s) (is_busy_at s) busy groups busy_are h p there).1.each j inside
 
+  -- a holder that is freed there
+  pub may_be : (j : ℕ) → j < count_of s → (freed : List ℕ) → list_all (is_quiet g.of_holders.items busy j) (map (λ h. (j, h)) freed) ≡ true
+      → (h : ℕ) → Contains freed h
+      → slice_get g.held.now h ≡ Some (get_or g.held.now h (0, 0)) × (is_busy_at s j (get_or g.held.now h (0, 0)).1 ≡ false)
+  may_be j inside freed quiet h found =
+      let own = all_pass (is_quiet g.of_holders.items busy j) (map (λ h. (j, h)) freed) quiet (j, h)
+      (Contains-map {Y = ℕ × ℕ} (λ h. (j, h)) freed h found) in
+      let bit = has (row_of busy (get_or g.of_holders.items h 0)) j in
+      let low = nat_lt h (length g.of_holders.items) in
+      let within = ltb-true h (length g.of_holders.items) (and_left low (not bit) own) in
+      let there = slice_get-get_or g.held.now h (0, 0) (omega (arith, within, holders s g busy holding groups busy_are holding_are)) in
+      (there, sym (busy_bit h j (get_or g.held.now h (0, 0)) there inside) ∙ not-true bit (and_right low (not bit) own))
+
   module _ (j : ℕ) (inside : j < count_of s) (freed : List ℕ)
       (safe : is_safe_at g.of_holders.items busy holding.rows.items j (map (λ h. (j, h)) freed) ≡ true) where
     abbrev pairs : List (ℕ × ℕ)
@@ -85,16 +98,6 @@ module _ (s : Seen) (g : Groups) (busy : List (List Bool)) (holding : Holding) (
 
     rest_safe : (quiet && needed) ≡ true
     rest_safe = and_right (is_once pairs) (quiet && needed) safe
-
-    may_be : (h : ℕ) → Contains freed h → slice_get g.held.now h ≡ Some (get_or g.held.now h (0, 0)) × (is_busy_at s j (get_or g.held.now h (0, 0)).1 ≡ false)
-    may_be h found =
-        let own = all_pass (is_quiet g.of_holders.items busy j) pairs (and_left quiet needed rest_safe) (j, h)
-        (Contains-map {Y = ℕ × ℕ} (λ h. (j, h)) freed h found) in
-        let bit = has (row_of busy (get_or g.of_holders.items h 0)) j in
-        let low = nat_lt h (length g.of_holders.items) in
-        let within = ltb-true h (length g.of_holders.items) (and_left low (not bit) own) in
-        let there = slice_get-get_or g.held.now h (0, 0) (omega (arith, within, holders s g busy holding groups busy_are holding_are)) in
-        (there, sym (busy_bit h j (get_or g.held.now h (0, 0)) there inside) ∙ not-true bit (and_right low (not bit) own))
 
     must_be : (h : ℕ) (p : ℕ × ℕ) → slice_get g.held.now h ≡ Some p → is_busy_at s j p.1 ≡ false → may_hold_at s j p ≡ true → Contains freed h
     must_be h p there idle holds =
@@ -110,7 +113,7 @@ module _ (s : Seen) (g : Groups) (busy : List (List Bool)) (holding : Holding) (
     item_is_safe = record {
       once = distinct_once j freed (and_left (is_once pairs) (quiet && needed) safe);
       may = λ h found.
-          let there = may_be h found in
+          let there = may_be j inside freed (and_left quiet needed rest_safe) h found in
           IsSomeAnd-from_some (slice_get g.held.now h) (λ (p : ℕ × ℕ). is_busy_at s j p.1 ≡ false) (get_or g.held.now h (0, 0)) there.0 there.1;
       must = must_be;
     }

@@ -86,12 +86,6 @@ pub record HasItems (free : ℕ) (old : Code) (new : List Item) (found : Read) :
   pub after : (j h : ℕ) → Contains found.pairs.after (j, h) → old.max_locals + h < MAX_LOCAL_WORDS
   pub once : (j : ℕ) → IsDistinct nat_eq (freed_before found.pairs.before j)
 
--- by the least of the parts 2 to 5 that a method is found to fail, if it is found to fail one: its items aren't these, or they are
-abbrev pub AreItemsJudged : (free : ℕ) → (old : Code) → (new : List Item) → Option Part → Type 0
-AreItemsJudged free old new (Some part.Items) = (found : Read) → HasItems free old new found → ⊥
-AreItemsJudged free old new (Some part.Classes) = ⊥
-AreItemsJudged free old new other = (found : Read) × HasItems free old new found
-
 -- ---- part 3: the holders
 
 -- there are some, all null at the start, in the order of their numbers, and each takes the objects of one captured site, that of no other
@@ -118,16 +112,18 @@ AreFreed facts x found =
 
 -- ---- the least part that a method fails
 
+-- This is the least of the parts 3 to 5 that fails for what is read, or it is part 6, which is what is left where they hold.
+abbrev pub FailsRead : Facts → TypedMethod → Read → Part → Type 0
+FailsRead facts x found part.Holders = HasHolders facts x found → ⊥
+FailsRead facts x found part.Uses = HasHolders facts x found × (AreQuiet facts x found → ⊥)
+FailsRead facts x found part.Frees = HasHolders facts x found × AreQuiet facts x found × (AreFreed facts x found → ⊥)
+FailsRead facts x found part.Layout = HasHolders facts x found × AreQuiet facts x found × AreFreed facts x found
+FailsRead facts x found other = ⊥
+
 -- Of a method whose new code isn't its old one with safe insertions, part 6 is what is left where it has the others.
 abbrev pub FailsPart : Facts → TypedMethod → (free : ℕ) → (old : Code) → (new : List Item) → Part → Type 0
-FailsPart facts x free old new part.Classes = ⊥
 FailsPart facts x free old new part.Items = (found : Read) → HasItems free old new found → ⊥
-FailsPart facts x free old new part.Holders = (found : Read) × HasItems free old new found × (HasHolders facts x found → ⊥)
-FailsPart facts x free old new part.Uses = (found : Read) × HasItems free old new found × HasHolders facts x found × (AreQuiet facts x found → ⊥)
-FailsPart facts x free old new part.Frees =
-    (found : Read) × HasItems free old new found × HasHolders facts x found × AreQuiet facts x found × (AreFreed facts x found → ⊥)
-FailsPart facts x free old new part.Layout =
-    (found : Read) × HasItems free old new found × HasHolders facts x found × AreQuiet facts x found × AreFreed facts x found
+FailsPart facts x free old new other = (found : Read) × HasItems free old new found × FailsRead facts x found other
 
 -- the least of the parts 2 to 5 that a method fails, if it fails one, with what is to be done with it otherwise: nothing where no holder is null at its start
 abbrev pub IsJudgedBy : Facts → TypedMethod → (free : ℕ) → (old : Code) → (new : List Item) → Option Part → Planned → Type 0

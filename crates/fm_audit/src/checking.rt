@@ -1,10 +1,11 @@
 // Whether the pairs that a method's new items are read as are safe, by what is known of the method.
 
-ghost use Rattle.std.specs.Prelude.{◌≡◌, ◌+◌, ◌<◌, ◌≤◌, ◌^◌, IfOk, IfSome, IsTrue, Some, length};
+ghost use Rattle.std.specs.Prelude.{◌≡◌, ◌+◌, ◌<◌, ◌≤◌, ◌^◌, IfOk, IfSome, IsTrue, length};
 ghost use Rattle.fm_base.specs.declared.limits.TheConstants.{MAX_LOCAL_WORDS};
 ghost use Rattle.fm_place.specs.inner.PlanRows.{AreFreedRows, IsSeen};
 ghost use Rattle.fm_audit.specs.ReadBy.{read_in};
-ghost use Rattle.fm_audit.specs.inner.Checked.{AreFreesJudged, IsChecking, IsPastItems};
+ghost use Rattle.fm_audit.specs.inner.Checked.{AreFreesJudged, IsChecking, IsPartFound, unsafe_part};
+ghost use Rattle.fm_audit.specs.inner.Frees.{are_quiet_from};
 ghost use Rattle.fm_audit.specs.inner.Holders.{holders_for};
 
 use crate::frees::{are_all_quiet, are_safe};
@@ -34,7 +35,8 @@ pub(crate) fn checked(
 ) -> Result<Outcome, NoMemory>
     requires seen { IsSeen seen.now }
     requires few { length seen.now.method.code.now.items < 2 ^ 32 }
-    ensures { IfOk result (IsChecking seen.now sites.now (read_in found.now)) }
+    ensures checking { IfOk result (IsChecking seen.now sites.now (read_in found.now)) }
+    ensures parts { IfOk result (IsPartFound seen.now sites.now (read_in found.now)) }
 {
     if !counts_up(found.starts.as_slice()) {
         return Ok(Outcome::Fails(Part::Holders));
@@ -106,7 +108,8 @@ fn judged_frees(
 /// Which part is failed where holders aren't freed safely, and none twice before one item.
 fn failing(classes: &[u32], busy: &[Row], holding: &Holding, before: &[(u32, u16)]) -> Part
     requires { AreFreedRows classes.now busy.now holding.now }
-    ensures { IsPastItems (Some result) }
+    ensures { result
+        ≡ unsafe_part (are_quiet_from classes.now busy.now 0 (length holding.now.freed) before.now) }
 {
     if are_all_quiet(classes, busy, holding, before) {
         Part::Frees

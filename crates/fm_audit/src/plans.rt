@@ -9,9 +9,8 @@ ghost use Rattle.fm_summ_shapes.specs.Analysed.{AreAnalysable};
 ghost use Rattle.fm_world.specs.Programs.{code_at};
 ghost use Rattle.fm_audit.specs.NewCodes.{StaysIn};
 ghost use Rattle.fm_audit.specs.Parts.{failed_in, planned_of};
-ghost use Rattle.fm_audit.specs.SafeParts.{AreItemsJudged};
 ghost use Rattle.fm_audit.specs.SafePlans.{IsReadAs, IsSafelyPlanned};
-ghost use Rattle.fm_audit.specs.inner.Checked.{IsJudgedDone, IsWhollyDone};
+ghost use Rattle.fm_audit.specs.inner.Checked.{IsJudgedDone, IsPartJudged, IsWhollyDone};
 
 use crate::checking::{Outcome, checked};
 use crate::frees::are_once;
@@ -72,8 +71,6 @@ pub fn judged_code(
         code.now free new.now (planned_of found)) }
     ensures read { IfOk result (λ found. IsReadAs free code.now new.now (planned_of found)) }
     ensures still { IfOk result (λ found. StaysIn (Some code.now) new.now (planned_of found)) }
-    ensures items { IfOk result (λ found. length new.now ≤ 65535
-        → AreItemsJudged free code.now new.now (failed_in found)) }
 {
     let typed = Typed::of(alloc, program, method, code)?;
     let rows = live(alloc, code)?;
@@ -122,8 +119,8 @@ fn judged_in(
     ensures whole { IfOk result (IsWhollyDone seen.now sites.now free new.now) }
     ensures still { IfOk result
         (λ found. StaysIn (Some seen.now.method.code.now) new.now (planned_of found)) }
-    ensures items { IfOk result (λ found. length new.now ≤ 65535
-        → AreItemsJudged free seen.now.method.code.now new.now (failed_in found)) }
+    ensures parts { IfOk result (λ found. length new.now ≤ 65535
+        → IsPartJudged seen.now sites.now free new.now found) }
 {
     let code = seen.method.code;
     let Some(found) = read(alloc, free, code.max_locals, &code.items, new)? else {

@@ -1,17 +1,20 @@
 -- What is checked of the pairs that a method's new items are read as, by what is known of the method.
-use Rattle.std.specs.Prelude.{◌≡◌, ◌+◌, ◌<◌, ◌≤◌, ℕ, true, false, List, length, replicate, Option, Some, None, Contains, IsSomeAnd, nat_eq, slice_get, ⊤}
+use Rattle.std.specs.Prelude.{◌≡◌, ◌+◌, ◌<◌, ◌≤◌, ℕ, true, false, Bool, List, length, replicate, Some, Contains, IsSomeAnd, nat_eq, slice_get, if◌then◌else◌, ⊤}
 use Rattle.std.specs.List.{flat_map, IsDistinct, range_with_len}
 use Rattle.fm_code.specs.declared.code_array.Item.{Item}
 use Rattle.fm_base.specs.declared.limits.TheConstants.{MAX_LOCAL_WORDS}
 use Rattle.fm_chain.specs.declared.plans.ChainPlan.{ChainPlan}
-use Rattle.fm_place.specs.PlansBy.{paired}
+use Rattle.fm_conn.specs.Facts.{Facts}
+use Rattle.fm_place.specs.PlansBy.{IsToldBy, paired}
+use Rattle.fm_place.specs.Sites.{sites_of}
 use Rattle.fm_place.specs.declared.busy_rows.Seen.{Seen}
 use Rattle.fm_place.specs.declared.found_sites.Site.{Site}
 use Rattle.fm_place.specs.declared.plans.Plan.{Plan}
 use Rattle.fm_place_weave.specs.declared.planned.Planned.{Planned}
 use Rattle.fm_place_weave.specs.declared.planned.Planned.TheVariants as planned
-use Rattle.fm_place.specs.inner.PlanRows.{count_of, is_busy_at, may_hold_at}
-use Rattle.fm_audit.specs.Parts.{planned_of}
+use Rattle.fm_place.specs.inner.PlanRows.{count_of, is_busy_at, may_hold_at, typed_seen}
+use Rattle.fm_audit.specs.Parts.{failed_in, planned_of}
+use Rattle.fm_audit.specs.SafeParts.{FailsRead, freed_before, IsJudgedBy}
 use Rattle.fm_audit.specs.declared.parts.Part.{Part}
 use Rattle.fm_audit.specs.declared.parts.Part.TheVariants as part
 use Rattle.fm_audit.specs.Reading.{Pairs, Read, read}
@@ -84,21 +87,59 @@ abbrev pub AreUnsafeFrees : Seen → (held before : List (ℕ × ℕ)) → Type 
 AreUnsafeFrees s held before =
     (freed : ℕ → List ℕ) → before ≡ flat_map (paired freed) (range_with_len 0 (count_of s)) → ((j : ℕ) → j < count_of s → IsSafeItem s held j (freed j)) → ⊥
 
--- this is one of the parts that are of holders and of what is freed, if it is one
-abbrev pub IsPastItems : Option Part → Type 0
-IsPastItems (Some part.Classes) = ⊥
-IsPastItems (Some part.Items) = ⊥
-IsPastItems other = ⊤
+-- no holder is freed before an item whose class is busy
+abbrev pub IsMayItem : Seen → (held : List (ℕ × ℕ)) → (j : ℕ) → (freed : List ℕ) → Type 0
+IsMayItem s held j freed = (h : ℕ) → Contains freed h → IsSomeAnd (slice_get held h) (λ (p : ℕ × ℕ). is_busy_at s j p.1 ≡ false)
+
+-- each is freed that may hold something and whose class isn't busy
+abbrev pub IsMustItem : Seen → (held : List (ℕ × ℕ)) → (j : ℕ) → (freed : List ℕ) → Type 0
+IsMustItem s held j freed =
+    (h : ℕ) (p : ℕ × ℕ) → slice_get held h ≡ Some p → is_busy_at s j p.1 ≡ false → may_hold_at s j p ≡ true → Contains freed h
+
+-- which part is failed where holders aren't freed safely: whether none is freed whose class is busy
+abbrev pub unsafe_part : (quiet : Bool) → Part
+unsafe_part quiet = if quiet then part.Frees else part.Uses
+
+-- some holder is freed whose class is busy, or that isn't why it isn't safe what is freed
+abbrev pub IsFreesPart : Seen → (held before : List (ℕ × ℕ)) → Part → Type 0
+IsFreesPart s held before part.Uses =
+    (freed : ℕ → List ℕ) → before ≡ flat_map (paired freed) (range_with_len 0 (count_of s)) → ((j : ℕ) → j < count_of s → IsMayItem s held j (freed j)) → ⊥
+IsFreesPart s held before part.Frees =
+    (freed : ℕ → List ℕ) → before ≡ flat_map (paired freed) (range_with_len 0 (count_of s)) → (j : ℕ) → j < count_of s → IsMayItem s held j (freed j)
+IsFreesPart s held before other = ⊥
 
 -- what is freed is safe, or a part is failed by it
 abbrev pub AreFreesJudged : Seen → (held before : List (ℕ × ℕ)) → Freeing → Type 0
 AreFreesJudged s held before freeing.Safe = AreSafeFrees s held before
-AreFreesJudged s held before (freeing.Fails failed) = AreUnsafeFrees s held before × IsPastItems (Some failed)
+AreFreesJudged s held before (freeing.Fails failed) = AreUnsafeFrees s held before × IsFreesPart s held before failed
 
 -- what was read is checked for these holders, or fails a part
 abbrev pub IsChecking : Seen → List Site → Read → Outcome → Type 0
 IsChecking s sites found (outcome.Safe holders) = IsCheckedFor s sites found holders
-IsChecking s sites found (outcome.Fails failed) = ((holders : ℕ) → IsSafelyRead s sites found holders → ⊥) × IsPastItems (Some failed)
+IsChecking s sites found (outcome.Fails failed) = (holders : ℕ) → IsSafelyRead s sites found holders → ⊥
+
+-- the pairs are listed item by item, there is room for the holders of the start, and none is freed twice before one item
+pub record IsListedWell (s : Seen) (found : Read) : Type 0 where
+  pub listed : AreListed 0 (count_of s) found.pairs
+  pub starts : (h : ℕ) → Contains found.starts h → s.method.code.now.max_locals + h < MAX_LOCAL_WORDS
+  pub once : (j : ℕ) → IsDistinct nat_eq (freed_before found.pairs.before j)
+
+-- the part that is found to fail; part 6 is what is left
+abbrev pub part_found : Outcome → Part
+part_found (outcome.Safe holders) = part.Layout
+part_found (outcome.Fails failed) = failed
+
+-- by all facts that agree with what is known of the method, that is the least part that fails
+abbrev pub IsPartFound : Seen → List Site → Read → Outcome → Type 0
+IsPartFound s sites found o =
+    IsListedWell s found → (facts : Facts) → IsToldBy facts s.method.number.0 s.classes.now s.live.now → sites ≡ sites_of facts (typed_seen s)
+    → FailsRead facts (typed_seen s) found (part_found o)
+
+-- by all such facts, the method is judged by its least part that fails
+abbrev pub IsPartJudged : Seen → List Site → (free : ℕ) → (new : List Item) → Judged → Type 0
+IsPartJudged s sites free new j =
+    (facts : Facts) → IsToldBy facts s.method.number.0 s.classes.now s.live.now → sites ≡ sites_of facts (typed_seen s)
+    → IsJudgedBy facts (typed_seen s) free s.method.code.now new (failed_in j) (planned_of j)
 
 -- the plan is that of what was read, for these holders, and none holds a chain
 pub record IsPlanRead (found : Read) (many : ℕ) (plan : ChainPlan) : Type 0 where

@@ -1,11 +1,12 @@
-use Rattle.std.proofs.Common.{◌≡◌, ◌∙◌, ℕ, rules, false, true, List, length, sym, subst}
+use Rattle.std.proofs.Common.{◌≡◌, ◌∙◌, ℕ, rules, false, true, List, length, refl, sym, subst}
 use Rattle.fm_place.proofs.PlanLemmas.{freed_rows}
 use Rattle.fm_place.specs.inner.PlanRows.{AreRowsIn, count_of, is_busy_at}
 use Rattle.std.proofs.lemmas.Bool.{false≢true}
+use Rattle.fm_audit.proofs.QuietLemmas.{frees_part}
 use Rattle.fm_audit.proofs.SafeAgainLemmas.{frees_again}
 use Rattle.fm_audit.proofs.SafeItemLemmas.{frees_are_safe}
-use Rattle.fm_audit.specs.inner.Checked.{AreSafeFrees, IsSafeItem}
-use Rattle.fm_audit.specs.inner.Frees.{are_safe_from}
+use Rattle.fm_audit.specs.inner.Checked.{AreSafeFrees, IsFreesPart, IsSafeItem, unsafe_part}
+use Rattle.fm_audit.specs.inner.Frees.{are_quiet_from, are_safe_from}
 use Rattle.fm_audit.proofs.checking.judged_frees.Goals as goal
 
 pub are_safe-requires : goal.are_safe-requires
@@ -52,5 +53,9 @@ returns-then-not-are_safe c =
       λ freed listed each.
           false≢true (sym fails ∙ frees_again s g c.in_ok-busy.busy.items holding c.in_ok-groups.ensures.0 busy c.in_ok-holding.ensures c.args.before.now freed listed
           (λ j inside. subst (λ (held : List (ℕ × ℕ)). IsSafeItem s held j (freed j)) (sym c.in_ok-groups.ensures.1) (each j inside))),
-      c.failing.ensures,
+      subst (λ (held : List (ℕ × ℕ)). IsFreesPart s held c.args.before.now c.failing.result) c.in_ok-groups.ensures.1
+          (subst (IsFreesPart s g.held.now c.args.before.now)
+          (sym (c.failing.ensures ∙ (λ k. unsafe_part (are_quiet_from (classes k) (rows k) 0 (length holding.freed) c.args.before.now))))
+          (frees_part s g c.in_ok-busy.busy.items holding c.in_ok-groups.ensures.0 busy c.in_ok-holding.ensures c.args.before.now
+          (are_quiet_from g.of_holders.items c.in_ok-busy.busy.items 0 (length holding.freed) c.args.before.now) refl)),
     )
