@@ -1,5 +1,5 @@
 -- What is known of one method after the other makes the facts of the whole program, by which the insertions of each are safe.
-use Rattle.std.proofs.Common.{◌≡◌, ◌↔◌, ℕ, ◌∙◌, Bool, true, false, List, [], Option, Some, None, IfSome, refl, sym, ap, subst}
+use Rattle.std.proofs.Common.{◌≡◌, ◌↔◌, ◌≤◌, ℕ, ◌∙◌, Bool, true, false, List, [], length, Option, Some, None, IfSome, refl, sym, ap, subst}
 use Rattle.std.specs.Option.{option_map}
 use Rattle.std.proofs.lemmas.Option.{none-some, same_Some}
 use Rattle.fm_base.proofs.OptionFacts.{IsSomeAnd-at_some}
@@ -31,27 +31,30 @@ use Rattle.fm_types.specs.Typed.{IsTypingOf}
 use Rattle.fm_world.specs.Programs.{code_at, Program}
 use Rattle.fm_audit.specs.ReadBack.{read_by}
 use Rattle.fm_audit.specs.Reading.{read}
-use Rattle.fm_audit.specs.SafePlans.{IsListedIn, IsSafelyPlanned}
+use Rattle.fm_audit.specs.SafeParts.{IsJudgedBy}
+use Rattle.fm_audit.specs.SafePlans.{IsListedIn, IsSafelyJudged}
+use Rattle.fm_audit.specs.declared.parts.Part.{Part}
 
-module _ (p : Program) (s : Summaries) (free : ℕ → ℕ) (new : ℕ → List Item) (done : ℕ → Planned)
-    (known : (method : ℕ) (code : Code) → code_at p method ≡ Some code → IsSafelyPlanned p s method code (free method) (new method) (done method)) where
+module _ (p : Program) (s : Summaries) (free : ℕ → ℕ) (new : ℕ → List Item) (failing : ℕ → Option Part) (done : ℕ → Planned)
+    (known : (method : ℕ) (code : Code) → code_at p method ≡ Some code
+    → IsSafelyJudged p s method code (free method) (new method) (failing method) (done method)) where
   -- ---- by the number of a method: what is known of it, and nothing of one without code
 
   abbrev states_by : (method : ℕ) (o : Option Code) → code_at p method ≡ o → List (Option TypeState)
   states_by method None is = []
-  states_by method (Some code) is = (known method code is).states
+  states_by method (Some code) is = (known method code is).plan.states
 
   abbrev live_by : (method : ℕ) (o : Option Code) → code_at p method ≡ o → ℕ → ℕ → Bool
   live_by method None is local item = false
-  live_by method (Some code) is local item = is_live (known method code is).live local item
+  live_by method (Some code) is local item = is_live (known method code is).plan.live local item
 
   abbrev class_by : (method : ℕ) (o : Option Code) → code_at p method ≡ o → Node → ℕ
   class_by method None is node = 0
-  class_by method (Some code) is node = class_of (known method code is).classes node
+  class_by method (Some code) is node = class_of (known method code is).plan.classes node
 
   abbrev pub insertions_in : (method : ℕ) (o : Option Code) → code_at p method ≡ o → Option Insertions
   insertions_in method None is = None
-  insertions_in method (Some code) is = (known method code is).insertions
+  insertions_in method (Some code) is = (known method code is).plan.insertions
 
   -- the facts, and what is inserted
   abbrev pub facts : Facts
@@ -80,12 +83,14 @@ module _ (p : Program) (s : Summaries) (free : ℕ → ℕ) (new : ℕ → List 
     pub plain : IfSome insertions HoldsNoChain
     pub whole : (told : Facts) → IsToldBy told method classes rows → LinkAlike told s → (ins : Insertions) → AreSafe told (method_with p method code states) ins
         → HoldsNoChain ins → read (free method) code.max_locals code.items (new method) ≡ Some (read_by code ins) → IsListedIn code (Some ins) (done method)
+    pub judged : (told : Facts) → IsToldBy told method classes rows → LinkAlike told s → length (new method) ≤ 65535
+        → IsJudgedBy told (method_with p method code states) (free method) code (new method) (failing method) (done method)
 
   known_as : (method : ℕ) (o : Option Code) (is : code_at p method ≡ o) (code : Code) → o ≡ Some code
       → IsKnownAs method code (states_by method o is) (live_by method o is) (class_by method o is) (insertions_in method o is)
   known_as method None is code found = absurd (none-some code found)
   known_as method (Some own) is code found =
-      let by = known method own is in
+      let by = (known method own is).plan in
       subst (λ c. IsKnownAs method c by.states (λ local item. is_live by.live local item) (λ node. class_of by.classes node) by.insertions) (same_Some _ _ found)
       (record {
         rows = by.live;
@@ -99,6 +104,7 @@ module _ (p : Program) (s : Summaries) (free : ℕ → ℕ) (new : ℕ → List 
         safe = by.safe;
         plain = by.plain;
         whole = by.whole;
+        judged = (known method own is).judged;
       })
 
   at_code : (method : ℕ) (code : Code) → code_at p method ≡ Some code
@@ -118,6 +124,12 @@ module _ (p : Program) (s : Summaries) (free : ℕ → ℕ) (new : ℕ → List 
       → read (free method) code.max_locals code.items (new method) ≡ Some (read_by code ins) → IsListedIn code (Some ins) (done method)
   are_whole method code ins is safe plain read_is =
       let own = at_code method code is in own.whole facts (record { class = own.class_is; lives = own.live_is }) (λ m a b. refl) ins safe plain read_is
+
+  -- the part that it fails is the least
+  pub are_judged : (method : ℕ) (code : Code) → code_at p method ≡ Some code → length (new method) ≤ 65535
+      → IsJudgedBy facts (typed_method p facts.typing method code) (free method) code (new method) (failing method) (done method)
+  are_judged method code is few =
+      let own = at_code method code is in own.judged facts (record { class = own.class_is; lives = own.live_is }) (λ m a b. refl) few
 
   -- ---- the whole program
 

@@ -1,14 +1,16 @@
 -- A plan with pairs that were checked is safe, by all facts that agree with what is known of the method.
-use Rattle.std.proofs.Common.{◌≡◌, ℕ, IfOk, Result, Ok, Err, false, List, replicate, Some, None, sym, ◌∙◌, refl}
+use Rattle.std.proofs.Common.{◌≡◌, ◌≤◌, ℕ, IfOk, Result, Ok, Err, false, List, length, replicate, Option, Some, None, sym, ◌∙◌, refl}
 use Rattle.fm_chain.specs.declared.plans.ChainPlan.{ChainPlan}
 use Rattle.fm_check.specs.Checking.{IsLeastTyping}
 use Rattle.fm_code.specs.declared.code_array.Item.{Item}
 use Rattle.fm_conn.specs.Classes.{AreClassesOf}
+use Rattle.fm_conn.specs.Facts.{Facts}
 use Rattle.fm_conn.specs.Summaries.{linked_by}
 use Rattle.fm_conn.specs.declared.summaries.Summaries.{Summaries}
 use Rattle.fm_flow.specs.LiveRows.{IsLiveRowsOf}
 use Rattle.fm_place.proofs.PlanLemmas.{sites_told}
 use Rattle.fm_place.specs.FactsBy.{facts_by}
+use Rattle.fm_place.specs.PlansBy.{IsToldBy}
 use Rattle.fm_place.specs.Sites.{sites_of}
 use Rattle.fm_place.specs.declared.busy_rows.Seen.{Seen}
 use Rattle.fm_place.specs.declared.found_sites.Site.{Site}
@@ -19,11 +21,13 @@ use Rattle.fm_types.specs.Typings.{states_of}
 use Rattle.fm_audit.proofs.SafeLemmas.{are_safe, held_all}
 use Rattle.fm_audit.proofs.WhollyLemmas.{wholly_listed}
 use Rattle.fm_audit.proofs.WholeLemmas.{insertions-plain, insertions_by, whole as whole_plan}
-use Rattle.fm_audit.specs.Parts.{planned_of}
+use Rattle.fm_audit.specs.Parts.{failed_in, planned_of}
 use Rattle.fm_audit.specs.Reading.{Read, read}
-use Rattle.fm_audit.specs.SafePlans.{IsSafelyPlanned}
+use Rattle.fm_audit.specs.SafeParts.{IsJudgedBy}
+use Rattle.fm_audit.specs.SafePlans.{IsSafelyJudged}
+use Rattle.fm_audit.specs.declared.parts.Part.{Part}
 use Rattle.fm_audit.specs.declared.plans.Judged.{Judged}
-use Rattle.fm_audit.specs.inner.Checked.{IsCheckedDone, IsCheckedPlan, IsJudgedDone, IsSafelyRead, IsWhollyDone, IsWovenBy, pairs_of}
+use Rattle.fm_audit.specs.inner.Checked.{IsCheckedDone, IsCheckedPlan, IsJudgedDone, IsPartJudged, IsSafelyRead, IsWhollyDone, IsWovenBy, pairs_of}
 
 module _ (s : Seen) (summaries : Summaries) (sites : List Site)
     (least : IsLeastTyping s.method.program.now s.method.number.0 (states_of s.method.typing.now))
@@ -35,52 +39,67 @@ module _ (s : Seen) (summaries : Summaries) (sites : List Site)
       (found : Read) (holders : ℕ) → read free s.method.code.now.max_locals s.method.code.now.items new ≡ Some found → IsSafelyRead s sites found holders
       → IsWovenBy found holders done
 
-  abbrev Safely : Planned → Type 0
-  Safely done = IsSafelyPlanned s.method.program.now summaries s.method.number.0 s.method.code.now free new done
+  abbrev Safely : Option Part → Planned → Type 0
+  Safely failed done = IsSafelyJudged s.method.program.now summaries s.method.number.0 s.method.code.now free new failed done
 
-  safe_plan : (plan : ChainPlan) → IsCheckedPlan s sites plan.plan → plan.looped ≡ replicate plan.plan.holders false → Wholly (planned.Woven plan)
-      → Safely (planned.Woven plan)
-  safe_plan plan is flags whole = record {
-    states = states_of s.method.typing.now;
-    live = s.live.now;
-    classes = s.classes.now;
-    least = least;
-    live_are = live_are;
-    classes_are = classes_are;
-    insertions = Some (insertions_by is.checked.held is.listed.before (count_of s));
-    listed =
-        whole_plan sites (count_of s) (pairs_of plan.plan) is.checked.held is.listed (held_all s sites (pairs_of plan.plan) plan.plan.holders is.checked)
-        is.checked.own s.method.code.now plan refl (sym is.checked.count) refl refl flags;
-    safe = λ facts told linked.
-        are_safe s facts sites (pairs_of plan.plan) plan.plan.holders told
-        (sites_are ∙ sym (sites_told facts (typed_seen s) s.classes.now summaries told.class linked)) is.listed is.checked;
-    plain = insertions-plain is.checked.held is.listed.before (count_of s);
-    whole = λ facts told linked ins safe plain read_is.
-        wholly_listed s facts sites told (sites_are ∙ sym (sites_told facts (typed_seen s) s.classes.now summaries told.class linked)) ins safe plain free new
-        (planned.Woven plan) whole read_is;
+  -- the method is judged by its least part that fails
+  abbrev Partly : Option Part → Planned → Type 0
+  Partly failed done =
+      length new ≤ 65535 → (facts : Facts) → IsToldBy facts s.method.number.0 s.classes.now s.live.now → sites ≡ sites_of facts (typed_seen s)
+      → IsJudgedBy facts (typed_seen s) free s.method.code.now new failed done
+
+  safe_plan : (failed : Option Part) (plan : ChainPlan) → IsCheckedPlan s sites plan.plan → plan.looped ≡ replicate plan.plan.holders false
+      → Wholly (planned.Woven plan) → Partly failed (planned.Woven plan) → Safely failed (planned.Woven plan)
+  safe_plan failed plan is flags whole parts = record {
+    plan = record {
+      states = states_of s.method.typing.now;
+      live = s.live.now;
+      classes = s.classes.now;
+      least = least;
+      live_are = live_are;
+      classes_are = classes_are;
+      insertions = Some (insertions_by is.checked.held is.listed.before (count_of s));
+      listed =
+          whole_plan sites (count_of s) (pairs_of plan.plan) is.checked.held is.listed (held_all s sites (pairs_of plan.plan) plan.plan.holders is.checked)
+          is.checked.own s.method.code.now plan refl (sym is.checked.count) refl refl flags;
+      safe = λ facts told linked.
+          are_safe s facts sites (pairs_of plan.plan) plan.plan.holders told
+          (sites_are ∙ sym (sites_told facts (typed_seen s) s.classes.now summaries told.class linked)) is.listed is.checked;
+      plain = insertions-plain is.checked.held is.listed.before (count_of s);
+      whole = λ facts told linked ins safe plain read_is.
+          wholly_listed s facts sites told (sites_are ∙ sym (sites_told facts (typed_seen s) s.classes.now summaries told.class linked)) ins safe plain free new
+          (planned.Woven plan) whole read_is;
+    };
+    judged = λ facts told linked few.
+        parts few facts told (sites_are ∙ sym (sites_told facts (typed_seen s) s.classes.now summaries told.class linked));
   }
 
-  safe_done : (done : Planned) → IsCheckedDone s sites done → Wholly done → Safely done
-  safe_done planned.Same is whole = record {
-    states = states_of s.method.typing.now;
-    live = s.live.now;
-    classes = s.classes.now;
-    least = least;
-    live_are = live_are;
-    classes_are = classes_are;
-    insertions = None;
-    listed = tt;
-    safe = λ facts told linked. tt;
-    plain = tt;
-    whole = λ facts told linked ins safe plain read_is.
-        wholly_listed s facts sites told (sites_are ∙ sym (sites_told facts (typed_seen s) s.classes.now summaries told.class linked)) ins safe plain free new
-        planned.Same whole read_is;
+  safe_done : (failed : Option Part) (done : Planned) → IsCheckedDone s sites done → Wholly done → Partly failed done → Safely failed done
+  safe_done failed planned.Same is whole parts = record {
+    plan = record {
+      states = states_of s.method.typing.now;
+      live = s.live.now;
+      classes = s.classes.now;
+      least = least;
+      live_are = live_are;
+      classes_are = classes_are;
+      insertions = None;
+      listed = tt;
+      safe = λ facts told linked. tt;
+      plain = tt;
+      whole = λ facts told linked ins safe plain read_is.
+          wholly_listed s facts sites told (sites_are ∙ sym (sites_told facts (typed_seen s) s.classes.now summaries told.class linked)) ins safe plain free new
+          planned.Same whole read_is;
+    };
+    judged = λ facts told linked few.
+        parts few facts told (sites_are ∙ sym (sites_told facts (typed_seen s) s.classes.now summaries told.class linked));
   }
-  safe_done (planned.Woven plan) is whole = safe_plan plan is.0 is.1 whole
-  safe_done (planned.TooLong bytes chains) is whole = absurd is
+  safe_done failed (planned.Woven plan) is whole parts = safe_plan failed plan is.0 is.1 whole parts
+  safe_done failed (planned.TooLong bytes chains) is whole parts = absurd is
 
   -- the same of what the code returns
   pub safe_answers : {E : Type 0} (answer : Result Judged E) → IfOk answer (IsJudgedDone s sites) → IfOk answer (IsWhollyDone s sites free new)
-      → IfOk answer (λ found. IsSafelyPlanned s.method.program.now summaries s.method.number.0 s.method.code.now free new (planned_of found))
-  safe_answers (Ok found) is whole = safe_done (planned_of found) is whole
-  safe_answers (Err e) is whole = tt
+      → IfOk answer (λ found. length new ≤ 65535 → IsPartJudged s sites free new found)
+      → IfOk answer (λ found. IsSafelyJudged s.method.program.now summaries s.method.number.0 s.method.code.now free new (failed_in found) (planned_of found))
+  safe_answers (Ok found) is whole parts = safe_done (failed_in found) (planned_of found) is whole parts
+  safe_answers (Err e) is whole parts = tt

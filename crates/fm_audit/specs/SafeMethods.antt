@@ -1,5 +1,5 @@
 -- What is to be done with all methods of a program is to insert what is safe by its facts, or nothing.
-use Rattle.std.specs.Prelude.{◌≡◌, ◌<◌, ℕ, List, length, Option, Some, None}
+use Rattle.std.specs.Prelude.{◌≡◌, ◌<◌, ◌≤◌, ℕ, List, length, get_or, Option, Some, None}
 use Rattle.fm_code.specs.declared.code_array.Code.{Code}
 use Rattle.fm_code.specs.declared.code_array.Item.{Item}
 use Rattle.fm_conn.specs.Facts.{AreFacts, Facts}
@@ -17,23 +17,29 @@ use Rattle.fm_world.specs.Programs.{code_at, Program}
 use Rattle.fm_audit.specs.NewCodes.{new_free_of, new_items_of}
 use Rattle.fm_audit.specs.ReadBack.{read_by}
 use Rattle.fm_audit.specs.Reading.{read}
-use Rattle.fm_audit.specs.SafePlans.{IsListedIn, IsSafelyPlanned}
+use Rattle.fm_audit.specs.SafeParts.{IsJudgedBy}
+use Rattle.fm_audit.specs.SafePlans.{IsListedIn, IsSafelyJudged}
+use Rattle.fm_audit.specs.declared.parts.Part.{Part}
 use Rattle.fm_audit.specs.declared.methods.NewCode.{NewCode}
 
--- what is to be done with the method is safely planned for its code, and is nothing where it has none
-abbrev pub IsSafelyPlannedIn : Program → Summaries → ℕ → Option Code → (free : ℕ) → (new : List Item) → Planned → Type 0
-IsSafelyPlannedIn p summaries method None free new done = done ≡ planned.Same
-IsSafelyPlannedIn p summaries method (Some code) free new done = IsSafelyPlanned p summaries method code free new done
+-- what is to be done with the method is safely planned and judged for its code, and is nothing where it has none
+abbrev pub IsSafelyJudgedIn : Program → Summaries → ℕ → Option Code → (free : ℕ) → (new : List Item) → Option Part → Planned → Type 0
+IsSafelyJudgedIn p summaries method None free new failed done = done ≡ planned.Same
+IsSafelyJudgedIn p summaries method (Some code) free new failed done = IsSafelyJudged p summaries method code free new failed done
 
--- this is safely planned for this method of the program
-abbrev pub IsSafelyPlannedAt : Program → Summaries → ℕ → (free : ℕ) → (new : List Item) → Planned → Type 0
-IsSafelyPlannedAt p summaries method free new done = IsSafelyPlannedIn p summaries method (code_at p method) free new done
+-- this is safely planned and judged for this method of the program
+abbrev pub IsSafelyJudgedAt : Program → Summaries → ℕ → (free : ℕ) → (new : List Item) → Option Part → Planned → Type 0
+IsSafelyJudgedAt p summaries method free new failed done = IsSafelyJudgedIn p summaries method (code_at p method) free new failed done
 
--- there is something to be done with each method of a program, and it is safely planned as the summaries link the ends of methods
-pub record AreSafelyPlanned (p : Program) (summaries : Summaries) (new : List NewCode) (done : List Planned) : Type 0 where
+-- the part that a method fails, by the list of them
+abbrev pub failing_at : List (Option Part) → ℕ → Option Part
+failing_at failing method = get_or failing method None
+
+-- there is something to be done with each method of a program, and it is safely planned and judged as the summaries link the ends of methods
+pub record AreSafelyPlanned (p : Program) (summaries : Summaries) (new : List NewCode) (failing : List (Option Part)) (done : List Planned) : Type 0 where
   pub one_each : length done ≡ length (methods_of p.outline.classes)
   pub each : (method : ℕ) → method < length done
-      → IsSafelyPlannedAt p summaries method (new_free_of p new method) (new_items_of p new method) (planned_at done method)
+      → IsSafelyJudgedAt p summaries method (new_free_of p new method) (new_items_of p new method) (failing_at failing method) (planned_at done method)
 
 -- What is to be done with each method lists what is inserted, and that is safe by exact facts of the program over least typings. Where the new items of a
 -- method are read as insertions that are safe by these facts, that is what is listed.
@@ -49,3 +55,11 @@ pub record AreSafelyInserted (p : Program) (new : List NewCode) (done : List Pla
   pub whole : (method : ℕ) (code : Code) (ins : Insertions) → code_at p method ≡ Some code → AreSafe facts (typed_method p facts.typing method code) ins
       → HoldsNoChain ins → read (new_free_of p new method) code.max_locals code.items (new_items_of p new method) ≡ Some (read_by code ins)
       → IsListedIn code (Some ins) (planned_at done method)
+
+-- The same, and by these facts each method is judged by the least of the parts 2 to 5 that it fails, if it fails one, where it has as many new items as there
+-- may be.
+pub record AreSafelyJudged (p : Program) (new : List NewCode) (failing : List (Option Part)) (done : List Planned) : Type 0 where
+  pub safe : AreSafelyInserted p new done
+  pub judged : (method : ℕ) (code : Code) → code_at p method ≡ Some code → length (new_items_of p new method) ≤ 65535
+      → IsJudgedBy safe.facts (typed_method p safe.facts.typing method code) (new_free_of p new method) code (new_items_of p new method)
+      (failing_at failing method) (planned_at done method)

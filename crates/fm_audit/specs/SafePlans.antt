@@ -1,5 +1,5 @@
 -- The plans by which methods are changed safely, whoever wrote them.
-use Rattle.std.specs.Prelude.{◌≡◌, ℕ, List, Option, Some, None, IfSome, ⊤}
+use Rattle.std.specs.Prelude.{◌≡◌, ◌≤◌, ℕ, List, length, Option, Some, None, IfSome, ⊤}
 use Rattle.std.specs.List.{range_with_len}
 use Rattle.fm_check.specs.Checking.{IsLeastTyping}
 use Rattle.fm_code.specs.declared.code_array.Code.{Code}
@@ -24,6 +24,8 @@ use Rattle.fm_types.specs.States.{TypeState}
 use Rattle.fm_world.specs.Programs.{Program}
 use Rattle.fm_audit.specs.ReadBack.{read_by}
 use Rattle.fm_audit.specs.Reading.{Read, read}
+use Rattle.fm_audit.specs.SafeParts.{IsJudgedBy}
+use Rattle.fm_audit.specs.declared.parts.Part.{Part}
 
 -- what the pairs of a plan are read from: as many holders are null at the start, in the order of their numbers
 abbrev pub read_of : Plan → Read
@@ -59,3 +61,10 @@ pub record IsSafelyPlanned (p : Program) (summaries : Summaries) (method : ℕ) 
   pub whole : (facts : Facts) → IsToldBy facts method classes live → LinkAlike facts summaries
       → (ins : Insertions) → AreSafe facts (method_with p method code states) ins → HoldsNoChain ins
       → read free code.max_locals code.items new ≡ Some (read_by code ins) → IsListedIn code (Some ins) done
+
+-- The same, and by all such facts this is the least of the parts 2 to 5 that the method fails, if it fails one, where it has as many new items as there may be.
+pub record IsSafelyJudged (p : Program) (summaries : Summaries) (method : ℕ) (code : Code) (free : ℕ) (new : List Item) (failed : Option Part)
+    (done : Planned) : Type 0 where
+  pub plan : IsSafelyPlanned p summaries method code free new done
+  pub judged : (facts : Facts) → IsToldBy facts method plan.classes plan.live → LinkAlike facts summaries → length new ≤ 65535
+      → IsJudgedBy facts (method_with p method code plan.states) free code new failed done

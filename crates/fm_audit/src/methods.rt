@@ -5,8 +5,8 @@ ghost use Rattle.fm_conn.specs.Summaries.{AreSummariesOf};
 ghost use Rattle.fm_summ_shapes.specs.Analysed.{AreAnalysable};
 ghost use Rattle.fm_world.specs.Members.{methods_of};
 ghost use Rattle.fm_audit.specs.NewCodes.{AllStay, StaysAt, free_in, items_in, new_code};
-ghost use Rattle.fm_audit.specs.Parts.{planned_of};
-ghost use Rattle.fm_audit.specs.SafeMethods.{AreSafelyInserted, AreSafelyPlanned, IsSafelyPlannedAt};
+ghost use Rattle.fm_audit.specs.Parts.{failed_in, planned_of};
+ghost use Rattle.fm_audit.specs.SafeMethods.{AreSafelyJudged, AreSafelyPlanned, IsSafelyJudgedAt};
 
 use crate::parts::Part;
 use crate::plans::{Judged, judged_code};
@@ -32,12 +32,12 @@ pub struct NewCode<'a> {
 pub struct JudgedMethods {
     /// What is to be done with each.
     pub planned: Vec<Planned>,
-    /// The first one that fails one of the parts 2 to 5, and the least one that it fails.
-    pub failing: Option<(MethodId, Part)>,
+    /// The least of the parts 2 to 5 that each fails, if it fails one.
+    pub failing: Vec<Option<Part>>,
 }
 
 /// What is to be done with each method of a program, so that those of class files get their new code, and
-/// the first one whose new code can't be read, or isn't safe. There is new code for each method of the
+/// which part each fails whose new code can't be read, or isn't safe. There is new code for each method of the
 /// class files, which come last. Takes memory for the shapes of all methods and the links of their ends,
 /// and for the plans.
 pub fn judged_methods(
@@ -47,7 +47,7 @@ pub fn judged_methods(
 ) -> Result<JudgedMethods, NoMemory>
     requires { AreAnalysable program.now }
     ensures safe { IfOk result
-        (λ found. AreSafelyInserted program.now new.now found.planned.items) }
+        (λ found. AreSafelyJudged program.now new.now found.failing.items found.planned.items) }
     ensures still { IfOk result (λ found. AllStay program.now new.now found.planned.items) }
 {
     let shapes = shapes_of(alloc, program)?;
@@ -65,11 +65,12 @@ fn all_judged(
     requires analysable { AreAnalysable program.now }
     requires summaries { AreSummariesOf program.now.outline summaries.now }
     ensures safe { IfOk result
-        (λ found. AreSafelyPlanned program.now summaries.now new.now found.planned.items) }
+        (λ found. AreSafelyPlanned program.now summaries.now new.now found.failing.items
+        found.planned.items) }
     ensures still { IfOk result (λ found. AllStay program.now new.now found.planned.items) }
 {
     let mut planned = Vec::new(alloc);
-    let mut failing = None;
+    let mut failing = Vec::new(alloc);
     let methods = program.methods();
     let first = (methods as usize).saturating_sub(new.len());
     for number in 0..methods {
@@ -82,26 +83,12 @@ fn all_judged(
             own.free,
             own.items,
         )?;
-        failing = first_failing(failing, MethodId(number), &found);
+        let failed = found.failed();
+        failing.push(failed)?;
         let made = found.planned();
         planned.push(made)?;
     }
     Ok(JudgedMethods { planned, failing })
-}
-
-/// The first method that fails a part, with the part, by the earlier ones and this one.
-fn first_failing(
-    earlier: Option<(MethodId, Part)>,
-    method: MethodId,
-    found: &Judged,
-) -> Option<(MethodId, Part)> {
-    if earlier.is_some() {
-        return earlier;
-    }
-    match found {
-        Judged::Safe(_) => None,
-        Judged::Fails(part, _) => Some((method, *part)),
-    }
 }
 
 /// The new code of a method, where the first one that has new code has this number; else no items.
@@ -137,8 +124,8 @@ fn judged_method(
     requires analysable { AreAnalysable program.now }
     requires summaries { AreSummariesOf program.now.outline summaries.now }
     requires inside { method.0 < length (methods_of program.now.outline.classes) }
-    ensures safe { IfOk result (λ found. IsSafelyPlannedAt program.now summaries.now method.0
-        free new.now (planned_of found)) }
+    ensures safe { IfOk result (λ found. IsSafelyJudgedAt program.now summaries.now method.0
+        free new.now (failed_in found) (planned_of found)) }
     ensures still { IfOk result
         (λ found. StaysAt program.now method.0 new.now (planned_of found)) }
 {

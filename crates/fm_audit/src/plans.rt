@@ -9,7 +9,7 @@ ghost use Rattle.fm_summ_shapes.specs.Analysed.{AreAnalysable};
 ghost use Rattle.fm_world.specs.Programs.{code_at};
 ghost use Rattle.fm_audit.specs.NewCodes.{StaysIn};
 ghost use Rattle.fm_audit.specs.Parts.{failed_in, planned_of};
-ghost use Rattle.fm_audit.specs.SafePlans.{IsReadAs, IsSafelyPlanned};
+ghost use Rattle.fm_audit.specs.SafePlans.{IsReadAs, IsSafelyJudged};
 ghost use Rattle.fm_audit.specs.inner.Checked.{IsJudgedDone, IsPartJudged, IsWhollyDone};
 
 use crate::checking::{Outcome, checked};
@@ -40,6 +40,16 @@ pub enum Judged {
 }
 
 impl Judged {
+    /// The part that the method fails, if it fails one.
+    pub fn failed(&self) -> Option<Part>
+        ensures { result ≡ failed_in self.now }
+    {
+        match self {
+            Judged::Safe(_) => None,
+            Judged::Fails(part, _) => Some(*part),
+        }
+    }
+
     /// What is to be done with the method.
     pub fn planned(self) -> Planned
         ensures { result ≡ planned_of self }
@@ -67,8 +77,8 @@ pub fn judged_code(
     requires analysable { AreAnalysable program.now }
     requires summaries { AreSummariesOf program.now.outline summaries.now }
     requires code { code_at program.now method.0 ≡ Some code.now }
-    ensures safe { IfOk result (λ found. IsSafelyPlanned program.now summaries.now method.0
-        code.now free new.now (planned_of found)) }
+    ensures safe { IfOk result (λ found. IsSafelyJudged program.now summaries.now method.0
+        code.now free new.now (failed_in found) (planned_of found)) }
     ensures read { IfOk result (λ found. IsReadAs free code.now new.now (planned_of found)) }
     ensures still { IfOk result (λ found. StaysIn (Some code.now) new.now (planned_of found)) }
 {

@@ -172,5 +172,12 @@ fn are_written_by(
     let first_method = program.methods() - count as u32;
     let (_, own) = found.planned.as_slice().split_at(first_method as usize);
     let numbers = (first_class, first_method);
-    are_written(alloc, numbers, classes, written, own, found.failing)
+    are_written(
+        alloc,
+        numbers,
+        classes,
+        written,
+        own,
+        found.failing.as_slice(),
+    )
 }

@@ -15,7 +15,7 @@ use crate::error::AuditFail;
 use crate::low::are_low;
 use crate::others::{first_other, not_safe};
 use fm_audit::Part;
-use fm_base::{MethodId, NoMemory};
+use fm_base::NoMemory;
 use fm_code::ClassDef;
 use fm_place_weave::{Planned, WeaveFail, pool_for, woven_class};
 use fm_pool::AddFail;
@@ -24,7 +24,7 @@ use std::alloc::Global;
 
 /// Whether the written classes are these, each by what is to be done with its methods. The numbers are
 /// those of the first class and of its first method. A refusal names the first method that isn't as it
-/// has to be; one is known to fail a part that is none of the layout. Takes memory for one class at a
+/// has to be; those are known that fail a part that is none of the layout. Takes memory for one class at a
 /// time, and twice for its bytes.
 pub(crate) fn are_written(
     alloc: Global,
@@ -32,7 +32,7 @@ pub(crate) fn are_written(
     classes: &[ClassDef],
     written: &[ClassDef],
     planned: &[Planned],
-    failing: Option<(MethodId, Part)>,
+    failing: &[Option<Part>],
 ) -> Result<(), AuditFail>
     requires one_each { length planned.now ≡ method_count classes.now }
     requires classes { MayBeComparedEach planned.now classes.now }

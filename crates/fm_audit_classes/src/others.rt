@@ -126,14 +126,14 @@ fn has_woven_code(
 }
 
 /// The refusal of a class by its number and that of its first method, in which the method of this place
-/// isn't as it has to be by what is to be done with it, or something else. One method is known to fail a
-/// part that is none of the layout.
+/// isn't as it has to be by what is to be done with it, or something else. `failing` has the part 2 to 5 that
+/// each method of the program fails, if it fails one.
 pub(crate) fn not_safe(
     class: u32,
     first: u32,
     other: Option<usize>,
     planned: &[Planned],
-    failing: Option<(MethodId, Part)>,
+    failing: &[Option<Part>],
 ) -> AuditFail
     requires { first + length planned.now < 2 ^ 32 }
     ensures found { IsFound (class + 1) (first + length planned.now) result }
@@ -150,12 +150,10 @@ pub(crate) fn not_safe(
     AuditFail::NotSafe(ClassId(class), Some(method), part)
 }
 
-/// The least part that a method fails whose code isn't as it has to be.
-fn part_of(method: MethodId, planned: &Planned, failing: Option<(MethodId, Part)>) -> Part {
-    if let Some((number, part)) = failing {
-        if number.0 == method.0 {
-            return part;
-        }
+/// The least part that a method fails whose code isn't as it has to be, by the part 2 to 5 that each fails.
+fn part_of(method: MethodId, planned: &Planned, failing: &[Option<Part>]) -> Part {
+    if let Some(Some(part)) = failing.get(method.0 as usize) {
+        return *part;
     }
     match planned {
         Planned::Same => Part::Holders,

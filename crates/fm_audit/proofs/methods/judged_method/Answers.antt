@@ -1,4 +1,4 @@
-use Rattle.std.proofs.Common.{◌∙◌, sym, ap}
+use Rattle.std.proofs.Common.{◌∙◌, None, sym, ap}
 use Rattle.fm_conn.proofs.CodedLemmas.{coded_at}
 use Rattle.fm_summ_shapes.proofs.ShapesLemmas.{no_code}
 use Rattle.fm_audit.proofs.MethodsLemmas.{safe_with_code, safe_without_code, stays_with_code, stays_without_code}
@@ -21,7 +21,7 @@ returns-in-Coded-clause-still c =
 
 pub returns-in_default-clause-safe : goal.returns-in_default-clause-safe
 returns-in_default-clause-safe c =
-    safe_without_code c.args.program.now c.args.summaries.now c.args.method.0 c.args.free c.args.new.now
+    safe_without_code c.args.program.now c.args.summaries.now c.args.method.0 c.args.free c.args.new.now None
     (no_code c.args.program.now c.args.method.0 c.method.result.now.body c.requires.analysable (ap (λ (m : MethodInfo). m.body) c.method.ensures)
     c.in_default.not-Coded)
 

@@ -34,4 +34,4 @@ pub returns-clause-safe : goal.returns-clause-safe
 returns-clause-safe c =
     safe_answers _ c.args.summaries.now c.as_slice.result.now c.in_ok-typed.ensures.typing c.in_ok-rows.ensures
     (c.in_ok-classes.ensures c.args.code.now c.requires.code) (c.as_slice.ensures.value ∙ c.in_ok-sites.ensures c.args.code.now c.requires.code)
-    c.args.free c.args.new.now c.judged_in.result c.judged_in.ensures.safe c.judged_in.ensures.whole
+    c.args.free c.args.new.now c.judged_in.result c.judged_in.ensures.safe c.judged_in.ensures.whole c.judged_in.ensures.parts

@@ -17,19 +17,19 @@ judged_methods-requires c = judged_analysable c.args.classes.now c.args.program.
 pub are_written_by-requires-clause-own : goal.are_written_by-requires-clause-own
 are_written_by-requires-clause-own c =
     (parts_of c.args.classes.now c.args.program.now c.as_slice.result.now c.in_ok-found.found.planned.items c.requires.judged c.requires.short
-    c.in_ok-found.ensures.safe).all
+    c.in_ok-found.ensures.safe.safe).all
 
 pub are_written_by-requires-clause-planned : goal.are_written_by-requires-clause-planned
 are_written_by-requires-clause-planned c =
     (parts_of c.args.classes.now c.args.program.now c.as_slice.result.now c.in_ok-found.found.planned.items c.requires.judged c.requires.short
-    c.in_ok-found.ensures.safe).compared
+    c.in_ok-found.ensures.safe.safe).compared
 
 pub are_written_by-requires-clause-still : goal.are_written_by-requires-clause-still
 are_written_by-requires-clause-still c =
     let p = c.args.program.now in
     let done = c.in_ok-found.found.planned.items in
     let are : AreSafelyInserted p c.in_ok-codes.codes.items done =
-    subst (λ (new : List NewCode). AreSafelyInserted p new done) c.as_slice.ensures.value c.in_ok-found.ensures.safe in
+    subst (λ (new : List NewCode). AreSafelyInserted p new done) c.as_slice.ensures.value c.in_ok-found.ensures.safe.safe in
     let stay : AllStay p c.in_ok-codes.codes.items done =
     subst (λ (new : List NewCode). AllStay p new done) c.as_slice.ensures.value c.in_ok-found.ensures.still in
     are_still c.args.classes.now p c.in_ok-codes.codes.items c.requires.judged c.in_ok-codes.ensures.one_each done are stay c.args.written.now
@@ -40,7 +40,7 @@ returns c =
     let p = c.args.program.now in
     let done = c.in_ok-found.found.planned.items in
     let are : AreSafelyInserted p c.in_ok-codes.codes.items done =
-    subst (λ (new : List NewCode). AreSafelyInserted p new done) c.as_slice.ensures.value c.in_ok-found.ensures.safe in
+    subst (λ (new : List NewCode). AreSafelyInserted p new done) c.as_slice.ensures.value c.in_ok-found.ensures.safe.safe in
     let stay : AllStay p c.in_ok-codes.codes.items done =
     subst (λ (new : List NewCode). AllStay p new done) c.as_slice.ensures.value c.in_ok-found.ensures.still in
     comes_of_judged c.args.classes.now p c.in_ok-codes.codes.items done c.args.written.now c.requires.judged are stay c.in_ok-codes.ensures.one_each
