@@ -16,10 +16,11 @@ use Rattle.fm_summ_shapes.specs.Analysed.{AreAnalysable, AreLeastTypings}
 use Rattle.fm_world.specs.Programs.{code_at, Program}
 use Rattle.fm_audit.proofs.ProgramFactsLemmas.{are_facts, are_judged, are_listed, are_whole, facts, insertions_in, least_typings, plans, safe_methods}
 use Rattle.fm_audit.specs.NewCodes.{new_free_of, new_items_of, StaysAt, StaysIn}
-use Rattle.fm_audit.specs.Parts.{failed_in, planned_of}
+use Rattle.fm_audit.specs.Parts.{part_in, planned_of}
 use Rattle.fm_audit.specs.SafeMethods.{AreSafelyJudged, AreSafelyPlanned, failing_at, IsSafelyJudgedAt, IsSafelyJudgedIn}
 use Rattle.fm_audit.specs.SafePlans.{IsSafelyJudged}
 use Rattle.fm_audit.specs.declared.parts.Part.{Part}
+use Rattle.fm_audit.specs.declared.parts.Part.TheVariants as part
 use Rattle.fm_audit.specs.declared.methods.JudgedMethods.{JudgedMethods}
 use Rattle.fm_audit.specs.declared.methods.NewCode.{NewCode}
 use Rattle.fm_audit.specs.declared.plans.Judged.{Judged}
@@ -27,12 +28,12 @@ use Rattle.fm_audit.specs.declared.plans.Judged.{Judged}
 -- ---- one method
 
 pub safe_with_code : {E : Type 0} (p : Program) (s : Summaries) (method : ℕ) (code : Code) (free : ℕ) (new : List Item) → code_at p method ≡ Some code
-    → (r : Result Judged E) → IfOk r (λ found. IsSafelyJudged p s method code free new (failed_in found) (planned_of found))
-    → IfOk r (λ found. IsSafelyJudgedAt p s method free new (failed_in found) (planned_of found))
-safe_with_code p s method code free new is (Ok found) are = subst (λ o. IsSafelyJudgedIn p s method o free new (failed_in found) (planned_of found)) (sym is) are
+    → (r : Result Judged E) → IfOk r (λ found. IsSafelyJudged p s method code free new (part_in found) (planned_of found))
+    → IfOk r (λ found. IsSafelyJudgedAt p s method free new (part_in found) (planned_of found))
+safe_with_code p s method code free new is (Ok found) are = subst (λ o. IsSafelyJudgedIn p s method o free new (part_in found) (planned_of found)) (sym is) are
 safe_with_code p s method code free new is (Err e) are = tt
 
-pub safe_without_code : (p : Program) (s : Summaries) (method free : ℕ) (new : List Item) (failed : Option Part) → code_at p method ≡ None
+pub safe_without_code : (p : Program) (s : Summaries) (method free : ℕ) (new : List Item) (failed : Part) → code_at p method ≡ None
     → IsSafelyJudgedAt p s method free new failed planned.Same
 safe_without_code p s method free new failed none = subst (λ o. IsSafelyJudgedIn p s method o free new failed planned.Same) (sym none) refl
 
@@ -58,27 +59,27 @@ entry_last : {X : Type 0} (P : X → Type 0) (none : X) (n k : ℕ) (before afte
 entry_last P none n k before after made count more same is =
     subst P (sym (ap (λ list. get_or list k none) more ∙ get_or_push before made none k (count ∙ sym same))) is
 
-pub each_more : (P : ℕ → Option Part → Planned → Type 0) (n : ℕ) (failed failing : List (Option Part)) (before after : List Planned) (part : Option Part)
-    (made : Planned) → length failed ≡ n → length before ≡ n → failing ≡ failed ++ part ∷ [] → after ≡ before ++ made ∷ []
-    → ((k : ℕ) → k < n → P k (failing_at failed k) (planned_at before k)) → P n part made
+pub each_more : (P : ℕ → Part → Planned → Type 0) (n : ℕ) (failed failing : List Part) (before after : List Planned) (own : Part)
+    (made : Planned) → length failed ≡ n → length before ≡ n → failing ≡ failed ++ own ∷ [] → after ≡ before ++ made ∷ []
+    → ((k : ℕ) → k < n → P k (failing_at failed k) (planned_at before k)) → P n own made
     → (length failing ≡ n + 1) × (length after ≡ n + 1) × ((k : ℕ) → k < n + 1 → P k (failing_at failing k) (planned_at after k))
-each_more P n failed failing before after part made count count_done more_failing more so_far now = (
-  ap length more_failing ∙ length_push failed part ∙ ap (λ m. m + 1) count,
+each_more P n failed failing before after own made count count_done more_failing more so_far now = (
+  ap length more_failing ∙ length_push failed own ∙ ap (λ m. m + 1) count,
   ap length more ∙ length_push before made ∙ ap (λ m. m + 1) count_done,
   λ k inside. ⊎_elim
       (λ (earlier : k < n).
-      entry_more (λ o. P k o (planned_at after k)) None n k failed failing part count more_failing earlier
+      entry_more (λ o. P k o (planned_at after k)) part.Layout n k failed failing own count more_failing earlier
       (entry_more (P k (failing_at failed k)) planned.Same n k before after made count_done more earlier (so_far k earlier)))
       (λ (last : n ≤ k).
       let same : k ≡ n = omega arith in
-      entry_last (λ o. P k o (planned_at after k)) None n k failed failing part count more_failing same
-      (entry_last (P k part) planned.Same n k before after made count_done more same (subst (λ m. P m part made) (sym same) now)))
+      entry_last (λ o. P k o (planned_at after k)) part.Layout n k failed failing own count more_failing same
+      (entry_last (P k own) planned.Same n k before after made count_done more same (subst (λ m. P m own made) (sym same) now)))
       (cases_lt k n),
 )
 
 -- ---- all methods
 
-module _ (p : Program) (s : Summaries) (new : List NewCode) (failing : List (Option Part)) (done : List Planned) (may : AreAnalysable p)
+module _ (p : Program) (s : Summaries) (new : List NewCode) (failing : List Part) (done : List Planned) (may : AreAnalysable p)
     (are : AreSafelyPlanned p s new failing done) where
   past : (method : ℕ) → length done ≤ method → (o : Option Code) → code_at p method ≡ o → code_at p method ≡ None
   past method beyond None is = is

@@ -1,6 +1,6 @@
 -- What is checked of a method's pairs is whether they have the parts of what makes insertions safe that are of holders, and of where these are freed.
-use Rattle.std.proofs.Common.{◌≡◌, ℕ, zero, suc, ◌+◌, ◌-◌, ◌<◌, ◌≤◌, ◌==◌, ◌&&◌, not, Bool, true, false, List, [], ◌∷◌, length, get_or, Option, Some, None, Contains, refl, sym, ap, subst, ◌∙◌, arith, eqb-true, eq-eqb}
-use Rattle.std.specs.Prelude.{IsSomeAnd, nat_eq, slice_get}
+use Rattle.std.proofs.Common.{◌≡◌, ℕ, zero, suc, ◌+◌, ◌-◌, ◌<◌, ◌≤◌, ◌&&◌, not, true, false, List, [], ◌∷◌, length, get_or, Option, Some, None, Contains, refl, sym, ap, subst, ◌∙◌, arith, eqb-true, eq-eqb}
+use Rattle.std.specs.Prelude.{nat_eq, slice_get}
 use Rattle.std.specs.List.{flat_map, IsDistinct, range_with_len}
 use Rattle.std.proofs.lemmas.Bool.{false≢true}
 use Rattle.std.proofs.lemmas.List.FromFn.{length-range_with_len}
@@ -14,17 +14,17 @@ use Rattle.fm_conn.specs.Facts.{Facts}
 use Rattle.fm_conn.specs.Nodes.{TypedMethod}
 use Rattle.fm_flow.proofs.SourcesLemmas.{Contains-from_flat_map}
 use Rattle.fm_place.proofs.PathLemmas.{places_are_by_paths}
-use Rattle.fm_place.specs.Places.{is_busy, may_hold, MayHold}
+use Rattle.fm_place.specs.Places.{is_busy, may_hold}
 use Rattle.fm_place.specs.PlansBy.{IsToldBy, paired}
 use Rattle.fm_place.specs.Sites.{is_captured_site, site_class, sites_of}
 use Rattle.fm_place.specs.declared.busy_rows.Seen.{Seen}
 use Rattle.fm_place.specs.declared.found_sites.Site.{Site}
-use Rattle.fm_place.specs.inner.PlanRows.{count_of, is_busy_at, may_hold_at, typed_seen}
+use Rattle.fm_place.specs.inner.PlanRows.{count_of, is_busy_at, typed_seen}
 use Rattle.fm_summ.proofs.BareLemmas.{all_pass}
 use Rattle.fm_audit.proofs.CapturedLemmas.{captured_at}
 use Rattle.fm_audit.proofs.CheckedLemmas.{holders_none, up_again}
 use Rattle.fm_audit.proofs.FoundAgainLemmas.{all_true, class_found, item_first}
-use Rattle.fm_audit.proofs.HeldLemmas.{AreHeld, held_each, held_parts, IsHeld}
+use Rattle.fm_audit.proofs.HeldLemmas.{held_each, held_parts, IsHeld}
 use Rattle.fm_audit.proofs.ItemsLemmas.{freed_there}
 use Rattle.fm_audit.proofs.SafeLemmas.{busy_told, hold_told}
 use Rattle.fm_audit.proofs.WholeLemmas.{listed_from, listed_has}

@@ -31,11 +31,11 @@ use Rattle.fm_types.specs.Typed.{IsTypingOf}
 use Rattle.fm_world.specs.Programs.{code_at, Program}
 use Rattle.fm_audit.specs.ReadBack.{read_by}
 use Rattle.fm_audit.specs.Reading.{read}
-use Rattle.fm_audit.specs.SafeParts.{IsJudgedBy}
+use Rattle.fm_audit.specs.SafeParts.{FailsPart}
 use Rattle.fm_audit.specs.SafePlans.{IsListedIn, IsSafelyJudged}
 use Rattle.fm_audit.specs.declared.parts.Part.{Part}
 
-module _ (p : Program) (s : Summaries) (free : ℕ → ℕ) (new : ℕ → List Item) (failing : ℕ → Option Part) (done : ℕ → Planned)
+module _ (p : Program) (s : Summaries) (free : ℕ → ℕ) (new : ℕ → List Item) (failing : ℕ → Part) (done : ℕ → Planned)
     (known : (method : ℕ) (code : Code) → code_at p method ≡ Some code
     → IsSafelyJudged p s method code (free method) (new method) (failing method) (done method)) where
   -- ---- by the number of a method: what is known of it, and nothing of one without code
@@ -84,7 +84,7 @@ module _ (p : Program) (s : Summaries) (free : ℕ → ℕ) (new : ℕ → List 
     pub whole : (told : Facts) → IsToldBy told method classes rows → LinkAlike told s → (ins : Insertions) → AreSafe told (method_with p method code states) ins
         → HoldsNoChain ins → read (free method) code.max_locals code.items (new method) ≡ Some (read_by code ins) → IsListedIn code (Some ins) (done method)
     pub judged : (told : Facts) → IsToldBy told method classes rows → LinkAlike told s → length (new method) ≤ 65535
-        → IsJudgedBy told (method_with p method code states) (free method) code (new method) (failing method) (done method)
+        → FailsPart told (method_with p method code states) (free method) code (new method) (failing method)
 
   known_as : (method : ℕ) (o : Option Code) (is : code_at p method ≡ o) (code : Code) → o ≡ Some code
       → IsKnownAs method code (states_by method o is) (live_by method o is) (class_by method o is) (insertions_in method o is)
@@ -127,7 +127,7 @@ module _ (p : Program) (s : Summaries) (free : ℕ → ℕ) (new : ℕ → List 
 
   -- the part that it fails is the least
   pub are_judged : (method : ℕ) (code : Code) → code_at p method ≡ Some code → length (new method) ≤ 65535
-      → IsJudgedBy facts (typed_method p facts.typing method code) (free method) code (new method) (failing method) (done method)
+      → FailsPart facts (typed_method p facts.typing method code) (free method) code (new method) (failing method)
   are_judged method code is few =
       let own = at_code method code is in own.judged facts (record { class = own.class_is; lives = own.live_is }) (λ m a b. refl) few
 

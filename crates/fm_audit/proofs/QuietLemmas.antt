@@ -1,5 +1,5 @@
 -- Whether no holder is freed whose class is busy is what the rows say that are looked at.
-use Rattle.std.proofs.Common.{◌≡◌, ℕ, ◌<◌, Bool, true, false, List, length, refl, sym, ap, ◌∙◌, arith}
+use Rattle.std.proofs.Common.{◌≡◌, ℕ, ◌<◌, Bool, true, false, List, length, sym, ◌∙◌, arith}
 use Rattle.std.specs.List.{list_all}
 use Rattle.std.proofs.lemmas.Bool.{false≢true}
 use Rattle.fm_base.proofs.OptionFacts.{IsSomeAnd-from_some}
@@ -11,7 +11,7 @@ use Rattle.fm_place.specs.inner.PlanRows.{AreGroups, AreHolding, AreRowsIn, coun
 use Rattle.fm_audit.proofs.ItemsLemmas.{test_again, test_each}
 use Rattle.fm_audit.proofs.SafeAgainLemmas.{all_quiet}
 use Rattle.fm_audit.proofs.SafeItemLemmas.{may_be}
-use Rattle.fm_audit.specs.inner.Checked.{IsFreesPart, IsMayItem, unsafe_part}
+use Rattle.fm_audit.specs.inner.Checked.{IsFreesPart, unsafe_part}
 use Rattle.fm_audit.specs.inner.Frees.{are_quiet_from, is_quiet}
 
 module _ (s : Seen) (g : Groups) (busy : List (List Bool)) (holding : Holding) (groups : AreGroups g) (busy_are : AreRowsIn g (count_of s) (is_busy_at s) busy)

@@ -1,10 +1,12 @@
 -- A plan with pairs that were checked is safe, by all facts that agree with what is known of the method.
-use Rattle.std.proofs.Common.{◌≡◌, ◌≤◌, ℕ, IfOk, Result, Ok, Err, false, List, length, replicate, Option, Some, None, sym, ◌∙◌, refl}
+use Rattle.std.proofs.Common.{◌≡◌, ◌≤◌, ℕ, IfOk, Result, Ok, Err, false, List, length, replicate, Some, None, sym, ap, ◌∙◌, refl, arith}
 use Rattle.fm_chain.specs.declared.plans.ChainPlan.{ChainPlan}
 use Rattle.fm_check.specs.Checking.{IsLeastTyping}
+use Rattle.fm_code.specs.declared.code_array.Code.{Code}
 use Rattle.fm_code.specs.declared.code_array.Item.{Item}
 use Rattle.fm_conn.specs.Classes.{AreClassesOf}
 use Rattle.fm_conn.specs.Facts.{Facts}
+use Rattle.fm_conn.specs.Nodes.{TypedMethod}
 use Rattle.fm_conn.specs.Summaries.{linked_by}
 use Rattle.fm_conn.specs.declared.summaries.Summaries.{Summaries}
 use Rattle.fm_flow.specs.LiveRows.{IsLiveRowsOf}
@@ -21,13 +23,26 @@ use Rattle.fm_types.specs.Typings.{states_of}
 use Rattle.fm_audit.proofs.SafeLemmas.{are_safe, held_all}
 use Rattle.fm_audit.proofs.WhollyLemmas.{wholly_listed}
 use Rattle.fm_audit.proofs.WholeLemmas.{insertions-plain, insertions_by, whole as whole_plan}
-use Rattle.fm_audit.specs.Parts.{failed_in, planned_of}
+use Rattle.fm_audit.specs.Parts.{failed_in, part_in, planned_of}
 use Rattle.fm_audit.specs.Reading.{Read, read}
-use Rattle.fm_audit.specs.SafeParts.{IsJudgedBy}
+use Rattle.fm_audit.specs.SafeParts.{FailsPart, IsJudgedBy}
 use Rattle.fm_audit.specs.SafePlans.{IsSafelyJudged}
 use Rattle.fm_audit.specs.declared.parts.Part.{Part}
 use Rattle.fm_audit.specs.declared.plans.Judged.{Judged}
+use Rattle.fm_audit.specs.declared.plans.Judged.TheVariants as judged
 use Rattle.fm_audit.specs.inner.Checked.{IsCheckedDone, IsCheckedPlan, IsJudgedDone, IsPartJudged, IsSafelyRead, IsWhollyDone, IsWovenBy, pairs_of}
+
+-- what is judged of a method tells the least part that it fails
+least_fails : (facts : Facts) (x : TypedMethod) (free : ℕ) (old : Code) (new : List Item) (j : Judged)
+    → IsJudgedBy facts x free old new (failed_in j) (planned_of j) → FailsPart facts x free old new (part_in j)
+least_fails facts x free old new (judged.Fails failed done) by = by
+least_fails facts x free old new (judged.Safe planned.Same) by = (
+  by.0,
+  by.1,
+  λ has. let some = has.some in let none : length by.0.starts ≡ 0 = ap length by.2 in omega (arith, some, none),
+)
+least_fails facts x free old new (judged.Safe (planned.Woven plan)) by = by
+least_fails facts x free old new (judged.Safe (planned.TooLong bytes chains)) by = absurd by
 
 module _ (s : Seen) (summaries : Summaries) (sites : List Site)
     (least : IsLeastTyping s.method.program.now s.method.number.0 (states_of s.method.typing.now))
@@ -39,17 +54,17 @@ module _ (s : Seen) (summaries : Summaries) (sites : List Site)
       (found : Read) (holders : ℕ) → read free s.method.code.now.max_locals s.method.code.now.items new ≡ Some found → IsSafelyRead s sites found holders
       → IsWovenBy found holders done
 
-  abbrev Safely : Option Part → Planned → Type 0
+  abbrev Safely : Part → Planned → Type 0
   Safely failed done = IsSafelyJudged s.method.program.now summaries s.method.number.0 s.method.code.now free new failed done
 
   -- the method is judged by its least part that fails
-  abbrev Partly : Option Part → Planned → Type 0
-  Partly failed done =
+  abbrev Partly : Part → Type 0
+  Partly failed =
       length new ≤ 65535 → (facts : Facts) → IsToldBy facts s.method.number.0 s.classes.now s.live.now → sites ≡ sites_of facts (typed_seen s)
-      → IsJudgedBy facts (typed_seen s) free s.method.code.now new failed done
+      → FailsPart facts (typed_seen s) free s.method.code.now new failed
 
-  safe_plan : (failed : Option Part) (plan : ChainPlan) → IsCheckedPlan s sites plan.plan → plan.looped ≡ replicate plan.plan.holders false
-      → Wholly (planned.Woven plan) → Partly failed (planned.Woven plan) → Safely failed (planned.Woven plan)
+  safe_plan : (failed : Part) (plan : ChainPlan) → IsCheckedPlan s sites plan.plan → plan.looped ≡ replicate plan.plan.holders false
+      → Wholly (planned.Woven plan) → Partly failed → Safely failed (planned.Woven plan)
   safe_plan failed plan is flags whole parts = record {
     plan = record {
       states = states_of s.method.typing.now;
@@ -74,7 +89,7 @@ module _ (s : Seen) (summaries : Summaries) (sites : List Site)
         parts few facts told (sites_are ∙ sym (sites_told facts (typed_seen s) s.classes.now summaries told.class linked));
   }
 
-  safe_done : (failed : Option Part) (done : Planned) → IsCheckedDone s sites done → Wholly done → Partly failed done → Safely failed done
+  safe_done : (failed : Part) (done : Planned) → IsCheckedDone s sites done → Wholly done → Partly failed → Safely failed done
   safe_done failed planned.Same is whole parts = record {
     plan = record {
       states = states_of s.method.typing.now;
@@ -100,6 +115,7 @@ module _ (s : Seen) (summaries : Summaries) (sites : List Site)
   -- the same of what the code returns
   pub safe_answers : {E : Type 0} (answer : Result Judged E) → IfOk answer (IsJudgedDone s sites) → IfOk answer (IsWhollyDone s sites free new)
       → IfOk answer (λ found. length new ≤ 65535 → IsPartJudged s sites free new found)
-      → IfOk answer (λ found. IsSafelyJudged s.method.program.now summaries s.method.number.0 s.method.code.now free new (failed_in found) (planned_of found))
-  safe_answers (Ok found) is whole parts = safe_done (failed_in found) (planned_of found) is whole parts
+      → IfOk answer (λ found. IsSafelyJudged s.method.program.now summaries s.method.number.0 s.method.code.now free new (part_in found) (planned_of found))
+  safe_answers (Ok found) is whole parts = safe_done (part_in found) (planned_of found) is whole
+      (λ few facts told sites_same. least_fails facts (typed_seen s) free s.method.code.now new found (parts few facts told sites_same))
   safe_answers (Err e) is whole parts = tt

@@ -17,26 +17,27 @@ use Rattle.fm_world.specs.Programs.{code_at, Program}
 use Rattle.fm_audit.specs.NewCodes.{new_free_of, new_items_of}
 use Rattle.fm_audit.specs.ReadBack.{read_by}
 use Rattle.fm_audit.specs.Reading.{read}
-use Rattle.fm_audit.specs.SafeParts.{IsJudgedBy}
+use Rattle.fm_audit.specs.SafeParts.{FailsPart}
 use Rattle.fm_audit.specs.SafePlans.{IsListedIn, IsSafelyJudged}
 use Rattle.fm_audit.specs.declared.parts.Part.{Part}
+use Rattle.fm_audit.specs.declared.parts.Part.TheVariants as part
 use Rattle.fm_audit.specs.declared.methods.NewCode.{NewCode}
 
 -- what is to be done with the method is safely planned and judged for its code, and is nothing where it has none
-abbrev pub IsSafelyJudgedIn : Program → Summaries → ℕ → Option Code → (free : ℕ) → (new : List Item) → Option Part → Planned → Type 0
+abbrev pub IsSafelyJudgedIn : Program → Summaries → ℕ → Option Code → (free : ℕ) → (new : List Item) → Part → Planned → Type 0
 IsSafelyJudgedIn p summaries method None free new failed done = done ≡ planned.Same
 IsSafelyJudgedIn p summaries method (Some code) free new failed done = IsSafelyJudged p summaries method code free new failed done
 
 -- this is safely planned and judged for this method of the program
-abbrev pub IsSafelyJudgedAt : Program → Summaries → ℕ → (free : ℕ) → (new : List Item) → Option Part → Planned → Type 0
+abbrev pub IsSafelyJudgedAt : Program → Summaries → ℕ → (free : ℕ) → (new : List Item) → Part → Planned → Type 0
 IsSafelyJudgedAt p summaries method free new failed done = IsSafelyJudgedIn p summaries method (code_at p method) free new failed done
 
 -- the part that a method fails, by the list of them
-abbrev pub failing_at : List (Option Part) → ℕ → Option Part
-failing_at failing method = get_or failing method None
+abbrev pub failing_at : List Part → ℕ → Part
+failing_at failing method = get_or failing method part.Layout
 
 -- there is something to be done with each method of a program, and it is safely planned and judged as the summaries link the ends of methods
-pub record AreSafelyPlanned (p : Program) (summaries : Summaries) (new : List NewCode) (failing : List (Option Part)) (done : List Planned) : Type 0 where
+pub record AreSafelyPlanned (p : Program) (summaries : Summaries) (new : List NewCode) (failing : List Part) (done : List Planned) : Type 0 where
   pub one_each : length done ≡ length (methods_of p.outline.classes)
   pub each : (method : ℕ) → method < length done
       → IsSafelyJudgedAt p summaries method (new_free_of p new method) (new_items_of p new method) (failing_at failing method) (planned_at done method)
@@ -56,10 +57,10 @@ pub record AreSafelyInserted (p : Program) (new : List NewCode) (done : List Pla
       → HoldsNoChain ins → read (new_free_of p new method) code.max_locals code.items (new_items_of p new method) ≡ Some (read_by code ins)
       → IsListedIn code (Some ins) (planned_at done method)
 
--- The same, and by these facts each method is judged by the least of the parts 2 to 5 that it fails, if it fails one, where it has as many new items as there
--- may be.
-pub record AreSafelyJudged (p : Program) (new : List NewCode) (failing : List (Option Part)) (done : List Planned) : Type 0 where
+-- The same, and by these facts that is the least part that a method fails if its new code isn't as it has to be, where it has as many new items as there may
+-- be.
+pub record AreSafelyJudged (p : Program) (new : List NewCode) (failing : List Part) (done : List Planned) : Type 0 where
   pub safe : AreSafelyInserted p new done
   pub judged : (method : ℕ) (code : Code) → code_at p method ≡ Some code → length (new_items_of p new method) ≤ 65535
-      → IsJudgedBy safe.facts (typed_method p safe.facts.typing method code) (new_free_of p new method) code (new_items_of p new method)
-      (failing_at failing method) (planned_at done method)
+      → FailsPart safe.facts (typed_method p safe.facts.typing method code) (new_free_of p new method) code (new_items_of p new method)
+      (failing_at failing method)

@@ -24,7 +24,7 @@ use Rattle.fm_types.specs.States.{TypeState}
 use Rattle.fm_world.specs.Programs.{Program}
 use Rattle.fm_audit.specs.ReadBack.{read_by}
 use Rattle.fm_audit.specs.Reading.{Read, read}
-use Rattle.fm_audit.specs.SafeParts.{IsJudgedBy}
+use Rattle.fm_audit.specs.SafeParts.{FailsPart}
 use Rattle.fm_audit.specs.declared.parts.Part.{Part}
 
 -- what the pairs of a plan are read from: as many holders are null at the start, in the order of their numbers
@@ -62,9 +62,10 @@ pub record IsSafelyPlanned (p : Program) (summaries : Summaries) (method : ℕ) 
       → (ins : Insertions) → AreSafe facts (method_with p method code states) ins → HoldsNoChain ins
       → read free code.max_locals code.items new ≡ Some (read_by code ins) → IsListedIn code (Some ins) done
 
--- The same, and by all such facts this is the least of the parts 2 to 5 that the method fails, if it fails one, where it has as many new items as there may be.
-pub record IsSafelyJudged (p : Program) (summaries : Summaries) (method : ℕ) (code : Code) (free : ℕ) (new : List Item) (failed : Option Part)
+-- The same, and by all such facts this is the least part that the method fails if its new code isn't as it has to be, where it has as many new items as there
+-- may be.
+pub record IsSafelyJudged (p : Program) (summaries : Summaries) (method : ℕ) (code : Code) (free : ℕ) (new : List Item) (failed : Part)
     (done : Planned) : Type 0 where
   pub plan : IsSafelyPlanned p summaries method code free new done
   pub judged : (facts : Facts) → IsToldBy facts method plan.classes plan.live → LinkAlike facts summaries → length new ≤ 65535
-      → IsJudgedBy facts (method_with p method code plan.states) free code new failed done
+      → FailsPart facts (method_with p method code plan.states) free code new failed

@@ -5,7 +5,7 @@ ghost use Rattle.fm_conn.specs.Summaries.{AreSummariesOf};
 ghost use Rattle.fm_summ_shapes.specs.Analysed.{AreAnalysable};
 ghost use Rattle.fm_world.specs.Members.{methods_of};
 ghost use Rattle.fm_audit.specs.NewCodes.{AllStay, StaysAt, free_in, items_in, new_code};
-ghost use Rattle.fm_audit.specs.Parts.{failed_in, planned_of};
+ghost use Rattle.fm_audit.specs.Parts.{part_in, planned_of};
 ghost use Rattle.fm_audit.specs.SafeMethods.{AreSafelyJudged, AreSafelyPlanned, IsSafelyJudgedAt};
 
 use crate::parts::Part;
@@ -32,12 +32,12 @@ pub struct NewCode<'a> {
 pub struct JudgedMethods {
     /// What is to be done with each.
     pub planned: Vec<Planned>,
-    /// The least of the parts 2 to 5 that each fails, if it fails one.
-    pub failing: Vec<Option<Part>>,
+    /// The least part that each fails, if its new code isn't as it has to be.
+    pub failing: Vec<Part>,
 }
 
 /// What is to be done with each method of a program, so that those of class files get their new code, and
-/// which part each fails whose new code can't be read, or isn't safe. There is new code for each method of the
+/// the least part that each fails if its new code is another one. There is new code for each method of the
 /// class files, which come last. Takes memory for the shapes of all methods and the links of their ends,
 /// and for the plans.
 pub fn judged_methods(
@@ -125,7 +125,7 @@ fn judged_method(
     requires summaries { AreSummariesOf program.now.outline summaries.now }
     requires inside { method.0 < length (methods_of program.now.outline.classes) }
     ensures safe { IfOk result (λ found. IsSafelyJudgedAt program.now summaries.now method.0
-        free new.now (failed_in found) (planned_of found)) }
+        free new.now (part_in found) (planned_of found)) }
     ensures still { IfOk result
         (λ found. StaysAt program.now method.0 new.now (planned_of found)) }
 {

@@ -8,7 +8,7 @@ ghost use Rattle.fm_place.specs.inner.PlanRows.{IsSeen};
 ghost use Rattle.fm_summ_shapes.specs.Analysed.{AreAnalysable};
 ghost use Rattle.fm_world.specs.Programs.{code_at};
 ghost use Rattle.fm_audit.specs.NewCodes.{StaysIn};
-ghost use Rattle.fm_audit.specs.Parts.{failed_in, planned_of};
+ghost use Rattle.fm_audit.specs.Parts.{failed_in, part_in, part_left, planned_of};
 ghost use Rattle.fm_audit.specs.SafePlans.{IsReadAs, IsSafelyJudged};
 ghost use Rattle.fm_audit.specs.inner.Checked.{IsJudgedDone, IsPartJudged, IsWhollyDone};
 
@@ -40,13 +40,13 @@ pub enum Judged {
 }
 
 impl Judged {
-    /// The part that the method fails, if it fails one.
-    pub fn failed(&self) -> Option<Part>
-        ensures { result ≡ failed_in self.now }
+    /// The least part that the method fails, if its new code isn't as it has to be.
+    pub fn failed(&self) -> Part
+        ensures { result ≡ part_in self.now }
     {
         match self {
-            Judged::Safe(_) => None,
-            Judged::Fails(part, _) => Some(*part),
+            Judged::Safe(planned) => part_left(planned),
+            Judged::Fails(part, _) => *part,
         }
     }
 
@@ -58,6 +58,17 @@ impl Judged {
             Judged::Safe(planned) => planned,
             Judged::Fails(_, planned) => planned,
         }
+    }
+}
+
+/// The same of a method with which this is to be done, whose items are as they have to be.
+fn part_left(planned: &Planned) -> Part
+    ensures { result ≡ part_left planned.now }
+{
+    match planned {
+        Planned::Same => Part::Holders,
+        Planned::Woven(_) => Part::Layout,
+        Planned::TooLong(..) => Part::Layout,
     }
 }
 
@@ -78,7 +89,7 @@ pub fn judged_code(
     requires summaries { AreSummariesOf program.now.outline summaries.now }
     requires code { code_at program.now method.0 ≡ Some code.now }
     ensures safe { IfOk result (λ found. IsSafelyJudged program.now summaries.now method.0
-        code.now free new.now (failed_in found) (planned_of found)) }
+        code.now free new.now (part_in found) (planned_of found)) }
     ensures read { IfOk result (λ found. IsReadAs free code.now new.now (planned_of found)) }
     ensures still { IfOk result (λ found. StaysIn (Some code.now) new.now (planned_of found)) }
 {

@@ -32,7 +32,7 @@ pub(crate) fn are_written(
     classes: &[ClassDef],
     written: &[ClassDef],
     planned: &[Planned],
-    failing: &[Option<Part>],
+    failing: &[Part],
 ) -> Result<(), AuditFail>
     requires one_each { length planned.now ≡ method_count classes.now }
     requires classes { MayBeComparedEach planned.now classes.now }

@@ -126,14 +126,14 @@ fn has_woven_code(
 }
 
 /// The refusal of a class by its number and that of its first method, in which the method of this place
-/// isn't as it has to be by what is to be done with it, or something else. `failing` has the part 2 to 5 that
-/// each method of the program fails, if it fails one.
+/// isn't as it has to be by what is to be done with it, or something else. `failing` has the least
+/// part that each method of the program fails, if it isn't as it has to be.
 pub(crate) fn not_safe(
     class: u32,
     first: u32,
     other: Option<usize>,
     planned: &[Planned],
-    failing: &[Option<Part>],
+    failing: &[Part],
 ) -> AuditFail
     requires { first + length planned.now < 2 ^ 32 }
     ensures found { IsFound (class + 1) (first + length planned.now) result }
@@ -146,17 +146,14 @@ pub(crate) fn not_safe(
         return AuditFail::NotSafe(ClassId(class), None, Part::Classes);
     }
     let method = MethodId(first + place as u32);
-    let part = part_of(method, &planned[place], failing);
+    let part = part_of(method, failing);
     AuditFail::NotSafe(ClassId(class), Some(method), part)
 }
 
-/// The least part that a method fails whose code isn't as it has to be, by the part 2 to 5 that each fails.
-fn part_of(method: MethodId, planned: &Planned, failing: &[Option<Part>]) -> Part {
-    if let Some(Some(part)) = failing.get(method.0 as usize) {
-        return *part;
-    }
-    match planned {
-        Planned::Same => Part::Holders,
-        _ => Part::Layout,
+/// The least part that a method fails whose code isn't as it has to be.
+fn part_of(method: MethodId, failing: &[Part]) -> Part {
+    match failing.get(method.0 as usize) {
+        Some(part) => *part,
+        None => Part::Layout,
     }
 }

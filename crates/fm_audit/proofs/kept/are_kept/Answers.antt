@@ -1,4 +1,4 @@
-use Rattle.std.proofs.Common.{◌≡◌, ◌-◌, ◌∙◌, ◌↔◌, sym, ap, subst, refl, length, drop, ◌+◌, List, ℕ, false}
+use Rattle.std.proofs.Common.{◌≡◌, ◌-◌, ◌∙◌, ◌↔◌, sym, ap, subst, refl, length, drop, ◌+◌, List, ℕ}
 use Rattle.std.proofs.lemmas.Bool.{false≢true}
 use Rattle.fm_code.specs.declared.code_array.Item.{Item}
 use Rattle.fm_audit.proofs.KeptLemmas.{following, kept_end, kept_more, kept_read, kept_stops, read_kept}

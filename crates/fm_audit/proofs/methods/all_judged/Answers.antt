@@ -1,7 +1,7 @@
-use Rattle.std.proofs.Common.{rules, ◌≡◌, ℕ, List, length, Option, subst, sym, arith}
+use Rattle.std.proofs.Common.{rules, ◌≡◌, ℕ, List, length, subst, sym, arith}
 use Rattle.fm_audit.proofs.MethodsLemmas.{each_more}
 use Rattle.fm_audit.specs.NewCodes.{new_free_of, new_items_of, StaysAt}
-use Rattle.fm_audit.specs.Parts.{failed_in, planned_of}
+use Rattle.fm_audit.specs.Parts.{part_in, planned_of}
 use Rattle.fm_audit.specs.SafeMethods.{IsSafelyJudgedAt}
 use Rattle.fm_audit.specs.declared.parts.Part.{Part}
 use Rattle.fm_code.specs.declared.code_array.Item.{Item}
@@ -13,12 +13,12 @@ pub loop-number-preserved : goal.loop-number-preserved
 loop-number-preserved c =
     let p = c.args.program.now in
     let k = c.loop-number.number in
-    let judged : ℕ → Option Part → Planned → Type 0 =
+    let judged : ℕ → Part → Planned → Type 0 =
     λ m failed done. IsSafelyJudgedAt p c.args.summaries.now m (new_free_of p c.args.new.now m) (new_items_of p c.args.new.now m) failed done
     × StaysAt p m (new_items_of p c.args.new.now m) done in
     let free : c.new_code_at-own.result.free ≡ new_free_of p c.args.new.now k = search rules in
     let own : c.new_code_at-own.result.items.now ≡ new_items_of p c.args.new.now k = search rules in
-    let failed = failed_in c.in_ok-found.found in
+    let failed = part_in c.in_ok-found.found in
     let done = planned_of c.in_ok-found.found in
     each_more judged k c.loop-number.failing.items c.push.new.self.items c.loop-number.planned.items c.push-in-loop-number.new.self.items c.failed-failed.result
     c.planned-made.result c.loop-number.invariant.0 c.loop-number.invariant.1 c.in_ok-push.ensures.items c.in_ok-push-2.ensures.items

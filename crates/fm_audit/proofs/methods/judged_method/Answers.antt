@@ -1,6 +1,7 @@
-use Rattle.std.proofs.Common.{◌∙◌, None, sym, ap}
+use Rattle.std.proofs.Common.{◌∙◌, sym, ap}
 use Rattle.fm_conn.proofs.CodedLemmas.{coded_at}
 use Rattle.fm_summ_shapes.proofs.ShapesLemmas.{no_code}
+use Rattle.fm_audit.specs.declared.parts.Part.TheVariants as part
 use Rattle.fm_audit.proofs.MethodsLemmas.{safe_with_code, safe_without_code, stays_with_code, stays_without_code}
 use Rattle.fm_world.specs.declared.records.MethodInfo.{MethodInfo}
 use Rattle.fm_audit.proofs.methods.judged_method.Goals as goal
@@ -21,7 +22,7 @@ returns-in-Coded-clause-still c =
 
 pub returns-in_default-clause-safe : goal.returns-in_default-clause-safe
 returns-in_default-clause-safe c =
-    safe_without_code c.args.program.now c.args.summaries.now c.args.method.0 c.args.free c.args.new.now None
+    safe_without_code c.args.program.now c.args.summaries.now c.args.method.0 c.args.free c.args.new.now part.Holders
     (no_code c.args.program.now c.args.method.0 c.method.result.now.body c.requires.analysable (ap (λ (m : MethodInfo). m.body) c.method.ensures)
     c.in_default.not-Coded)
 
