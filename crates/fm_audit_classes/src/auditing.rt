@@ -3,7 +3,7 @@
 ghost use Rattle.std.specs.Prelude.{◌≡◌, ◌+◌, ℕ, IfErr, IfOk, List, OnOk, drop, length};
 ghost use Rattle.std.specs.List.{AllByRecursion};
 ghost use Rattle.fm_audit_classes.specs.Audited.{ComesOfAudit};
-ghost use Rattle.fm_audit_classes.specs.inner.Methods.{NamesFirst};
+ghost use Rattle.fm_audit_classes.specs.inner.Methods.{NamesFirst, NamesPart};
 ghost use Rattle.fm_audit_classes.specs.inner.Named.{AreStill, NamesOnly};
 ghost use Rattle.fm_audit_classes.specs.inner.Compared.{MayBeComparedEach};
 ghost use Rattle.fm_audit_classes.specs.inner.Found.{AreWhollyWritten, ComesOfJudged, IsFalseOf, IsFirstRefusal, IsFound, IsNamed, IsRefused};
@@ -167,17 +167,12 @@ fn are_written_by(
         (AreWhollyWritten (drop first_given found.now.planned.items) classes.now written.now)) }
     ensures first { IfErr result (NamesFirst (length built_in) first_given
         (drop first_given found.now.planned.items) classes.now written.now) }
+    ensures part { IfErr result (NamesPart found.now.failing.items) }
 {
     let first_class = program.classes() - classes.len() as u32;
     let first_method = program.methods() - count as u32;
     let (_, own) = found.planned.as_slice().split_at(first_method as usize);
     let numbers = (first_class, first_method);
-    are_written(
-        alloc,
-        numbers,
-        classes,
-        written,
-        own,
-        found.failing.as_slice(),
-    )
+    let failing = found.failing.as_slice();
+    are_written(alloc, numbers, classes, written, own, failing)
 }

@@ -4,7 +4,7 @@ ghost use Rattle.std.specs.Prelude.{◌≡◌, ◌+◌, ◌<◌, ◌^◌, IfErr,
 ghost use Rattle.std.specs.List.{AllByRecursion};
 ghost use Rattle.fm_audit_classes.specs.inner.Found.{AreWhollyWritten, IsFalseOf, IsFound};
 ghost use Rattle.fm_audit_classes.specs.inner.Low.{are_low};
-ghost use Rattle.fm_audit_classes.specs.inner.Methods.{NamesFirst};
+ghost use Rattle.fm_audit_classes.specs.inner.Methods.{NamesFirst, NamesPart};
 ghost use Rattle.fm_audit_classes.specs.inner.Named.{AreStill};
 ghost use Rattle.fm_audit_classes.specs.inner.Compared.{MayBeCompared, MayBeComparedEach};
 ghost use Rattle.fm_code.specs.Spells.{HasSpelling};
@@ -48,6 +48,7 @@ pub(crate) fn are_written(
         (IsFalseOf (AreWhollyWritten planned.now classes.now written.now)) }
     ensures first { IfErr result
         (NamesFirst numbers.0 numbers.1 planned.now classes.now written.now) }
+    ensures part { IfErr result (NamesPart failing.now) }
 {
     let mut rest = planned;
     for place in 0..classes.len() {

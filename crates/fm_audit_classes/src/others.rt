@@ -2,11 +2,12 @@
 
 ghost use Rattle.std.specs.Prelude.{◌≡◌, ◌↔◌, ◌+◌, ◌<◌, ◌≤◌, ◌^◌, IfOk, IfSome, IsTrue, Some, false, length, true};
 ghost use Rattle.std.specs.List.{AllByRecursion};
+ghost use Rattle.fm_audit.specs.SafeMethods.{failing_at};
 ghost use Rattle.fm_audit_classes.specs.inner.Compared.{MayBeCompared};
 ghost use Rattle.fm_audit_classes.specs.inner.Found.{IsFound};
 ghost use Rattle.fm_audit_classes.specs.inner.Low.{is_low, is_low_code};
 ghost use Rattle.fm_audit_classes.specs.inner.Named.{IsWholeIf};
-ghost use Rattle.fm_audit_classes.specs.inner.Methods.{HasShortCode, IsAsPlanned, IsFirstIn, IsFirstOf, MayDoEach, NamesOf};
+ghost use Rattle.fm_audit_classes.specs.inner.Methods.{HasShortCode, IsAsPlanned, IsFirstIn, IsFirstOf, MayDoEach, NamesOf, NamesPart};
 ghost use Rattle.fm_code.specs.Members.{code_of};
 ghost use Rattle.fm_code.specs.Spells.{HasSpelling};
 ghost use Rattle.fm_chain.specs.Chaining.{calls_for};
@@ -138,6 +139,7 @@ pub(crate) fn not_safe(
     requires { first + length planned.now < 2 ^ 32 }
     ensures found { IsFound (class + 1) (first + length planned.now) result }
     ensures named { NamesOf class first (length planned.now) other result }
+    ensures part { NamesPart failing.now result }
 {
     let Some(place) = other else {
         return AuditFail::NotSafe(ClassId(class), None, Part::Classes);
@@ -151,7 +153,9 @@ pub(crate) fn not_safe(
 }
 
 /// The least part that a method fails whose code isn't as it has to be.
-fn part_of(method: MethodId, failing: &[Part]) -> Part {
+fn part_of(method: MethodId, failing: &[Part]) -> Part
+    ensures { result ≡ failing_at failing.now method.0 }
+{
     match failing.get(method.0 as usize) {
         Some(part) => *part,
         None => Part::Layout,

@@ -12,6 +12,8 @@ use Rattle.fm_place_weave.specs.ClassByPlan.{MayDo}
 use Rattle.fm_place_weave.specs.declared.planned.Planned.{Planned}
 use Rattle.fm_place_weave.specs.declared.planned.Planned.TheVariants as planned
 use Rattle.fm_rewrite.specs.Plans.{planned_at}
+use Rattle.fm_audit.specs.SafeMethods.{failing_at}
+use Rattle.fm_audit.specs.declared.parts.Part.{Part}
 use Rattle.fm_audit_classes.specs.Parts.{all_methods, HaveClasses, WrittenMethod}
 use Rattle.fm_audit_classes.specs.declared.error.AuditFail.{AuditFail}
 use Rattle.fm_audit_classes.specs.declared.error.AuditFail.TheVariants as fail
@@ -90,3 +92,8 @@ abbrev pub NamesOf : (class first count : ℕ) → Option ℕ → AuditFail → 
 NamesOf class first count None e = Unit {0}
 NamesOf class first count (Some place) (fail.NotSafe named (Some method) part) = place < count → (named.0 ≡ class) × (method.0 ≡ first + place)
 NamesOf class first count (Some place) e = place < count → ⊥
+
+-- a method is named with the part that it fails, by the list of these
+abbrev pub NamesPart : (failing : List Part) → AuditFail → Type 0
+NamesPart failing (fail.NotSafe class (Some method) failed) = failed ≡ failing_at failing method.0
+NamesPart failing e = Unit {0}

@@ -3,7 +3,8 @@ use Rattle.std.specs.Prelude.{IfErr}
 use Rattle.std.proofs.lemmas.List.{length-drop}
 use Rattle.fm_audit_classes.proofs.FoundLemmas.{classes_judged, found_within_err, methods_judged}
 use Rattle.fm_audit_classes.specs.inner.Compared.{MayBeComparedEach}
-use Rattle.fm_audit_classes.specs.inner.Methods.{NamesFirst}
+use Rattle.fm_audit_classes.specs.inner.Methods.{NamesFirst, NamesPart}
+use Rattle.fm_audit.specs.declared.parts.Part.{Part}
 use Rattle.fm_audit_classes.specs.inner.Named.{AreStill}
 use Rattle.fm_audit_classes.specs.inner.Found.{AreWhollyWritten, IsFalseOf}
 use Rattle.fm_place.specs.Rewriting.{first_given}
@@ -104,3 +105,7 @@ returns-clause-first c =
     let own = c.split_at.ensures.back ∙ (λ k. drop (first_method k) (c.as_slice.ensures.value k)) in
     subst (λ (q : (ℕ × ℕ) × List Planned). IfErr c.are_written.result (NamesFirst q.0.0 q.0.1 q.1 c.args.classes.now c.args.written.now))
     (λ k. ((first_class k, first_method k), own k)) c.are_written.ensures.first
+
+pub returns-clause-part : goal.returns-clause-part
+returns-clause-part c =
+    subst (λ (failing : List Part). IfErr c.are_written.result (NamesPart failing)) c.as_slice-failing.ensures.value c.are_written.ensures.part
