@@ -18,7 +18,7 @@ use Rattle.fm_world.specs.BuiltIns.{built_in}
 use Rattle.fm_world.specs.Members.{methods_of}
 use Rattle.fm_world.specs.Programs.{Program, program_of}
 use Rattle.fm_audit.specs.NewCodes.{AllStay}
-use Rattle.fm_audit.specs.SafeMethods.{AreSafelyInserted}
+use Rattle.fm_audit.specs.SafeMethods.{AreSafelyInserted, AreSafelyJudged}
 use Rattle.fm_audit.specs.declared.methods.NewCode.{NewCode}
 use Rattle.fm_audit.specs.declared.parts.Part.{Part}
 use Rattle.fm_audit_classes.proofs.AuditedLemmas.{audited}
@@ -29,7 +29,7 @@ use Rattle.fm_audit_classes.specs.Parts.{HaveClasses, IsFirstOther}
 use Rattle.fm_audit_classes.specs.declared.error.AuditFail.{AuditFail}
 use Rattle.fm_audit_classes.specs.declared.error.AuditFail.TheVariants as fail
 use Rattle.fm_audit_classes.specs.inner.Codes.{pair_of, written_codes}
-use Rattle.fm_audit_classes.specs.inner.Methods.{NamesFirst}
+use Rattle.fm_audit_classes.specs.inner.Methods.{NamesFirst, NamesPart}
 use Rattle.fm_audit_classes.specs.inner.Named.{NamesOnly}
 use Rattle.fm_audit_classes.specs.inner.Found.{AreWhollyWritten, ComesOfJudged, IsFalseOf, IsFirstRefusal, IsFound, IsNamed, IsNamedFirst, IsRefused}
 
@@ -44,8 +44,11 @@ methods_judged given p judged = methods_counted given judged.main p judged.progr
 -- ---- what is returned
 
 module _ (given : List ClassDef) (p : Program) (new : List NewCode) (done : List Planned) (written : List ClassDef) (judged : AreJudged given p)
-    (are : AreSafelyInserted p new done) (stay : AllStay p new done) (count : length new ≡ method_count given) (spelled : AllByRecursion HasSpelling written)
+    (failing : List Part) (safely : AreSafelyJudged p new failing done) (stay : AllStay p new done) (count : length new ≡ method_count given) (spelled : AllByRecursion HasSpelling written)
     (codes : map pair_of new ≡ written_codes given written) where
+  abbrev are : AreSafelyInserted p new done
+  are = safely.safe
+
   abbrev unsafe : (AreWhollyWritten (drop first_given done) given written → ⊥) → NoneIsSafe p given written
   unsafe never = record {
     facts = are.facts;
@@ -56,29 +59,29 @@ module _ (given : List ClassDef) (p : Program) (new : List NewCode) (done : List
 
   refused_by : (e : AuditFail) → IsFound (length p.outline.classes) (length (methods_of p.outline.classes)) e
       → IsFalseOf (AreWhollyWritten (drop first_given done) given written) e → NamesFirst (length built_in) first_given (drop first_given done) given written e
-      → IsRefused p given written e
-  refused_by (fail.CallsFree method offset) found never names = absurd found
-  refused_by (fail.NotSafe class None part) found never names =
+      → NamesPart failing e → IsRefused p given written e
+  refused_by (fail.CallsFree method offset) found never names by = absurd found
+  refused_by (fail.NotSafe class None part) found never names by =
       record { class_inside = found.0; method_inside = found.1; unsafe = unsafe never; first = names }
-  refused_by (fail.NotSafe class (Some method) part) found never names = record {
+  refused_by (fail.NotSafe class (Some method) part) found never names by = record {
     class_inside = found.0;
     method_inside = found.1;
     unsafe = unsafe never;
-    first = λ have. first_unsafe given p new done judged are stay count written spelled codes have class.0 method.0 (names have);
+    first = λ have. first_unsafe given p new done judged are stay count written spelled codes failing safely.judged have class.0 method.0 part by (names have);
   }
-  refused_by fail.NoMemory found never names = tt
+  refused_by fail.NoMemory found never names by = tt
 
 -- where plans insert what is safe, and all of it
 pub comes_of_judged : (given : List ClassDef) (p : Program) (new : List NewCode) (done : List Planned) (written : List ClassDef) → AreJudged given p
-    → AreSafelyInserted p new done → AllStay p new done → length new ≡ method_count given → AllByRecursion HasSpelling written
+    → (failing : List Part) → AreSafelyJudged p new failing done → AllStay p new done → length new ≡ method_count given → AllByRecursion HasSpelling written
     → map pair_of new ≡ written_codes given written → (r : Result Unit AuditFail) → OnOk r (written ≡ classes_by (drop first_given done) given)
     → IfErr r (IsFound (length p.outline.classes) (length (methods_of p.outline.classes)))
     → IfErr r (IsFalseOf (AreWhollyWritten (drop first_given done) given written))
-    → IfErr r (NamesFirst (length built_in) first_given (drop first_given done) given written) → ComesOfJudged p given written r
-comes_of_judged given p new done written judged are stay count spelled codes (Ok tested) is found never names = λ no_call main program_is.
-    audited given p new done written judged are no_call is main program_is
-comes_of_judged given p new done written judged are stay count spelled codes (Err e) is found never names =
-    refused_by given p new done written judged are stay count spelled codes e found never names
+    → IfErr r (NamesFirst (length built_in) first_given (drop first_given done) given written) → IfErr r (NamesPart failing) → ComesOfJudged p given written r
+comes_of_judged given p new done written judged failing safely stay count spelled codes (Ok tested) is found never names by = λ no_call main program_is.
+    audited given p new done written judged safely.safe no_call is main program_is
+comes_of_judged given p new done written judged failing safely stay count spelled codes (Err e) is found never names by =
+    refused_by given p new done written judged failing safely stay count spelled codes e found never names by
 
 -- ---- what is named
 
@@ -98,7 +101,7 @@ not_written p given main written e none refused is = by_cause e (subst (λ (q : 
 
 -- no class is found that isn't the given one
 pub named_same : (p : Program) (given written : List ClassDef) (class : ℕ) (method : Option MethodId) (part : Part) → HaveClasses given written
-    → IsNamed p given written class method → IsNamedFirst p given written class method part
+    → IsNamed p given written class method part → IsNamedFirst p given written class method part
 named_same p given written class None part have named = absurd (named.first have)
 named_same p given written class (Some method) part have named = record {
   class_inside = named.class_inside;
@@ -108,11 +111,11 @@ named_same p given written class (Some method) part have named = record {
 }
 
 -- the first one is found
-pub named_first : (p : Program) (given written : List ClassDef) (place number class : ℕ) (method : Option MethodId) (e : AuditFail)
-    → IsFirstOther given written place → AreJudged given p → number ≡ length built_in + place → IsNamed p given written class method → NamesOnly number e
+pub named_first : (p : Program) (given written : List ClassDef) (place number class : ℕ) (method : Option MethodId) (own : Part) (e : AuditFail)
+    → IsFirstOther given written place → AreJudged given p → number ≡ length built_in + place → IsNamed p given written class method own → NamesOnly number e
     → IsFirstRefusal p given written e
-named_first p given written place number class method (fail.CallsFree named offset) first judged place_is refused names = absurd names
-named_first p given written place number class method (fail.NotSafe named None part) first judged place_is refused names =
+named_first p given written place number class method own (fail.CallsFree named offset) first judged place_is refused names = absurd names
+named_first p given written place number class method own (fail.NotSafe named None part) first judged place_is refused names =
     let all = classes_judged given p judged in
     record {
       class_inside = (let is = names.0 in let inside = first.inside in omega (arith, is, place_is, inside, all));
@@ -120,9 +123,9 @@ named_first p given written place number class method (fail.NotSafe named None p
       unsafe = refused.unsafe;
       named = (names.2, record { place = place; number = names.0 ∙ place_is; first = first });
     }
-named_first p given written place number class method (fail.NotSafe named (Some other) part) first judged place_is refused names =
+named_first p given written place number class method own (fail.NotSafe named (Some other) part) first judged place_is refused names =
     absurd (none-some other (sym names.1))
-named_first p given written place number class method fail.NoMemory first judged place_is refused names = absurd names
+named_first p given written place number class method own fail.NoMemory first judged place_is refused names = absurd names
 
 -- what is named among fewer is named among more
 pub found_within : (classes more_classes methods more_methods : ℕ) (e : AuditFail) → classes ≤ more_classes → methods ≤ more_methods

@@ -41,7 +41,9 @@ use Rattle.fm_audit.proofs.WovenReadLemmas.{woven_is_read}
 use Rattle.fm_audit.specs.NewCodes.{AllStay, new_free_of, new_items_of}
 use Rattle.fm_audit.specs.ReadBack.{read_by}
 use Rattle.fm_audit.specs.Reading.{read}
-use Rattle.fm_audit.specs.SafeMethods.{AreSafelyInserted}
+use Rattle.fm_audit.specs.SafeMethods.{AreSafelyInserted, failing_at}
+use Rattle.fm_audit.specs.SafeParts.{FailsPart}
+use Rattle.fm_audit.specs.declared.parts.Part.{Part}
 use Rattle.fm_audit.specs.SafePlans.{IsListedIn}
 use Rattle.fm_audit.specs.declared.methods.NewCode.{NewCode}
 use Rattle.fm_base.proofs.ListFacts.{slice_get-append_right}
@@ -300,10 +302,33 @@ module _ (given : List ClassDef) (p : Program) (new : List NewCode) (done : List
 
   -- ---- the first one
 
-  pub first_unsafe : HaveClasses given written → (class method : ℕ) → IsFirstPlanned (length built_in) first_given (drop first_given done) given written class method
-      → IsFirstUnsafe p are.facts given written class method
-  first_unsafe have class method found =
+  -- the part of a method that isn't safe, by its own entry
+  part_fails : (failing : List Part)
+      → ((method : ℕ) (code : Code) → code_at p method ≡ Some code → length (new_items_of p new method) ≤ 65535
+      → FailsPart are.facts (typed_method p are.facts.typing method code) (new_free_of p new method) code (new_items_of p new method) (failing_at failing method))
+      → (i : ℕ) (m : WrittenMethod) → IsAt given written i m → (IsSafeNew p are.facts (first_given + i) m → ⊥) → (code : Code) → m.old ≡ Some code
+      → FailsPart are.facts (typed_method p are.facts.typing (first_given + i) code) m.free code (code_items m.new) (failing_at failing (first_given + i))
+  part_fails failing parts i m at unsafe code old =
+      let by = parts (first_given + i) code (code_is i m at ∙ old) (few_items i m at) in
+      let x = typed_method p are.facts.typing (first_given + i) code in
+      let failed = failing_at failing (first_given + i) in
+      ⊎_elim (λ (same : m.new ≡ m.old). absurd (unsafe (inl same)))
+      (λ (free : (get_or (written_codes given written) i no_code).0 ≡ m.free).
+      subst (λ f. FailsPart are.facts x f code (code_items m.new) failed) (ap (λ (q : ℕ × List Item). q.0) (pair_is i m at) ∙ free)
+      (subst (λ (items : List Item). FailsPart are.facts x (new_free_of p new (first_given + i)) code items failed) (items_are i m at) by))
+      at.free_is
+
+  pub first_unsafe : (failing : List Part)
+      → ((method : ℕ) (code : Code) → code_at p method ≡ Some code → length (new_items_of p new method) ≤ 65535
+      → FailsPart are.facts (typed_method p are.facts.typing method code) (new_free_of p new method) code (new_items_of p new method) (failing_at failing method))
+      → HaveClasses given written → (class method : ℕ) (failed : Part) → failed ≡ failing_at failing method → IsFirstPlanned (length built_in) first_given (drop first_given done) given written class method
+      → IsFirstUnsafe p are.facts given written class method failed
+  first_unsafe failing parts have class method failed failed_is found =
       let at = is_at (length built_in) given written spelled (are_classes given written have) in
+      let unsafe : IsSafeNew p are.facts (first_given + found.place) found.own → ⊥ = λ safe.
+      found.fails
+      (subst (λ (d : Planned). IsPlannedWell d found.own) (sym (dropped_at first_given done found.place))
+      (safe_well found.place found.own (at found.place found.own found.is) safe)) in
       record {
         place = found.place;
         own = found.own;
@@ -312,6 +337,12 @@ module _ (given : List ClassDef) (p : Program) (new : List NewCode) (done : List
         method_is = found.method_is;
         earlier = λ k m before is.
             well_safe k m (at k m is) (subst (λ (d : Planned). IsPlannedWell d m) (dropped_at first_given done k) (found.earlier k m before is));
+        part = λ code old.
+            subst (λ (part : Part). FailsPart are.facts (typed_method p are.facts.typing method code) found.own.free code (code_items found.own.new) part)
+            (sym failed_is)
+            (subst (λ number. FailsPart are.facts (typed_method p are.facts.typing number code) found.own.free code (code_items found.own.new)
+            (failing_at failing number)) (sym found.method_is)
+            (part_fails failing parts found.place found.own (at found.place found.own found.is) (λ safe. unsafe safe) code old));
         fails = λ safe.
             found.fails
             (subst (λ (d : Planned). IsPlannedWell d found.own) (sym (dropped_at first_given done found.place))

@@ -1,6 +1,7 @@
 -- When a written class has the first part of what makes it a safe insertion into a given one: it is the given one, the codes of its methods aside; when a
 -- method's new code is its old one with what is safe to insert; and that the first class or method of which this doesn't hold is named.
 use Rattle.std.specs.Prelude.{◌≡◌, ◌+◌, ◌++◌, ◌⊎◌, ◌<◌, ◌≤◌, ℕ, List, [], ◌∷◌, length, map, Option, Some, None, slice_get}
+use Rattle.fm_audit.specs.SafeParts.{FailsPart}
 use Rattle.fm_audit.specs.declared.parts.Part.{Part}
 use Rattle.fm_audit.specs.declared.parts.Part.TheVariants as part
 use Rattle.fm_base.specs.declared.ids.MethodId.{MethodId}
@@ -13,6 +14,8 @@ use Rattle.fm_code.specs.declared.class_file.MemberAttr.{MemberAttr}
 use Rattle.fm_code.specs.declared.class_file.MemberAttr.TheVariants as attribute
 use Rattle.fm_code.specs.declared.code_array.Code.{Code}
 use Rattle.fm_conn.specs.Facts.{Facts}
+use Rattle.fm_conn.specs.Links.{typed_method}
+use Rattle.fm_audit_classes.specs.inner.Codes.{code_items}
 use Rattle.fm_place.specs.Insertions.{Insertions}
 use Rattle.fm_place.specs.Rewriting.{first_given, free_index, rewritten_major}
 use Rattle.fm_place.specs.Safe.{IsSafeMethod}
@@ -102,8 +105,8 @@ pub record IsSafelyWoven (p : Program) (facts : Facts) (method : ℕ) (m : Writt
 abbrev pub IsSafeNew : Program → Facts → (method : ℕ) → WrittenMethod → Type 0
 IsSafeNew p facts method m = (m.new ≡ m.old) ⊎ IsSafelyWoven p facts method m
 
--- this is the first method, in the order of their numbers, that isn't safe by these facts, with the number of its class
-pub record IsFirstUnsafe (p : Program) (facts : Facts) (given written : List ClassDef) (class method : ℕ) : Type 0 where
+-- This is the first method, in the order of their numbers, that isn't safe by these facts, with the number of its class, and with the least part that it fails.
+pub record IsFirstUnsafe (p : Program) (facts : Facts) (given written : List ClassDef) (class method : ℕ) (failed : Part) : Type 0 where
   pub place : ℕ
   pub own : WrittenMethod
   pub is : slice_get (all_methods (length built_in) given written) place ≡ Some own
@@ -112,6 +115,8 @@ pub record IsFirstUnsafe (p : Program) (facts : Facts) (given written : List Cla
   pub earlier : (k : ℕ) (m : WrittenMethod) → k < place → slice_get (all_methods (length built_in) given written) k ≡ Some m
       → IsSafeNew p facts (first_given + k) m
   pub fails : IsSafeNew p facts method own → ⊥
+  pub part : (code : Code) → own.old ≡ Some code
+      → FailsPart facts (typed_method p facts.typing method code) own.free code (code_items own.new) failed
 
 -- ---- what is named
 
@@ -125,4 +130,4 @@ pub record NamesClass (given written : List ClassDef) (class : ℕ) : Type 0 whe
 -- that isn't safe.
 abbrev pub IsFirstNamed : Program → Facts → (given written : List ClassDef) → (class : ℕ) → Option MethodId → Part → Type 0
 IsFirstNamed p facts given written class None failed = (failed ≡ part.Classes) × NamesClass given written class
-IsFirstNamed p facts given written class (Some method) failed = HaveClasses given written × IsFirstUnsafe p facts given written class method.0
+IsFirstNamed p facts given written class (Some method) failed = HaveClasses given written × IsFirstUnsafe p facts given written class method.0 failed

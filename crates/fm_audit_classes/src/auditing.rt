@@ -112,7 +112,7 @@ fn first_named(
     requires judged { AreJudged classes.now program.now }
     requires spelled { AllByRecursion HasSpelling written.now }
     requires one_each { length written.now ≡ length classes.now }
-    requires named { IsNamed program.now classes.now written.now named.0.0 named.1 }
+    requires named { IsNamed program.now classes.now written.now named.0.0 named.1 named.2 }
     ensures { IfOk result (IsFirstRefusal program.now classes.now written.now) }
 {
     let first = program.classes() - classes.len() as u32;

@@ -38,21 +38,21 @@ pub record AreWhollyWritten (done : List Planned) (given written : List ClassDef
   pub same : written ≡ classes_by done given
 
 -- where each class has the first part, a method is named, the first one that isn't safe by these facts
-abbrev pub IsFirstMethod : Program → Facts → (given written : List ClassDef) → (class : ℕ) → Option MethodId → Type 0
-IsFirstMethod p facts given written class None = HaveClasses given written → ⊥
-IsFirstMethod p facts given written class (Some method) = HaveClasses given written → IsFirstUnsafe p facts given written class method.0
+abbrev pub IsFirstMethod : Program → Facts → (given written : List ClassDef) → (class : ℕ) → Option MethodId → Part → Type 0
+IsFirstMethod p facts given written class None failed = HaveClasses given written → ⊥
+IsFirstMethod p facts given written class (Some method) failed = HaveClasses given written → IsFirstUnsafe p facts given written class method.0 failed
 
 -- what is named is there, and no safe insertions give the written classes
-pub record IsNamed (p : Program) (given written : List ClassDef) (class : ℕ) (method : Option MethodId) : Type 0 where
+pub record IsNamed (p : Program) (given written : List ClassDef) (class : ℕ) (method : Option MethodId) (failed : Part) : Type 0 where
   pub class_inside : class < length p.outline.classes
   pub method_inside : IfSome method (λ m. m.0 < length (methods_of p.outline.classes))
   pub unsafe : NoneIsSafe p given written
-  pub first : IsFirstMethod p unsafe.facts given written class method
+  pub first : IsFirstMethod p unsafe.facts given written class method failed
 
 -- so it is with a refusal
 abbrev pub IsRefused : Program → (given written : List ClassDef) → AuditFail → Type 0
 IsRefused p given written (fail.CallsFree method offset) = ⊥
-IsRefused p given written (fail.NotSafe class method part) = IsNamed p given written class.0 method
+IsRefused p given written (fail.NotSafe class method part) = IsNamed p given written class.0 method part
 IsRefused p given written fail.NoMemory = Unit {0}
 
 -- the same, but what is named is the first one

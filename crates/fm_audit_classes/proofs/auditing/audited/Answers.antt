@@ -1,6 +1,6 @@
 use Rattle.std.proofs.Common.{List, subst}
 use Rattle.fm_audit.specs.NewCodes.{AllStay}
-use Rattle.fm_audit.specs.SafeMethods.{AreSafelyInserted}
+use Rattle.fm_audit.specs.SafeMethods.{AreSafelyInserted, AreSafelyJudged}
 use Rattle.fm_audit.specs.declared.methods.NewCode.{NewCode}
 use Rattle.fm_audit_classes.proofs.AuditedLemmas.{parts_of}
 use Rattle.fm_audit_classes.proofs.FoundLemmas.{comes_of_judged}
@@ -39,10 +39,11 @@ pub returns : goal.returns
 returns c =
     let p = c.args.program.now in
     let done = c.in_ok-found.found.planned.items in
-    let are : AreSafelyInserted p c.in_ok-codes.codes.items done =
-    subst (λ (new : List NewCode). AreSafelyInserted p new done) c.as_slice.ensures.value c.in_ok-found.ensures.safe.safe in
+    let failing = c.in_ok-found.found.failing.items in
+    let are : AreSafelyJudged p c.in_ok-codes.codes.items failing done =
+    subst (λ (new : List NewCode). AreSafelyJudged p new failing done) c.as_slice.ensures.value c.in_ok-found.ensures.safe in
     let stay : AllStay p c.in_ok-codes.codes.items done =
     subst (λ (new : List NewCode). AllStay p new done) c.as_slice.ensures.value c.in_ok-found.ensures.still in
-    comes_of_judged c.args.classes.now p c.in_ok-codes.codes.items done c.args.written.now c.requires.judged are stay c.in_ok-codes.ensures.one_each
+    comes_of_judged c.args.classes.now p c.in_ok-codes.codes.items done c.args.written.now c.requires.judged failing are stay c.in_ok-codes.ensures.one_each
     c.requires.spelled c.in_ok-codes.ensures.codes c.are_written_by.result c.are_written_by.ensures.same c.are_written_by.ensures.found
-    c.are_written_by.ensures.whole c.are_written_by.ensures.first
+    c.are_written_by.ensures.whole c.are_written_by.ensures.first c.are_written_by.ensures.part

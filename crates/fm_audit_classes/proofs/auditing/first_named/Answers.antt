@@ -39,5 +39,5 @@ returns-in-Some c =
     let first = subst (IsOther c.args.classes.now c.args.written.now) c.in-Some.is c.in_ok-other.ensures in
     let all = classes_judged c.args.classes.now c.args.program.now c.requires.judged in
     named_first c.args.program.now c.args.classes.now c.args.written.now c.in-Some.place
-    (c.classes.result - length c.args.classes.now + c.in-Some.place) _ _ c.other_class.result first c.requires.judged
+    (c.classes.result - length c.args.classes.now + c.in-Some.place) _ _ _ c.other_class.result first c.requires.judged
     (omega (arith, all, c.classes.ensures)) c.requires.named c.other_class.ensures
