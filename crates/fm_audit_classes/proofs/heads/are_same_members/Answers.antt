@@ -1,4 +1,4 @@
-use Rattle.std.proofs.Common.{rules, ◌≡◌, refl, length, false, arith}
+use Rattle.std.proofs.Common.{rules, ◌≡◌, refl, length, arith}
 use Rattle.std.proofs.lemmas.Bool.{false≢true}
 use Rattle.fm_audit_classes.proofs.PairLemmas.{fails_so, same_all, same_count, same_here, same_more}
 use Rattle.fm_audit_classes.specs.Parts.{bare_method}

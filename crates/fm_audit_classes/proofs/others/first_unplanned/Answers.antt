@@ -1,6 +1,4 @@
-use Rattle.std.proofs.Common.{rules, ◌≡◌, ◌<◌, ◌≤◌, Some, length, arith}
-use Rattle.std.specs.Prelude.{slice_get}
-use Rattle.std.proofs.lemmas.Option.{none-some, slice_get_past}
+use Rattle.std.proofs.Common.{rules, ◌<◌, length, arith}
 use Rattle.fm_audit_classes.proofs.MemberLemmas.{may_here, planned_here, planned_more, short_here, unplanned_here}
 use Rattle.fm_audit_classes.proofs.others.first_unplanned.Goals as goal
 

@@ -1,4 +1,4 @@
-use Rattle.std.proofs.Common.{rules, ◌≡◌, ◌∙◌, sym, ap, subst, refl, false, Some, None, Option, IfOk, IsTrue, ◌↔◌}
+use Rattle.std.proofs.Common.{rules, ◌≡◌, ◌∙◌, sym, subst, refl, Some, None, Option, IfOk, IsTrue, ◌↔◌}
 use Rattle.std.proofs.lemmas.Bool.{false≢true}
 use Rattle.fm_code.specs.Members.{code_of}
 use Rattle.fm_code.specs.declared.code_array.Code.{Code}
