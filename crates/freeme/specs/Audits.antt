@@ -98,8 +98,8 @@ abbrev pub named : Outline → ClassId → Option MethodId → List ℕ
 named o class None = (class_info o class.0).name
 named o class (Some method) = method_text (declared_name o.classes method.0)
 
--- They aren't, and this is the name of the first class that isn't the given one, codes aside, or else of the first method that isn't safe, and the number of a part.
--- That it is the least part which fails there isn't stated.
+-- They aren't, and this is the name of the first class that isn't the given one, codes aside, or else of the first method that isn't safe, and the number of the
+-- least part that it fails.
 pub record IsNotSafe (audit : Audit) (name : Bytes) (number : ℕ) (old new : Disk) : Type 0 where
   pub classes : List ClassDef
   pub written : List ClassDef
