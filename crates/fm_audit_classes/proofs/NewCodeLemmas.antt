@@ -26,7 +26,8 @@ use Rattle.fm_place.specs.Insertions.{Insertions}
 use Rattle.fm_place.specs.Rewriting.{changes, free_index, Plans, rewritten_class, rewritten_from}
 use Rattle.fm_place.specs.Woven.{woven_code}
 use Rattle.fm_place_weave.proofs.ClassLawLemmas.{by_change, rewritten-is}
-use Rattle.fm_audit_classes.specs.inner.Codes.{code_in, code_items, codes_in, free_for, method_items, written_codes}
+use Rattle.fm_audit_classes.specs.Parts.{code_items}
+use Rattle.fm_audit_classes.specs.inner.Codes.{code_in, codes_in, free_for, method_items, written_codes}
 
 -- ---- one method
 

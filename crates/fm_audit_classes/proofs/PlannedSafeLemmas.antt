@@ -55,8 +55,8 @@ use Rattle.fm_audit.proofs.SameLemmas.{are_same_codes}
 use Rattle.fm_audit_classes.proofs.StillLemmas.{dropped_at, old_codes, pair_given, stays_so}
 use Rattle.fm_audit_classes.proofs.UnsafeLemmas.{low_plan}
 use Rattle.fm_audit_classes.proofs.WholeIfLemmas.{counted}
-use Rattle.fm_audit_classes.specs.Parts.{all_methods, class_codes, class_methods, HasClass, HaveClasses, IsFirstUnsafe, IsSafelyWoven, IsSafeNew, WrittenMethod}
-use Rattle.fm_audit_classes.specs.inner.Codes.{code_in, code_items, codes_in, free_for, method_items, pair_of, written_codes}
+use Rattle.fm_audit_classes.specs.Parts.{all_methods, class_codes, class_methods, code_items, HasClass, HaveClasses, IsFirstUnsafe, IsSafelyWoven, IsSafeNew, WrittenMethod}
+use Rattle.fm_audit_classes.specs.inner.Codes.{code_in, codes_in, free_for, method_items, pair_of, written_codes}
 use Rattle.fm_audit_classes.specs.inner.Low.{is_low_in}
 use Rattle.fm_audit_classes.specs.inner.Methods.{free_calls, IsFirstPlanned, IsPlannedWell}
 

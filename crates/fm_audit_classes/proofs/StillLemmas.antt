@@ -26,8 +26,8 @@ use Rattle.fm_audit.specs.Reading.{nulls}
 use Rattle.fm_audit.specs.SafeMethods.{AreSafelyInserted}
 use Rattle.fm_audit.specs.declared.methods.NewCode.{NewCode}
 use Rattle.fm_audit_classes.proofs.NewCodeLemmas.{no_code, place_items}
-use Rattle.fm_audit_classes.specs.Parts.{class_codes}
-use Rattle.fm_audit_classes.specs.inner.Codes.{code_in, code_items, codes_in, free_for, pair_of, written_codes}
+use Rattle.fm_audit_classes.specs.Parts.{class_codes, code_items}
+use Rattle.fm_audit_classes.specs.inner.Codes.{code_in, codes_in, free_for, pair_of, written_codes}
 use Rattle.fm_audit_classes.specs.inner.Named.{AreStill, IsStill}
 
 -- a method without code, or with the items that it had, stays as it is

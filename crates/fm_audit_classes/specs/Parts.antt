@@ -13,9 +13,9 @@ use Rattle.fm_code.specs.declared.class_file.Member.{Member}
 use Rattle.fm_code.specs.declared.class_file.MemberAttr.{MemberAttr}
 use Rattle.fm_code.specs.declared.class_file.MemberAttr.TheVariants as attribute
 use Rattle.fm_code.specs.declared.code_array.Code.{Code}
+use Rattle.fm_code.specs.declared.code_array.Item.{Item}
 use Rattle.fm_conn.specs.Facts.{Facts}
 use Rattle.fm_conn.specs.Links.{typed_method}
-use Rattle.fm_audit_classes.specs.inner.Codes.{code_items}
 use Rattle.fm_place.specs.Insertions.{Insertions}
 use Rattle.fm_place.specs.Rewriting.{first_given, free_index, rewritten_major}
 use Rattle.fm_place.specs.Safe.{IsSafeMethod}
@@ -41,6 +41,11 @@ bare_method m = record m { attributes = map bare_attribute m.attributes }
 -- a class, but for the codes of its methods
 abbrev pub bare_class : ClassDef → ClassDef
 bare_class c = record c { methods = map bare_method c.methods }
+
+-- the items of a code, if there is one
+abbrev pub code_items : Option Code → List Item
+code_items None = []
+code_items (Some code) = code.items
 
 -- the codes of its methods
 abbrev pub class_codes : ClassDef → List (Option Code)

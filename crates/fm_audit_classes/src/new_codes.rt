@@ -2,7 +2,8 @@
 
 ghost use Rattle.std.specs.Prelude.{◌≡◌, ◌+◌, ◌++◌, IfOk, OnOk, length, map, slice_get};
 ghost use Rattle.std.specs.List.{AllByRecursion};
-ghost use Rattle.fm_audit_classes.specs.inner.Codes.{code_items, codes_in, free_for, method_items, pair_of, written_codes};
+ghost use Rattle.fm_audit_classes.specs.Parts.{code_items};
+ghost use Rattle.fm_audit_classes.specs.inner.Codes.{codes_in, free_for, method_items, pair_of, written_codes};
 ghost use Rattle.fm_code.specs.Members.{code_of};
 ghost use Rattle.fm_code.specs.Spells.{HasSpelling};
 ghost use Rattle.fm_rewrite.specs.inner.ByPlans.{method_count};

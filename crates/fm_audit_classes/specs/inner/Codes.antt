@@ -5,19 +5,14 @@ use Rattle.fm_code.specs.FreeEntries.{with_free}
 use Rattle.fm_code.specs.Members.{code_of}
 use Rattle.fm_code.specs.declared.class_file.ClassDef.{ClassDef}
 use Rattle.fm_code.specs.declared.class_file.Member.{Member}
-use Rattle.fm_code.specs.declared.code_array.Code.{Code}
 use Rattle.fm_code.specs.declared.code_array.Item.{Item}
 use Rattle.fm_place.specs.Rewriting.{free_index}
 use Rattle.fm_audit.specs.declared.methods.NewCode.{NewCode}
+use Rattle.fm_audit_classes.specs.Parts.{code_items}
 
 -- the index of FreeMe.free, and the items
 abbrev pub pair_of : NewCode → ℕ × List Item
 pair_of new = (new.free, new.items.now)
-
--- the items of a code, if there is one
-abbrev pub code_items : Option Code → List Item
-code_items None = []
-code_items (Some code) = code.items
 
 -- of a method, if there is one
 abbrev pub method_items : Option Member → List Item
