@@ -21,6 +21,9 @@ OPERANDS = {1: (16, 18, *range(21, 26), *range(54, 59), 169, 188), 3: (197,), 4:
 OPERANDS[2] = (17, 19, 20, 132, *range(153, 169), *range(178, 185), 187, 189, 192, 193, 198, 199)
 SIZES = {code: size for size, codes in OPERANDS.items() for code in codes}
 MAX_CODE_LENGTH = 65_535
+MAX_LOCALS = 2048
+# The test that holds where another one doesn't (JVMS 6.5): each is beside its opposite.
+OPPOSITES = {a: a + 1 for a in (153, 155, 157, 159, 161, 163, 165, 198)} | {a: a - 1 for a in (154, 156, 158, 160, 162, 164, 166, 199)}
 CLASSES, ITEMS, HOLDERS, USES, FREES, LAYOUT = range(1, 7)
 
 
@@ -354,6 +357,14 @@ def moved(file, old, new, found):
         yield lambda code, place=place, to=before[-1]: move(code, place, to), USES
 
 
+def freed_untaken(file, old, new, found):
+    """A local is freed that takes no object, the one behind all holders."""
+    more = old.max_locals + found.holders
+    for _, place in found.frees[:1] if more < MAX_LOCALS else []:
+        own = [loads(more), *copies(new.items[place + 1 : place + 3]), stores(more)]
+        yield lambda code, place=place, own=own: put_more(code, place, own), USES
+
+
 def shared(file, old, new, found):
     """Two holders become one: it takes the objects of two sites, and the other one those of none."""
     for holder, place in found.takes:
@@ -420,6 +431,14 @@ def other_target(file, old, new, found):
                 yield lambda code, place=place, at=at: retarget(code, place, at, at + FREE_ITEMS), ITEMS
 
 
+def widened(file, old, new, found):
+    """A conditional branch becomes the opposite one with a goto behind it, though its target is in reach."""
+    near = [place for place, item in enumerate(new.items[:-1]) if item.opcode in OPPOSITES and new.items[place + 1].opcode != GOTO_W]
+    for place in near[:1]:
+        for opcode in (GOTO, GOTO_W):
+            yield lambda code, place=place, opcode=opcode: widen_at(code, place, opcode), LAYOUT
+
+
 def other_numbers(file, old, new, found):
     """A word of stack or a local more than there is need of."""
     yield lambda code: setattr(code, "max_stack", code.max_stack + 1), LAYOUT
@@ -435,8 +454,8 @@ def other_tables(file, old, new, found):
             yield lambda code, number=number, row=row: shift(code, code.attributes[number][2][row]), LAYOUT
 
 
-CHANGES = (dropped, doubled, uncleared, moved, shared, untaken, taken_elsewhere, unstarted, restarted, skipped, other_constant, other_target)
-CHANGES += (other_spelling, other_numbers, other_tables)
+CHANGES = (dropped, doubled, uncleared, moved, freed_untaken, shared, untaken, taken_elsewhere, unstarted, restarted, skipped, other_constant, other_target)
+CHANGES += (widened, other_spelling, other_numbers, other_tables)
 
 
 def copies(items):
@@ -473,6 +492,17 @@ def take(code, place, to):
     own = copies(code.items[place : place + TAKE_ITEMS])
     code.drop(place, TAKE_ITEMS)
     code.put(to, own)
+
+
+def put_more(code, place, items):
+    code.put(place, items)
+    code.max_locals += 1
+
+
+def widen_at(code, place, opcode):
+    item, past = code.items[place], code.items[place + 1]
+    code.items.insert(place + 1, Item(opcode, targets=item.targets))
+    item.opcode, item.targets = OPPOSITES[item.opcode], [past]
 
 
 def replaced(code, place, item):

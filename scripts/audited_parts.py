@@ -1,22 +1,19 @@
 """What an audit has to answer of class files and those that somebody wrote for them, by the six parts of a safe insertion as docs/MANUAL.md has them.
 
-Nothing here is taken from the programs: the classes are read (audited_pairs.py), what is inserted is told from what was there by its locals and its calls,
+Nothing here is taken from the programs: the classes are read (audited_pairs.py), what is inserted is seen by its locals and its calls,
 the objects and where they are in use are worked out anew (program_facts.py), and the code is laid out anew from what was read as inserted.
 """
 
 import struct
 from dataclasses import dataclass, field
 
-from audited_pairs import ACONST_NULL, BRANCHES, CLASSES, DUP, FREES, GOTO, GOTO_W, HOLDERS, INVOKESTATIC, ITEMS, LAYOUT, USES, WIDE, ClassFile, Item
-from audited_pairs import loads, stores
+from audited_pairs import ACONST_NULL, BRANCHES, CLASSES, DUP, FREES, GOTO, GOTO_W, HOLDERS, INVOKESTATIC, ITEMS, LAYOUT, MAX_LOCALS, OPPOSITES, USES, WIDE
+from audited_pairs import ClassFile, Item, loads, stores
 from program_facts import Facts, access, may_hold
 
-MAX_LOCALS = 2048
 VERSION = struct.pack(">HH", 0, 49)
 TEXT, CLASS, NAME_AND_TYPE, METHOD = 1, 7, 12, 10
 OF_TABLES = (b"LineNumberTable", b"LocalVariableTable", b"LocalVariableTypeTable")
-# The test that holds where another one doesn't (JVMS 6.5): each is beside its opposite.
-OPPOSITES = {a: a + 1 for a in (153, 155, 157, 159, 161, 163, 165, 198)} | {a: a - 1 for a in (154, 156, 158, 160, 162, 164, 166, 199)}
 
 
 def meaning(item):
@@ -103,7 +100,7 @@ class Reading:
         if self.at >= len(self.new):
             raise Unread
         new = self.new[self.at]
-        if item.opcode in OPPOSITES and new.opcode == OPPOSITES[item.opcode] and self.opcode(1) == GOTO_W:
+        if item.opcode in OPPOSITES and new.opcode == OPPOSITES[item.opcode] and self.opcode(1) in (GOTO, GOTO_W):
             self.kept.append((item, new, self.new[self.at + 1]))
             self.at += 2
         elif meaning(item) == meaning(new) and len(item.targets) == len(new.targets):
@@ -113,14 +110,15 @@ class Reading:
             raise Unread
 
     def check_targets(self):
-        """Each branch leads to what is inserted before the item that the old one leads to, or to it itself; the test of a widened one past its goto."""
+        """Each branch leads to what is inserted before the item that the old one leads to, or to it itself; the test of a widened one past its goto, or to it where
+        no item follows."""
         number = {id(item): place for place, item in enumerate(self.old)}
         place_of = {id(item): place for place, item in enumerate(self.new)}
         for item, new, wide in self.kept:
             due = [self.new[self.anchors[number[id(target)]]] for target in item.targets]
             if wide is not None:
-                past = place_of[id(wide)] + 1
-                if past >= len(self.new) or new.targets != [self.new[past]] or wide.targets != due:
+                past = self.new[place_of[id(wide)] + 1 :][:1] or [wide]
+                if new.targets != past or wide.targets != due:
                     raise Unread
             elif new.targets != due:
                 raise Unread
@@ -212,7 +210,7 @@ def widen(code):
                 continue
             at = next(k for k, one in enumerate(code.items) if one is item)
             wide = Item(GOTO_W, targets=item.targets)
-            past = code.items[at + 1] if at + 1 < len(code.items) else code.end
+            past = code.items[at + 1] if at + 1 < len(code.items) else wide
             item.opcode, item.targets = OPPOSITES[item.opcode], [past]
             code.items.insert(at + 1, wide)
 
@@ -260,7 +258,7 @@ class Original:
             return HOLDERS
         sites = {holder: site for site, holder in plan.after}
         for item, holder in plan.before:
-            if analysed.captured[sites[holder]] in analysed.used.get(item, ()):
+            if holder not in sites or analysed.captured[sites[holder]] in analysed.used.get(item, ()):
                 return USES
         for holder, site in sites.items():
             for item in may_hold(analysed, site):
@@ -271,12 +269,13 @@ class Original:
 
 
 def are_holders(before, plan, analysed):
-    """Whether there are holders, the locals from the old max_locals on, each of one captured site, all null at the start in rising order and no others."""
+    """Whether there are holders, the locals from the old max_locals on, all null at the start in rising order, which alone take objects, each those of one captured
+    site."""
     due = [before.max_locals + k for k in range(len(plan.start))]
     taken = [holder for _, holder in plan.after]
     if not plan.start or plan.start != due or sorted(taken) != due:
         return False
-    return all(holder in due for _, holder in plan.before) and all(site in analysed.captured for site, _ in plan.after)
+    return all(site in analysed.captured for site, _ in plan.after)
 
 
 def is_class_kept(old, new):
