@@ -1,4 +1,5 @@
 pub mod Codes
+pub mod Values
 pub mod Frames
 pub mod Doings
 pub mod Catching

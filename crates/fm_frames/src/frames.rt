@@ -1,4 +1,4 @@
-// The frames of the machine: their values lie in one vector (JVMS 2.6).
+// The frames of the machine: their values lie in one list (JVMS 2.6).
 //
 // The locals of a frame come first, and then its operand stack, whose last value is its top. A call takes
 // the arguments off the stack of its caller by letting the callee's locals begin with them.
@@ -11,6 +11,7 @@ ghost use Rattle.fm_frames.specs.inner.Frames as spec;
 ghost use Rattle.fm_frames.specs.inner.Doings.{NextFits};
 ghost use Rattle.fm_frames.specs.inner.Frames.{main_frame, on_top, place, place_of, result_word, stack_in, locals_in, with_called, with_result, with_words};
 
+use crate::value_list::Values;
 use crate::values::Value;
 use fm_base::{MethodId, NoMemory};
 use std::alloc::Global;
@@ -39,7 +40,7 @@ const NOWHERE: Cursor = Cursor {
 #[derive(Drop)]
 pub struct Frames {
     /// The values of all frames, and then others that make room.
-    values: Vec<Value>,
+    values: Values,
     /// How many of the values are those of frames.
     used: usize,
     topmost: Cursor,
@@ -56,35 +57,35 @@ impl Model for Frames {
 
     ghost use Rattle.fm_frames.specs.inner.Frames.{frames_in, AreLaid};
 
-    ghost view = { λ a. frames_in a.has_frames a.values.items a.used a.topmost (reverse a.callers.items) };
+    ghost view = { λ a. frames_in a.has_frames a.values a.used a.topmost (reverse a.callers.items) };
 
-    ghost invariant = { λ a. AreLaid a.has_frames a.values.items a.used a.topmost (reverse a.callers.items) };
+    ghost invariant = { λ a. AreLaid a.has_frames a.values a.used a.topmost (reverse a.callers.items) };
 }
 
 // Gives each value from a place on, up to another place, no value of its own.
 #[inline(always)]
-fn clear_between(values: &mut Vec<Value>, start: usize, end: usize)
+fn clear_between(values: &mut Values, start: usize, end: usize)
     requires in_order { start ≤ end }
-    requires within { end ≤ length values.old.items }
-    ensures front { take start values.new.items ≡ take start values.old.items }
-    ensures len { length values.new.items ≡ length values.old.items }
-    ensures cleared { take end values.new.items
-        ≡ take start values.old.items ++ replicate (end - start) NoValue }
+    requires within { end ≤ length values.old }
+    ensures front { take start values.new ≡ take start values.old }
+    ensures len { length values.new ≡ length values.old }
+    ensures cleared { take end values.new
+        ≡ take start values.old ++ replicate (end - start) NoValue }
 {
     for place in start..end {
-        values[place] = Value::Top;
+        values.clear(place);
     }
 }
 
 // The same, where the values are made more if there are too few.
-fn clear_values(values: &mut Vec<Value>, start: usize, end: usize) -> Result<(), NoMemory>
+fn clear_values(values: &mut Values, start: usize, end: usize) -> Result<(), NoMemory>
     requires in_order { start ≤ end }
-    requires within { start ≤ length values.old.items }
-    ensures front { take start values.new.items ≡ take start values.old.items }
-    ensures fits { start ≤ length values.new.items }
-    ensures room { OnOk result (end ≤ length values.new.items) }
-    ensures cleared { OnOk result (take end values.new.items
-        ≡ take start values.old.items ++ replicate (end - start) NoValue) }
+    requires within { start ≤ length values.old }
+    ensures front { take start values.new ≡ take start values.old }
+    ensures fits { start ≤ length values.new }
+    ensures room { OnOk result (end ≤ length values.new) }
+    ensures cleared { OnOk result (take end values.new
+        ≡ take start values.old ++ replicate (end - start) NoValue) }
 {
     if end > values.len() {
         lengthen(values, end)?;
@@ -96,36 +97,35 @@ fn clear_values(values: &mut Vec<Value>, start: usize, end: usize) -> Result<(),
 // Lengthens the values to `len`.
 #[cold]
 #[inline(never)]
-fn lengthen(values: &mut Vec<Value>, len: usize) -> Result<(), NoMemory>
-    requires { length values.old.items ≤ len }
-    ensures kept { take (length values.old.items) values.new.items ≡ values.old.items }
-    ensures longer { length values.old.items ≤ length values.new.items }
-    ensures len { OnOk result (length values.new.items ≡ len) }
+fn lengthen(values: &mut Values, len: usize) -> Result<(), NoMemory>
+    requires { length values.old ≤ len }
+    ensures kept { take (length values.old) values.new ≡ values.old }
+    ensures longer { length values.old ≤ length values.new }
+    ensures len { OnOk result (length values.new ≡ len) }
 {
-    values.resize(len, Value::Top)?;
+    values.lengthen(len)?;
     Ok(())
 }
 
 // Copies the last words of those that are used, two at most, to a place that isn't above them.
 #[inline(always)]
-fn copy_down(values: &mut Vec<Value>, used: usize, words: usize, place: usize)
+fn copy_down(values: &mut Values, used: usize, words: usize, place: usize)
     requires few { words ≤ 2 }
     requires below { place + words ≤ used }
-    requires within { used ≤ length values.old.items }
-    ensures len { length values.new.items ≡ length values.old.items }
-    ensures copied { take (place + words) values.new.items
-        ≡ take place values.old.items ++ drop (used - words) (take used values.old.items) }
+    requires within { used ≤ length values.old }
+    ensures len { length values.new ≡ length values.old }
+    ensures copied { take (place + words) values.new
+        ≡ take place values.old ++ drop (used - words) (take used values.old) }
 {
     if words == 0 {
         return;
     }
-    let top = values[used - 1];
     if words == 1 {
-        values[place] = top;
+        values.copy(used - 1, place);
         return;
     }
-    values[place] = values[used - 2];
-    values[place + 1] = top;
+    values.copy(used - 2, place);
+    values.copy(used - 1, place + 1);
 }
 
 // Whether a long fits from a place on, behind which `words` words lie, of `len` values.
@@ -143,7 +143,7 @@ impl Frames {
         ensures { result ≡ [] }
     {
         Frames {
-            values: Vec::new(alloc),
+            values: Values::new(alloc),
             used: 0,
             has_frames: false,
             topmost: NOWHERE,
@@ -160,10 +160,10 @@ impl Frames {
     ) -> Result<Frames, NoMemory>
         ensures { IfOk result (λ frames. frames ≡ main_frame method.0 max_locals argument ∷ []) }
     {
-        let mut values = Vec::new(alloc);
+        let mut values = Values::new(alloc);
         values.push(argument)?;
         let stack = (max_locals as usize).max(1);
-        values.resize(stack, Value::Top)?;
+        values.lengthen(stack)?;
         Ok(Frames {
             values,
             used: stack,
@@ -185,7 +185,7 @@ impl Frames {
     {
         let height = self.used - self.topmost.stack;
         if place < height {
-            Some(self.values[self.used - 1 - place])
+            Some(self.values.at(self.used - 1 - place))
         } else {
             None
         }
@@ -198,7 +198,7 @@ impl Frames {
     {
         let count = self.topmost.stack - self.topmost.locals;
         if place < count {
-            self.values[self.topmost.locals + place]
+            self.values.at(self.topmost.locals + place)
         } else {
             Value::Top
         }
@@ -210,7 +210,7 @@ impl Frames {
         ensures { OnOk result (self.new ≡ on_top (λ f. record f { stack = value ∷ f.stack }) self.old) }
     {
         if self.used < self.values.len() {
-            self.values[self.used] = value;
+            self.values.set(self.used, value);
             self.used += 1;
             Ok(())
         } else {
@@ -241,7 +241,7 @@ impl Frames {
         ensures same { result ≡ false → self.new ≡ self.old }
     {
         if self.used < self.values.len() {
-            self.values[self.used] = value;
+            self.values.set(self.used, value);
             self.used += 1;
             true
         } else {
@@ -262,7 +262,7 @@ impl Frames {
             return false;
         }
         let place = self.used - takes;
-        self.values[place] = value;
+        self.values.set(place, value);
         self.used = place + 1;
         true
     }
@@ -282,8 +282,8 @@ impl Frames {
         if !fits_long(place, takes, self.values.len()) {
             return false;
         }
-        self.values[place] = value;
-        self.values[place + 1] = Value::Top;
+        self.values.set(place, value);
+        self.values.clear(place + 1);
         self.used = place + 2;
         true
     }
@@ -310,7 +310,7 @@ impl Frames {
             return Ok(());
         }
         let place = self.used - takes;
-        self.values[place] = value;
+        self.values.set(place, value);
         self.used = place + 1;
         Ok(())
     }
@@ -322,7 +322,7 @@ impl Frames {
     {
         let count = self.topmost.stack - self.topmost.locals;
         if place < count {
-            self.values[self.topmost.locals + place] = value;
+            self.values.set(self.topmost.locals + place, value);
         }
     }
 

@@ -34,6 +34,7 @@ mod streams;
 mod texts;
 mod throws;
 mod turns;
+mod value_list;
 mod values;
 
 pub use actions::{StartAction, start_actions};
