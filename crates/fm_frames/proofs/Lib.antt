@@ -1,4 +1,5 @@
 pub mod Example
+pub mod ValueLists
 pub mod FrameValues
 pub mod Finishes
 pub mod Programs

@@ -78,7 +78,7 @@ pub(crate) struct Values {
 }
 
 impl Model for Values {
-    ghost use Rattle.std.specs.Prelude.{List, length};
+    ghost use Rattle.std.specs.Prelude.{◌≡◌, List, length};
     ghost use Rattle.fm_frames.specs.declared.values.Value.{Value as AnyValue};
     ghost use Rattle.fm_frames.specs.inner.Values.{values_in};
 
