@@ -423,25 +423,26 @@ last-is values last used within few is =
     let long : length before ≡ used - length last = omega (arith, length-take (used - length last) values) in
     sym (ap (drop (used - length last)) is ∙ ap (λ n. drop n (before ++ last)) (sym long) ∙ drop-append_seam before last)
 
--- two words that are copied down, as they are there
-pub copied-two : (values : List Value) (used start : ℕ) (v w : Value) → used ≤ length values → start + 2 ≤ used → v ≡ get_or values (used - 2) v
-    → w ≡ get_or values (used - 1) w
-    → take (start + 2) (set (set values start v) (start + 1) w) ≡ take start values ++ drop (used - 2) (take used values)
-copied-two values used start v w within below under top =
+-- two words that are copied down
+pub copied-two : (values : List Value) (used start : ℕ) → used ≤ length values → start + 2 ≤ used
+    → (let one : List Value = set values start (get_or values (used - 2) value.Top) in
+    take (start + 2) (set one (start + 1) (get_or one (used - 1) value.Top)) ≡ take start values ++ drop (used - 2) (take used values))
+copied-two values used start within below =
+    let v : Value = get_or values (used - 2) value.Top in
+    let w : Value = get_or values (used - 1) value.Top in
     let half : used - 2 + 1 ≡ used - 1 = omega (arith, below) in
     let whole : used - 1 + 1 ≡ used = omega (arith, below) in
     let one : List Value = set values start v in
+    let apart : get_or one (used - 1) value.Top ≡ w = get_or-set-ne values start (used - 1) v value.Top (omega (arith, below)) in
     let two : start + 1 + 1 ≡ start + 2 = omega arith in
-    ap (λ n. take n (set one (start + 1) w)) (sym two)
-    ∙ take_more_set one (start + 1) w (omega (arith, length-set values start v))
-    ∙ ap (λ xs. xs ++ w ∷ []) (take_more_set values start v (omega arith))
+    ap (λ n. take n (set one (start + 1) (get_or one (used - 1) value.Top))) (sym two)
+    ∙ take_more_set one (start + 1) (get_or one (used - 1) value.Top) (omega (arith, length-set values start v))
+    ∙ (λ j. take_more_set values start v (omega arith) j ++ apart j ∷ [])
     ∙ append_assoc (take start values) (v ∷ []) (w ∷ [])
     ∙ ap (λ xs. take start values ++ xs)
     (last-is values (v ∷ w ∷ []) used within (omega arith)
-    (ap (λ n. take n values) (sym whole) ∙ take_more values (used - 1) w (omega arith)
-    ∙ ap (λ x. take (used - 1) values ++ x ∷ []) (sym top)
-    ∙ ap (λ xs. xs ++ w ∷ []) (ap (λ n. take n values) (sym half) ∙ take_more values (used - 2) v (omega arith)
-    ∙ ap (λ x. take (used - 2) values ++ x ∷ []) (sym under))
+    (ap (λ n. take n values) (sym whole) ∙ take_more values (used - 1) value.Top (omega arith)
+    ∙ ap (λ xs. xs ++ w ∷ []) (ap (λ n. take n values) (sym half) ∙ take_more values (used - 2) value.Top (omega arith))
     ∙ append_assoc (take (used - 2) values) (v ∷ []) (w ∷ [])))
 
 -- the callers with the last one apart

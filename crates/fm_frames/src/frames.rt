@@ -77,8 +77,9 @@ fn clear_between(values: &mut Values, start: usize, end: usize)
     }
 }
 
-// The same, where the values are made more if there are too few.
-fn clear_values(values: &mut Values, start: usize, end: usize) -> Result<(), NoMemory>
+// The same, where the values, of which there are `room`, are made more if there are too few.
+fn clear_values(values: &mut Values, room: usize, start: usize, end: usize) -> Result<(), NoMemory>
+    requires room { room ≡ length values.old }
     requires in_order { start ≤ end }
     requires within { start ≤ length values.old }
     ensures front { take start values.new ≡ take start values.old }
@@ -87,7 +88,7 @@ fn clear_values(values: &mut Values, start: usize, end: usize) -> Result<(), NoM
     ensures cleared { OnOk result (take end values.new
         ≡ take start values.old ++ replicate (end - start) NoValue) }
 {
-    if end > values.len() {
+    if end > room {
         lengthen(values, end)?;
     }
     clear_between(values, start, end);
@@ -227,7 +228,7 @@ impl Frames {
         if self.has_frames {
             self.values.truncate(self.used);
             self.values.push(value)?;
-            self.used += 1;
+            self.used = self.values.len();
         }
         Ok(())
     }
@@ -433,11 +434,12 @@ impl Frames {
         if !self.has_frames {
             return Ok(());
         }
+        let room = self.values.len();
         let topmost = self.topmost;
         let height = self.used - topmost.stack;
         let locals = topmost.stack + height.saturating_sub(words);
         let stack = (locals + max_locals as usize).max(self.used);
-        clear_values(&mut self.values, self.used, stack)?;
+        clear_values(&mut self.values, room, self.used, stack)?;
         self.callers.push(topmost)?;
         self.topmost = Cursor {
             method,
@@ -459,11 +461,12 @@ impl Frames {
         if !self.has_frames || self.callers.len() >= self.callers.capacity() {
             return false;
         }
+        let room = self.values.len();
         let topmost = self.topmost;
         let height = self.used - topmost.stack;
         let locals = topmost.stack + height.saturating_sub(words);
         let stack = (locals + max_locals as usize).max(self.used);
-        if stack > self.values.len() {
+        if stack > room {
             return false;
         }
         self.callers.push_reserved(topmost);

@@ -103,7 +103,8 @@ impl Values {
     /// How many values there are.
     #[inline(always)]
     pub(crate) fn len(&self) -> usize
-        ensures { result ≡ length self.now }
+        ensures value { result ≡ length self.now }
+        ensures fits { result < 2 ^ 63 }
     {
         self.kinds.len()
     }

@@ -4,6 +4,6 @@ use Rattle.fm_frames.specs.declared.values.Value.TheVariants as value
 
 abbrev pub invariant-loop-place : goal.invariant-loop-place
 invariant-loop-place l =
-    (l.fn.start ≤ l.place) × (length l.values.items ≡ length l.fn.values.items)
-    × (take l.fn.start l.values.items ≡ take l.fn.start l.fn.values.items)
-    × (take l.place l.values.items ≡ take l.fn.start l.fn.values.items ++ replicate (l.place - l.fn.start) value.Top)
+    (l.fn.start ≤ l.place) × (length l.values ≡ length l.fn.values)
+    × (take l.fn.start l.values ≡ take l.fn.start l.fn.values)
+    × (take l.place l.values ≡ take l.fn.start l.fn.values ++ replicate (l.place - l.fn.start) value.Top)

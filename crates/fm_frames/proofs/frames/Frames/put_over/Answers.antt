@@ -4,6 +4,7 @@ use Rattle.fm_frames.proofs.frames.Frames.put_over.Goals as goal
 
 pub returns-clause-put : goal.returns-clause-put
 returns-clause-put c told =
-    swapped c.self.inside.has_frames c.self.inside.values.items c.self.inside.used c.args.takes (c.self.inside.used - c.args.takes)
+    rw c.set.ensures
+    (swapped c.self.inside.has_frames c.self.inside.values c.self.inside.used c.args.takes (c.self.inside.used - c.args.takes)
     c.self.inside.topmost (reverse c.self.inside.callers.items) c.args.value c.args.self.now c.self.invariant c.self.view_is (omega arith)
-    (omega arith) refl
+    (omega arith) refl)

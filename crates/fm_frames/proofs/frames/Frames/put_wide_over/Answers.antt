@@ -4,6 +4,7 @@ use Rattle.fm_frames.proofs.frames.Frames.put_wide_over.Goals as goal
 
 pub returns-clause-put : goal.returns-clause-put
 returns-clause-put c told =
-    swapped_wide c.self.inside.has_frames c.self.inside.values.items c.self.inside.used c.args.takes (c.self.inside.used - c.args.takes)
+    rw (c.clear.ensures, c.set.ensures)
+    (swapped_wide c.self.inside.has_frames c.self.inside.values c.self.inside.used c.args.takes (c.self.inside.used - c.args.takes)
     c.self.inside.topmost (reverse c.self.inside.callers.items) c.args.value c.args.self.now c.self.invariant c.self.view_is (omega arith)
-    refl (omega (arith, c.fits_long.ensures (search rules)))
+    refl (omega (arith, c.len.ensures.value, c.fits_long.ensures (search rules))))
