@@ -3,7 +3,7 @@ use Rattle.std.proofs.Common.{◌≡◌, ℕ, Bool, ◌+◌, ◌-◌, ◌<◌, �
 use Rattle.std.proofs.Math.ListN.{drop_of_length-le}
 use Rattle.std.proofs.Math.Seq.{drop-append_seam, take-append_seam, take-set-lt}
 use Rattle.std.proofs.lemmas.Bool.{cases_lt}
-use Rattle.std.proofs.lemmas.List.{replicate_more, take_more, take_more_set, drop-append-le, take-append-le, take-append-drop, drop-take, reverse-append, length-reverse, length-take, length-drop, get_or-reverse, length-append, take-set-le, drop-set-lt, drop-set-add, drop-drop, length-replicate, reverse-reverse}
+use Rattle.std.proofs.lemmas.List.{replicate_more, take_more, take_more_set, drop-append-le, take-append-le, take-append-drop, drop-take, reverse-append, length-reverse, length-take, length-drop, get_or-reverse, get_or-set_other, length-append, take-set-le, drop-set-lt, drop-set-add, drop-drop, length-replicate, reverse-reverse}
 use Rattle.std.proofs.lemmas.Option.{slice_get-get_or, slice_get-map, slice_get_past}
 use Rattle.fm_frames.specs.States.{Frame}
 use Rattle.fm_frames.specs.declared.frames.Cursor.{Cursor}
@@ -433,7 +433,7 @@ copied-two values used start within below =
     let half : used - 2 + 1 ≡ used - 1 = omega (arith, below) in
     let whole : used - 1 + 1 ≡ used = omega (arith, below) in
     let one : List Value = set values start v in
-    let apart : get_or one (used - 1) value.Top ≡ w = get_or-set-ne values start (used - 1) v value.Top (omega (arith, below)) in
+    let apart : get_or one (used - 1) value.Top ≡ w = get_or-set_other values start (used - 1) v value.Top (λ same. omega (arith, below, same)) in
     let two : start + 1 + 1 ≡ start + 2 = omega arith in
     ap (λ n. take n (set one (start + 1) (get_or one (used - 1) value.Top))) (sym two)
     ∙ take_more_set one (start + 1) (get_or one (used - 1) value.Top) (omega (arith, length-set values start v))
