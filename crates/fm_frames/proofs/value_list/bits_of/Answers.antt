@@ -1,4 +1,4 @@
-use Rattle.std.proofs.Common.{rules, ◌<◌, ◌^◌, arith}
+use Rattle.std.proofs.Common.{rules}
 use Rattle.fm_frames.proofs.ValueLists.{top-kept, int-kept, long-kept, ref-kept}
 use Rattle.fm_frames.proofs.value_list.bits_of.Goals as goal
 
