@@ -19,7 +19,7 @@ pub struct TargetLists {
     calls: Vec<Call>,
     pub lists: Vec<Vec<u32>>,
     // only a hint: each list has its call
-    places: BTreeMap<(TypeRef, MethodId), u32>,
+    places: BTreeMap<(TypeRef, MethodId, u64), u32>,
 }
 
 impl TargetLists {
@@ -61,7 +61,7 @@ impl TargetLists {
     fn find(&self, call: Call) -> Option<u32>
         ensures { IfSome result (λ place. HasAlike self.now.calls.items place call) }
     {
-        let place = *self.places.get(&(call.named, call.method))?;
+        let place = *self.places.get(&(call.named, call.method, kind_key(call)))?;
         if place as usize >= self.calls.len() {
             return None;
         }
@@ -81,10 +81,22 @@ impl TargetLists {
         let Ok(place) = u32::try_from(self.lists.len()) else {
             return Err(NoMemory);
         };
-        self.places.insert((call.named, call.method), place)?;
+        self.places
+            .insert((call.named, call.method, kind_key(call)), place)?;
         self.calls.push(call)?;
         self.lists.push(targets)?;
         Ok(place)
+    }
+}
+
+// A number by which calls of one type and one method that may lead elsewhere differ: of their kind, and of
+// the class that makes a special one.
+fn kind_key(call: Call) -> u64 {
+    match call.kind {
+        CallKind::Virtual => 0,
+        CallKind::Interface => 1,
+        CallKind::Static => 2,
+        CallKind::Special => 3 + u64::from(call.caller.0),
     }
 }
 
